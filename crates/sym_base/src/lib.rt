@@ -1,6 +1,19 @@
-//! Values, states and records, and the edges through which bytes come in and go out.
+//! Values, records, states and reports, the syntax tree of a script, and the edges
+//! through which bytes come in and go out.
 #![tactic(auto)]
 
 pub mod memory;
+pub mod record;
+pub mod report;
+pub mod sequence;
+pub mod state;
+pub mod text;
+pub mod value;
 
 pub use memory::NoMemory;
+pub use record::Record;
+pub use report::{Column, Columns, ReportFault};
+pub use sequence::{Plain, Sequence};
+pub use state::{Cell, Cells, Fault, FaultKind, Outcome, State};
+pub use text::{Text, Texts, Words};
+pub use value::{Key, NUM_MAX, Nums, Value, Values};
