@@ -2,6 +2,8 @@
 //! through which bytes come in and go out.
 #![tactic(auto)]
 
+pub mod compare;
+pub mod element;
 pub mod memory;
 pub mod record;
 pub mod report;
@@ -10,6 +12,8 @@ pub mod state;
 pub mod text;
 pub mod value;
 
+pub use compare::Compare;
+pub use element::Element;
 pub use memory::NoMemory;
 pub use record::Record;
 pub use report::{Column, Columns, ReportFault};

@@ -130,3 +130,27 @@ impl<T: PartialEq> PartialEq for Sequence<T> {
 impl<T: Eq> Eq for Sequence<T> {
     ghost laws = { lists_equiv T.Eq.laws };
 }
+
+impl<T: PartialOrd> PartialOrd for Sequence<T> {
+    ghost partial_cmp = { slice_partial_cmp T.partial_cmp };
+
+    ghost laws = { lists_po T.PartialOrd.laws };
+
+    fn partial_cmp(&self, other: &Sequence<T>) -> Option<Ordering> {
+        self.items.partial_cmp(&other.items)
+    }
+}
+
+impl<T: Ord> Ord for Sequence<T> {
+    ghost cmp = { slice_cmp T.cmp };
+
+    ghost total = { lists_total T.total };
+
+    ghost matches_partial_cmp = { lists_agrees T.matches_partial_cmp };
+
+    ghost matches_eq = { lists_ties T.cmp T.matches_eq };
+
+    fn cmp(&self, other: &Sequence<T>) -> Ordering {
+        self.items.cmp(&other.items)
+    }
+}

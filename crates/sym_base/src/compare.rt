@@ -1,0 +1,12 @@
+//! How two numbers are compared.
+
+/// A comparison of two whole numbers.
+#[derive(Clone, Copy, Debug, PartialEq, Eq)]
+pub enum Compare {
+    Eq,
+    Ne,
+    Lt,
+    Le,
+    Gt,
+    Ge,
+}
