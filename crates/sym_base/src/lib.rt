@@ -4,6 +4,8 @@
 
 pub mod compare;
 pub mod element;
+pub mod mem_sink;
+pub mod mem_store;
 pub mod memory;
 pub mod read;
 pub mod record;
@@ -18,6 +20,8 @@ pub mod write;
 
 pub use compare::Compare;
 pub use element::Element;
+pub use mem_sink::MemSink;
+pub use mem_store::MemStore;
 pub use memory::NoMemory;
 pub use read::{ReadErr, read_all};
 pub use record::Record;
