@@ -90,3 +90,68 @@ pub fn read_all<F: Store>(
         }
     }
 }
+
+#[cfg(test)]
+mod tests {
+    use super::*;
+    use crate::mem_store::MemStore;
+    use std::test::Fail;
+
+    // This many bytes, each unlike its neighbours.
+    fn sample(alloc: Global, count: u64) -> Result<Vec<u8>, AllocError> {
+        let mut bytes = Vec::new(alloc);
+        for place in 0..count {
+            bytes.push((place % 251) as u8)?;
+        }
+        Ok(bytes)
+    }
+
+    #[test]
+    fn a_file_is_read_whole_up_to_its_limit(rt: HostRuntime) -> Result<(), Fail> {
+        for count in [0, 1, 65_535, 65_536, 65_537, 300_000] {
+            let bytes = sample(rt.alloc(), count)?;
+            let mut store = MemStore::new(rt.alloc());
+            store.add(rt.alloc(), "records", bytes.as_slice())?;
+            assert!(rt; count <= FILE_MAX);
+            let read = read_all(rt.alloc(), &mut store, "records", count)?;
+            assert!(rt; read == bytes, "{count} bytes");
+            if count > 0 {
+                let read = read_all(rt.alloc(), &mut store, "records", count - 1);
+                assert_eq!(rt; read.err(), Some(ReadErr::TooLarge), "{count} bytes");
+            }
+        }
+        Ok(())
+    }
+
+    #[test]
+    fn a_failed_read_is_not_the_end_of_the_file(rt: HostRuntime) -> Result<(), Fail> {
+        let bytes = sample(rt.alloc(), 100_000)?;
+        for call in [1, 2, 3] {
+            let mut store = MemStore::new(rt.alloc());
+            store.add(rt.alloc(), "records", bytes.as_slice())?;
+            store.fail_at(rt.alloc(), call)?;
+            let read = read_all(rt.alloc(), &mut store, "records", 100_000);
+            assert_eq!(rt; read.err(), Some(ReadErr::Failed), "read {call}");
+            let read = read_all(rt.alloc(), &mut store, "records", 100_000)?;
+            assert!(rt; read == bytes, "after read {call}");
+        }
+        Ok(())
+    }
+
+    #[test]
+    fn a_file_that_is_absent_cannot_be_read_and_one_that_is_set_again_is_replaced(
+        rt: HostRuntime,
+    ) -> Result<(), Fail> {
+        let mut store = MemStore::new(rt.alloc());
+        store.add(rt.alloc(), "a", b"first, and longer")?;
+        store.add(rt.alloc(), "b", b"other")?;
+        store.add(rt.alloc(), "a", b"second")?;
+        let absent = read_all(rt.alloc(), &mut store, "c", 20);
+        assert_eq!(rt; absent.err(), Some(ReadErr::Failed));
+        let read = read_all(rt.alloc(), &mut store, "a", 20)?;
+        assert_eq!(rt; read.as_slice(), b"second".as_slice());
+        let read = read_all(rt.alloc(), &mut store, "b", 20)?;
+        assert_eq!(rt; read.as_slice(), b"other".as_slice());
+        Ok(())
+    }
+}
