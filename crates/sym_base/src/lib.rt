@@ -10,6 +10,7 @@ pub mod report;
 pub mod sequence;
 pub mod state;
 pub mod text;
+pub mod tree;
 pub mod value;
 
 pub use compare::Compare;
@@ -20,4 +21,12 @@ pub use report::{Column, Columns, ReportFault};
 pub use sequence::{Plain, Sequence};
 pub use state::{Cell, Cells, Fault, FaultKind, Outcome, State};
 pub use text::{Text, Texts, Words};
+pub use tree::declaration::{
+    CellDecl, ColumnDecl, ColumnDecls, EnumDecl, EnumDecls, FieldDecl, FieldDecls, KindRef,
+    Literal, Param, Params, Part, Parts, StateDecl, StateDecls, TestDecl, TestDecls,
+};
+pub use tree::expression::{BinOp, Expr, Exprs};
+pub use tree::name::{Name, Names};
+pub use tree::script::Script;
+pub use tree::statement::{Stmt, Stmts};
 pub use value::{Key, NUM_MAX, Nums, Value, Values};
