@@ -1,2 +1,3 @@
+pub mod Counters
 pub mod States
 pub mod Trees
