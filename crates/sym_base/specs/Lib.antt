@@ -1,3 +1,5 @@
 pub mod Counters
+pub mod Counts
+pub mod Edges
 pub mod States
 pub mod Trees

@@ -1,0 +1,92 @@
+//! Whole files.
+ghost use Rattle.std.specs.Prelude.{◌≡◌, ℕ, ◌≤◌, ◌<◌, List, length, IfOk, IfSome, IsErrOf};
+ghost use Rattle.sym_base.specs.Counts.{Rose};
+ghost use Rattle.sym_base.specs.declared.read.ReadErr.TheVariants as read_error;
+
+use crate::memory::NoMemory;
+use crate::store::{FILE_MAX, Failed, Store};
+use std::alloc::{AllocError, AllocFailed, Global};
+
+/// Why a file was not read whole.
+#[derive(Clone, Copy, Debug, PartialEq, Eq)]
+pub enum ReadErr {
+    /// A read failed.
+    Failed,
+    /// The file has more bytes than were allowed.
+    TooLarge,
+    /// An allocation was refused.
+    NoMemory,
+}
+
+impl From<Failed> for ReadErr {
+    ghost from_gives = { λ _ e. e ≡ read_error.Failed };
+
+    fn from(_failed: Failed) -> ReadErr {
+        ReadErr::Failed
+    }
+}
+
+impl From<NoMemory> for ReadErr {
+    ghost from_gives = { λ _ e. e ≡ read_error.NoMemory };
+
+    fn from(_refused: NoMemory) -> ReadErr {
+        ReadErr::NoMemory
+    }
+}
+
+impl From<AllocError> for ReadErr {
+    ghost from_gives = { λ _ e. e ≡ read_error.NoMemory };
+
+    fn from(_refused: AllocError) -> ReadErr {
+        ReadErr::NoMemory
+    }
+}
+
+impl<T: Drop> From<AllocFailed<T>> for ReadErr {
+    ghost from_gives = { λ _ e. e ≡ read_error.NoMemory };
+
+    fn from(_refused: AllocFailed<T>) -> ReadErr {
+        ReadErr::NoMemory
+    }
+}
+
+// The most bytes that one read asks for.
+const PIECE: usize = 65_536;
+
+/// All bytes of the file of this name, of which there are at most `max`. A read that gives no
+/// bytes ends the file. The store holds what it held before.
+///
+/// # Errors
+///
+/// `Failed` where a read failed, `TooLarge` where the file has more than `max` bytes, `NoMemory`.
+pub fn read_all<F: Store>(
+    alloc: Global,
+    store: &mut F,
+    name: &str,
+    max: u64,
+) -> Result<Vec<u8>, ReadErr>
+    requires { max ≤ FILE_MAX }
+    ensures ok { IfOk result (λ v. IfSome (F.holds store.old name.now) (λ bytes. v.items ≡ bytes)) }
+    ensures fits { IfOk result (λ v. length v.items ≤ max) }
+    ensures too_large { IsErrOf result ReadErr.TooLarge → IfSome (F.holds store.old name.now) (λ bytes. max < length bytes) }
+    ensures failed { IsErrOf result ReadErr.Failed → Rose (F.faults store.old name.now) (F.faults store.new name.now) }
+    ensures same { F.holds store.new ≡ F.holds store.old }
+    ensures later { (other : List ℕ) → F.faults store.old other ≤ F.faults store.new other }
+{
+    let mut bytes = Vec::new(alloc);
+    'pieces: loop {
+        let start = bytes.len();
+        bytes.resize(start + PIECE, 0)?;
+        let count = match store.read_at(name, start as u64, &mut bytes[start..]) {
+            Ok(count) => count,
+            Err(Failed) => return Err(ReadErr::Failed),
+        };
+        bytes.truncate(start + count);
+        if count == 0 {
+            return Ok(bytes);
+        }
+        if bytes.len() as u64 > max {
+            return Err(ReadErr::TooLarge);
+        }
+    }
+}

@@ -1,0 +1,36 @@
+//! Where bytes come from: named files that are read piece by piece.
+ghost use Rattle.std.specs.Prelude.{◌≡◌, ℕ, ◌≤◌, List, Option, length, drop, IfOk, IfSome, OnErr};
+ghost use Rattle.sym_base.specs.Counts.{Rose};
+ghost use Rattle.sym_base.specs.Edges.{ReadsAt};
+
+/// The most bytes of a file that can be read, 256 MiB: no read begins behind them.
+pub const FILE_MAX: u64 = 268_435_456;
+
+/// A read or a write failed.
+#[derive(Clone, Copy, Debug, PartialEq, Eq)]
+pub struct Failed;
+
+/// A store of named files. A store may tell what a file holds or not, as a disk doesn't.
+pub trait Store {
+    // The bytes of the file of each name, where the store tells them.
+    ghost holds: { Self → List ℕ → Option (List ℕ) };
+
+    // How many reads of each name have failed. A store with one counter has it for every name.
+    ghost faults: { Self → List ℕ → ℕ };
+
+    /// Reads bytes of the file of this name, from the place `at` (counted from 0) on, into the
+    /// front of `into`, and gives their number. It gives 0 only where `into` is empty or the
+    /// file ends at `at` or before. No read changes what the store holds.
+    ///
+    /// # Errors
+    ///
+    /// `Failed` where the read failed, which the store counts; `into` may then hold any bytes.
+    fn read_at(&mut self, name: &str, at: u64, into: &mut [u8]) -> Result<usize, Failed>
+        requires { at ≤ FILE_MAX }
+        ensures bound { IfOk result (λ k. k ≤ length into.old) }
+        ensures rest { IfOk result (λ k. drop k into.new ≡ drop k into.old) }
+        ensures bytes { IfOk result (λ k. IfSome (holds self.old name.now) (λ bytes. ReadsAt bytes at k into.old into.new)) }
+        ensures same { holds self.new ≡ holds self.old }
+        ensures later { (other : List ℕ) → faults self.old other ≤ faults self.new other }
+        ensures failed { OnErr result (Rose (faults self.old name.now) (faults self.new name.now)) };
+}
