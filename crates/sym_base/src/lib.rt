@@ -15,6 +15,7 @@ pub mod sink;
 pub mod state;
 pub mod store;
 pub mod text;
+pub mod tree;
 pub mod value;
 pub mod write;
 
@@ -31,5 +32,13 @@ pub use sink::{Sink, SinkErr};
 pub use state::{Cell, Cells, Fault, FaultKind, Outcome, State};
 pub use store::{FILE_MAX, Failed, Store};
 pub use text::{Text, Texts, Words};
+pub use tree::declaration::{
+    CellDecl, ColumnDecl, ColumnDecls, EnumDecl, EnumDecls, FieldDecl, FieldDecls, KindRef,
+    Literal, Param, Params, Part, Parts, StateDecl, StateDecls, TestDecl, TestDecls,
+};
+pub use tree::expression::{BinOp, Expr, Exprs};
+pub use tree::name::{Name, Names};
+pub use tree::script::Script;
+pub use tree::statement::{Stmt, Stmts};
 pub use value::{Key, NUM_MAX, Nums, Value, Values};
 pub use write::write_all;

@@ -1,0 +1,318 @@
+//! Declarations of a script.
+ghost use Rattle.std.specs.Prelude.{◌≡◌, IfOk, map};
+ghost use Rattle.sym_base.specs.Trees.{test_tree, column_tree};
+
+use crate::memory::NoMemory;
+use crate::sequence::{Plain, Sequence};
+use crate::text::Text;
+use crate::tree::expression::Expr;
+use crate::tree::name::{Name, Names};
+use std::alloc::Global;
+
+/// An enum and its labels, which are numbered from 0 in this order.
+#[derive(Debug, PartialEq, Eq, Drop)]
+pub struct EnumDecl {
+    pub name: Name,
+    pub labels: Names,
+}
+
+/// The kind of a value, as it is written.
+#[derive(Debug, PartialEq, Eq, Drop)]
+pub enum KindRef {
+    Num,
+    Word,
+    /// A label of the enum of this name.
+    Named(Name),
+}
+
+/// A value, as it is written.
+#[derive(Debug, PartialEq, Eq, Drop)]
+pub enum Literal {
+    Num { value: i64, at: u32 },
+    Text { text: Text, at: u32 },
+    /// A label.
+    Named(Name),
+}
+
+/// A field of the records.
+#[derive(Debug, PartialEq, Eq, Drop)]
+pub struct FieldDecl {
+    pub name: Name,
+    /// The text of its column in a file's header, where that isn't the name.
+    pub header: Option<Text>,
+    pub kind: KindRef,
+    /// The value of an empty text.
+    pub default: Option<Literal>,
+}
+
+/// A part of a hold cell: its kind and its first value.
+#[derive(Debug, PartialEq, Eq, Drop)]
+pub struct Part {
+    pub kind: KindRef,
+    pub first: Literal,
+}
+
+/// What a cell holds, and what it holds at first. Ranges have both ends in them.
+#[derive(Debug, PartialEq, Eq, Drop)]
+pub enum CellDecl {
+    Int { lo: i64, hi: i64, first: i64 },
+    Nums { lo: i64, hi: i64 },
+    Words,
+    Hold(Parts),
+    Enum { of: Name, first: Name },
+}
+
+/// A cell of the state.
+#[derive(Debug, PartialEq, Eq, Drop)]
+pub struct StateDecl {
+    pub name: Name,
+    pub cell: CellDecl,
+}
+
+/// A parameter of a test.
+#[derive(Debug, PartialEq, Eq, Drop)]
+pub struct Param {
+    pub name: Name,
+    pub kind: KindRef,
+}
+
+/// A test on the parts of a hold cell and further arguments.
+#[derive(Debug, Drop)]
+pub struct TestDecl {
+    pub name: Name,
+    pub params: Params,
+    pub body: Expr,
+}
+
+/// A column of the report.
+#[derive(Debug, Drop)]
+pub struct ColumnDecl {
+    pub name: Name,
+    pub value: Expr,
+}
+
+pub type EnumDecls = Sequence<EnumDecl>;
+
+pub type FieldDecls = Sequence<FieldDecl>;
+
+pub type Parts = Sequence<Part>;
+
+pub type StateDecls = Sequence<StateDecl>;
+
+pub type Params = Sequence<Param>;
+
+pub type TestDecls = Sequence<TestDecl>;
+
+pub type ColumnDecls = Sequence<ColumnDecl>;
+
+impl EnumDecl {
+    /// An equal declaration of its own.
+    pub fn copy(&self, alloc: Global) -> Result<EnumDecl, NoMemory>
+        ensures { IfOk result (λ d. d ≡ self.now) }
+    {
+        let name = self.name.copy(alloc)?;
+        let labels = self.labels.copy(alloc)?;
+        Ok(EnumDecl { name, labels })
+    }
+}
+
+impl Plain for EnumDecl {
+    fn copied(&self, alloc: Global) -> Result<EnumDecl, NoMemory> {
+        self.copy(alloc)
+    }
+}
+
+impl KindRef {
+    /// An equal kind of its own.
+    pub fn copy(&self, alloc: Global) -> Result<KindRef, NoMemory>
+        ensures { IfOk result (λ k. k ≡ self.now) }
+    {
+        match self {
+            KindRef::Num => Ok(KindRef::Num),
+            KindRef::Word => Ok(KindRef::Word),
+            KindRef::Named(name) => Ok(KindRef::Named(name.copy(alloc)?)),
+        }
+    }
+}
+
+impl Literal {
+    /// An equal literal of its own.
+    pub fn copy(&self, alloc: Global) -> Result<Literal, NoMemory>
+        ensures { IfOk result (λ l. l ≡ self.now) }
+    {
+        match self {
+            Literal::Num { value, at } => Ok(Literal::Num {
+                value: *value,
+                at: *at,
+            }),
+            Literal::Text { text, at } => Ok(Literal::Text {
+                text: text.copy(alloc)?,
+                at: *at,
+            }),
+            Literal::Named(name) => Ok(Literal::Named(name.copy(alloc)?)),
+        }
+    }
+}
+
+fn copy_header(alloc: Global, header: &Option<Text>) -> Result<Option<Text>, NoMemory>
+    ensures { IfOk result (λ h. h ≡ header.now) }
+{
+    match header {
+        Some(text) => Ok(Some(text.copy(alloc)?)),
+        None => Ok(None),
+    }
+}
+
+fn copy_default(alloc: Global, default: &Option<Literal>) -> Result<Option<Literal>, NoMemory>
+    ensures { IfOk result (λ d. d ≡ default.now) }
+{
+    match default {
+        Some(literal) => Ok(Some(literal.copy(alloc)?)),
+        None => Ok(None),
+    }
+}
+
+impl FieldDecl {
+    /// An equal declaration of its own.
+    pub fn copy(&self, alloc: Global) -> Result<FieldDecl, NoMemory>
+        ensures { IfOk result (λ d. d ≡ self.now) }
+    {
+        let name = self.name.copy(alloc)?;
+        let header = copy_header(alloc, &self.header)?;
+        let kind = self.kind.copy(alloc)?;
+        let default = copy_default(alloc, &self.default)?;
+        Ok(FieldDecl {
+            name,
+            header,
+            kind,
+            default,
+        })
+    }
+}
+
+impl Plain for FieldDecl {
+    fn copied(&self, alloc: Global) -> Result<FieldDecl, NoMemory> {
+        self.copy(alloc)
+    }
+}
+
+impl Part {
+    /// An equal part of its own.
+    pub fn copy(&self, alloc: Global) -> Result<Part, NoMemory>
+        ensures { IfOk result (λ p. p ≡ self.now) }
+    {
+        let kind = self.kind.copy(alloc)?;
+        let first = self.first.copy(alloc)?;
+        Ok(Part { kind, first })
+    }
+}
+
+impl Plain for Part {
+    fn copied(&self, alloc: Global) -> Result<Part, NoMemory> {
+        self.copy(alloc)
+    }
+}
+
+impl CellDecl {
+    /// An equal declaration of its own.
+    pub fn copy(&self, alloc: Global) -> Result<CellDecl, NoMemory>
+        ensures { IfOk result (λ d. d ≡ self.now) }
+    {
+        match self {
+            CellDecl::Int { lo, hi, first } => Ok(CellDecl::Int {
+                lo: *lo,
+                hi: *hi,
+                first: *first,
+            }),
+            CellDecl::Nums { lo, hi } => Ok(CellDecl::Nums { lo: *lo, hi: *hi }),
+            CellDecl::Words => Ok(CellDecl::Words),
+            CellDecl::Hold(parts) => Ok(CellDecl::Hold(parts.copy(alloc)?)),
+            CellDecl::Enum { of, first } => {
+                let of = of.copy(alloc)?;
+                let first = first.copy(alloc)?;
+                Ok(CellDecl::Enum { of, first })
+            }
+        }
+    }
+}
+
+impl StateDecl {
+    /// An equal declaration of its own.
+    pub fn copy(&self, alloc: Global) -> Result<StateDecl, NoMemory>
+        ensures { IfOk result (λ d. d ≡ self.now) }
+    {
+        let name = self.name.copy(alloc)?;
+        let cell = self.cell.copy(alloc)?;
+        Ok(StateDecl { name, cell })
+    }
+}
+
+impl Plain for StateDecl {
+    fn copied(&self, alloc: Global) -> Result<StateDecl, NoMemory> {
+        self.copy(alloc)
+    }
+}
+
+impl Param {
+    /// An equal parameter of its own.
+    pub fn copy(&self, alloc: Global) -> Result<Param, NoMemory>
+        ensures { IfOk result (λ p. p ≡ self.now) }
+    {
+        let name = self.name.copy(alloc)?;
+        let kind = self.kind.copy(alloc)?;
+        Ok(Param { name, kind })
+    }
+}
+
+impl Plain for Param {
+    fn copied(&self, alloc: Global) -> Result<Param, NoMemory> {
+        self.copy(alloc)
+    }
+}
+
+impl TestDecl {
+    /// An equal declaration of its own.
+    pub fn copy(&self, alloc: Global) -> Result<TestDecl, NoMemory>
+        ensures { IfOk result (λ d. test_tree d ≡ test_tree self.now) }
+    {
+        let name = self.name.copy(alloc)?;
+        let params = self.params.copy(alloc)?;
+        let body = self.body.copy(alloc)?;
+        Ok(TestDecl { name, params, body })
+    }
+}
+
+impl ColumnDecl {
+    /// An equal declaration of its own.
+    pub fn copy(&self, alloc: Global) -> Result<ColumnDecl, NoMemory>
+        ensures { IfOk result (λ d. column_tree d ≡ column_tree self.now) }
+    {
+        let name = self.name.copy(alloc)?;
+        let value = self.value.copy(alloc)?;
+        Ok(ColumnDecl { name, value })
+    }
+}
+
+/// Equal test declarations of their own.
+pub fn copy_tests(alloc: Global, tests: &TestDecls) -> Result<TestDecls, NoMemory>
+    ensures { IfOk result (λ t. map test_tree t ≡ map test_tree tests.now) }
+{
+    let mut copied = Vec::with_capacity(alloc, tests.len())?;
+    'tests: for test in tests.as_slice() {
+        let test = test.copy(alloc)?;
+        copied.push(test)?;
+    }
+    Ok(Sequence::of(copied))
+}
+
+/// Equal columns of their own.
+pub fn copy_columns(alloc: Global, columns: &ColumnDecls) -> Result<ColumnDecls, NoMemory>
+    ensures { IfOk result (λ c. map column_tree c ≡ map column_tree columns.now) }
+{
+    let mut copied = Vec::with_capacity(alloc, columns.len())?;
+    'columns: for column in columns.as_slice() {
+        let column = column.copy(alloc)?;
+        copied.push(column)?;
+    }
+    Ok(Sequence::of(copied))
+}

@@ -1,0 +1,98 @@
+//! Expressions. Contracts see them as the plain data of `specs/Trees.antt`, which leaves the
+//! boxes out.
+ghost use Rattle.std.specs.Prelude.{◌≡◌, IfOk};
+ghost use Rattle.sym_base.specs.Trees.{expr_tree, exprs_tree};
+
+use crate::memory::NoMemory;
+use crate::text::Text;
+use crate::tree::name::Name;
+use std::alloc::Global;
+
+/// An operator of two operands.
+#[derive(Clone, Copy, Debug, PartialEq, Eq)]
+pub enum BinOp {
+    Or,
+    And,
+    Eq,
+    Ne,
+    Lt,
+    Le,
+    Gt,
+    Ge,
+    Is,
+    Add,
+    Sub,
+    Mul,
+    Div,
+    Rem,
+}
+
+/// An expression. A leaf's place is that of its token, an operator's that of its sign or word,
+/// a call's that of its name.
+#[cycle(expression)]
+#[derive(Debug, Drop)]
+pub enum Expr {
+    Num(i64, u32),
+    Text(Text, u32),
+    Named(Name),
+    Call(Name, Exprs),
+    Neg(Box<Expr>, u32),
+    Not(Box<Expr>, u32),
+    Bin(BinOp, Box<Expr>, Box<Expr>, u32),
+}
+
+/// A list of expressions: its end, or the first one with the rest.
+#[cycle(expression)]
+#[derive(Debug, Drop)]
+pub enum Exprs {
+    End,
+    More(Box<Expr>, Box<Exprs>),
+}
+
+impl Expr {
+    /// An equal expression of its own.
+    #[cycle(copy_expression)]
+    pub fn copy(&self, alloc: Global) -> Result<Expr, NoMemory>
+        ensures { IfOk result (λ e. expr_tree e ≡ expr_tree self.now) }
+    {
+        match self {
+            Expr::Num(number, at) => Ok(Expr::Num(*number, *at)),
+            Expr::Text(text, at) => Ok(Expr::Text(text.copy(alloc)?, *at)),
+            Expr::Named(name) => Ok(Expr::Named(name.copy(alloc)?)),
+            Expr::Call(name, arguments) => {
+                let name = name.copy(alloc)?;
+                Ok(Expr::Call(name, arguments.copy(alloc)?))
+            }
+            Expr::Neg(operand, at) => {
+                let operand = operand.copy(alloc)?;
+                Ok(Expr::Neg(Box::new(alloc, operand)?, *at))
+            }
+            Expr::Not(operand, at) => {
+                let operand = operand.copy(alloc)?;
+                Ok(Expr::Not(Box::new(alloc, operand)?, *at))
+            }
+            Expr::Bin(operator, left, right, at) => {
+                let left = Box::new(alloc, left.copy(alloc)?)?;
+                let right = right.copy(alloc)?;
+                Ok(Expr::Bin(*operator, left, Box::new(alloc, right)?, *at))
+            }
+        }
+    }
+}
+
+impl Exprs {
+    /// An equal list of its own.
+    #[cycle(copy_expression)]
+    pub fn copy(&self, alloc: Global) -> Result<Exprs, NoMemory>
+        ensures { IfOk result (λ e. exprs_tree e ≡ exprs_tree self.now) }
+    {
+        match self {
+            Exprs::End => Ok(Exprs::End),
+            Exprs::More(first, rest) => {
+                let first = Box::new(alloc, first.copy(alloc)?)?;
+                let rest = rest.copy(alloc)?;
+                Ok(Exprs::More(first, Box::new(alloc, rest)?))
+            }
+        }
+    }
+}

@@ -1,0 +1,57 @@
+//! A whole script.
+ghost use Rattle.std.specs.Prelude.{◌≡◌, IfOk};
+ghost use Rattle.sym_base.specs.Trees.{script_tree};
+
+use crate::memory::NoMemory;
+use crate::tree::declaration::{
+    ColumnDecls, EnumDecls, FieldDecls, StateDecls, TestDecls, copy_columns, copy_tests,
+};
+use crate::tree::name::Name;
+use crate::tree::statement::Stmts;
+use std::alloc::Global;
+
+/// A script: its declarations in order, its update and its report.
+#[derive(Debug, Drop)]
+pub struct Script {
+    pub enums: EnumDecls,
+    pub fields: FieldDecls,
+    /// The field whose values tell groups apart; without one all records are of one group.
+    pub group: Option<Name>,
+    pub states: StateDecls,
+    pub tests: TestDecls,
+    pub update: Stmts,
+    pub columns: ColumnDecls,
+}
+
+fn copy_group(alloc: Global, group: &Option<Name>) -> Result<Option<Name>, NoMemory>
+    ensures { IfOk result (λ g. g ≡ group.now) }
+{
+    match group {
+        Some(name) => Ok(Some(name.copy(alloc)?)),
+        None => Ok(None),
+    }
+}
+
+impl Script {
+    /// An equal script of its own.
+    pub fn copy(&self, alloc: Global) -> Result<Script, NoMemory>
+        ensures { IfOk result (λ s. script_tree s ≡ script_tree self.now) }
+    {
+        let enums = self.enums.copy(alloc)?;
+        let fields = self.fields.copy(alloc)?;
+        let group = copy_group(alloc, &self.group)?;
+        let states = self.states.copy(alloc)?;
+        let tests = copy_tests(alloc, &self.tests)?;
+        let update = self.update.copy(alloc)?;
+        let columns = copy_columns(alloc, &self.columns)?;
+        Ok(Script {
+            enums,
+            fields,
+            group,
+            states,
+            tests,
+            update,
+            columns,
+        })
+    }
+}

@@ -1,0 +1,2 @@
+pub mod CounterTrees
+pub mod Steps

@@ -1,0 +1,3 @@
+pub mod CounterTrees
+pub mod Steps
+pub mod CheckedScripts

@@ -1,0 +1,41 @@
+//! Scripts that may be run.
+ghost use Rattle.std.specs.Prelude.{◌≡◌, IfOk, IsSome};
+ghost use Rattle.sym_base.specs.Trees.{script_tree};
+ghost use Rattle.sym_check.specs.CounterTrees.{counter_of};
+
+use std::alloc::Global;
+use sym_base::Script;
+use thiserror::Error;
+
+/// Why a script isn't taken. Today only want of memory; `check` takes none yet.
+#[derive(Clone, Copy, Debug, PartialEq, Eq, Error)]
+pub enum CheckErr {
+    #[error("NoMemory")]
+    NoMemory,
+}
+
+/// A script that may be run: a counter, today.
+#[derive(Debug, Drop)]
+pub struct Checked {
+    script: Script,
+    pub ghost counter: { IsSome (counter_of (script_tree script)) },
+}
+
+impl Checked {
+    ghost use Rattle.sym_check.specs.CheckedScripts.{checked_tree};
+
+    // The script, which is known to be a counter.
+    pub(crate) fn of(script: Script) -> Checked
+        requires { IsSome (counter_of (script_tree script)) }
+        ensures { checked_tree result ≡ script_tree script }
+    {
+        Checked { script }
+    }
+
+    /// The script.
+    pub fn script(&self) -> &Script
+        ensures { script_tree result.now ≡ checked_tree self.now }
+    {
+        &self.script
+    }
+}
