@@ -1,6 +1,6 @@
 -- Files in memory, which a map from names to bytes keeps.
-use Rattle.std.proofs.Common.{◌≡◌, ◌≢◌, ℕ, ◌∷◌, [], List, Bool, true, false, cond, refl, ap, sym, ◌∙◌, rules, nat_eq, Contains}
-use Rattle.std.specs.Prelude.{Option, Some, None, option_map, find}
+use Rattle.std.proofs.Common.{◌≡◌, ◌≢◌, ℕ, ◌∷◌, [], List, Bool, true, false, cond, refl, ap, sym, ◌∙◌, nat_eq, Contains}
+use Rattle.std.specs.Prelude.{Option, Some, option_map, find}
 use Rattle.std.specs.List.{list_any}
 use Rattle.std.specs.BTreeMap as tree
 use Rattle.std.specs.BTreeMap.{BTreeMap}

@@ -1,4 +1,4 @@
-use Rattle.std.proofs.Common.{rules, arith}
+use Rattle.std.proofs.Common.{rules}
 use Rattle.sym_base.proofs.Appending.{appended-next}
 use Rattle.sym_base.proofs.write.write_all.Goals as goal
 

@@ -1,4 +1,4 @@
-use Rattle.std.proofs.Common.{◌≡◌, sym, ◌∙◌, ap}
+use Rattle.std.proofs.Common.{◌∙◌, ap}
 use Rattle.sym_base.specs.InMemory.{file_at}
 use Rattle.sym_base.proofs.Files.{file_at-set, file_at-others}
 use Rattle.sym_base.proofs.mem_store.MemStore.add.Goals as goal
