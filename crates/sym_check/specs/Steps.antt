@@ -2,6 +2,8 @@
 use Rattle.std.specs.Prelude.{ℕ, ℤ, pos, ◌+ℤ◌, int_le, cond, ◌&&◌, List, [], ◌∷◌, Option, Some, slice_get}
 use Rattle.sym_base.specs.declared.value.Value.{Value}
 use Rattle.sym_base.specs.declared.value.Value.TheVariants as value
+use Rattle.sym_base.specs.declared.value.Key.{Key}
+use Rattle.sym_base.specs.declared.value.Key.TheVariants.{Whole}
 use Rattle.sym_base.specs.declared.record.Record.{Record}
 use Rattle.sym_base.specs.declared.state.Cell.{Cell}
 use Rattle.sym_base.specs.declared.state.Cell.TheVariants as cell
@@ -51,11 +53,32 @@ after update (rec ∷ rest) outcome = after update rest (step update outcome rec
 abbrev pub initial : Counter → State
 initial c = record { cells = cell.Int c.first ∷ [] }
 
--- What a counter adds at a record.
-abbrev pub added : Amount → Record → ℤ
-added (Fixed n at) rec = n
-added (OfField name) rec = num_at rec 0
+-- What a counter adds, places aside: a number, or the value of its field.
+pub data Addend : Type 0 where
+  Number : ℤ → Addend
+  FieldValue : Addend
+
+abbrev pub addend_of : Amount → Addend
+addend_of (Fixed n at) = Number n
+addend_of (OfField name) = FieldValue
+
+abbrev pub added : Addend → Record → ℤ
+added (Number n) rec = n
+added FieldValue rec = num_at rec 0
+
+-- Adds to the one cell, whose range this is.
+abbrev pub adding : ℤ → ℤ → Addend → Update
+adding lo hi addend state rec = assigned state 0 lo hi (int_at state 0 +ℤ added addend rec) rec.no
 
 -- A counter's update.
 abbrev pub counting : Counter → Update
-counting c state rec = assigned state 0 c.lo c.hi (int_at state 0 +ℤ added c.amount rec) rec.no
+counting c = adding c.lo c.hi (addend_of c.amount)
+
+-- The groups of records in order of first appearance, each with how it stands after its records.
+-- A counter has no group line: all records are of one group, and without records there is none.
+abbrev pub grouped : Update → State → List Record → List (Key × Outcome)
+grouped update first [] = []
+grouped update first (rec ∷ rest) = (Whole, after update (rec ∷ rest) (Going first)) ∷ []
+
+abbrev pub groups : Counter → List Record → List (Key × Outcome)
+groups c = grouped (counting c) (initial c)

@@ -1,0 +1,9 @@
+pub mod Letters
+pub mod Numbers
+pub mod Sizes
+pub mod Sound
+pub mod Rules
+pub mod Spelling
+pub mod Tokens
+pub mod Agreement
+pub mod Texts

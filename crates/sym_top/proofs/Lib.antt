@@ -1,0 +1,6 @@
+pub mod Digits
+pub mod LineByLine
+pub mod Passing
+pub mod FilesRead
+pub mod EndsFound
+pub mod Preparing

@@ -1,0 +1,12 @@
+pub mod Commands
+pub mod EndReading
+pub mod Ends
+pub mod Folds
+pub mod Loading
+pub mod PlainFiles
+pub mod PlainReading
+pub mod Plans
+pub mod Promises
+pub mod Statuses
+pub mod Tables
+pub mod Words

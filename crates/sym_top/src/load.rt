@@ -1,0 +1,85 @@
+//! Reads a run's script and file.
+ghost use Rattle.std.specs.Prelude.{◌≡◌, ℕ, ◌≤◌, List, Ok, Err, IfSome, IfOk, IfErr, IsErrOf, length};
+ghost use Rattle.sym_base.specs.Counts.{Rose};
+ghost use Rattle.sym_top.specs.Ends.{file_max, script_max};
+ghost use Rattle.sym_top.specs.Loading.{ScriptGives, FileGives, read_status_of, IsScriptRefusal, IsFileRefusal};
+
+use crate::status::Status;
+use std::alloc::Global;
+use sym_base::{ReadErr, Store, read_all};
+use sym_check::{CheckErr, Checked, check};
+use sym_parse::{ParseErr, parse};
+
+// The most bytes of a script and of a file.
+const SCRIPT_MAX: u64 = 65_536;
+
+const FILE_MAX: u64 = 67_108_864;
+
+// What a failed read comes to.
+fn read_status(error: ReadErr) -> Status
+    ensures { result ≡ read_status_of error }
+{
+    match error {
+        ReadErr::Failed => Status::ReadFault,
+        ReadErr::TooLarge => Status::TooLarge,
+        ReadErr::NoMemory => Status::NoMemory,
+    }
+}
+
+// The checked script of a text.
+fn accept(alloc: Global, text: &[u8]) -> Result<Checked, Status>
+    requires { length text.now ≤ script_max }
+    ensures told { ScriptGives text.now result }
+    ensures refused { IfErr result IsScriptRefusal }
+    ensures unread { IsErrOf result Status.ReadFault → ⊥ }
+{
+    let script = match parse(alloc, text) {
+        Ok(script) => script,
+        Err(ParseErr::NotBuilt { .. }) => return Err(Status::Script),
+        Err(ParseErr::NoMemory) => return Err(Status::NoMemory),
+    };
+    match check(alloc, script) {
+        Ok(checked) => Ok(checked),
+        Err(CheckErr::NoMemory) => Err(Status::NoMemory),
+    }
+}
+
+/// Reads, parses and checks the script of this name.
+///
+/// # Errors
+///
+/// `ReadFault` where a read failed, `TooLarge` where the script has more than 65,536 bytes,
+/// `Script` where it isn't one that may be run, `NoMemory`.
+pub fn load_script<F: Store>(alloc: Global, files: &mut F, name: &str) -> Result<Checked, Status>
+    ensures told { IfSome (F.holds files.old name.now) (λ text. ScriptGives text result) }
+    ensures refused { IfErr result IsScriptRefusal }
+    ensures failed { IsErrOf result Status.ReadFault → Rose (F.faults files.old name.now) (F.faults files.new name.now) }
+    ensures same { F.holds files.new ≡ F.holds files.old }
+    ensures later { (other : List ℕ) → F.faults files.old other ≤ F.faults files.new other }
+{
+    let text = match read_all(alloc, files, name, SCRIPT_MAX) {
+        Ok(text) => text,
+        Err(error) => return Err(read_status(error)),
+    };
+    accept(alloc, &text)
+}
+
+/// Reads the file of this name.
+///
+/// # Errors
+///
+/// `ReadFault` where a read failed, `TooLarge` where the file has more than 67,108,864 bytes,
+/// `NoMemory`.
+pub fn load_file<F: Store>(alloc: Global, files: &mut F, name: &str) -> Result<Vec<u8>, Status>
+    ensures told { IfSome (F.holds files.old name.now) (λ held. FileGives held result) }
+    ensures fits { IfOk result (λ bytes. length bytes.items ≤ file_max) }
+    ensures refused { IfErr result IsFileRefusal }
+    ensures failed { IsErrOf result Status.ReadFault → Rose (F.faults files.old name.now) (F.faults files.new name.now) }
+    ensures same { F.holds files.new ≡ F.holds files.old }
+    ensures later { (other : List ℕ) → F.faults files.old other ≤ F.faults files.new other }
+{
+    match read_all(alloc, files, name, FILE_MAX) {
+        Ok(bytes) => Ok(bytes),
+        Err(error) => Err(read_status(error)),
+    }
+}

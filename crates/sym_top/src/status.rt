@@ -1,0 +1,43 @@
+//! How a run ends.
+ghost use Rattle.std.specs.Prelude.{◌≡◌};
+ghost use Rattle.sym_top.specs.Statuses.{number_of};
+
+/// How a run ends. The number is the program's exit status.
+#[derive(Clone, Copy, Debug, PartialEq, Eq)]
+pub enum Status {
+    /// The report was written, and no row is faulty.
+    Done,
+    /// The report was written, and a row is faulty.
+    Faulted,
+    /// The words aren't those of a command.
+    Usage,
+    /// The script isn't one that may be run.
+    Script,
+    /// The file can't be read as records.
+    Input,
+    /// A read failed.
+    ReadFault,
+    /// A write failed.
+    WriteFault,
+    /// The script or the file has too many bytes.
+    TooLarge,
+    /// An allocation was refused.
+    NoMemory,
+}
+
+/// The status as a process gives it: 0 to 8, in the order above.
+pub fn number(status: Status) -> u8
+    ensures { result ≡ number_of status }
+{
+    match status {
+        Status::Done => 0,
+        Status::Faulted => 1,
+        Status::Usage => 2,
+        Status::Script => 3,
+        Status::Input => 4,
+        Status::ReadFault => 5,
+        Status::WriteFault => 6,
+        Status::TooLarge => 7,
+        Status::NoMemory => 8,
+    }
+}
