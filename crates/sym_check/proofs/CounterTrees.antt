@@ -18,7 +18,7 @@ use Rattle.sym_base.specs.Trees.{ScriptTree, TestTree, ColumnTree, ExprTree, Num
 use Rattle.sym_base.specs.Counters.{Counter, Amount, Fixed, OfField, IsAmount, IsNumber, IsCounter, IsCounterTree, counter_tree, amount_tree, num_max}
 use Rattle.sym_check.specs.CounterTrees.{counter_of, is_counter, is_number, is_amount, only_counter, same_text, amount_of, changed, change_of, range_of, name_of, plain_field, single, Range, Change, gathered}
 
-le-Decides : (a b : ℤ) → Decides (int_le a b) (a ≤ℤ b)
+pub le-Decides : (a b : ℤ) → Decides (int_le a b) (a ≤ℤ b)
 le-Decides a b = (λ e. grind (arith, ints), λ h. grind (arith, ints))
 
 text-Decides : (x y : List ℕ) → Decides (same_text x y) (x ≡ y)

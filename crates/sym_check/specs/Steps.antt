@@ -1,9 +1,10 @@
 -- The sequential meaning: what one record does to a group, and what many do.
-use Rattle.std.specs.Prelude.{ℕ, ℤ, pos, ◌+ℤ◌, int_le, cond, ◌&&◌, List, [], ◌∷◌, Option, Some, slice_get}
+use Rattle.std.specs.Prelude.{◌≡◌, Bool, ℕ, ℤ, pos, ◌+ℤ◌, ◌≤ℤ◌, int_le, map, cond, ◌&&◌, List, [], ◌∷◌, Option, Some, slice_get}
 use Rattle.sym_base.specs.declared.value.Value.{Value}
 use Rattle.sym_base.specs.declared.value.Value.TheVariants as value
 use Rattle.sym_base.specs.declared.value.Key.{Key}
 use Rattle.sym_base.specs.declared.value.Key.TheVariants.{Whole}
+use Rattle.sym_base.specs.contracts.value.KeyPartialEq.TheImpl as same_key
 use Rattle.sym_base.specs.declared.record.Record.{Record}
 use Rattle.sym_base.specs.declared.state.Cell.{Cell}
 use Rattle.sym_base.specs.declared.state.Cell.TheVariants as cell
@@ -74,11 +75,42 @@ adding lo hi addend state rec = assigned state 0 lo hi (int_at state 0 +ℤ adde
 abbrev pub counting : Counter → Update
 counting c = adding c.lo c.hi (addend_of c.amount)
 
--- The groups of records in order of first appearance, each with how it stands after its records.
--- A counter has no group line: all records are of one group, and without records there is none.
+-- A state that fits a counter: its one cell holds an integer in the range.
+pub record IsValid (c : Counter) (state : State) : Type 0 where
+  pub value : ℤ
+  pub cells : state.cells ≡ cell.Int value ∷ []
+  pub above : c.lo ≤ℤ value
+  pub below : value ≤ℤ c.hi
+
+-- A group that goes on does so with a valid state.
+abbrev pub IsValidOutcome : Counter → Outcome → Type 0
+IsValidOutcome c (Going state) = IsValid c state
+IsValidOutcome c (Ended fault) = Unit {0}
+
+-- The key of a record's group. A counter has no group line: all records are of one group.
+abbrev pub key_of : Record → Key
+key_of rec = Whole
+
+abbrev pub is_key : Key → Key → Bool
+is_key k other = (same_key.ghosts).eq k other
+
+-- The records of a key, in order.
+abbrev pub records_with : Key → List Record → List Record
+records_with k [] = []
+records_with k (rec ∷ rest) = cond (is_key (key_of rec) k) (rec ∷ records_with k rest) (records_with k rest)
+
+abbrev pub without : Key → List Key → List Key
+without k [] = []
+without k (other ∷ rest) = cond (is_key other k) (without k rest) (other ∷ without k rest)
+
+-- The distinct keys of records, in order of first appearance.
+abbrev pub keys : List Record → List Key
+keys [] = []
+keys (rec ∷ rest) = key_of rec ∷ without (key_of rec) (keys rest)
+
+-- Each key with how its group stands after its records.
 abbrev pub grouped : Update → State → List Record → List (Key × Outcome)
-grouped update first [] = []
-grouped update first (rec ∷ rest) = (Whole, after update (rec ∷ rest) (Going first)) ∷ []
+grouped update first records = map (λ k. (k, after update (records_with k records) (Going first))) (keys records)
 
 abbrev pub groups : Counter → List Record → List (Key × Outcome)
 groups c = grouped (counting c) (initial c)

@@ -1,19 +1,13 @@
 -- The relation between a text and its counters agrees with reading the text.
-use Rattle.std.proofs.Common.{◌≡◌, ◌↔◌, ℕ, ℤ, pos, neg_ℤ, ◌≤ℤ◌, Bool, true, false, not, cond, ◌&&◌, int_le, List, [], ◌∷◌, Option, Some, None, refl, ap, ◌∙◌, sym, subst, arith}
-use Rattle.std.proofs.lemmas.Option.{same_Some, cond_some}
-use Rattle.std.proofs.lemmas.Slice.Eq.{bytes_eq-Decides}
-use Rattle.std.specs.List.{list_all}
-use Rattle.std.specs.Str.{bytes_eq}
+use Rattle.std.proofs.Common.{◌≡◌, ◌↔◌, ℕ, true, List, [], ◌∷◌, Option, Some, refl, ap, ◌∙◌, subst}
+use Rattle.std.proofs.lemmas.Option.{cond_some}
 use Rattle.sym_base.specs.declared.tree.name.Name.{Name}
-use Rattle.sym_base.specs.Counters.{Counter, Amount, Fixed, OfField, IsCounter, IsNumber, IsAmount, num_max}
-use Rattle.sym_parse.specs.declared.token.Token.{Token}
+use Rattle.sym_base.specs.Counters.{Counter}
 use Rattle.sym_parse.specs.Lexical.{tokens_of}
-use Rattle.sym_parse.specs.Terminals.{Terminal, Lexeme, lexemes_of, are_sound}
+use Rattle.sym_parse.specs.Terminals.{Lexeme, lexemes_of}
 use Rattle.sym_parse.specs.Reading as read
 use Rattle.sym_parse.specs.Reading.{◌>>=◌, keeps_rules, counter_at, counter_of, counter_form}
-use Rattle.sym_parse.specs.Grammar.{Written, value, Spelled, Spells, nothing, IsBuilt, IsText, spelling}
-use Rattle.sym_parse.specs.Grammar as spell
-use Rattle.sym_parse.proofs.Letters.{both, join}
+use Rattle.sym_parse.specs.Grammar.{Written, value, Spells, nothing, IsText, spelling}
 use Rattle.sym_parse.proofs.Spelling.{steps, field_line_spelled, cell_line_spelled, range_line_spelled, update_line_spelled, report_line_spelled, field_line_read, cell_line_read, range_line_read, update_line_read, report_line_read}
 use Rattle.sym_parse.proofs.Rules.{counter-lawful, rules-kept}
 use Rattle.sym_parse.proofs.Sound.{tokens-sound}

@@ -1,11 +1,11 @@
 -- A token lies within its text, and its bytes suit its kind.
-use Rattle.std.proofs.Common.{◌≡◌, ℕ, zero, suc, pos, ◌+◌, ◌-◌, ◌<◌, ◌≤◌, length, Bool, true, false, cond, ◌&&◌, not, nat_eq, nat_lt, nat_le, int_le, List, [], ◌∷◌, ◌++◌, Option, Some, None, option_map, IfSome, drop, take, refl, ap, ◌∙◌, sym, subst, arith, length-append}
+use Rattle.std.proofs.Common.{◌≡◌, ℕ, pos, ◌+◌, ◌<◌, ◌≤◌, length, Bool, true, false, cond, ◌&&◌, not, nat_eq, nat_lt, nat_le, int_le, List, [], ◌∷◌, ◌++◌, Option, Some, None, option_map, IfSome, drop, take, refl, ap, subst, arith, length-append}
 use Rattle.std.proofs.lemmas.Option.{same_Some, cond_some}
 use Rattle.std.proofs.lemmas.Bool.Decides.{nat_tests, Decides-eqb}
 use Rattle.std.proofs.lemmas.Slice.Eq.{starts_is}
 use Rattle.std.proofs.lemmas.List.Sums.{prefix_len-le-length}
 use Rattle.std.specs.List.{find, list_all, prefix_len, starts_with, take_while}
-use Rattle.std.specs.Char.{is_ascii_alphabetic, is_ascii_digit}
+use Rattle.std.specs.Char.{is_ascii_digit}
 use Rattle.sym_parse.specs.declared.token.Found.{Found}
 use Rattle.sym_parse.specs.declared.token.TokenKind.TheVariants as kind
 use Rattle.sym_parse.specs.declared.token.Symbol.{Symbol}

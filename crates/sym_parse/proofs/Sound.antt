@@ -1,14 +1,14 @@
 -- The tokens of a text lie within it, and their bytes suit their kinds.
-use Rattle.std.proofs.Common.{◌≡◌, ℕ, zero, suc, ◌+◌, ◌-◌, ◌<◌, ◌≤◌, Bool, true, false, cond, ◌&&◌, nat_le, List, [], ◌∷◌, ◌++◌, Option, Some, None, option_map, length, take, drop, refl, ap, ◌∙◌, sym, subst, arith, length-append, append_assoc}
-use Rattle.std.proofs.lemmas.Bool.Decides.{Decides-ltb, nat_tests}
+use Rattle.std.proofs.Common.{◌≡◌, ℕ, zero, suc, ◌+◌, ◌-◌, ◌≤◌, Bool, true, false, cond, nat_le, List, [], ◌∷◌, ◌++◌, Option, Some, None, option_map, length, take, drop, refl, subst, arith, length-append, append_assoc}
+use Rattle.std.proofs.lemmas.Bool.Decides.{nat_tests}
 use Rattle.std.proofs.Math.Seq.{drop-append_seam}
 use Rattle.std.proofs.lemmas.Option.{same_Some}
-use Rattle.std.specs.List.{list_all, prefix_len}
+use Rattle.std.specs.List.{prefix_len}
 use Rattle.sym_parse.specs.declared.token.Found.{Found}
 use Rattle.sym_parse.specs.declared.token.Token.{Token}
 use Rattle.sym_parse.specs.Lexical.{tokens_from, tokens_of, with_token, found_at, is_blank, is_hash, is_commented}
-use Rattle.sym_parse.specs.Terminals.{are_sound, is_sound, is_lawful, token_text}
-use Rattle.sym_parse.proofs.Letters.{both, join}
+use Rattle.sym_parse.specs.Terminals.{are_sound, is_sound, token_text}
+use Rattle.sym_parse.proofs.Letters.{join}
 use Rattle.sym_parse.proofs.Sizes.{Fits, found-fits}
 
 abbrev token : ℕ → Found → Token

@@ -1,5 +1,5 @@
 -- Reading the counter form finds what is spelled, and only that.
-use Rattle.std.proofs.Common.{◌≡◌, ℕ, ℤ, neg_ℤ, Bool, true, false, cond, List, [], ◌∷◌, Option, Some, None, option_map, refl, ap, ◌∙◌, sym, subst, arith}
+use Rattle.std.proofs.Common.{◌≡◌, ℕ, ℤ, neg_ℤ, Bool, true, false, cond, List, [], ◌∷◌, Option, Some, None, option_map, refl, ap, sym, subst}
 use Rattle.std.proofs.lemmas.Option.{same_Some, cond_some}
 use denote.Enum.Bare.{same_true}
 use Rattle.sym_base.specs.declared.tree.name.Name.{Name}

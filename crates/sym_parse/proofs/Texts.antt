@@ -9,8 +9,8 @@ use Rattle.sym_parse.specs.Scripts.{Gives}
 use Rattle.sym_parse.specs.declared.token.Token.{Token}
 use Rattle.sym_parse.specs.Lexical.{tokens_of}
 use Rattle.sym_parse.specs.Terminals.{lexemes_of}
-use Rattle.sym_parse.specs.Grammar.{Accepts, IsText}
-use Rattle.sym_parse.specs.Reading.{◌>>=◌, counter_at, counter_of}
+use Rattle.sym_parse.specs.Grammar.{Accepts}
+use Rattle.sym_parse.specs.Reading.{counter_at, counter_of}
 use Rattle.sym_parse.proofs.Agreement.{agrees}
 
 pub at-none : (text : List ℕ) → tokens_of text ≡ None → counter_at text ≡ None

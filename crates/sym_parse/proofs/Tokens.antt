@@ -1,12 +1,12 @@
 -- Steps of the tokens of a text.
-use Rattle.std.proofs.Common.{◌≡◌, ℕ, zero, suc, ◌+◌, ◌-◌, ◌<◌, ◌≤◌, length, Bool, true, false, cond, List, [], ◌∷◌, ◌++◌, Option, Some, None, option_map, drop, take, refl, ap, ◌∙◌, sym, subst, add-zero, add-one, add_assoc, append_assoc, arith, length-drop}
+use Rattle.std.proofs.Common.{◌≡◌, ℕ, zero, suc, ◌+◌, ◌-◌, ◌<◌, ◌≤◌, length, Bool, true, false, cond, List, [], ◌∷◌, ◌++◌, Option, Some, None, option_map, drop, refl, ap, ◌∙◌, sym, add-zero, append_assoc, arith, length-drop}
 use Rattle.std.proofs.Math.ListN.{drop_of_length-le}
 use Rattle.std.proofs.lemmas.List.{append-nil, drop-drop}
 use Rattle.std.proofs.lemmas.List.Sums.{prefix_len-le-length}
 use Rattle.std.specs.List.{prefix_len}
 use Rattle.sym_parse.specs.declared.token.Found.{Found}
 use Rattle.sym_parse.specs.declared.token.Token.{Token}
-use Rattle.sym_parse.specs.Lexical.{tokens_from, tokens_of, with_token, found_at, is_blank, is_hash, is_commented}
+use Rattle.sym_parse.specs.Lexical.{tokens_from, with_token, found_at, is_blank, is_hash, is_commented}
 use Rattle.sym_parse.specs.Lexing.{gap_size}
 
 -- The bytes of what began before are passed over.

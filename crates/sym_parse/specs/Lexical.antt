@@ -1,5 +1,5 @@
 -- Lexical rules: how the bytes of a text fall into blanks, comments and tokens.
-use Rattle.std.specs.Prelude.{ℕ, zero, suc, ◌+◌, ◌-◌, Bool, true, false, not, cond, ◌==◌, ◌||◌, ◌&&◌, nat_eq, nat_le, pos, List, [], ◌∷◌, length, take, drop, Option, Some, None, option_map, codes}
+use Rattle.std.specs.Prelude.{ℕ, zero, suc, ◌+◌, ◌-◌, Bool, false, not, cond, ◌==◌, ◌||◌, ◌&&◌, nat_eq, nat_le, pos, List, [], ◌∷◌, length, drop, Option, Some, None, option_map, codes}
 use Rattle.std.specs.List.{find, prefix_len, take_while, starts_with}
 use Rattle.std.specs.Str.{bytes_eq}
 use Rattle.std.specs.Str.Parse.{digits_value}

@@ -1,5 +1,5 @@
 -- What the parser's own structures say, references aside.
-use Rattle.std.specs.Prelude.{ℤ, List}
+use Rattle.std.specs.Prelude.{List}
 use Rattle.sym_base.specs.declared.tree.name.Name.{Name}
 use Rattle.sym_base.specs.Counters as counters
 use Rattle.sym_parse.specs.declared.cursor.Cursor.{Cursor}

@@ -11,6 +11,8 @@ pub mod error;
 mod lexer;
 mod parser;
 mod reader;
+#[cfg(test)]
+mod tests;
 mod token;
 mod tree;
 

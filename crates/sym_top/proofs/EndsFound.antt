@@ -1,5 +1,5 @@
 -- The end of a run is the one that is found.
-use Rattle.std.proofs.Common.{◌≡◌, ℕ, ◌<◌, ◌≤◌, nat_lt, Bool, true, false, cond, ℤ, List, length, Option, None, Some, refl, ap, subst, ◌∙◌, arith}
+use Rattle.std.proofs.Common.{IsSome, sym, ◌≡◌, ℕ, ◌<◌, ◌≤◌, nat_lt, Bool, true, false, cond, ℤ, List, length, Option, None, Some, refl, ap, subst, ◌∙◌, arith}
 use Rattle.std.proofs.lemmas.Bool.Decides.{nat_tests}
 use Rattle.sym_base.specs.Counters.{Counter}
 use Rattle.sym_parse.specs.Grammar.{IsText}
@@ -8,9 +8,10 @@ use Rattle.sym_parse.specs.Scripts.{Agrees}
 use Rattle.sym_parse.proofs.Agreement.{agrees}
 use Rattle.sym_top.specs.declared.status.Status.TheVariants as status
 use Rattle.sym_top.specs.Commands.{Run, options}
+use Rattle.sym_top.specs.Promises.{TellsFiles}
 use Rattle.sym_top.specs.PlainFiles.{IsPlain}
 use Rattle.sym_top.specs.PlainReading.{numbers_of}
-use Rattle.sym_top.specs.Ends.{End, Files, IsEnd, HasScript, usage, large_script, no_script, large_file, other_file, plain_file, script_max, file_max, refused}
+use Rattle.sym_top.specs.Ends.{report_of, End, Files, IsEnd, HasScript, usage, large_script, no_script, large_file, other_file, plain_file, script_max, file_max, refused}
 use Rattle.sym_top.specs.EndReading.{end_of, run_end, script_end, counter_end, file_end, numbers_end}
 use Rattle.sym_top.proofs.FilesRead.{plain-read, plain-is}
 
@@ -106,3 +107,35 @@ run-is words holds end (Some run) asked e = script-is words holds run end asked 
 
 pub is_end : (words : List (List ℕ)) (holds : Files) (end : End) → end_of words holds ≡ Some end → IsEnd words holds end
 is_end words holds end e = run-is words holds end (options words) refl e
+
+-- There is an end where the store tells both files.
+file-told : (c : Counter) (o : Option (List ℕ)) → IsSome o → (end : End) × (file_end c o ≡ Some end)
+file-told c None h = absurd (cc)
+file-told c (Some bytes) h = by_size (nat_lt file_max (length bytes)) (numbers_of c.field.text bytes)
+  where
+    by_size : (t : Bool) (o : Option (List ℤ)) → (end : End) × (cond t (Some (refused status.TooLarge)) (numbers_end c o) ≡ Some end)
+    by_size true o = (refused status.TooLarge, refl)
+    by_size false None = (refused status.Input, refl)
+    by_size false (Some ns) = (report_of c ns, refl)
+
+counter-told : (o : Option Counter) (file : Option (List ℕ)) → IsSome file → (end : End) × (counter_end o file ≡ Some end)
+counter-told None file h = (refused status.Script, refl)
+counter-told (Some c) file h = file-told c file h
+
+script-told : (o file : Option (List ℕ)) → IsSome o → IsSome file → (end : End) × (script_end o file ≡ Some end)
+script-told None file h k = absurd (cc)
+script-told (Some text) file h k = by_size (nat_lt script_max (length text)) (counter-told (counter_at text) file k)
+  where
+    by_size : (t : Bool) → ((end : End) × (counter_end (counter_at text) file ≡ Some end)) → (end : End) × (cond t (Some (refused status.TooLarge)) (counter_end (counter_at text) file) ≡ Some end)
+    by_size true more = (refused status.TooLarge, refl)
+    by_size false more = more
+
+run-told : (o : Option Run) (holds : Files) → TellsFiles holds o → (end : End) × (run_end o holds ≡ Some end)
+run-told None holds h = (refused status.Usage, refl)
+run-told (Some run) holds h = script-told (holds run.script) (holds run.file) h.0 h.1
+
+pub some_end : (words : List (List ℕ)) (holds : Files) → TellsFiles holds (options words) → (end : End) × IsEnd words holds end
+some_end words holds h = let told = run-told (options words) holds h in (told.0, is_end words holds told.0 told.1)
+
+pub one_end : (words : List (List ℕ)) (holds : Files) (end other : End) → IsEnd words holds end → IsEnd words holds other → end ≡ other
+one_end words holds end other is also = same-end (sym (found words holds end is) ∙ found words holds other also)

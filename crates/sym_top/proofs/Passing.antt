@@ -1,13 +1,14 @@
 -- A file's numbers are those of its body, and some record means one group.
-use Rattle.std.proofs.Common.{◌≡◌, ℕ, ◌+◌, ◌<◌, eqb, Bool, true, false, cond, ℤ, List, [], ◌∷◌, ◌++◌, length, Option, None, Some, refl, sym, ap, arith, length-append}
+use Rattle.std.proofs.Common.{◌∙◌, ◌≡◌, ℕ, ◌+◌, ◌<◌, eqb, Bool, true, false, cond, ℤ, List, [], ◌∷◌, ◌++◌, length, Option, None, Some, refl, sym, ap, arith, length-append}
 use Rattle.sym_base.specs.declared.value.Key.TheVariants.{Whole}
 use Rattle.sym_base.specs.declared.state.State.{State}
 use Rattle.sym_base.specs.declared.state.Outcome.{Outcome}
 use Rattle.sym_base.specs.declared.state.Outcome.TheVariants.{Going}
 use Rattle.sym_check.specs.Steps.{Update, after, grouped}
-use Rattle.sym_top.specs.PlainFiles.{line_feed, records_of}
+use Rattle.sym_check.proofs.Steps.{grouped-some}
+use Rattle.sym_top.specs.PlainFiles.{records_from, line_feed, records_of}
 use Rattle.sym_top.specs.PlainReading.{numbers_behind, numbers_of, numbers_in, number_of, with_number, body_of}
-use Rattle.sym_top.specs.Folds.{folded}
+use Rattle.sym_top.specs.Folds.{record_at, folded}
 
 pub numbers-body : (field bytes body : List ℕ) → 0 < length bytes → body_of field bytes ≡ Some body → numbers_of field bytes ≡ numbers_behind [] body
 numbers-body field [] body h e = absurd (omega arith)
@@ -43,7 +44,7 @@ one-group update first outcome None some e = absurd (cc)
 one-group update first outcome (Some []) some e = absurd (some refl)
 one-group update first outcome (Some (n ∷ ns)) some e =
     let same : after update (records_of (n ∷ ns)) (Going first) ≡ outcome = cc in
-    (n ∷ ns, refl, ap (λ x. (Whole, x) ∷ []) (sym same))
+    (n ∷ ns, refl, ap (λ x. (Whole, x) ∷ []) (sym same) ∙ sym (grouped-some update first (record_at 1 n) (records_from 2 ns)))
 
 pub some-group : (update : Update) (first : State) (outcome : Outcome) (body : List ℕ) → 0 < length body → folded update 1 (Going first) (numbers_behind [] body) ≡ Some outcome → (ns : List ℤ) × (numbers_behind [] body ≡ Some ns) × ((Whole, outcome) ∷ [] ≡ grouped update first (records_of ns))
 some-group update first outcome body h e = one-group update first outcome (numbers_behind [] body) (never-empty [] body (omega arith)) e

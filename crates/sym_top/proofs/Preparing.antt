@@ -3,16 +3,17 @@ use Rattle.std.proofs.Common.{◌≡◌, ℕ, ◌<◌, ◌≤◌, nat_lt, true, 
 use Rattle.std.proofs.lemmas.Bool.Decides.{nat_tests}
 use Rattle.std.specs.declared.vec.Vec.{Vec}
 use Rattle.sym_base.specs.Counters.{Counter, counter_tree}
+use Rattle.sym_parse.specs.Grammar.{IsText}
 use Rattle.sym_check.specs.declared.checked.Checked.{Checked}
 use Rattle.sym_check.specs.CheckedScripts.{checked_tree}
 use Rattle.sym_top.specs.declared.status.Status.{Status}
 use Rattle.sym_top.specs.declared.status.Status.TheVariants.{Done, Faulted, Usage, Script, Input, ReadFault, WriteFault, TooLarge, NoMemory}
 use Rattle.sym_top.specs.declared.compute.Report.{Report}
 use Rattle.sym_base.specs.Counts.{Rose}
-use Rattle.sym_top.specs.Promises.{HasTurn}
+use Rattle.sym_top.specs.Promises.{MayRun}
 use Rattle.sym_top.proofs.EndsFound.{script-agrees}
 use Rattle.sym_top.specs.PlainReading.{numbers_of}
-use Rattle.sym_top.specs.Ends.{End, script_max, file_max, reported}
+use Rattle.sym_top.specs.Ends.{End, script_max, file_max, report_of}
 use Rattle.sym_top.specs.EndReading.{script_end, file_end, numbers_end}
 use Rattle.sym_top.specs.Loading.{ScriptGives, FileGives, ReportGives, EndGives}
 
@@ -66,7 +67,7 @@ file-goes c (Some held) bytes end h e =
 -- The report, or why there is none.
 pub report-ends : (c : Counter) (bytes : List ℕ) (r : Result Report Status) (end : End) → ReportGives c bytes r → numbers_end c (numbers_of c.field.text bytes) ≡ Some end → EndGives end r
 report-ends c bytes (Ok report) end h e =
-    let same : end ≡ reported c h.0 = same-end (sym (ap (numbers_end c) h.1) ∙ e) in
+    let same : end ≡ report_of c h.0 = same-end (sym (ap (numbers_end c) h.1) ∙ e) in
     (h.3 ∙ ap (λ (x : End). x.status) (sym same), h.2 ∙ ap (λ (x : End). x.text) (sym same))
 report-ends c bytes (Err Input) end h e = same-end (sym (ap (numbers_end c) h) ∙ e)
 report-ends c bytes (Err NoMemory) end h e = tt
@@ -79,10 +80,15 @@ report-ends c bytes (Err Usage) end h e = absurd h
 report-ends c bytes (Err WriteFault) end h e = absurd h
 
 -- A script that was accepted is one that may be run.
-pub script-turn : (o : Option (List ℕ)) (checked : Checked) → IfSome o (λ text. ScriptGives text (Ok checked)) → HasTurn o
+pub script-turn : (o : Option (List ℕ)) (checked : Checked) → IfSome o (λ text. ScriptGives text (Ok checked)) → MayRun o
 script-turn None checked h = tt
 script-turn (Some text) checked h = (h.small, (h.counter, (script-agrees text h.counter).1 h.found))
 
 -- A count that rose later rose.
 pub rose-later : (first mid last : ℕ) → first ≤ mid → Rose mid last → Rose first last
 rose-later first mid last h r = omega arith
+
+-- A text that is refused as no script is none.
+pub script-none : (o : Option (List ℕ)) → IfSome o (λ text. ScriptGives text (Err Script)) → IfSome o (λ text. (length text ≤ script_max) × ((c : Counter) → IsText text c → ⊥))
+script-none None h = tt
+script-none (Some text) h = (h.0, λ c is. let t = (script-agrees text c).0 is in cc)

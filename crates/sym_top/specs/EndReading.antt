@@ -4,12 +4,12 @@ use Rattle.sym_base.specs.Counters.{Counter}
 use Rattle.sym_parse.specs.Reading.{counter_at}
 use Rattle.sym_top.specs.declared.status.Status.TheVariants as status
 use Rattle.sym_top.specs.Commands.{Run, options}
-use Rattle.sym_top.specs.Ends.{End, Files, script_max, file_max, refused, reported}
+use Rattle.sym_top.specs.Ends.{End, Files, script_max, file_max, refused, report_of}
 use Rattle.sym_top.specs.PlainReading.{numbers_of}
 
 abbrev pub numbers_end : Counter → Option (List ℤ) → Option End
 numbers_end c None = Some (refused status.Input)
-numbers_end c (Some ns) = Some (reported c ns)
+numbers_end c (Some ns) = Some (report_of c ns)
 
 abbrev pub file_end : Counter → Option (List ℕ) → Option End
 file_end c None = None

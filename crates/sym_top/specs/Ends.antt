@@ -1,5 +1,7 @@
 -- What a run comes to: its status and its text, as a relation in the words of the subject.
-use Rattle.std.specs.Prelude.{◌≡◌, ℕ, ◌<◌, ◌≤◌, List, [], length, cond, Option, None, Some, ℤ}
+use Rattle.std.specs.Prelude.{◌≡◌, ℕ, ◌<◌, ◌≤◌, List, [], length, cond, map, ◌∷◌, Option, None, Some, ℤ}
+use Rattle.sym_base.specs.declared.value.Key.{Key}
+use Rattle.sym_base.specs.declared.state.Outcome.{Outcome}
 use Rattle.sym_base.specs.Counters.{Counter}
 use Rattle.sym_check.specs.Steps.{groups}
 use Rattle.sym_parse.specs.Grammar.{IsText}
@@ -7,7 +9,7 @@ use Rattle.sym_top.specs.declared.status.Status.{Status}
 use Rattle.sym_top.specs.declared.status.Status.TheVariants as status
 use Rattle.sym_top.specs.Commands.{Run, options}
 use Rattle.sym_top.specs.PlainFiles.{IsPlain, records_of}
-use Rattle.sym_top.specs.Tables.{table_text, some_faulty}
+use Rattle.sym_top.specs.Tables.{Row, row_of, table_text, some_faulty}
 
 pub record End : Type 0 where
   pub status : Status
@@ -24,12 +26,20 @@ file_max = 67108864
 abbrev pub refused : Status → End
 refused s = record { status = s; text = [] }
 
--- A counter's report over the records of these numbers: Faulted where a row is faulty.
-abbrev pub reported : Counter → List ℤ → End
-reported c ns = record {
-  status = cond (some_faulty (groups c (records_of ns))) status.Faulted status.Done;
-  text = table_text c.column.text c.cell.text (groups c (records_of ns));
+-- The rows of a counter's report.
+abbrev pub rows_of : Counter → List (Key × Outcome) → List Row
+rows_of c = map (row_of (c.cell.text ∷ []))
+
+-- A report of rows under the counter's column: Faulted where a row is faulty.
+abbrev pub reported : Counter → List Row → End
+reported c rows = record {
+  status = cond (some_faulty rows) status.Faulted status.Done;
+  text = table_text (c.column.text ∷ []) rows;
 }
+
+-- The report of one sequential pass over the records of these numbers.
+abbrev pub report_of : Counter → List ℤ → End
+report_of c ns = reported c (rows_of c (groups c (records_of ns)))
 
 -- What stands in a store of the files that a run names, as far as the store tells it.
 abbrev pub Files : Type 0
@@ -50,4 +60,4 @@ pub data IsEnd (words : List (List ℕ)) (holds : Files) : End → Type 0 where
   no_script : (run : Run) (text : List ℕ) → options words ≡ Some run → holds run.script ≡ Some text → length text ≤ script_max → ((c : Counter) → IsText text c → ⊥) → IsEnd words holds (refused status.Script)
   large_file : (run : Run) (c : Counter) (bytes : List ℕ) → HasScript words holds run c → holds run.file ≡ Some bytes → file_max < length bytes → IsEnd words holds (refused status.TooLarge)
   other_file : (run : Run) (c : Counter) (bytes : List ℕ) → HasScript words holds run c → holds run.file ≡ Some bytes → length bytes ≤ file_max → ((ns : List ℤ) → IsPlain c.field.text bytes ns → ⊥) → IsEnd words holds (refused status.Input)
-  plain_file : (run : Run) (c : Counter) (bytes : List ℕ) (ns : List ℤ) → HasScript words holds run c → holds run.file ≡ Some bytes → length bytes ≤ file_max → IsPlain c.field.text bytes ns → IsEnd words holds (reported c ns)
+  plain_file : (run : Run) (c : Counter) (bytes : List ℕ) (ns : List ℤ) → HasScript words holds run c → holds run.file ≡ Some bytes → length bytes ≤ file_max → IsPlain c.field.text bytes ns → IsEnd words holds (report_of c ns)

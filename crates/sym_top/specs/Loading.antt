@@ -10,7 +10,7 @@ use Rattle.sym_parse.specs.Reading.{counter_at}
 use Rattle.sym_top.specs.declared.compute.Report.{Report}
 use Rattle.sym_top.specs.declared.status.Status.{Status}
 use Rattle.sym_top.specs.declared.status.Status.TheVariants.{Done, Faulted, Script, Input, ReadFault, WriteFault, TooLarge, NoMemory}
-use Rattle.sym_top.specs.Ends.{End, script_max, file_max, refused, reported}
+use Rattle.sym_top.specs.Ends.{End, script_max, file_max, refused, report_of}
 use Rattle.sym_top.specs.PlainReading.{numbers_of}
 
 -- The checked script of a text.
@@ -54,7 +54,7 @@ IsScriptRefusal status = IsFileRefusal status
 
 -- The report of a counter over a file, or why there is none.
 abbrev pub ReportGives : Counter → List ℕ → Result Report Status → Type 0
-ReportGives c bytes (Ok report) = (ns : List ℤ) × (numbers_of c.field.text bytes ≡ Some ns) × (report.text.items ≡ (reported c ns).text) × (report.status ≡ (reported c ns).status)
+ReportGives c bytes (Ok report) = (ns : List ℤ) × (numbers_of c.field.text bytes ≡ Some ns) × (report.text.items ≡ (report_of c ns).text) × (report.status ≡ (report_of c ns).status)
 ReportGives c bytes (Err Input) = numbers_of c.field.text bytes ≡ None
 ReportGives c bytes (Err NoMemory) = Unit {0}
 ReportGives c bytes (Err _) = ⊥

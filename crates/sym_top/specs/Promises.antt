@@ -1,5 +1,5 @@
 -- What the top call promises of each status, over any store and sink.
-use Rattle.std.specs.Prelude.{◌≡◌, ℕ, ◌≤◌, List, Option, None, Some, ◌⊎◌, length}
+use Rattle.std.specs.Prelude.{◌≡◌, ℕ, ◌≤◌, List, Option, None, Some, IfSome, IsSome, ◌⊎◌, length}
 use Rattle.sym_base.specs.Counts.{Rose}
 use Rattle.sym_base.specs.Counters.{Counter}
 use Rattle.sym_parse.specs.Grammar.{IsText}
@@ -30,16 +30,16 @@ IsReported Faulted = Unit {0}
 IsReported _ = ⊥
 
 -- Where the store tells the script, it is one that may be run.
-abbrev pub HasTurn : Option (List ℕ) → Type 0
-HasTurn None = Unit {0}
-HasTurn (Some text) = (length text ≤ script_max) × ((c : Counter) × IsText text c)
+abbrev pub MayRun : Option (List ℕ) → Type 0
+MayRun None = Unit {0}
+MayRun (Some text) = (length text ≤ script_max) × ((c : Counter) × IsText text c)
 
 -- A read failed: that of the script, or that of the file once the script was accepted.
 abbrev pub ReadFailed : Files → (List ℕ → ℕ) → (List ℕ → ℕ) → Option Run → Type 0
 ReadFailed holds before after None = ⊥
 ReadFailed holds before after (Some run) =
     Rose (before run.script) (after run.script)
-    ⊎ (HasTurn (holds run.script) × Rose (before run.file) (after run.file))
+    ⊎ (MayRun (holds run.script) × Rose (before run.file) (after run.file))
 
 -- No fault was counted of a file that the words name.
 abbrev pub NoneFailed : (List ℕ → ℕ) → (List ℕ → ℕ) → Option Run → Type 0
@@ -51,3 +51,13 @@ abbrev pub IsWritten : Status → Status → Type 0
 IsWritten report WriteFault = Unit {0}
 IsWritten report NoMemory = Unit {0}
 IsWritten report result = result ≡ report
+
+-- Where the store tells the script, it is no script that may be run, and isn't too large to tell.
+abbrev pub ScriptRefused : Files → Option Run → Type 0
+ScriptRefused holds None = ⊥
+ScriptRefused holds (Some run) = IfSome (holds run.script) (λ text. (length text ≤ script_max) × ((c : Counter) → IsText text c → ⊥))
+
+-- The store tells both files that the words name.
+abbrev pub TellsFiles : Files → Option Run → Type 0
+TellsFiles holds None = Unit {0}
+TellsFiles holds (Some run) = IsSome (holds run.script) × IsSome (holds run.file)

@@ -1,13 +1,96 @@
--- The text of a report in the form `table`: a heading, a row for each group and an end.
-use Rattle.std.specs.Prelude.{ℕ, List, [], ◌∷◌, ◌++◌, Bool, true, false, ◌||◌, codes}
+-- A report: rows of values or faults, and their text in the form `table`.
+-- Rows and the pass that they show are the SYMPLE paper's (SOSP 2015), the texts this project's profile.
+use Rattle.std.specs.Prelude.{ℕ, ltb, eqb, List, [], ◌∷◌, ◌++◌, map, Bool, true, false, cond, ◌||◌, codes, slice_index_or}
 use Rattle.std.specs.Fmt.{decimal, signed_decimal}
+use Rattle.sym_base.specs.declared.value.Value.TheVariants as value
 use Rattle.sym_base.specs.declared.value.Key.{Key}
-use Rattle.sym_base.specs.declared.state.Fault.{Fault}
+use Rattle.sym_base.specs.declared.value.Key.TheVariants.{Whole, One}
+use Rattle.sym_base.specs.declared.report.Column.{Column}
+use Rattle.sym_base.specs.declared.report.Column.TheVariants as column
+use Rattle.sym_base.specs.declared.report.ReportFault.{ReportFault}
+use Rattle.sym_base.specs.declared.report.ReportFault.TheVariants.{Overflow, Zero}
+use Rattle.sym_base.specs.declared.state.State.{State}
 use Rattle.sym_base.specs.declared.state.FaultKind.{FaultKind}
-use Rattle.sym_base.specs.declared.state.FaultKind.TheVariants.{Over, Arith}
+use Rattle.sym_base.specs.declared.state.FaultKind.TheVariants as kind
 use Rattle.sym_base.specs.declared.state.Outcome.{Outcome}
 use Rattle.sym_base.specs.declared.state.Outcome.TheVariants.{Going, Ended}
 use Rattle.sym_check.specs.Steps.{int_at}
+
+-- What a row shows behind its keys: the columns of a last state, or a fault with its record.
+pub data RowBody : Type 0 where
+  Shows : List Column → RowBody
+  Over : List ℕ → ℕ → RowBody
+  Arith : ℕ → RowBody
+
+pub record Row : Type 0 where
+  pub keys : List Column
+  pub body : RowBody
+
+-- The columns of a state: a counter shows its one cell.
+abbrev pub columns_of : State → List Column
+columns_of state = column.Num (int_at state 0) ∷ []
+
+-- The values of a key; a label's name isn't known yet, since no group has one.
+abbrev pub key_columns : Key → List Column
+key_columns Whole = []
+key_columns (One (value.Num n)) = column.Num n ∷ []
+key_columns (One (value.Word text)) = column.Word text ∷ []
+key_columns (One (value.Label label)) = []
+
+abbrev pub fault_body : List (List ℕ) → FaultKind → ℕ → RowBody
+fault_body names (kind.Over cell) record_no = Over (slice_index_or names cell []) record_no
+fault_body names kind.Arith record_no = Arith record_no
+
+abbrev pub body_of : List (List ℕ) → Outcome → RowBody
+body_of names (Going state) = Shows (columns_of state)
+body_of names (Ended fault) = fault_body names fault.kind fault.no
+
+-- The row of a group, in a script whose cells have these names.
+abbrev pub row_of : List (List ℕ) → (Key × Outcome) → Row
+row_of names group = record { keys = key_columns group.0; body = body_of names group.1 }
+
+-- A row is faulty where it has a fault or a column that couldn't be computed.
+abbrev pub is_bad : Column → Bool
+is_bad (column.Bad fault) = true
+is_bad _ = false
+
+abbrev pub some_bad : List Column → Bool
+some_bad [] = false
+some_bad (c ∷ rest) = is_bad c || some_bad rest
+
+abbrev pub is_faulty : RowBody → Bool
+is_faulty (Shows columns) = some_bad columns
+is_faulty (Over cell record_no) = true
+is_faulty (Arith record_no) = true
+
+abbrev pub some_faulty : List Row → Bool
+some_faulty [] = false
+some_faulty (row ∷ rest) = is_faulty row.body || some_faulty rest
+
+-- A byte of a word; a control character is shown as `?`.
+abbrev pub shown_byte : ℕ → ℕ
+shown_byte b = cond (ltb b 32 || eqb b 127) 63 b
+
+-- Texts with one space between two.
+abbrev pub spaced : List (List ℕ) → List ℕ
+spaced [] = []
+spaced (x ∷ []) = x
+spaced (x ∷ y ∷ rest) = x ++ (codes " " ++ spaced (y ∷ rest))
+
+abbrev pub list_text : List (List ℕ) → List ℕ
+list_text elements = codes "[" ++ (spaced elements ++ codes "]")
+
+abbrev pub bad_text : ReportFault → List ℕ
+bad_text Overflow = codes "overflow"
+bad_text Zero = codes "zero divisor"
+
+abbrev pub value_text : Column → List ℕ
+value_text (column.Num n) = signed_decimal n
+value_text (column.Word text) = map shown_byte text
+value_text (column.Nums ns) = list_text (map signed_decimal ns)
+value_text (column.Words words) = list_text (map (map shown_byte) words)
+value_text column.Nothing = codes "none"
+value_text (column.Bad fault) = bad_text fault
 
 -- Names or values of one row, with ` | ` between two, and the end of the line.
 abbrev pub line_of : List (List ℕ) → List ℕ
@@ -15,32 +98,19 @@ line_of [] = codes "\n"
 line_of (x ∷ []) = x ++ codes "\n"
 line_of (x ∷ y ∷ rest) = x ++ (codes " | " ++ line_of (y ∷ rest))
 
--- What a fault is called, in a script with one cell, whose name this is.
-abbrev pub kind_text : List ℕ → FaultKind → List ℕ
-kind_text cell (Over number) = cell ++ codes " overflows"
-kind_text cell Arith = codes "arithmetic"
+-- The texts behind a row's keys.
+abbrev pub body_texts : RowBody → List (List ℕ)
+body_texts (Shows columns) = map value_text columns
+body_texts (Over cell record_no) = (codes "fault: " ++ (cell ++ (codes " overflows at record " ++ decimal record_no))) ∷ []
+body_texts (Arith record_no) = (codes "fault: " ++ (codes "arithmetic at record " ++ decimal record_no)) ∷ []
 
-abbrev pub fault_text : List ℕ → Fault → List ℕ
-fault_text cell fault = kind_text cell fault.kind ++ (codes " at record " ++ decimal fault.no)
+abbrev pub row_text : Row → List ℕ
+row_text row = line_of (map value_text row.keys ++ body_texts row.body)
 
--- The last text of a row: the column's value, or the fault.
-abbrev pub shown : List ℕ → Outcome → List ℕ
-shown cell (Going state) = signed_decimal (int_at state 0)
-shown cell (Ended fault) = codes "fault: " ++ fault_text cell fault
+abbrev pub rows_text : List Row → List ℕ
+rows_text [] = []
+rows_text (row ∷ rest) = row_text row ++ rows_text rest
 
-abbrev pub rows_text : List ℕ → List (Key × Outcome) → List ℕ
-rows_text cell [] = []
-rows_text cell (group ∷ rest) = line_of (shown cell group.1 ∷ []) ++ rows_text cell rest
-
--- The table of groups that have no key to show, of one column and one cell of these names.
-abbrev pub table_text : List ℕ → List ℕ → List (Key × Outcome) → List ℕ
-table_text column cell rows = line_of (column ∷ []) ++ (rows_text cell rows ++ line_of (codes "--" ∷ []))
-
--- Whether some group ended in a fault.
-abbrev pub is_faulty : Outcome → Bool
-is_faulty (Going state) = false
-is_faulty (Ended fault) = true
-
-abbrev pub some_faulty : List (Key × Outcome) → Bool
-some_faulty [] = false
-some_faulty (group ∷ rest) = is_faulty group.1 || some_faulty rest
+-- The whole table: the line of the heads, a line for each row, and the line of the end.
+abbrev pub table_text : List (List ℕ) → List Row → List ℕ
+table_text heads rows = line_of heads ++ (rows_text rows ++ line_of (codes "--" ∷ []))

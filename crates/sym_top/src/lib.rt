@@ -1,17 +1,21 @@
 //! The top call: words in, report out.
 #![tactic(auto)]
 
-pub mod commands;
-pub mod compute;
+mod commands;
+mod compute;
 pub mod laws;
-pub mod lines;
-pub mod load;
-pub mod numbers;
-pub mod plan;
-pub mod planning;
-pub mod report;
-pub mod status;
-pub mod steps;
-pub mod top;
+mod lines;
+mod load;
+mod numbers;
+mod plan;
+mod planning;
+mod report;
+mod status;
+mod steps;
+mod top;
 
 pub use status::Status;
+pub use top::symple;
+
+#[cfg(test)]
+mod tests;

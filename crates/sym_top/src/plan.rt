@@ -1,8 +1,6 @@
 //! What is kept of a counter while records are folded.
-ghost use Rattle.std.specs.Prelude.{◌≡◌, ◌≤ℤ◌, negsuc, pos, IsSome, IfSome};
 
-use sym_base::{BinOp, CellDecl, Expr, Script, Stmt, Stmts, Text};
-use sym_check::Checked;
+use sym_base::Text;
 
 /// What a counter adds to its cell at a record.
 #[derive(Clone, Copy, Debug)]

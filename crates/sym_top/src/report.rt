@@ -1,8 +1,9 @@
 //! The report's text.
-ghost use Rattle.std.specs.Prelude.{◌≡◌, ◌++◌, List, ℕ, IfOk, OnOk, codes};
+ghost use Rattle.std.specs.Prelude.{◌≡◌, ◌++◌, ◌∷◌, [], map, slice_index_or, List, ℕ, IfOk, OnOk, codes};
 ghost use Rattle.std.specs.Fmt.{decimal, signed_decimal};
 ghost use Rattle.sym_top.specs.Folds.{group_list};
-ghost use Rattle.sym_top.specs.Tables.{kind_text, fault_text, shown, line_of, table_text, some_faulty, is_faulty};
+ghost use Rattle.sym_top.specs.Tables.{row_of, line_of, table_text, some_faulty};
+ghost use Rattle.sym_top.specs.ShownRows.{kind_text, fault_text, shown};
 
 use crate::plan::Plan;
 use crate::steps::int_at;
@@ -10,13 +11,23 @@ use itoa::Buffer;
 use std::alloc::Global;
 use sym_base::{Fault, FaultKind, NoMemory, Outcome, Text};
 
-// Appends what a fault is called.
-fn push_kind(text: &mut Vec<u8>, cell: &Text, kind: FaultKind) -> Result<(), NoMemory>
-    ensures { OnOk result (text.new.items ≡ text.old.items ++ kind_text cell.now kind) }
+// Appends the name of the cell with this number; there is only the first.
+fn push_cell(text: &mut Vec<u8>, name: &Text, cell: u16) -> Result<(), NoMemory>
+    ensures { OnOk result (text.new.items ≡ text.old.items ++ slice_index_or (name.now ∷ []) cell []) }
+{
+    if cell == 0 {
+        text.extend_from_slice(name.as_bytes())?;
+    }
+    Ok(())
+}
+
+// Appends a fault's kind.
+fn push_kind(text: &mut Vec<u8>, name: &Text, kind: FaultKind) -> Result<(), NoMemory>
+    ensures { OnOk result (text.new.items ≡ text.old.items ++ kind_text name.now kind) }
 {
     match kind {
-        FaultKind::Over(_) => {
-            text.extend_from_slice(cell.as_bytes())?;
+        FaultKind::Over(cell) => {
+            push_cell(text, name, cell)?;
             text.extend_from_slice(b" overflows")?;
         }
         FaultKind::Arith => text.extend_from_slice(b"arithmetic")?,
@@ -25,10 +36,12 @@ fn push_kind(text: &mut Vec<u8>, cell: &Text, kind: FaultKind) -> Result<(), NoM
 }
 
 // Appends a fault with its record.
-fn push_fault(text: &mut Vec<u8>, cell: &Text, fault: &Fault) -> Result<(), NoMemory>
-    ensures { OnOk result (text.new.items ≡ text.old.items ++ fault_text cell.now fault.now) }
+#[tactic(auto, using(std::proofs::Common::append_assoc))]
+fn push_fault(text: &mut Vec<u8>, name: &Text, fault: &Fault) -> Result<(), NoMemory>
+    ensures { OnOk result (text.new.items ≡ text.old.items ++ fault_text name.now fault.now) }
 {
-    push_kind(text, cell, fault.kind)?;
+    text.extend_from_slice(b"fault: ")?;
+    push_kind(text, name, fault.kind)?;
     text.extend_from_slice(b" at record ")?;
     let mut buffer = Buffer::new();
     text.extend_from_slice(buffer.format(fault.no).as_bytes())?;
@@ -36,18 +49,15 @@ fn push_fault(text: &mut Vec<u8>, cell: &Text, fault: &Fault) -> Result<(), NoMe
 }
 
 // Appends the last text of a row.
-fn push_shown(text: &mut Vec<u8>, cell: &Text, outcome: &Outcome) -> Result<(), NoMemory>
-    ensures { OnOk result (text.new.items ≡ text.old.items ++ shown cell.now outcome.now) }
+fn push_shown(text: &mut Vec<u8>, name: &Text, outcome: &Outcome) -> Result<(), NoMemory>
+    ensures { OnOk result (text.new.items ≡ text.old.items ++ shown name.now outcome.now) }
 {
     match outcome {
         Outcome::Going(state) => {
             let mut buffer = Buffer::new();
             text.extend_from_slice(buffer.format(int_at(state)).as_bytes())?;
         }
-        Outcome::Ended(fault) => {
-            text.extend_from_slice(b"fault: ")?;
-            push_fault(text, cell, fault)?;
-        }
+        Outcome::Ended(fault) => push_fault(text, name, fault)?,
     }
     Ok(())
 }
@@ -55,7 +65,7 @@ fn push_shown(text: &mut Vec<u8>, cell: &Text, outcome: &Outcome) -> Result<(), 
 /// The table of at most one group.
 #[tactic(auto, using(std::proofs::Common::append_assoc))]
 pub fn table(alloc: Global, plan: &Plan<'_>, group: &Option<Outcome>) -> Result<Vec<u8>, NoMemory>
-    ensures { IfOk result (λ text. text.items ≡ table_text plan.now.column.now plan.now.cell.now (group_list group.now)) }
+    ensures { IfOk result (λ text. text.items ≡ table_text (plan.now.column.now ∷ []) (map (row_of (plan.now.cell.now ∷ [])) (group_list group.now))) }
 {
     let mut text = Vec::from_slice(alloc, plan.column.as_bytes())?;
     text.extend_from_slice(b"\n")?;
@@ -69,7 +79,7 @@ pub fn table(alloc: Global, plan: &Plan<'_>, group: &Option<Outcome>) -> Result<
 
 /// Whether a group ended in a fault.
 pub fn faulty(group: &Option<Outcome>) -> bool
-    ensures { result ≡ some_faulty (group_list group.now) }
+    ensures { (names : List (List ℕ)) → result ≡ some_faulty (map (row_of names) (group_list group.now)) }
 {
     matches!(group, Some(Outcome::Ended(_)))
 }

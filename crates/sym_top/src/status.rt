@@ -1,6 +1,4 @@
 //! How a run ends.
-ghost use Rattle.std.specs.Prelude.{◌≡◌};
-ghost use Rattle.sym_top.specs.Statuses.{number_of};
 
 /// How a run ends. The number is the program's exit status.
 #[derive(Clone, Copy, Debug, PartialEq, Eq)]
@@ -25,19 +23,24 @@ pub enum Status {
     NoMemory,
 }
 
-/// The status as a process gives it: 0 to 8, in the order above.
-pub fn number(status: Status) -> u8
-    ensures { result ≡ number_of status }
-{
-    match status {
-        Status::Done => 0,
-        Status::Faulted => 1,
-        Status::Usage => 2,
-        Status::Script => 3,
-        Status::Input => 4,
-        Status::ReadFault => 5,
-        Status::WriteFault => 6,
-        Status::TooLarge => 7,
-        Status::NoMemory => 8,
+impl Status {
+    ghost use Rattle.std.specs.Prelude.{◌≡◌};
+    ghost use Rattle.sym_top.specs.Statuses.{number_of};
+
+    /// The status as a process gives it: 0 to 8, in the order above.
+    pub fn number(self) -> u8
+        ensures { result ≡ number_of self }
+    {
+        match self {
+            Status::Done => 0,
+            Status::Faulted => 1,
+            Status::Usage => 2,
+            Status::Script => 3,
+            Status::Input => 4,
+            Status::ReadFault => 5,
+            Status::WriteFault => 6,
+            Status::TooLarge => 7,
+            Status::NoMemory => 8,
+        }
     }
 }

@@ -8,7 +8,7 @@ ghost use Rattle.sym_check.specs.CheckedScripts.{checked_tree};
 ghost use Rattle.sym_top.specs.Commands.{options};
 ghost use Rattle.sym_top.specs.Ends.{End, IsEnd, file_max};
 ghost use Rattle.sym_top.specs.Loading.{ReportGives, IsReportRefusal, EndGives, IsStop};
-ghost use Rattle.sym_top.specs.Promises.{Unless, IsRefusal, IsReported, IsWritten, ReadFailed, NoneFailed};
+ghost use Rattle.sym_top.specs.Promises.{Unless, IsRefusal, IsReported, IsWritten, ReadFailed, ScriptRefused, NoneFailed, TellsFiles};
 
 use crate::commands::read_words;
 use crate::compute::{Report, fold_status, report_status};
@@ -48,6 +48,7 @@ fn prepare<F: Store>(alloc: Global, words: &[String], files: &mut F) -> Result<R
     ensures reported { IfOk result (λ report. IsReported report.status) }
     ensures usage { IsErrOf result Status.Usage ↔ (options (map string_bytes words.now) ≡ None) }
     ensures failed { IsErrOf result Status.ReadFault → ReadFailed (F.holds files.old) (F.faults files.old) (F.faults files.new) (options (map string_bytes words.now)) }
+    ensures script { IsErrOf result Status.Script → ScriptRefused (F.holds files.old) (options (map string_bytes words.now)) }
     ensures same { F.holds files.new ≡ F.holds files.old }
     ensures later { (other : List ℕ) → F.faults files.old other ≤ F.faults files.new other }
 {
@@ -73,6 +74,8 @@ fn write_report<O: Sink>(out: &mut O, report: &Report) -> Status
     ensures one { IsWritten report.now.status result }
     ensures failed { result ≡ Status.WriteFault → Rose (O.faults out.old) (O.faults out.new) }
     ensures short { result ≡ Status.NoMemory → Rose (O.short out.old) (O.short out.new) }
+    ensures later { O.faults out.old ≤ O.faults out.new }
+    ensures later_short { O.short out.old ≤ O.short out.new }
 {
     match write_all(out, &report.text) {
         Ok(()) => report.status,
@@ -100,13 +103,19 @@ pub fn symple<F: Store, O: Sink, E: Sink>(
 ) -> Status
     ensures expected { (end : End) → IsEnd (map string_bytes words.now.items) (F.holds files.old) end → Unless result ((result ≡ end.status) × (O.written out.new ≡ appended (O.written out.old) end.text)) }
     ensures usage { (result ≡ Status.Usage) ↔ (options (map string_bytes words.now.items) ≡ None) }
-    ensures refused { IsRefusal result → O.written out.new ≡ O.written out.old }
+    ensures script { result ≡ Status.Script → ScriptRefused (F.holds files.old) (options (map string_bytes words.now.items)) }
+    ensures refused { IsRefusal result → out.new ≡ out.old }
     ensures read_failed { result ≡ Status.ReadFault → ReadFailed (F.holds files.old) (F.faults files.old) (F.faults files.new) (options (map string_bytes words.now.items)) }
     ensures write_failed { result ≡ Status.WriteFault → Rose (O.faults out.old) (O.faults out.new) }
     ensures written { (end : End) → IsEnd (map string_bytes words.now.items) (F.holds files.old) end → result ≡ Status.WriteFault → IsReported end.status × AppendsPrefix (O.written out.old) (O.written out.new) end.text }
-    ensures memory { result ≡ Status.NoMemory → (O.written out.new ≡ O.written out.old) ⊎ (Rose (O.short out.old) (O.short out.new) × ((end : End) → IsEnd (map string_bytes words.now.items) (F.holds files.old) end → IsReported end.status × AppendsPrefix (O.written out.old) (O.written out.new) end.text)) }
+    ensures memory { result ≡ Status.NoMemory → (out.new ≡ out.old) ⊎ (Rose (O.short out.old) (O.short out.new) × ((end : End) → IsEnd (map string_bytes words.now.items) (F.holds files.old) end → IsReported end.status × AppendsPrefix (O.written out.old) (O.written out.new) end.text)) }
     ensures complete { (end : End) → IsEnd (map string_bytes words.now.items) (F.holds files.old) end → IsReported end.status → NoneFailed (F.faults files.old) (F.faults files.new) (options (map string_bytes words.now.items)) → (Rose (O.faults out.old) (O.faults out.new) → ⊥) → (result ≡ Status.NoMemory) ⊎ ((result ≡ end.status) × (O.written out.new ≡ appended (O.written out.old) end.text)) }
+    ensures ends { TellsFiles (F.holds files.old) (options (map string_bytes words.now.items)) → (end : End) × IsEnd (map string_bytes words.now.items) (F.holds files.old) end }
+    ensures one_end { (end other : End) → IsEnd (map string_bytes words.now.items) (F.holds files.old) end → IsEnd (map string_bytes words.now.items) (F.holds files.old) other → end ≡ other }
     ensures files { F.holds files.new ≡ F.holds files.old }
+    ensures later { (name : List ℕ) → F.faults files.old name ≤ F.faults files.new name }
+    ensures later_out { O.faults out.old ≤ O.faults out.new }
+    ensures later_short { O.short out.old ≤ O.short out.new }
     ensures err { err.new ≡ err.old }
 {
     let _unused = err;

@@ -1,5 +1,5 @@
 -- A symbol lies within the text, and has a byte or two.
-use Rattle.std.proofs.Common.{◌≡◌, IfSome, sym, subst, Option, ◌<◌, ◌≤◌, length}
+use Rattle.std.proofs.Common.{IfSome, sym, subst, Option, ◌<◌, ◌≤◌, length}
 use Rattle.sym_parse.specs.declared.token.Found.{Found}
 use Rattle.sym_parse.proofs.Sizes.{symbol-within}
 use Rattle.sym_parse.proofs.lexer.find_token.Goals as goal

@@ -1,7 +1,7 @@
 -- Each turn passes over a blank or a comment, or takes one token.
-use Rattle.std.proofs.Common.{◌≡◌, ◌+◌, ◌<◌, ◌≤◌, ℕ, List, length, length-drop, drop, Some, None, ◌∙◌, sym, ap, subst, arith}
+use Rattle.std.proofs.Common.{◌≡◌, ◌+◌, ◌≤◌, List, length, length-drop, drop, Some, ◌∙◌, sym, ap, arith}
 use Rattle.sym_parse.specs.declared.token.Token.{Token}
-use Rattle.sym_parse.specs.Lexical.{tokens_of, found_at}
+use Rattle.sym_parse.specs.Lexical.{found_at}
 use Rattle.sym_parse.specs.Lexing.{gap_size}
 use Rattle.sym_parse.proofs.Tokens.{split, split-gap, split-none, split-some, split-end}
 use Rattle.sym_parse.proofs.lexer.lex.Goals as goal

@@ -1,5 +1,5 @@
 -- A number that is too large stays so, whatever digits follow.
-use Rattle.std.proofs.Common.{◌≡◌, ◌<◌, sym, get_or, refl, arith}
+use Rattle.std.proofs.Common.{sym, get_or, refl, arith}
 use Rattle.sym_parse.proofs.Numbers.{number-large}
 use Rattle.sym_parse.proofs.lexer.number_of.Goals as goal
 

@@ -1,9 +1,8 @@
 -- Each end of the parser says what reading the text says.
-use Rattle.std.proofs.Common.{◌≡◌, Option, Some, None, Err, refl, ap, sym, ◌∙◌}
+use Rattle.std.proofs.Common.{◌≡◌, Some, None, Err, refl, ap, sym, ◌∙◌}
 use Rattle.sym_base.specs.Trees.{script_tree}
 use Rattle.sym_parse.specs.Lexical.{tokens_of}
 use Rattle.sym_parse.specs.Reading.{counter_at}
-use Rattle.sym_parse.specs.Terminals.{are_sound}
 use Rattle.sym_parse.specs.Views.{counter_view}
 use Rattle.sym_parse.proofs.Agreement.{agrees}
 use Rattle.sym_parse.proofs.Sound.{tokens-sound}

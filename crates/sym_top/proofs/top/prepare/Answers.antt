@@ -1,10 +1,11 @@
-use Rattle.std.proofs.Common.{◌≡◌, Global, Err, ap, subst, inr, ◌∙◌}
-use Rattle.sym_top.specs.declared.status.Status.TheVariants.{ReadFault}
+use Rattle.std.proofs.Common.{IfSome, ◌≡◌, Global, Err, ap, subst, inr, ◌∙◌}
+use Rattle.sym_top.specs.Loading.{ScriptGives}
+use Rattle.sym_top.specs.declared.status.Status.TheVariants.{ReadFault, Script}
 use Rattle.sym_top.specs.PlainReading.{numbers_of}
 use Rattle.sym_top.specs.EndReading.{run_end, file_end, numbers_end}
-use Rattle.sym_top.specs.Promises.{ReadFailed}
+use Rattle.sym_top.specs.Promises.{ReadFailed, ScriptRefused}
 use Rattle.sym_top.proofs.EndsFound.{found}
-use Rattle.sym_top.proofs.Preparing.{script-stops, script-goes, file-stops, file-goes, report-ends, script-turn, rose-later}
+use Rattle.sym_top.proofs.Preparing.{script-stops, script-goes, file-stops, file-goes, report-ends, script-turn, script-none, rose-later}
 use Rattle.sym_top.proofs.top.prepare.Goals as goal
 
 pub returns-in-Err-clause-told : goal.returns-in-Err-clause-told
@@ -28,3 +29,9 @@ returns-clause-told g c end is =
     let reads = file-goes goes.0 _ c.in-Ok-load_file.bytes end c.in-Ok-load_file.ensures.told (ap (λ h. file_end goes.0 (h c.in-Some.run'.file.now)) c.in-Ok.ensures.same ∙ goes.2) in
     report-ends goes.0 _ c.compute.result end (c.compute.ensures.told goes.0 goes.1)
     (ap (λ b. numbers_end goes.0 (numbers_of goes.0.field.text b)) c.deref.ensures.value ∙ reads)
+
+pub returns-in-Err-clause-script : goal.returns-in-Err-clause-script
+returns-in-Err-clause-script g c refused =
+    let same : c.in-Err.status ≡ Script = cc in
+    subst (λ o. ScriptRefused (g.F.Store.holds c.args.files.now) o) c.in-Some.ensures
+    (script-none _ (subst (λ s. IfSome (g.F.Store.holds c.args.files.now c.in-Some.run'.script.now) (λ text. ScriptGives text (Err s))) same c.in-Err.ensures.told))
