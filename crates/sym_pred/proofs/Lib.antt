@@ -1,0 +1,5 @@
+pub mod EntriesLemmas
+pub mod FactsLemmas
+pub mod MeaningLemmas
+pub mod DifferenceLemmas
+pub mod MergedLemmas
