@@ -44,13 +44,13 @@ atom-set (x ∷ xs) (suc i) zero d = refl
 atom-set (x ∷ xs) (suc i) (suc k) d = atom-set xs i k d
 
 pub Many-atoms : (left right : List Literal) (i : ℕ) (d : Literal) → atom_cmp (atom_of (get_or left i d)) (atom_of (get_or right i d)) ≢ Equal → IsDifference left right Many
-Many-atoms left right i d apart =
-    ( λ same. apart (ap (λ (xs : List Literal). atom_cmp (atom_of (get_or left i d)) (atom_of (get_or xs i d))) same ∙ tied_itself atom_cmp-total (atom_of (get_or left i d)))
-    , λ k e p is.
-        apart (ap (λ (xs : List Literal). atom_cmp (atom_of (get_or left i d)) (atom_of (get_or xs i d))) (is ∙ ap (λ x. set left k (turned x)) (get_or-default left k e d p))
-            ∙ ap (λ (a : Atom). atom_cmp (atom_of (get_or left i d)) a) (atom-set left i k d)
-            ∙ tied_itself atom_cmp-total (atom_of (get_or left i d)))
-    )
+Many-atoms left right i d apart = (
+  λ same. apart (ap (λ (xs : List Literal). atom_cmp (atom_of (get_or left i d)) (atom_of (get_or xs i d))) same ∙ tied_itself atom_cmp-total (atom_of (get_or left i d))),
+  λ k e p is.
+      apart (ap (λ (xs : List Literal). atom_cmp (atom_of (get_or left i d)) (atom_of (get_or xs i d))) (is ∙ ap (λ x. set left k (turned x)) (get_or-default left k e d p))
+      ∙ ap (λ (a : Atom). atom_cmp (atom_of (get_or left i d)) a) (atom-set left i k d)
+      ∙ tied_itself atom_cmp-total (atom_of (get_or left i d))),
+)
 
 -- A turned literal at a place is the only one whose outcome differs.
 turned_there : (left right : List Literal) (k i : ℕ) (d e : Literal) → right ≡ set left k (turned (get_or left k e)) → (get_or left i d).outcome ≡ not (get_or right i d).outcome → i ≡ k
@@ -64,7 +64,7 @@ turned_there left right k i d e is differ =
 front_turned : (left right : List Literal) (p i : ℕ) (d : Literal) → p < i → p < length left → take i right ≡ take i (set left p (turned (get_or left p d))) → (get_or left p d).outcome ≡ not (get_or right p d).outcome
 front_turned left right p i d below inside front =
     let here : get_or right p d ≡ turned (get_or left p d) =
-        sym (get_or-take i right p d below) ∙ ap (λ (xs : List Literal). get_or xs p d) front ∙ get_or-take i (set left p (turned (get_or left p d))) p d below ∙ get_or-set_same left p (turned (get_or left p d)) d inside in
+    sym (get_or-take i right p d below) ∙ ap (λ (xs : List Literal). get_or xs p d) front ∙ get_or-take i (set left p (turned (get_or left p d))) p d below ∙ get_or-set_same left p (turned (get_or left p d)) d inside in
     twice (get_or left p d).outcome (get_or right p d).outcome (ap (λ (x : Literal). x.outcome) here)
   where
     twice : (a b : Bool) → b ≡ not a → a ≡ not b
@@ -73,12 +73,12 @@ front_turned left right p i d below inside front =
 
 pub Many-outcomes : (left right : List Literal) (p i : ℕ) (d : Literal) → p < i → i < length left → take i right ≡ take i (set left p (turned (get_or left p d))) → (get_or left i d).outcome ≡ not (get_or right i d).outcome → IsDifference left right Many
 Many-outcomes left right p i d below inside front differ =
-    let first = front_turned left right p i d below (omega arith) front in
-    ( λ same. not_both _ (ap (λ (xs : List Literal). (get_or xs i d).outcome) same ∙ differ)
-    , λ k e q is.
-        let at_p : p ≡ k = turned_there left right k p d e is first in
-        let at_i : i ≡ k = turned_there left right k i d e is differ in
-        omega arith
+    let first = front_turned left right p i d below (omega arith) front in (
+      λ same. not_both _ (ap (λ (xs : List Literal). (get_or xs i d).outcome) same ∙ differ),
+      λ k e q is.
+          let at_p : p ≡ k = turned_there left right k p d e is first in
+          let at_i : i ≡ k = turned_there left right k i d e is differ in
+          omega arith,
     )
 
 -- ---- a step of the loop
@@ -94,13 +94,13 @@ step-turn left right i d inside long atom outcome front e =
     let one : get_or left i e ≡ get_or left i d = get_or-default left i e d inside in
     let here : get_or right i d ≡ turned (get_or left i e) = same_literal _ _ atom outcome ∙ ap turned (sym one) in
     take_more_same right (set left i (turned (get_or left i e))) i d (omega arith) (omega (arith, length-set left i (turned (get_or left i e))))
-        (front ∙ sym (take-set-le i left i (turned (get_or left i e)) (omega arith)))
-        (here ∙ sym (get_or-set_same left i (turned (get_or left i e)) d inside))
+    (front ∙ sym (take-set-le i left i (turned (get_or left i e)) (omega arith)))
+    (here ∙ sym (get_or-set_same left i (turned (get_or left i e)) d inside))
 
 pub step-after : (left right : List Literal) (p i : ℕ) (d : Literal) → p < i → i < length left → length right ≡ length left → atom_of (get_or right i d) ≡ atom_of (get_or left i d) → (get_or right i d).outcome ≡ (get_or left i d).outcome → (e : Literal) → take i right ≡ take i (set left p (turned (get_or left p e))) → take (i + 1) right ≡ take (i + 1) (set left p (turned (get_or left p e)))
 step-after left right p i d below inside long atom outcome e front =
     take_more_same right (set left p (turned (get_or left p e))) i d (omega arith) (omega (arith, length-set left p (turned (get_or left p e)))) front
-        (same_literal _ _ atom outcome ∙ sym (get_or-set_other left p i (turned (get_or left p e)) d (λ (same : i ≡ p). omega arith)))
+    (same_literal _ _ atom outcome ∙ sym (get_or-set_other left p i (turned (get_or left p e)) d (λ (same : i ≡ p). omega arith)))
 
 -- ---- what a difference says of facts
 
@@ -119,7 +119,7 @@ module _ (left right : FactMap) (xs ys : List Literal) (h : IsInOrder xs) (g : I
   turned_entries i d p v =
       let here = get_or-entries xs i (entry_of d) in
       put-at atom_cmp-total (map entry_of xs) i (entry_of d) (atom_of (get_or xs i d)) v h (rw (length-map xs entry_of) p)
-          (ap (λ (e : Atom × Bool). atom_cmp e.0 (atom_of (get_or xs i d))) here ∙ tied_itself atom_cmp-total (atom_of (get_or xs i d)))
+      (ap (λ (e : Atom × Bool). atom_cmp e.0 (atom_of (get_or xs i d))) here ∙ tied_itself atom_cmp-total (atom_of (get_or xs i d)))
       ∙ ap (λ (e : Atom × Bool). set (map entry_of xs) i (e.0, v)) here
 
   pub Stands-place : (i : ℕ) (d : Literal) → i < length xs → Stands left (atom_of (get_or xs i d)) (get_or xs i d).outcome
@@ -128,19 +128,19 @@ module _ (left right : FactMap) (xs ys : List Literal) (h : IsInOrder xs) (g : I
       ap (λ (m : FactMap). get m (atom_of (get_or xs i d))) (sym is_left)
       ∙ get-from_sorted atom_cmp (map entry_of xs) (atom_of (get_or xs i d)) h
       ∙ find-at atom_cmp-total (map entry_of xs) i (entry_of d) (atom_of (get_or xs i d)) h (rw (length-map xs entry_of) p)
-          (ap (λ (e : Atom × Bool). atom_cmp e.0 (atom_of (get_or xs i d))) here ∙ tied_itself atom_cmp-total (atom_of (get_or xs i d)))
+      (ap (λ (e : Atom × Bool). atom_cmp e.0 (atom_of (get_or xs i d))) here ∙ tied_itself atom_cmp-total (atom_of (get_or xs i d)))
       ∙ ap (λ (e : Atom × Bool). Some e.1) here
 
   pub DifferInOne-One : (i : ℕ) (d : Literal) → i < length xs → ys ≡ set xs i (turned (get_or xs i d)) → DifferInOne left right
   DifferInOne-One i d p is =
       DifferInOne-insert left right (atom_of (get_or xs i d)) (get_or xs i d).outcome (Stands-place i d p)
-          (same_entries_map right (insert left (atom_of (get_or xs i d)) (not (get_or xs i d).outcome))
-              (right_entries
-              ∙ ap (λ (zs : List Literal). map entry_of zs) is
-              ∙ map-set entry_of xs i (turned (get_or xs i d))
-              ∙ sym (turned_entries i d p (not (get_or xs i d).outcome))
-              ∙ ap (λ es. put atom_cmp (atom_of (get_or xs i d)) (not (get_or xs i d).outcome) es) (sym left_entries)
-              ∙ sym (entries-insert atom_cmp-total left (atom_of (get_or xs i d)) (not (get_or xs i d).outcome))))
+      (same_entries_map right (insert left (atom_of (get_or xs i d)) (not (get_or xs i d).outcome))
+      (right_entries
+      ∙ ap (λ (zs : List Literal). map entry_of zs) is
+      ∙ map-set entry_of xs i (turned (get_or xs i d))
+      ∙ sym (turned_entries i d p (not (get_or xs i d).outcome))
+      ∙ ap (λ es. put atom_cmp (atom_of (get_or xs i d)) (not (get_or xs i d).outcome) es) (sym left_entries)
+      ∙ sym (entries-insert atom_cmp-total left (atom_of (get_or xs i d)) (not (get_or xs i d).outcome))))
 
   pub DifferInOne-One-atom : (i : ℕ) (d : Literal) (p : i < length xs) (is : ys ≡ set xs i (turned (get_or xs i d))) → (DifferInOne-One i d p is).atom ≡ atom_of (get_or xs i d)
   unfolding DifferInOne-One
@@ -156,13 +156,13 @@ module _ (left right : FactMap) (xs ys : List Literal) (h : IsInOrder xs) (g : I
       let atom : atom_of (get_or xs found.0 d) ≡ differ.atom = ap (λ (e : Atom × Bool). e.0) (sym here) ∙ atom_cmp-IsAntisymmetric _ _ (found.2 (entry_of d)).0 in
       let outcome : (get_or xs found.0 d).outcome ≡ differ.outcome = ap (λ (e : Atom × Bool). e.1) (sym here) ∙ (found.2 (entry_of d)).1 in
       let es : map entry_of ys ≡ map entry_of (set xs found.0 (turned (get_or xs found.0 d))) =
-          sym right_entries
-          ∙ ap (λ (m : FactMap). entries m) (insert-DifferInOne left right differ)
-          ∙ entries-insert atom_cmp-total left differ.atom (not differ.outcome)
-          ∙ ap (λ es. put atom_cmp differ.atom (not differ.outcome) es) left_entries
-          ∙ (λ i. put atom_cmp (sym atom i) (not (sym outcome i)) (map entry_of xs))
-          ∙ turned_entries found.0 d p (not (get_or xs found.0 d).outcome)
-          ∙ sym (map-set entry_of xs found.0 (turned (get_or xs found.0 d))) in
+      sym right_entries
+      ∙ ap (λ (m : FactMap). entries m) (insert-DifferInOne left right differ)
+      ∙ entries-insert atom_cmp-total left differ.atom (not differ.outcome)
+      ∙ ap (λ es. put atom_cmp differ.atom (not differ.outcome) es) left_entries
+      ∙ (λ i. put atom_cmp (sym atom i) (not (sym outcome i)) (map entry_of xs))
+      ∙ turned_entries found.0 d p (not (get_or xs found.0 d).outcome)
+      ∙ sym (map-set entry_of xs found.0 (turned (get_or xs found.0 d))) in
       many.1 found.0 d p (sym (literal_of-entries ys) ∙ ap (λ (zs : List (Atom × Bool)). map literal_of zs) es ∙ literal_of-entries (set xs found.0 (turned (get_or xs found.0 d))))
 
 -- ---- how far the loop over two lists has come
@@ -214,10 +214,10 @@ module _ (left right : List Literal) (i : ℕ) (x y : Literal) (inside : i < len
 
   pub Front-same : (found : Option ℕ) → Front left right i found → is_ne (atom_cmp (atom_of x) (atom_of y)) ≡ false → x.outcome ≡ y.outcome → Front left right (i + 1) found
   Front-same None front same outcome = step-equal left right i x inside long (atom_at same x) (ap (λ (z : Literal). z.outcome) (right_at x) ∙ sym outcome ∙ ap (λ (z : Literal). z.outcome) (sym (left_at x))) front
-  Front-same (Some place) front same outcome =
-      ( (let p = front.0 in omega arith)
-      , λ e. step-after left right place i x front.0 inside long (atom_at same x) (ap (λ (z : Literal). z.outcome) (right_at x) ∙ sym outcome ∙ ap (λ (z : Literal). z.outcome) (sym (left_at x))) e (front.1 e)
-      )
+  Front-same (Some place) front same outcome = (
+    (let p = front.0 in omega arith),
+    λ e. step-after left right place i x front.0 inside long (atom_at same x) (ap (λ (z : Literal). z.outcome) (right_at x) ∙ sym outcome ∙ ap (λ (z : Literal). z.outcome) (sym (left_at x))) e (front.1 e),
+  )
 
 -- A literal to read in place of one past a list's end.
 pub some_literal : Literal

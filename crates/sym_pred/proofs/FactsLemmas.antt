@@ -58,24 +58,24 @@ get_or-entries xs i d = get_or-map entry_of xs i (literal_of d)
 pub literals-searchable : (xs : List Literal) (atom : Atom) → IsInOrder xs → IsNonDecreasingBy (λ x. ordering_index (atom_cmp (atom_of x) atom)) xs
 literals-searchable xs atom h =
     let rising : IsSortedBy (λ x y. is_lt (atom_cmp (atom_of x) (atom_of y))) xs =
-        λ k d low high.
-            let up = sorted-at atom_cmp-total (map entry_of xs) k (k + 1) (entry_of d) h (omega arith) (rw (length-map xs entry_of) high) in
-            ap is_lt (flipped atom_cmp-total (atom_of (get_or xs k d)) (atom_of (get_or xs (k + 1) d)) (rw (get_or-entries xs k (entry_of d), get_or-entries xs (k + 1) (entry_of d)) at up)) in
+    λ k d low high.
+    let up = sorted-at atom_cmp-total (map entry_of xs) k (k + 1) (entry_of d) h (omega arith) (rw (length-map xs entry_of) high) in
+    ap is_lt (flipped atom_cmp-total (atom_of (get_or xs k d)) (atom_of (get_or xs (k + 1) d)) (rw (get_or-entries xs k (entry_of d), get_or-entries xs (k + 1) (entry_of d)) at up)) in
     searchable_from_sorted atom_cmp-total atom_of xs atom rising
 
 pub searched : (xs : List Literal) (atom : Atom) → IsInOrder xs → (r : Result ℕ ℕ) → IsSearchInRange r (length xs) → IsBinarySearchResult (λ x. atom_cmp (atom_of x) atom) xs r → IsPlace xs atom r
-searched xs atom h (Ok i) range tied =
-    ( range
-    , λ d. atom_cmp-IsAntisymmetric _ _ (tied d)
-    , λ d. rw (get_or-entries xs i (entry_of d)) at (find-at atom_cmp-total (map entry_of xs) i (entry_of d) atom h (rw (length-map xs entry_of) range) (rw (get_or-entries xs i (entry_of d)) (tied d)))
-    )
+searched xs atom h (Ok i) range tied = (
+  range,
+  λ d. atom_cmp-IsAntisymmetric _ _ (tied d),
+  λ d. rw (get_or-entries xs i (entry_of d)) at (find-at atom_cmp-total (map entry_of xs) i (entry_of d) atom h (rw (length-map xs entry_of) range) (rw (get_or-entries xs i (entry_of d)) (tied d))),
+)
 searched xs atom h (Err i) range parted =
     let parts = parted (literals-searchable xs atom h) in
     let below : (k : ℕ) (d : Atom × Bool) → k < i → atom_cmp (get_or (map entry_of xs) k d).0 atom ≡ Less = λ k d p. rw (get_or-entries xs k d) (parts.0 k (literal_of d) (omega arith) p) in
-    let above : (k : ℕ) (d : Atom × Bool) → i ≤ k → k < length (map entry_of xs) → atom_cmp (get_or (map entry_of xs) k d).0 atom ≡ Greater = λ k d p q. rw (get_or-entries xs k d) (parts.1 k (literal_of d) p (rw (length-map xs entry_of) at q)) in
-    ( range
-    , find-between atom_cmp-total (map entry_of xs) i atom below above
-    , λ outcome. put-between atom_cmp-total (map entry_of xs) i atom outcome (rw (length-map xs entry_of) range) below above
+    let above : (k : ℕ) (d : Atom × Bool) → i ≤ k → k < length (map entry_of xs) → atom_cmp (get_or (map entry_of xs) k d).0 atom ≡ Greater = λ k d p q. rw (get_or-entries xs k d) (parts.1 k (literal_of d) p (rw (length-map xs entry_of) at q)) in (
+      range,
+      find-between atom_cmp-total (map entry_of xs) i atom below above,
+      λ outcome. put-between atom_cmp-total (map entry_of xs) i atom outcome (rw (length-map xs entry_of) range) below above,
     )
 
 -- ---- edits at a place
@@ -101,10 +101,10 @@ in_order-longer xs l i h place = subst (λ es. T (is_sorted atom_cmp es)) (sym (
 pub facts-longer : (xs : List Literal) (l : Literal) (i : ℕ) → IsInOrder xs → IsPlace xs (atom_of l) (Err i) → from_sorted {R = atom_cmp} (map entry_of (insert xs i l)) ≡ finite.insert (from_sorted {R = atom_cmp} (map entry_of xs)) (atom_of l) l.outcome
 facts-longer xs l i h place =
     same_entries_map _ _
-        (entries-from_sorted atom_cmp _ (in_order-longer xs l i h place)
-        ∙ entries-longer xs l i place
-        ∙ ap (λ es. put atom_cmp (atom_of l) l.outcome es) (sym (entries-from_sorted atom_cmp _ h))
-        ∙ sym (entries-insert atom_cmp-total (from_sorted (map entry_of xs)) (atom_of l) l.outcome))
+    (entries-from_sorted atom_cmp _ (in_order-longer xs l i h place)
+    ∙ entries-longer xs l i place
+    ∙ ap (λ es. put atom_cmp (atom_of l) l.outcome es) (sym (entries-from_sorted atom_cmp _ h))
+    ∙ sym (entries-insert atom_cmp-total (from_sorted (map entry_of xs)) (atom_of l) l.outcome))
 
 pub in_order-without : (xs : List Literal) (i : ℕ) → IsInOrder xs → IsInOrder (remove xs i)
 in_order-without xs i h = subst (λ es. T (is_sorted atom_cmp es)) (sym (map-remove entry_of xs i)) (sorted-remove atom_cmp-total (map entry_of xs) i h)
@@ -112,12 +112,12 @@ in_order-without xs i h = subst (λ es. T (is_sorted atom_cmp es)) (sym (map-rem
 pub facts-without : (xs : List Literal) (i : ℕ) (d : Literal) → IsInOrder xs → i < length xs → from_sorted {R = atom_cmp} (map entry_of (remove xs i)) ≡ finite.remove (from_sorted {R = atom_cmp} (map entry_of xs)) (atom_of (get_or xs i d))
 facts-without xs i d h p =
     same_map atom_cmp-total atom_cmp-IsAntisymmetric _ _ (λ q.
-        get-from_sorted atom_cmp _ q (in_order-without xs i h)
-        ∙ ap (λ es. find atom_cmp q es) (map-remove entry_of xs i)
-        ∙ find-remove atom_cmp-total (map entry_of xs) i (entry_of d) q h (rw (length-map xs entry_of) p)
-        ∙ ap (λ (e : Atom × Bool). cond (eq_by_cmp atom_cmp q e.0) None (find atom_cmp q (map entry_of xs))) (get_or-entries xs i (entry_of d))
-        ∙ sym (get-remove atom_cmp-total (from_sorted (map entry_of xs)) (atom_of (get_or xs i d)) q
-            ∙ ap (λ (o : Option Bool). cond (eq_by_cmp atom_cmp q (atom_of (get_or xs i d))) None o) (get-from_sorted atom_cmp (map entry_of xs) q h)))
+    get-from_sorted atom_cmp _ q (in_order-without xs i h)
+    ∙ ap (λ es. find atom_cmp q es) (map-remove entry_of xs i)
+    ∙ find-remove atom_cmp-total (map entry_of xs) i (entry_of d) q h (rw (length-map xs entry_of) p)
+    ∙ ap (λ (e : Atom × Bool). cond (eq_by_cmp atom_cmp q e.0) None (find atom_cmp q (map entry_of xs))) (get_or-entries xs i (entry_of d))
+    ∙ sym (get-remove atom_cmp-total (from_sorted (map entry_of xs)) (atom_of (get_or xs i d)) q
+    ∙ ap (λ (o : Option Bool). cond (eq_by_cmp atom_cmp q (atom_of (get_or xs i d))) None o) (get-from_sorted atom_cmp (map entry_of xs) q h)))
 
 -- The literals that a contract sees are those that stand in the list.
 pub literals_of_view : (facts : FactMap) (xs : List Literal) → IsInOrder xs → from_sorted {R = atom_cmp} (map entry_of xs) ≡ facts → literals facts ≡ xs

@@ -3,3 +3,4 @@ pub mod FactsLemmas
 pub mod MeaningLemmas
 pub mod DifferenceLemmas
 pub mod MergedLemmas
+pub mod CallersLemmas

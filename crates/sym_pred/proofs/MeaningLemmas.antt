@@ -58,29 +58,29 @@ pub inserted_else : (facts : FactMap) (atom : Atom) (v : Bool) (q : Atom) → eq
 inserted_else facts atom v q e = get-insert atom_cmp-total facts atom v q ∙ ap (λ t. cond t (Some v) (get facts q)) e
 
 pub Admits-insert : (truth : Truth) (facts : FactMap) (atom : Atom) (v : Bool) (parts : List Value) → get facts atom ≡ None → Admits truth (insert facts atom v) parts ↔ (Admits truth facts parts × (truth atom.0 atom.1 parts ≡ v))
-Admits-insert truth facts atom v parts none =
-    ( λ all.
-        ( λ a o stands. elim (atoms a atom) [
-          | inl e ↦ let both : None ≡ Some o = sym none ∙ ap (λ (x : Atom). get facts x) (sym (same_atom a atom e)) ∙ stands in cc
-          | inr e ↦ all a o (inserted_else facts atom v a e ∙ stands)
-        ]
-        , all atom v (inserted_here facts atom v)
-        )
-    , λ both a o stands. elim (atoms a atom) [
-      | inl e ↦
-          let same = same_atom a atom e in
-          ap (λ (x : Atom). truth x.0 x.1 parts) same ∙ both.1 ∙ same_Some _ _ (sym (inserted_here facts atom v) ∙ ap (λ (x : Atom). get (insert facts atom v) x) (sym same) ∙ stands)
-      | inr e ↦ both.0 a o (sym (inserted_else facts atom v a e) ∙ stands)
-    ]
-    )
+Admits-insert truth facts atom v parts none = (
+  λ all. (
+    λ a o stands. elim (atoms a atom) [
+      | inl e ↦ let both : None ≡ Some o = sym none ∙ ap (λ (x : Atom). get facts x) (sym (same_atom a atom e)) ∙ stands in cc
+      | inr e ↦ all a o (inserted_else facts atom v a e ∙ stands)
+    ],
+    all atom v (inserted_here facts atom v),
+  ),
+  λ both a o stands. elim (atoms a atom) [
+    | inl e ↦
+        let same = same_atom a atom e in
+        ap (λ (x : Atom). truth x.0 x.1 parts) same ∙ both.1 ∙ same_Some _ _ (sym (inserted_here facts atom v) ∙ ap (λ (x : Atom). get (insert facts atom v) x) (sym same) ∙ stands)
+    | inr e ↦ both.0 a o (sym (inserted_else facts atom v a e) ∙ stands)
+  ],
+)
 
 pub AdmitsAdded-from_IsAdded : (facts : FactMap) (literal : Literal) (added : Added) → IsAdded facts literal added → (truth : Truth) (parts : List Value) → AdmitsAdded truth facts literal parts added
 AdmitsAdded-from_IsAdded facts literal Same is truth parts = λ all. all (atom_of literal) literal.outcome is
 AdmitsAdded-from_IsAdded facts literal Against is truth parts = λ all e. not_both literal.outcome (sym e ∙ all (atom_of literal) (not literal.outcome) is)
 AdmitsAdded-from_IsAdded facts literal (Longer more) is truth parts =
-    let longer = Admits-insert truth facts (atom_of literal) literal.outcome parts is.0 in
-    ( λ all. longer.0 (λ a o stands. all a o (ap (λ (m : FactMap). get m a) is.1 ∙ stands))
-    , λ both a o stands. longer.1 both a o (ap (λ (m : FactMap). get m a) (sym is.1) ∙ stands)
+    let longer = Admits-insert truth facts (atom_of literal) literal.outcome parts is.0 in (
+      λ all. longer.0 (λ a o stands. all a o (ap (λ (m : FactMap). get m a) is.1 ∙ stands)),
+      λ both a o stands. longer.1 both a o (ap (λ (m : FactMap). get m a) (sym is.1) ∙ stands),
     )
 
 -- ---- meeting
@@ -89,10 +89,10 @@ pub Clash-nothing : (left right : FactMap) → Clash left right → (truth : Tru
 Clash-nothing left right clash truth parts one other = not_both clash.outcome (sym (one clash.atom clash.outcome clash.one) ∙ other clash.atom (not clash.outcome) clash.other)
 
 pub Admits-meet : (left right both : FactMap) → ((atom : Atom) (outcome : Bool) → Stands both atom outcome ↔ (Stands left atom outcome ⊎ Stands right atom outcome)) → (truth : Truth) (parts : List Value) → Admits truth both parts ↔ (Admits truth left parts × Admits truth right parts)
-Admits-meet left right both literals truth parts =
-    ( λ all. (λ a o stands. all a o ((literals a o).1 (inl stands)), λ a o stands. all a o ((literals a o).1 (inr stands)))
-    , λ each a o stands. elim ((literals a o).0 stands) [ inl one ↦ each.0 a o one | inr other ↦ each.1 a o other ]
-    )
+Admits-meet left right both literals truth parts = (
+  λ all. (λ a o stands. all a o ((literals a o).1 (inl stands)), λ a o stands. all a o ((literals a o).1 (inr stands))),
+  λ each a o stands. elim ((literals a o).0 stands) [ inl one ↦ each.0 a o one | inr other ↦ each.1 a o other ],
+)
 
 -- ---- uniting
 
@@ -123,20 +123,20 @@ module _ (left right union : FactMap) (differ : DifferInOne left right) (is : un
   removed_else a e = ap (λ (m : FactMap). get m a) is ∙ get-remove atom_cmp-total left differ.atom a ∙ ap (λ t. cond t None (get left a)) e
 
   pub Stands-union : (atom : Atom) (outcome : Bool) → Stands union atom outcome ↔ (Stands left atom outcome × Stands right atom outcome)
-  Stands-union a o =
-      ( λ stands. elim (atoms a differ.atom) [
-        | inl e ↦ let both : None ≡ Some o = sym (removed_here a e) ∙ stands in cc
-        | inr e ↦ let one = sym (removed_else a e) ∙ stands in (one, differ.rest a (other_atom a differ.atom e) ∙ one)
-      ]
-      , λ both. elim (atoms a differ.atom) [
-        | inl e ↦
-            let same = same_atom a differ.atom e in
-            let here : o ≡ differ.outcome = one_outcome left differ.atom o differ.outcome (ap (λ (x : Atom). get left x) (sym same) ∙ both.0) differ.one in
-            let there : o ≡ not differ.outcome = one_outcome right differ.atom o (not differ.outcome) (ap (λ (x : Atom). get right x) (sym same) ∙ both.1) differ.other in
-            not_both differ.outcome (sym here ∙ there)
-        | inr e ↦ removed_else a e ∙ both.0
-      ]
-      )
+  Stands-union a o = (
+    λ stands. elim (atoms a differ.atom) [
+      | inl e ↦ let both : None ≡ Some o = sym (removed_here a e) ∙ stands in cc
+      | inr e ↦ let one = sym (removed_else a e) ∙ stands in (one, differ.rest a (other_atom a differ.atom e) ∙ one)
+    ],
+    λ both. elim (atoms a differ.atom) [
+      | inl e ↦
+          let same = same_atom a differ.atom e in
+          let here : o ≡ differ.outcome = one_outcome left differ.atom o differ.outcome (ap (λ (x : Atom). get left x) (sym same) ∙ both.0) differ.one in
+          let there : o ≡ not differ.outcome = one_outcome right differ.atom o (not differ.outcome) (ap (λ (x : Atom). get right x) (sym same) ∙ both.1) differ.other in
+          not_both differ.outcome (sym here ∙ there)
+      | inr e ↦ removed_else a e ∙ both.0
+    ],
+  )
 
   -- With the literal's own outcome, the rest is all that a side asks.
   side : (facts : FactMap) (own : Bool) → Stands facts differ.atom own → ((a : Atom) → a ≢ differ.atom → get facts a ≡ get left a) → (truth : Truth) (parts : List Value) → truth differ.atom.0 differ.atom.1 parts ≡ own → Admits truth union parts → Admits truth facts parts
@@ -148,13 +148,13 @@ module _ (left right union : FactMap) (differ : DifferInOne left right) (is : un
   ]
 
   pub Admits-union : (truth : Truth) (parts : List Value) → Admits truth union parts ↔ (Admits truth left parts ⊎ Admits truth right parts)
-  Admits-union truth parts =
-      ( λ all. elim (beq (truth differ.atom.0 differ.atom.1 parts) differ.outcome) as (λ t. beq (truth differ.atom.0 differ.atom.1 parts) differ.outcome ≡ t → Admits truth left parts ⊎ Admits truth right parts) [
-        | true ↦ λ e. inl (side left differ.outcome differ.one (λ a _. refl) truth parts (beq-true _ _ e) all)
-        | false ↦ λ e. inr (side right (not differ.outcome) differ.other differ.rest truth parts (beq-false _ _ e) all)
-      ] refl
-      , λ either a o stands. let both = (Stands-union a o).0 stands in elim either [ inl one ↦ one a o both.0 | inr other ↦ other a o both.1 ]
-      )
+  Admits-union truth parts = (
+    λ all. elim (beq (truth differ.atom.0 differ.atom.1 parts) differ.outcome) as (λ t. beq (truth differ.atom.0 differ.atom.1 parts) differ.outcome ≡ t → Admits truth left parts ⊎ Admits truth right parts) [
+      | true ↦ λ e. inl (side left differ.outcome differ.one (λ a _. refl) truth parts (beq-true _ _ e) all)
+      | false ↦ λ e. inr (side right (not differ.outcome) differ.other differ.rest truth parts (beq-false _ _ e) all)
+    ] refl,
+    λ either a o stands. let both = (Stands-union a o).0 stands in elim either [ inl one ↦ one a o both.0 | inr other ↦ other a o both.1 ],
+  )
 
 -- What a test of two outcomes tells.
 pub differing : (a b : Bool) → not (beq a b) ≡ true → a ≡ not b

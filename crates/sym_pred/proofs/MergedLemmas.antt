@@ -201,7 +201,7 @@ module _ (left right : FactMap) (xs ys : List Literal) (h : IsInOrder xs) (g : I
       let all : IsMerged xs ys zs = subst (λ o. MatchOption o (Clashes xs ys) (IsMerged xs ys)) is (merged-is xs ys h g) in
       let one = get_of_view left xs h is_left atom in
       let other = get_of_view right ys g is_right atom in
-      let whole = get_of_view both zs all.in_order is_both atom in
-      ( λ stands. elim (either (outcome_in xs atom) (outcome_in ys atom) outcome (sym (all.finds atom) ∙ sym whole ∙ stands)) [ inl e ↦ inl (one ∙ e) | inr e ↦ inr (other ∙ e) ]
-      , λ stands. whole ∙ all.finds atom ∙ joined (outcome_in xs atom) (outcome_in ys atom) outcome (all.agree atom) (elim stands [ inl e ↦ inl (sym one ∙ e) | inr e ↦ inr (sym other ∙ e) ])
+      let whole = get_of_view both zs all.in_order is_both atom in (
+        λ stands. elim (either (outcome_in xs atom) (outcome_in ys atom) outcome (sym (all.finds atom) ∙ sym whole ∙ stands)) [ inl e ↦ inl (one ∙ e) | inr e ↦ inr (other ∙ e) ],
+        λ stands. whole ∙ all.finds atom ∙ joined (outcome_in xs atom) (outcome_in ys atom) outcome (all.agree atom) (elim stands [ inl e ↦ inl (sym one ∙ e) | inr e ↦ inr (sym other ∙ e) ]),
       )

@@ -8,4 +8,4 @@ use Rattle.sym_pred.proofs.facts.place.Goals as goal
 pub returns : goal.returns
 returns c =
     searched _ _ c.requires _ c.binary_search_by.ensures.bound
-        (c.binary_search_by.ensures.position (λ x. atom_cmp (atom_of x) (c.args.test, c.args.args.now)) (always_returns_same _ _ _ (λ a r f' k. search rules)))
+    (c.binary_search_by.ensures.position (λ x. atom_cmp (atom_of x) (c.args.test, c.args.args.now)) (always_returns_same _ _ _ (λ a r f' k. search rules)))

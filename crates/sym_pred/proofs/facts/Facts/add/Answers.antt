@@ -37,12 +37,12 @@ pub returns-else-as_slice-index-clause-admits : goal.returns-else-as_slice-index
 returns-else-as_slice-index-clause-admits c = AdmitsAdded-from_IsAdded c.args.self.now c.args.literal Against (returns-else-as_slice-index-clause-added c)
 
 pub returns-in_ok-longer-in-Err-clause-added : goal.returns-in_ok-longer-in-Err-clause-added
-returns-in_ok-longer-in-Err-clause-added c =
-    ( get_of_view _ _ c.self.invariant c.self.view_is (atom_of c.args.literal)
-    ∙ ap (λ (xs : List Literal). find atom_cmp (atom_of c.args.literal) (map entry_of xs)) (sym c.as_slice.ensures)
-    ∙ c.in-Err.ensures.1
-    , c.in_ok-longer-in-Err.ensures
-    )
+returns-in_ok-longer-in-Err-clause-added c = (
+  get_of_view _ _ c.self.invariant c.self.view_is (atom_of c.args.literal)
+      ∙ ap (λ (xs : List Literal). find atom_cmp (atom_of c.args.literal) (map entry_of xs)) (sym c.as_slice.ensures)
+      ∙ c.in-Err.ensures.1,
+  c.in_ok-longer-in-Err.ensures,
+)
 
 pub returns-in_ok-longer-in-Err-clause-admits : goal.returns-in_ok-longer-in-Err-clause-admits
 returns-in_ok-longer-in-Err-clause-admits c = AdmitsAdded-from_IsAdded c.args.self.now c.args.literal (Longer c.in_ok-longer-in-Err.field-0) (returns-in_ok-longer-in-Err-clause-added c)

@@ -24,17 +24,17 @@ pub returns-in_ok-without-in-One-clause-literals : goal.returns-in_ok-without-in
 returns-in_ok-without-in-One-clause-literals c =
     let differ : IsDifference c.self.inside.literals c.other.inside.literals (One c.in-One.index) = subst (λ xs. IsDifference xs c.other.inside.literals (One c.in-One.index)) c.as_slice.ensures (subst (λ ys. IsDifference c.as_slice.result.now ys (One c.in-One.index)) c.as_slice-2.ensures c.in-One.ensures) in
     Stands-union c.args.self.now c.args.other.now _
-        (DifferInOne-One c.args.self.now c.args.other.now _ _ c.self.invariant c.other.invariant c.self.view_is c.other.view_is c.in-One.index some_literal differ.0 (differ.1 some_literal))
-        (c.in_ok-without-in-One.ensures some_literal ∙ ap (λ xs. remove c.args.self.now (atom_of (get_or xs c.in-One.index some_literal))) (literals_of_view _ _ c.self.invariant c.self.view_is)
-        ∙ ap (λ (a : Atom). remove c.args.self.now a) (sym (DifferInOne-One-atom c.args.self.now c.args.other.now _ _ c.self.invariant c.other.invariant c.self.view_is c.other.view_is c.in-One.index some_literal differ.0 (differ.1 some_literal))))
+    (DifferInOne-One c.args.self.now c.args.other.now _ _ c.self.invariant c.other.invariant c.self.view_is c.other.view_is c.in-One.index some_literal differ.0 (differ.1 some_literal))
+    (c.in_ok-without-in-One.ensures some_literal ∙ ap (λ xs. remove c.args.self.now (atom_of (get_or xs c.in-One.index some_literal))) (literals_of_view _ _ c.self.invariant c.self.view_is)
+    ∙ ap (λ (a : Atom). remove c.args.self.now a) (sym (DifferInOne-One-atom c.args.self.now c.args.other.now _ _ c.self.invariant c.other.invariant c.self.view_is c.other.view_is c.in-One.index some_literal differ.0 (differ.1 some_literal))))
 
 pub returns-in_ok-without-in-One-clause-admits : goal.returns-in_ok-without-in-One-clause-admits
 returns-in_ok-without-in-One-clause-admits c =
     let differ : IsDifference c.self.inside.literals c.other.inside.literals (One c.in-One.index) = subst (λ xs. IsDifference xs c.other.inside.literals (One c.in-One.index)) c.as_slice.ensures (subst (λ ys. IsDifference c.as_slice.result.now ys (One c.in-One.index)) c.as_slice-2.ensures c.in-One.ensures) in
     Admits-union c.args.self.now c.args.other.now _
-        (DifferInOne-One c.args.self.now c.args.other.now _ _ c.self.invariant c.other.invariant c.self.view_is c.other.view_is c.in-One.index some_literal differ.0 (differ.1 some_literal))
-        (c.in_ok-without-in-One.ensures some_literal ∙ ap (λ xs. remove c.args.self.now (atom_of (get_or xs c.in-One.index some_literal))) (literals_of_view _ _ c.self.invariant c.self.view_is)
-        ∙ ap (λ (a : Atom). remove c.args.self.now a) (sym (DifferInOne-One-atom c.args.self.now c.args.other.now _ _ c.self.invariant c.other.invariant c.self.view_is c.other.view_is c.in-One.index some_literal differ.0 (differ.1 some_literal))))
+    (DifferInOne-One c.args.self.now c.args.other.now _ _ c.self.invariant c.other.invariant c.self.view_is c.other.view_is c.in-One.index some_literal differ.0 (differ.1 some_literal))
+    (c.in_ok-without-in-One.ensures some_literal ∙ ap (λ xs. remove c.args.self.now (atom_of (get_or xs c.in-One.index some_literal))) (literals_of_view _ _ c.self.invariant c.self.view_is)
+    ∙ ap (λ (a : Atom). remove c.args.self.now a) (sym (DifferInOne-One-atom c.args.self.now c.args.other.now _ _ c.self.invariant c.other.invariant c.self.view_is c.other.view_is c.in-One.index some_literal differ.0 (differ.1 some_literal))))
 
 pub returns-in-Many-clause-none : goal.returns-in-Many-clause-none
 returns-in-Many-clause-none c =
