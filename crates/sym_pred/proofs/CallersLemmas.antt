@@ -14,8 +14,8 @@ use Rattle.sym_pred.specs.contracts.literal.LiteralPartialEq.TheImpl as literal_
 use Rattle.sym_pred.specs.contracts.form.HoldFormPartialEq.TheImpl as form_equality
 use Rattle.sym_pred.specs.declared.literal.Literal.{Literal}
 use Rattle.sym_pred.specs.declared.form.HoldForm.{HoldForm}
-use Rattle.sym_pred.specs.Facts.{Atom, atom_cmp, FactMap}
-use Rattle.sym_pred.specs.Literals.{atom_of, entry_of, literal_of, literals}
+use Rattle.sym_pred.specs.Facts.{Atom, FactMap}
+use Rattle.sym_pred.specs.Literals.{entry_of, literal_of, literals}
 use Rattle.sym_pred.specs.Meaning.{Truth, Stands, Admits}
 use Rattle.sym_pred.proofs.EntriesLemmas.{find-at, find-place}
 use Rattle.sym_pred.proofs.FactsLemmas.{atom_cmp-total, atom_cmp-IsAntisymmetric}

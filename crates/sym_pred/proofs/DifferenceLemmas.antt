@@ -1,15 +1,15 @@
 -- How lists of literals differ, and what that says of the facts that they are.
-use Rattle.std.proofs.Common.{◌≡◌, ◌≢◌, ◌↔◌, ◌⊎◌, ℕ, zero, suc, ◌+◌, ◌<◌, ◌≤◌, Bool, true, false, not, List, [], ◌∷◌, length, get_or, set, take, map, Option, Some, None, refl, sym, ap, subst, ◌∙◌, inl, inr, arith}
+use Rattle.std.proofs.Common.{◌≡◌, ◌≢◌, ℕ, zero, suc, ◌+◌, ◌<◌, Bool, true, false, not, List, [], ◌∷◌, length, get_or, set, take, map, Option, Some, None, refl, sym, ap, ◌∙◌, inl, inr, arith}
 use Rattle.std.specs.declared.cmp.Ordering.{Ordering}
 use Rattle.std.specs.declared.cmp.Ordering.TheVariants.{Less, Equal, Greater}
 use Rattle.std.specs.Ordering.{is_ne}
 use Rattle.std.specs.Option.{MatchOption, is_some}
 use Rattle.std.specs.Cmp.{tied_itself}
-use Rattle.std.specs.FinMap.{get, insert, from_sorted, entries, entries-from_sorted, entries-insert, same_entries_map, get-from_sorted, get-entries, put}
+use Rattle.std.specs.FinMap.{get, insert, from_sorted, entries, entries-from_sorted, entries-insert, same_entries_map, get-from_sorted, put}
 use Rattle.std.proofs.lemmas.List.{get_or-set_same, get_or-set_other, get_or-take, take-set-le, take_more_same, length-map, length-set}
 use Rattle.std.proofs.lemmas.Bool.{cases_eq}
 use Rattle.sym_pred.specs.declared.literal.Literal.{Literal}
-use Rattle.sym_pred.specs.declared.facts.Difference.TheVariants.{Nothing, One, Many}
+use Rattle.sym_pred.specs.declared.facts.Difference.TheVariants.{Many}
 use Rattle.sym_pred.specs.Facts.{Atom, atom_cmp, FactMap}
 use Rattle.sym_pred.specs.Literals.{atom_of, entry_of, literal_of, literals}
 use Rattle.sym_pred.specs.Places.{IsInOrder}

@@ -1,10 +1,10 @@
 -- The order of atoms is total and tells all atoms apart; what the map of facts is over literals in order.
-use Rattle.std.proofs.Common.{◌≡◌, ℕ, zero, suc, cond, ◌+◌, ◌<◌, ◌≤◌, Bool, List, [], ◌∷◌, ◌++◌, length, get_or, map, refl, sym, ap, subst, ◌∙◌, arith, Option, Some, None, Ok, Err, Result}
+use Rattle.std.proofs.Common.{◌≡◌, ℕ, zero, suc, cond, ◌+◌, ◌<◌, ◌≤◌, Bool, List, [], ◌∷◌, length, get_or, map, refl, sym, ap, subst, ◌∙◌, arith, Option, None, Ok, Err, Result}
 use Rattle.std.specs.Prelude.{T}
 use Rattle.std.specs.declared.cmp.Ordering.TheVariants.{Less, Equal, Greater}
 use Rattle.std.specs.Ordering.{nat_cmp, ordering_then, ordering_index, on, is_lt, eq_by_cmp}
 use Rattle.std.specs.Cmp.{IsTotalOrder, total, then_po, then_agrees, on_total, partial_order_from_total, nat_cmp_total}
-use Rattle.std.specs.FinMap.{IsAntisymmetric, nat_cmp-IsAntisymmetric, FinMap, empty, entries, from_sorted, entries-from_sorted, len, len-entries, get, get-from_sorted, find, put, is_sorted, same_map, same_entries_map, get-empty, entries-insert, get-remove}
+use Rattle.std.specs.FinMap.{IsAntisymmetric, nat_cmp-IsAntisymmetric, empty, from_sorted, entries-from_sorted, len, len-entries, get, get-from_sorted, find, put, is_sorted, same_map, same_entries_map, get-empty, entries-insert, get-remove}
 use Rattle.std.specs.FinMap as finite
 use Rattle.std.specs.FinMap.Entries.{is_sorted-put}
 use Rattle.std.specs.List.{insert, remove}
@@ -12,7 +12,6 @@ use Rattle.std.specs.List.Sorted.{IsSortedBy, IsNonDecreasingBy, IsBinarySearchR
 use Rattle.std.proofs.lemmas.List.Sorted.{searchable_from_sorted}
 use Rattle.std.proofs.lemmas.List.{length-map}
 use Rattle.std.proofs.Math.ListN.{get_or-map}
-use Rattle.sym_base.specs.declared.value.Value.{Value}
 use Rattle.sym_base.specs.Order.{values_cmp}
 use Rattle.sym_base.proofs.ValueLemmas.{values_cmp-total, values_cmp-IsAntisymmetric}
 use Rattle.sym_pred.specs.declared.literal.Literal.{Literal}

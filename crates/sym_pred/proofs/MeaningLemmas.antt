@@ -1,5 +1,5 @@
 -- What longer facts, met facts and united facts admit.
-use Rattle.std.proofs.Common.{◌≡◌, ◌≢◌, ◌↔◌, ◌⊎◌, Bool, true, false, not, cond, List, Option, Some, None, refl, sym, ap, ◌∙◌, inl, inr}
+use Rattle.std.proofs.Common.{◌≡◌, ◌≢◌, ◌↔◌, ◌⊎◌, Bool, true, false, not, cond, List, Some, None, refl, sym, ap, ◌∙◌, inl, inr}
 use mathlib.Core.Bool.{beq}
 use Rattle.std.proofs.lemmas.Option.{same_Some}
 use Rattle.std.specs.Ordering.{eq_by_cmp, is_eq}
@@ -11,7 +11,7 @@ use Rattle.sym_pred.specs.declared.facts.Added.{Added}
 use Rattle.sym_pred.specs.declared.facts.Added.TheVariants.{Same, Longer, Against}
 use Rattle.sym_pred.specs.Facts.{Atom, atom_cmp, FactMap}
 use Rattle.sym_pred.specs.Literals.{atom_of}
-use Rattle.sym_pred.specs.Meaning.{Truth, Stands, Admits, Clash, DifferInOne, Unite}
+use Rattle.sym_pred.specs.Meaning.{Truth, Stands, Admits, Clash, DifferInOne}
 use Rattle.sym_pred.specs.Answers.{IsAdded, AdmitsAdded}
 use Rattle.sym_pred.proofs.EntriesLemmas.{is_Equal}
 use Rattle.sym_pred.proofs.FactsLemmas.{atom_cmp-total, atom_cmp-IsAntisymmetric}

@@ -1,12 +1,11 @@
 -- The merge of two lists in order has the literals of both, and fails exactly at a clash.
-use Rattle.std.proofs.Common.{◌≡◌, ◌≢◌, ◌↔◌, ◌⊎◌, ℕ, ◌≤◌, ◌-◌, ◌++◌, length, take, drop, arith, append_assoc, Bool, true, false, not, cond, ◌&&◌, List, [], ◌∷◌, map, Option, Some, None, refl, sym, ap, subst, ◌∙◌, inl, inr}
+use Rattle.std.proofs.Common.{◌≡◌, ◌↔◌, ◌⊎◌, ℕ, ◌≤◌, ◌-◌, ◌++◌, length, take, drop, arith, append_assoc, Bool, true, false, not, cond, List, [], ◌∷◌, map, Option, Some, None, refl, sym, ap, subst, ◌∙◌, inl, inr}
 use Rattle.std.specs.Prelude.{T}
-use Rattle.std.specs.declared.cmp.Ordering.{Ordering}
 use Rattle.std.specs.declared.cmp.Ordering.TheVariants.{Less, Equal, Greater}
 use Rattle.std.specs.Ordering.{eq_by_cmp, is_eq}
-use Rattle.std.specs.Cmp.{tied_itself, tied_back}
+use Rattle.std.specs.Cmp.{tied_itself}
 use Rattle.std.specs.Option.{option_map, MatchOption}
-use Rattle.std.specs.FinMap.{find, get, is_sorted, from_sorted, get-from_sorted}
+use Rattle.std.specs.FinMap.{find, from_sorted}
 use Rattle.std.specs.FinMap.Entries.{below_all}
 use Rattle.std.proofs.lemmas.List.{append-nil, drop_all, take_all, length-drop}
 use Rattle.std.proofs.lemmas.Option.{same_Some}
@@ -16,7 +15,7 @@ use Rattle.sym_pred.specs.Literals.{atom_of, entry_of}
 use Rattle.sym_pred.specs.Places.{IsInOrder}
 use Rattle.sym_pred.specs.Meaning.{Stands, Clash}
 use Rattle.sym_pred.specs.Merged.{merged, merged_with, merge_step, same_outcome}
-use Rattle.sym_pred.proofs.EntriesLemmas.{T_both, T_first, T_second, lt_Less, is_Equal, flipped, flipped_back, below_less, below_tied, find_below}
+use Rattle.sym_pred.proofs.EntriesLemmas.{T_both, T_first, T_second, lt_Less, is_Equal, flipped_back, below_less, below_tied, find_below}
 use Rattle.sym_pred.proofs.FactsLemmas.{atom_cmp-total, atom_cmp-IsAntisymmetric, get_of_view}
 use Rattle.sym_pred.proofs.MeaningLemmas.{not_both}
 

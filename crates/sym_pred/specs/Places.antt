@@ -1,5 +1,5 @@
 -- Where an atom stands among literals in order.
-use Rattle.std.specs.Prelude.{◌≡◌, ℕ, ◌<◌, ◌≤◌, Bool, List, map, length, Option, Some, None, Result, Ok, Err, slice_index_or, T}
+use Rattle.std.specs.Prelude.{◌≡◌, ℕ, ◌<◌, ◌≤◌, Bool, List, map, length, Some, None, Result, Ok, Err, slice_index_or, T}
 use Rattle.std.specs.List.{insert}
 use Rattle.std.specs.FinMap.{find, put, is_sorted}
 use Rattle.sym_pred.specs.declared.literal.Literal.{Literal}

@@ -245,7 +245,7 @@ impl Facts {
         ensures none { IfOk result (λ met. IsNone met ↔ Clash self.now other.now) }
         ensures literals { IfOk result (λ met. IfSome met (λ facts. (atom : Atom) (outcome : Bool) → Stands facts atom outcome ↔ (Stands self.now atom outcome ⊎ Stands other.now atom outcome))) }
 
-        // The facts that both leave are those that both states' facts admit.
+        // What they admit is what both admit, and where there are none nothing is admitted by both.
         ensures admits { IfOk result (λ met. IfSome met (λ facts. (truth : Truth) (parts : List OneValue) → Admits truth facts parts ↔ (Admits truth self.now parts × Admits truth other.now parts))) }
         ensures nothing { IfOk result (λ met. IfNone met ((truth : Truth) (parts : List OneValue) → Admits truth self.now parts → ¬ (Admits truth other.now parts))) }
     {

@@ -1,4 +1,4 @@
-use Rattle.std.proofs.Common.{◌≡◌, sym, ◌∙◌, ap, subst, Option, Some, ℕ, ◌+◌}
+use Rattle.std.proofs.Common.{sym, ◌∙◌, ap, subst, Option, ℕ, ◌+◌}
 use Rattle.std.specs.Ordering.{is_ne}
 use Rattle.sym_pred.proofs.MeaningLemmas.{differing, agreeing}
 use Rattle.sym_pred.proofs.DifferenceLemmas.{Front, Many-here, Many-again, Front-turned, Front-same}

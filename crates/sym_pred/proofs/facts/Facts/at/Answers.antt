@@ -1,4 +1,4 @@
-use Rattle.std.proofs.Common.{sym, ap, ◌∙◌, List, slice_get}
+use Rattle.std.proofs.Common.{sym, ap, ◌∙◌, slice_get}
 use Rattle.sym_pred.specs.Literals.{literals}
 use Rattle.sym_pred.specs.Facts.{FactMap}
 use Rattle.sym_pred.proofs.FactsLemmas.{literals-from_sorted}

@@ -1,9 +1,8 @@
-use Rattle.std.proofs.Common.{◌≡◌, ◌<◌, length, get_or, refl, sym, ap, subst, ◌∙◌, inr}
+use Rattle.std.proofs.Common.{◌<◌, length, get_or, refl, sym, ap, subst, ◌∙◌, inr}
 use Rattle.std.specs.FinMap.{remove}
 use Rattle.sym_pred.specs.declared.facts.Difference.TheVariants.{One, Many}
 use Rattle.sym_pred.specs.Facts.{Atom}
 use Rattle.sym_pred.specs.Literals.{atom_of}
-use Rattle.sym_pred.specs.Meaning.{DifferInOne}
 use Rattle.sym_pred.specs.Merged.{IsDifference}
 use Rattle.sym_pred.proofs.FactsLemmas.{literals_of_view}
 use Rattle.sym_pred.proofs.MeaningLemmas.{Stands-union, Admits-union}

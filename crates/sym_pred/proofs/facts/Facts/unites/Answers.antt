@@ -1,4 +1,4 @@
-use Rattle.std.proofs.Common.{◌≡◌, refl, subst, inr}
+use Rattle.std.proofs.Common.{refl, subst, inr}
 use Rattle.sym_pred.specs.declared.facts.Difference.TheVariants.{One, Many}
 use Rattle.sym_pred.specs.Merged.{IsDifference}
 use Rattle.sym_pred.proofs.DifferenceLemmas.{some_literal, DifferInOne-One, not_Unite-Many}

@@ -1,4 +1,3 @@
-use Rattle.std.proofs.Common.{◌≡◌, sym, ap, ◌∙◌}
 use Rattle.sym_pred.proofs.FactsLemmas.{literals_of_view}
 use Rattle.sym_pred.proofs.facts.FactsPartialEq.eq.Goals as goal
 
