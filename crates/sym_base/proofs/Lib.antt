@@ -1,3 +1,4 @@
 mod Appending
 mod Files
 mod Reading
+pub mod ValueLemmas

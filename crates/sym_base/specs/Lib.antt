@@ -4,3 +4,4 @@ pub mod Edges
 pub mod InMemory
 pub mod States
 pub mod Trees
+pub mod Order

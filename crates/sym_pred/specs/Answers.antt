@@ -1,0 +1,24 @@
+-- What the calls on facts answer.
+use Rattle.std.specs.Prelude.{◌≡◌, ◌≢◌, ◌↔◌, not, List, None}
+use Rattle.std.specs.FinMap.{get, insert}
+use Rattle.sym_base.specs.declared.value.Value.{Value}
+use Rattle.sym_pred.specs.declared.literal.Literal.{Literal}
+use Rattle.sym_pred.specs.declared.facts.Added.{Added}
+use Rattle.sym_pred.specs.declared.facts.Added.TheVariants.{Same, Longer, Against}
+use Rattle.sym_pred.specs.Facts.{FactMap}
+use Rattle.sym_pred.specs.Literals.{atom_of}
+use Rattle.sym_pred.specs.Meaning.{Truth, Stands, Admits}
+
+-- What adding a literal comes to: it stands already, its atom has no outcome yet and now has this
+-- one, or it stands with the other outcome.
+abbrev pub IsAdded : FactMap → Literal → Added → Type 0
+IsAdded facts literal Same = Stands facts (atom_of literal) literal.outcome
+IsAdded facts literal (Longer more) = (get facts (atom_of literal) ≡ None) × (more ≡ insert facts (atom_of literal) literal.outcome)
+IsAdded facts literal Against = Stands facts (atom_of literal) (not literal.outcome)
+
+-- The same on states: the longer facts admit what both the old ones and the literal do. `Same`
+-- comes where all that the old ones admit gives the literal's outcome, `Against` where none does.
+abbrev pub AdmitsAdded : Truth → FactMap → Literal → List Value → Added → Type 0
+AdmitsAdded truth facts literal parts Same = Admits truth facts parts → truth literal.test literal.args parts ≡ literal.outcome
+AdmitsAdded truth facts literal parts (Longer more) = Admits truth more parts ↔ (Admits truth facts parts × (truth literal.test literal.args parts ≡ literal.outcome))
+AdmitsAdded truth facts literal parts Against = Admits truth facts parts → truth literal.test literal.args parts ≢ literal.outcome

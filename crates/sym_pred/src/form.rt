@@ -1,0 +1,94 @@
+//! What a path makes of a hold cell.
+ghost use Rattle.std.specs.Prelude.{◌≡◌, IfOk, IsSome, Some};
+ghost use Rattle.sym_base.specs.declared.state.State.{State as OneState};
+ghost use Rattle.sym_pred.specs.HoldForms.{parts_at, composed, Leads};
+
+use std::alloc::Global;
+use sym_base::{Cell, NoMemory, State, Values};
+
+/// The parts of a hold cell in terms of the state at the start of a path.
+#[derive(Debug, PartialEq, Eq, Drop)]
+pub enum HoldForm {
+    /// These parts, one value for each.
+    Const(Values),
+    /// The parts of the hold cell with this number, counted from 0.
+    Copy(u16),
+}
+
+impl HoldForm {
+    /// The parts that the form gives at `state`. The cell that it copies has to be a hold cell.
+    pub fn value(&self, alloc: Global, state: &State) -> Result<Values, NoMemory>
+        requires { IsSome (parts_at self.now state.now) }
+        ensures { IfOk result (λ parts. parts_at self.now state.now ≡ Some parts) }
+    {
+        match self {
+            HoldForm::Const(parts) => Ok(parts.copy(alloc)?),
+            HoldForm::Copy(cell) => match state.cells.get(usize::from(*cell)) {
+                Some(Cell::Hold(parts)) => Ok(parts.copy(alloc)?),
+                _ => unreachable!(),
+            },
+        }
+    }
+
+    /// This form behind `inner`, the form of the copied cell: a copy becomes `inner`. After an
+    /// `Err` both are as before.
+    pub fn through(&self, alloc: Global, inner: &HoldForm) -> Result<HoldForm, NoMemory>
+        ensures form { IfOk result (λ form. form ≡ composed self.now inner.now) }
+
+        // What it gives at a state is what this form gives at any state in which the copied cell
+        // holds what `inner` gives there.
+        ensures parts { IfOk result (λ form. (first second : OneState) → Leads self.now inner.now first second → parts_at form first ≡ parts_at self.now second) }
+    {
+        match self {
+            HoldForm::Const(parts) => Ok(HoldForm::Const(parts.copy(alloc)?)),
+            HoldForm::Copy(_) => inner.copy(alloc),
+        }
+    }
+
+    /// An equal form of its own.
+    pub fn copy(&self, alloc: Global) -> Result<HoldForm, NoMemory>
+        ensures { IfOk result (λ form. form ≡ self.now) }
+    {
+        match self {
+            HoldForm::Const(parts) => Ok(HoldForm::Const(parts.copy(alloc)?)),
+            HoldForm::Copy(cell) => Ok(HoldForm::Copy(*cell)),
+        }
+    }
+}
+
+#[cfg(test)]
+mod tests {
+    use super::*;
+    use std::test::Fail;
+    use sym_base::{Sequence, Value};
+
+    fn parts(alloc: Global, value: i64) -> Result<Values, NoMemory> {
+        let mut parts = Sequence::new(alloc);
+        parts.push(Value::Num(value))?;
+        Ok(parts)
+    }
+
+    #[test]
+    fn a_form_gives_its_parts_or_those_of_the_copied_cell(rt: HostRuntime) -> Result<(), Fail> {
+        let alloc = rt.alloc();
+        let mut cells = Sequence::new(alloc);
+        cells.push(Cell::Int(3))?;
+        cells.push(Cell::Hold(parts(alloc, 7)?))?;
+        let state = State { cells };
+        assert!(rt; HoldForm::Const(parts(alloc, 5)?).value(alloc, &state)? == parts(alloc, 5)?);
+        assert!(rt; HoldForm::Copy(1).value(alloc, &state)? == parts(alloc, 7)?);
+        Ok(())
+    }
+
+    #[test]
+    fn a_copy_becomes_the_form_of_the_copied_cell(rt: HostRuntime) -> Result<(), Fail> {
+        let alloc = rt.alloc();
+        let inner = HoldForm::Copy(2);
+        let fixed = HoldForm::Const(parts(alloc, 5)?);
+        assert!(rt; HoldForm::Copy(1).through(alloc, &inner)? == inner);
+        assert!(rt; HoldForm::Copy(1).through(alloc, &fixed)? == fixed);
+        assert!(rt; fixed.through(alloc, &inner)? == fixed);
+        assert!(rt; fixed.copy(alloc)? == fixed);
+        Ok(())
+    }
+}

@@ -1,0 +1,10 @@
+//! Hold cells: what is known of the tests on one of them, and what a path makes of it.
+#![tactic(auto)]
+
+pub mod facts;
+pub mod form;
+pub mod literal;
+
+pub use facts::{Added, Facts};
+pub use form::HoldForm;
+pub use literal::Literal;

@@ -1,0 +1,183 @@
+//! List cells: what a path makes of the list that one of them holds.
+#![tactic(auto)]
+
+ghost use Rattle.std.specs.Prelude.{◌≡◌, ℤ, [], ◌∷◌, ◌++◌, All, IfOk, length, take, drop, slice_get, option_copied, ◌==◌, List};
+ghost use Rattle.sym_base.specs.declared.state.State.{State as OneState};
+ghost use Rattle.sym_base.specs.declared.value.Value.{Value as OneValue};
+ghost use Rattle.sym_base.specs.States.{HoldsInt, with_int};
+ghost use Rattle.std.specs.List.{AllZip};
+ghost use Rattle.sym_vector.specs.Lists.{list_at};
+
+use std::alloc::Global;
+use std::marker::Model;
+use sym_base::{Element, NoMemory, Sequence};
+
+/// The list of a cell in terms of the state at the start of a path: the old list of that cell with
+/// the elements `added` behind it. A contract sees the list of the added elements.
+#[derive(Debug, Drop)]
+pub struct ListForm<E> {
+    added: Sequence<E>,
+}
+
+impl<E> Model for ListForm<E> {
+    ghost use Rattle.std.specs.Prelude.{List};
+
+    ghost Value = { List E };
+
+    ghost view = { λ form. form.added };
+}
+
+impl<E: PartialEq> PartialEq for ListForm<E> {
+    ghost use Rattle.std.specs.Cmp.Lexicographic.{pointwise, lists_per};
+
+    ghost eq = { pointwise E.eq };
+
+    ghost laws = { lists_per E.laws };
+
+    fn eq(&self, other: &ListForm<E>) -> bool {
+        self.added == other.added
+    }
+}
+
+impl<E: Eq> Eq for ListForm<E> {
+    ghost use Rattle.std.specs.Cmp.Lexicographic.{lists_equiv};
+
+    ghost laws = { lists_equiv E.Eq.laws };
+}
+
+impl<E: Element> ListForm<E> {
+    /// The form that adds nothing to the old list. It takes no memory.
+    pub fn same(alloc: Global) -> ListForm<E>
+        ensures { result ≡ [] }
+    {
+        ListForm {
+            added: Sequence::new(alloc),
+        }
+    }
+
+    /// The number of added elements.
+    pub fn len(&self) -> usize
+        ensures { result ≡ length self.now }
+    {
+        self.added.len()
+    }
+
+    /// Whether no element is added.
+    pub fn is_empty(&self) -> bool
+        ensures { result ≡ (length self.now == 0) }
+    {
+        self.added.is_empty()
+    }
+
+    /// The added element at `index`, counted from 0; `None` where at most `index` are added.
+    pub fn at(&self, index: usize) -> Option<&E>
+        ensures { option_copied result ≡ slice_get self.now index }
+    {
+        self.added.get(index)
+    }
+
+    /// The form with `element` behind the others. After an `Err` both the form and the element are
+    /// dropped.
+    pub fn push(self, _alloc: Global, element: E) -> Result<ListForm<E>, NoMemory>
+        ensures { IfOk result (λ form. form ≡ self ++ element ∷ []) }
+    {
+        let mut added = self.added;
+        added.push(element)?;
+        Ok(ListForm { added })
+    }
+
+    /// An equal form of its own.
+    pub fn copy(&self, alloc: Global) -> Result<ListForm<E>, NoMemory>
+        ensures { IfOk result (λ form. form ≡ self.now) }
+    {
+        let mut added = Sequence::new(alloc);
+        'elements: for element in self.added.as_slice() {
+            added.push(element.copy(alloc)?)?;
+        }
+        Ok(ListForm { added })
+    }
+
+    /// This form behind the form `left` of the same cell: the elements of `left`, and then each of
+    /// these taken through the context. After an `Err` the arguments are as before.
+    pub fn through(
+        &self,
+        alloc: Global,
+        left: &ListForm<E>,
+        context: &E::Context,
+    ) -> Result<ListForm<E>, NoMemory>
+        requires { All (λ element. E.can_go_through element context.now) self.now }
+        ensures first { IfOk result (λ form. take (length left.now) form ≡ left.now) }
+        ensures behind { IfOk result (λ form. AllZip (λ old new. (state : OneState) → E.covers context.now state → E.value_at new state ≡ E.value_at old (E.leads_to context.now state)) self.now (drop (length left.now) form)) }
+
+        // The list that the form gives is what this form makes, at the state that the context
+        // leads to, of the list that `left` gives.
+        ensures composed { IfOk result (λ form. (state : OneState) (old : List OneValue) → E.covers context.now state → list_at E.value_at form state old ≡ list_at E.value_at self.now (E.leads_to context.now state) (list_at E.value_at left.now state old)) }
+    {
+        let mut all = left.copy(alloc)?.added;
+        'these: for element in self.added.as_slice() {
+            all.push(element.through(alloc, context)?)?;
+        }
+        Ok(ListForm { added: all })
+    }
+
+    /// The form with the integer cell of number `cell` replaced by `value` in each element. After
+    /// an `Err` the form is as before.
+    pub fn fixed(&self, alloc: Global, cell: u16, value: i64) -> Result<ListForm<E>, NoMemory>
+        requires { All (λ element. E.can_fix element cell value) self.now }
+        ensures each { IfOk result (λ form. AllZip (λ old new. (state : OneState) (x : ℤ) → HoldsInt state cell x → E.value_at new state ≡ E.value_at old (with_int state cell value)) self.now form) }
+        ensures list { IfOk result (λ form. (state : OneState) (x : ℤ) (old : List OneValue) → HoldsInt state cell x → list_at E.value_at form state old ≡ list_at E.value_at self.now (with_int state cell value) old) }
+    {
+        let mut added = Sequence::new(alloc);
+        'each: for element in self.added.as_slice() {
+            added.push(element.fixed(alloc, cell, value)?)?;
+        }
+        Ok(ListForm { added })
+    }
+}
+
+#[cfg(test)]
+mod tests {
+    use super::*;
+    use std::test::Fail;
+    use sym_base::Text;
+
+    fn words(alloc: Global, source: &[&str]) -> Result<ListForm<Text>, NoMemory> {
+        let mut form = ListForm::same(alloc);
+        for word in source {
+            form = form.push(alloc, Text::from_str(alloc, word)?)?;
+        }
+        Ok(form)
+    }
+
+    #[test]
+    fn elements_stand_in_the_order_in_which_they_were_pushed(rt: HostRuntime) -> Result<(), Fail> {
+        let alloc = rt.alloc();
+        let form = words(alloc, &["a", "b"])?;
+        assert_eq!(rt; form.len(), 2);
+        assert!(rt; !form.is_empty());
+        assert_eq!(rt; form.at(0).ok_or("first")?.as_str(), "a");
+        assert_eq!(rt; form.at(1).ok_or("second")?.as_str(), "b");
+        assert!(rt; form.at(2).is_none());
+        assert!(rt; ListForm::<Text>::same(alloc).is_empty());
+        Ok(())
+    }
+
+    #[test]
+    fn a_form_behind_another_has_the_elements_of_the_left_one_first(
+        rt: HostRuntime,
+    ) -> Result<(), Fail> {
+        let alloc = rt.alloc();
+        let both = words(alloc, &["c"])?.through(alloc, &words(alloc, &["a", "b"])?, &())?;
+        assert!(rt; both == words(alloc, &["a", "b", "c"])?);
+        Ok(())
+    }
+
+    #[test]
+    fn a_copy_is_equal_and_fixing_a_number_leaves_texts(rt: HostRuntime) -> Result<(), Fail> {
+        let alloc = rt.alloc();
+        let form = words(alloc, &["a", "b"])?;
+        assert!(rt; form.copy(alloc)? == form);
+        assert!(rt; form.fixed(alloc, 0, 4)? == form);
+        Ok(())
+    }
+}
