@@ -1,0 +1,4 @@
+//! Workers claim chunks and their pieces meet on a tree, with no lock.
+#![tactic(auto)]
+
+mod tree;
