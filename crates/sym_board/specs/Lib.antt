@@ -1,1 +1,5 @@
 pub mod Tree
+pub mod State
+pub mod Lawful
+pub mod Steps
+pub mod Core
