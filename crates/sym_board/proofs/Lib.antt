@@ -1,1 +1,4 @@
 pub mod Laws
+pub mod Totals
+pub mod Phases
+pub mod Growing
