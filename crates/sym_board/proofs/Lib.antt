@@ -2,3 +2,4 @@ pub mod Laws
 pub mod Totals
 pub mod Phases
 pub mod Growing
+pub mod Seating
