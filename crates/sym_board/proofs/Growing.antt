@@ -202,13 +202,17 @@ module _ {P I : Type 0} (stands : I → ℕ → ℕ → P → Type 0) (input : I
   raised_node id m b after h near mine take j hj (other np nk nq d) = in_phase stands input n (phase j) (raised id m b j) after j (sym d)
       (elim (take.others j np (neither m b j nk nq)) as (λ _. InPhase stands input n after j (phase j)) [ inl same ↦ in_phase_same stands input n (phase j) homes after j same (g.each_node j hj) | inr t ↦ below_agrees j (side n m b) after (ap begins mine) t.0 t.1 ])
 
+  -- where one child is in a hand and the other one's piece is at home, the node above them is fresh
+  pub above_fresh : (id m : ℕ) (b : Bool) → 0 < m → m < n → phase (side n m b) ≡ held id → phase (side n m (not b)) ≡ home → phase (inner m) ≡ fresh
+  above_fresh id m b h near mine met = let old = sides_sum (λ j. rank (phase j)) m b in let a = ap rank mine in let c = ap rank met in
+      quiet (phase (inner m)) (not_above (phase (side n m true)) (phase (side n m false)) (phase (inner m)) (g.each_family m h near) (omega arith)).0
+
   -- a child of the inner node at m arrives, and its sibling has
   pub grown_second : (id m : ℕ) (b : Bool) (after : List (Maybe (Option P))) → 0 < m → m < n → phase (side n m b) ≡ held id → phase (side n m (not b)) ≡ home
       → TakesUp n m (side n m b) homes after
       → Grown stands input n (raised id m b) (set words m (slice_index words m + bit b)) after
   grown_second id m b after h near mine met take = let k : ℕ = side n m b in let q : ℕ = side n m (not b) in let p : ℕ = inner m in let ph : ℕ → Phase = raised id m b in
-      let up = not_above (phase (side n m true)) (phase (side n m false)) (phase p) (g.each_family m h near) (let old = sides_sum (λ j. rank (phase j)) m b in let a = ap rank mine in let c = ap rank met in omega arith) in
-      let calm : phase p ≡ fresh = quiet (phase p) up.0 in
+      let calm : phase p ≡ fresh = above_fresh id m b h near mine met in
       let kin : (c : Bool) → IsChild n m c = (at_inner n some_leaf few m h near).child in
       let ranks : (j : ℕ) → j ≢ k → j ≢ q → rank (ph j) ≡ rank (phase j) = λ j nk nq. elim (raised_tells id m b j) as (λ _. rank (ph j) ≡ rank (phase j)) [ parent e d ↦ ap rank d ∙ ap rank (sym (ap phase e ∙ calm)) | child e s d ↦ absurd (⊎_elim nk nq s) | other _ _ _ d ↦ ap rank d ] in
       let marks : (j : ℕ) → j ≢ k → mark (ph j) ≡ mark (phase j) = λ j nk. elim (raised_tells id m b j) as (λ _. mark (ph j) ≡ mark (phase j)) [ parent e d ↦ ap mark d ∙ ap mark (sym (ap phase e ∙ calm)) | child e s d ↦ ⊎_elim (λ w. absurd (nk w)) (λ w. ap mark d ∙ sym (ap mark (ap phase w ∙ met))) s | other _ _ _ d ↦ ap mark d ] in

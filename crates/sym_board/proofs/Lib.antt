@@ -3,3 +3,5 @@ pub mod Totals
 pub mod Phases
 pub mod Growing
 pub mod Seating
+pub mod Arrivals
+pub mod Keeping
