@@ -5,3 +5,4 @@ pub mod Growing
 pub mod Seating
 pub mod Arrivals
 pub mod Keeping
+pub mod Lawful
