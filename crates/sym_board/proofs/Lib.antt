@@ -1,4 +1,5 @@
 pub mod Laws
+pub mod Seeking
 pub mod Totals
 pub mod Phases
 pub mod Growing

@@ -30,6 +30,9 @@ pub record Place : Type 0 where
   pub above : ℕ
   pub is_left : Bool
 
+abbrev pub spot : ℕ → ℕ → ℕ → Bool → Place
+spot lo hi above is_left = record { lo = lo; hi = hi; above = above; is_left = is_left }
+
 abbrev pub top : ℕ → Place
 top n = record { lo = 0; hi = n; above = 0; is_left = false }
 
