@@ -3,3 +3,5 @@ pub mod State
 pub mod Lawful
 pub mod Steps
 pub mod Core
+pub mod Plays
+pub mod Rule
