@@ -28,6 +28,11 @@ module _ (n : ℕ) (some_leaf : 0 < n) (few : n ≤ 64) where
   other_side m true h near e = true≢false (sym (same_side m m false true h near h near e).1)
   other_side m false h near e = true≢false (same_side m m true false h near h near e).1
 
+  -- an inner node isn't its own child
+  pub not_parent : (m : ℕ) (b : Bool) → 0 < m → m < n → side n m b ≢ inner m
+  not_parent m true h near e = let t = at_inner n some_leaf few m h near in let a = sym t.left_hi ∙ ap (λ k. (place n k).hi) e in let c = t.before in omega arith
+  not_parent m false h near e = let t = at_inner n some_leaf few m h near in let a = sym t.right_lo ∙ ap (λ k. (place n k).lo) e in let c = t.after in omega arith
+
 pub out_not_some : {P : Type 0} (x : P) → ◌≡◌ {A = Maybe (Maybe (Option P))} (some none) (some (some (Some x))) → ⊥
 out_not_some x e = cc
 
@@ -190,11 +195,6 @@ module _ {P I : Type 0} (stands : I → ℕ → ℕ → P → Type 0) (input : I
   neither m false j p q true = q
   neither m false j p q false = p
 
-  -- an inner node isn't its own child
-  pub not_parent : (m : ℕ) (b : Bool) → 0 < m → m < n → side n m b ≢ inner m
-  not_parent m true h near e = let t = at_inner n some_leaf few m h near in let a = sym t.left_hi ∙ ap (λ k. (place n k).hi) e in let c = t.before in omega arith
-  not_parent m false h near e = let t = at_inner n some_leaf few m h near in let a = sym t.right_lo ∙ ap (λ k. (place n k).lo) e in let c = t.after in omega arith
-
   pub raised_node : (id m : ℕ) (b : Bool) (after : List (Maybe (Option P))) → 0 < m → m < n → phase (side n m b) ≡ held id → TakesUp n m (side n m b) homes after
       → (j : ℕ) → j < nodes n → Raised id m b j → InPhase stands input n after j (raised id m b j)
   raised_node id m b after h near mine take j hj (parent e d) = in_phase stands input n (held id) (raised id m b j) after j (sym d) (ap (get_elem? after) e ∙ take.parent_out)
@@ -219,7 +219,7 @@ module _ {P I : Type 0} (stands : I → ℕ → ℕ → P → Type 0) (input : I
       let starts : (j : ℕ) → j ≢ p → begins (ph j) ≡ begins (phase j) = λ j np. elim (raised_tells id m b j) as (λ _. begins (ph j) ≡ begins (phase j)) [ parent e d ↦ absurd (np e) | child e s d ↦ ap begins d ∙ sym (⊎_elim (λ w. ap begins (ap phase w ∙ mine)) (λ w. ap begins (ap phase w ∙ met)) s) | other _ _ _ d ↦ ap begins d ] in
       let word : (l : ℕ) → l ≢ m → slice_index (set words m (slice_index words m + bit b)) l ≡ slice_index words l = λ l ne. get_or-set_other words m l (slice_index words m + bit b) 0 ne in
       let zeroth = word 0 (λ e. absurd (omega arith)) in
-      let apart : (c : Bool) → side n m c ≢ p = λ c. not_parent m c h near in
+      let apart : (c : Bool) → side n m c ≢ p = λ c. not_parent n some_leaf few m c h near in
       record {
         wide = length-set words m (slice_index words m + bit b) ∙ g.wide;
         long = take.same_length ∙ g.long;

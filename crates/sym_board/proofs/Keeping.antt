@@ -134,11 +134,11 @@ module _ {P I : Type 0} (stands : I → ℕ → ℕ → P → Type 0) (input : I
   keeps_join : Joins s t id v → Orderly stands input n seats t
   keeps_join c = assembled o.phase s.words s.homes _ (slice_index s.words 0) o.grown (seated_join input n seats o.phase (slice_index s.words 0) s.views o.seated id c.other v c.gone at c.distinct c.there pos c.no_hand) refl c.words_are c.homes_are c.views_are
 
-  pub keeps : Step stands input n seats s t id v → Orderly stands input n seats t
-  keeps (claim c) = keeps_claim c
-  keeps (arrive_first c) = keeps_first c
-  keeps (arrive_second c) = keeps_second c
-  keeps (crown c) = keeps_crown c
-  keeps (split c) = keeps_split c
-  keeps (join c) = keeps_join c
-  keeps (close c) = subst (Orderly stands input n seats) (sym c.same) o
+  pub step_keeps : Step stands input n seats s t id v → Orderly stands input n seats t
+  step_keeps (claim c) = keeps_claim c
+  step_keeps (arrive_first c) = keeps_first c
+  step_keeps (arrive_second c) = keeps_second c
+  step_keeps (crown c) = keeps_crown c
+  step_keeps (split c) = keeps_split c
+  step_keeps (join c) = keeps_join c
+  step_keeps (close c) = subst (Orderly stands input n seats) (sym c.same) o

@@ -7,3 +7,5 @@ pub mod Seating
 pub mod Arrivals
 pub mod Keeping
 pub mod Lawful
+pub mod Given
+pub mod Allowed

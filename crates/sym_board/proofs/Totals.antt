@@ -37,7 +37,10 @@ module _ {X : Type 0} (f : X → ℕ) where
   total_some [] h = absurd (omega arith)
   total_some (x ∷ xs) h = elim (eq-zero-or-pos (f x)) as (λ _. (i : ℕ) × (v : X) × (get_elem? (x ∷ xs) i ≡ some v) × (0 < f v)) [ inl z ↦ later x xs (total_some xs (omega arith)) | inr p ↦ (0, x, refl, p) ]
 
--- an element in place of another of the same length
+pub total_le : {X : Type 0} (f g : X → ℕ) (l : List X) → ((j : ℕ) (v : X) → get_elem? l j ≡ some v → f v ≤ g v) → total f l ≤ total g l
+total_le f g [] h = omega arith
+total_le f g (x ∷ xs) h = let a = h 0 x refl in let b = total_le f g xs (λ j v e. h (suc j) v e) in omega arith
+
 pub some_at : {X : Type 0} (l : List X) (i : ℕ) → i < length l → (v : X) × (get_elem? l i ≡ some v)
 some_at [] i h = absurd (omega arith)
 some_at (x ∷ xs) zero h = (x, refl)

@@ -36,17 +36,17 @@ module _ {P : Type 0} where
 abbrev pub claimed : {P I : Type 0} → Step (Option P) → Me (Option P) (View I) → ℕ → Me (Option P) (View I) → Type 0
 claimed step m r w = (r < m.0.leaves → w ≡ (with_leaf m.0 r, (leaf r, None) ∷ m.1)) × (m.0.leaves ≤ r → w ≡ (with_end m.0, m.1))
 
--- the parent of the node k is in the hand, and the pass holds the two pieces and the three slots
-pub record Paired {P I : Type 0} (stands : I → ℕ → ℕ → P → Type 0) (m : Me (Option P) (View I)) (k : ℕ) (w : Me (Option P) (View I)) : Type 0 where
+-- the inner node at m is in the hand, and the pass holds its slot, empty, and those of its children, each with its piece
+pub record Paired {P I : Type 0} (stands : I → ℕ → ℕ → P → Type 0) (n m : ℕ) (v : View I) (w : Me (Option P) (View I)) : Type 0 where
   pub left : P
   pub right : P
-  pub after : w ≡ (with_hand m.0 (Some (inner (place m.0.leaves k).above)), (side m.0.leaves (place m.0.leaves k).above true, Some left) ∷ (side m.0.leaves (place m.0.leaves k).above false, Some right) ∷ (inner (place m.0.leaves k).above, None) ∷ [])
-  pub left_stands : (i : I) → m.0.input ≡ Some i → stands i (place m.0.leaves (inner (place m.0.leaves k).above)).lo (place m.0.leaves k).above left
-  pub right_stands : (i : I) → m.0.input ≡ Some i → stands i (place m.0.leaves k).above (place m.0.leaves (inner (place m.0.leaves k).above)).hi right
+  pub after : w ≡ (with_hand v (Some (inner m)), (side n m true, Some left) ∷ (side n m false, Some right) ∷ (inner m, None) ∷ [])
+  pub left_stands : (i : I) → v.input ≡ Some i → stands i (place n (inner m)).lo m left
+  pub right_stands : (i : I) → v.input ≡ Some i → stands i m (place n (inner m)).hi right
 
 -- what an arrival at a parent's word says: it found no sibling and the hand is empty, or it found one
 abbrev pub arrived : {P I : Type 0} → (I → ℕ → ℕ → P → Type 0) → Step (Option P) → Me (Option P) (View I) → ℕ → Me (Option P) (View I) → Type 0
-arrived stands step m r w = (r ≡ 0 → w ≡ (with_hand m.0 None, [])) × (r ≢ 0 → (k : ℕ) → m.0.hand ≡ Some k → Paired stands m k w)
+arrived stands step m r w = (r ≡ 0 → w ≡ (with_hand m.0 None, [])) × (r ≢ 0 → (k : ℕ) → m.0.hand ≡ Some k → Paired stands m.0.leaves (place m.0.leaves k).above m.0 w)
 
 abbrev pub crowned : {P I : Type 0} → Step (Option P) → Me (Option P) (View I) → ℕ → Me (Option P) (View I) → Type 0
 crowned step m r w = w ≡ (with_hand m.0 None, [])
