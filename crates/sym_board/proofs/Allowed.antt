@@ -15,7 +15,7 @@ use Rattle.sym_board.specs.Steps.{bit, IsBelow, with_leaf, with_end, with_hand, 
 use Rattle.sym_board.specs.Plays.{cut, is_leaf, children, hand_slots, give_all, claimed, Paired, arrived, crowned}
 use Rattle.sym_board.specs.declared.view.View.{View}
 use Rattle.sym_board.proofs.Laws.{IsNode, Hangs, at_node, at_inner, root_near, root_lo, root_hi}
-use Rattle.sym_board.proofs.Totals.{total_le}
+use Rattle.sym_board.proofs.Totals.{total_le, total_one}
 use Rattle.sym_board.proofs.Phases.{quiet, mark_rank, in_phase}
 use Rattle.sym_board.proofs.Arrivals.{side_mark}
 use Rattle.sym_board.proofs.Growing.{not_parent, other_side, same_side, above_fresh}
@@ -59,7 +59,7 @@ module _ {P I : Type 0} (stands : I → ℕ → ℕ → P → Type 0) (input : I
           let calm : o.phase k ≡ fresh = quiet (o.phase k) (o.grown.leaf_fresh next below (omega arith)) in
           (with_leaf v next, takes k None, in_phase stands input n (o.phase k) fresh s.homes k calm (o.grown.each_node k (omega arith)),
           step_keeps stands input n seats s (stepped s 0 ((next + 1) % 2 ^ 64) id c (with_leaf v next) (takes k None)) id v o at pos (claim (record { no_hand = hand; not_ended = more; words_are = words; found = inl (record { below = below; homes_are = refl; views_are = refl }) })),
-          ((λ lt. refl), (λ le. absurd (omega arith)))))
+          ((λ lt. (refl, let own = total_one (λ (x : View I). x.claimed) s.views id v at in omega arith)), (λ le. absurd (omega arith)))))
 
   -- the crowning of the root
   pub crown_allows : (slots id : ℕ) (v : View I) (x : P) (told : Told (Option P)) → slots ≡ nodes n → v.hand ≡ Some (root n) → 0 < v.passes → stands input 0 n x
@@ -159,3 +159,33 @@ module _ {P I : Type 0} (stands : I → ℕ → ℕ → P → Type 0) (input : I
             (arrive_second (record { parent = m; is_left = b; positive = pos; near = near; hand_is = hand; met = sib ∙ one; words_are = ap (set s.words m) (bit_joins b r (inr w1)); homes_are = taken_up o.some_leaf o.few m b pos near x s.homes homes1 (long ∙ count) go; views_are = refl })),
           ((λ e. absurd (bit_some (not b) (sym w1 ∙ e))),
            (λ ne j e. subst (λ l. Paired stands l (place l j).above v own) (sym me.leaves_is) (subst (λ (i : ℕ). Paired stands n i v own) (sym (kid.child b).above_is ∙ ap (λ i. (place n i).above) (same_Some k j (sym hand ∙ e))) paired)))))
+
+  -- an arrival of the node k, named by where k is
+  pub arrive_allows : (slots id k word bits : ℕ) (v : View I) (x : P) (me : Me (Option P) (View I)) (told : Told (Option P)) → 0 < n → n ≤ 64 → k < nodes n → k ≢ root n → slots ≡ nodes n → v.hand ≡ Some k → 0 < v.passes
+      → stands input (place n k).lo (place n k).hi x → word ≡ (place n k).above → bits ≡ bit (place n k).is_left → me ≡ (v, hand_slots n k (Some x))
+      → Allows Rule slots id me word (λ w. bit_or w bits) (arrived stands told me)
+  arrive_allows slots id k word bits v x me told some_leaf few near ne count hand pos st ew eb em = let u = (at_node n some_leaf few k near).hangs ne in let m : ℕ = (place n k).above in let b : Bool = (place n k).is_left in
+      let at_side : Allows Rule slots id (v, hand_slots n k (Some x)) m (λ w. bit_or w (bit b)) (arrived stands told (v, hand_slots n k (Some x))) =
+        subst (λ j. v.hand ≡ Some j → stands input (place n j).lo (place n j).hi x → Allows Rule slots id (v, hand_slots n j (Some x)) m (λ w. bit_or w (bit b)) (arrived stands told (v, hand_slots n j (Some x)))) u.is_side
+          (λ e s. arrive_side slots id m b v x told count u.positive u.near e pos s) hand st in
+      subst (λ (z : Me (Option P) (View I)). Allows Rule slots id z word (λ w. bit_or w bits) (arrived stands told z)) (sym em)
+        (subst (λ i. Allows Rule slots id (v, hand_slots n k (Some x)) i (λ w. bit_or w bits) (arrived stands told (v, hand_slots n k (Some x)))) (sym ew)
+          (subst (λ i. Allows Rule slots id (v, hand_slots n k (Some x)) m (λ w. bit_or w i) (arrived stands told (v, hand_slots n k (Some x)))) (sym eb) at_side))
+
+  pub crown_allows_as : (slots id k word : ℕ) (v : View I) (x : P) (me : Me (Option P) (View I)) (told : Told (Option P)) → k ≡ root n → slots ≡ nodes n → v.hand ≡ Some k → 0 < v.passes → stands input 0 n x → word ≡ n → me ≡ (v, hand_slots n k (Some x))
+      → Allows Rule slots id me word (λ w. bit_or w 1) (crowned told me)
+  crown_allows_as slots id k word v x me told is count hand pos st ew em =
+      subst (λ (z : Me (Option P) (View I)). Allows Rule slots id z word (λ w. bit_or w 1) (crowned told z)) (sym (em ∙ ap (λ j. (v, hand_slots n j (Some x))) is))
+        (subst (λ i. Allows Rule slots id (v, hand_slots n (root n) (Some x)) i (λ w. bit_or w 1) (crowned told (v, hand_slots n (root n) (Some x)))) (sym ew) (crown_allows slots id v x told count (hand ∙ ap Some is) pos st))
+
+  pub claim_allows_as : (slots id : ℕ) (me : Me (Option P) (View I)) (told : Told (Option P)) → me.0.hand ≡ None → me.0.ended < me.0.passes → Allows Rule slots id me 0 (λ w. (w + 1) % 2 ^ 64) (claimed told me)
+  claim_allows_as slots id me told hand more = claim_allows slots id me.0 me.1 told hand more
+
+  -- splitting and joining passes
+  pub split_allows : (id : ℕ) (v : View I) → 1 < v.passes → v.ended ≡ 0 → MaySplit Rule id v (less_one v) (one_pass v)
+  split_allows id v two none_ended s o at = step_keeps stands input n seats s (record { words = s.words; homes = s.homes; views = set s.views id (less_one v) ++ one_pass v ∷ [] }) id v o at (omega arith)
+      (split (record { two = two; none_ended = none_ended; words_are = refl; homes_are = refl; views_are = refl }))
+
+  pub join_allows : (id other : ℕ) (v w : View I) → 0 < v.passes → w.hand ≡ None → MayJoin Rule id v other w (with_counts v w) spent
+  join_allows id other v w pos no_hand s o at ne there = step_keeps stands input n seats s (record { words = s.words; homes = s.homes; views = set (set s.views id (with_counts v w)) other spent }) id v o at pos
+      (join (record { other = other; gone = w; distinct = ne; there = sym (set_else s.views id other (with_counts v w) ne) ∙ there; no_hand = no_hand; words_are = refl; homes_are = refl; views_are = refl }))

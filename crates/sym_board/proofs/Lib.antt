@@ -9,3 +9,5 @@ pub mod Keeping
 pub mod Lawful
 pub mod Given
 pub mod Allowed
+pub mod Opening
+pub mod Spans

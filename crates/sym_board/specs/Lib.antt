@@ -5,3 +5,4 @@ pub mod Steps
 pub mod Core
 pub mod Plays
 pub mod Rule
+pub mod Passes

@@ -32,9 +32,9 @@ module _ {P : Type 0} where
   give_all true = gives
   give_all false = chain gives (chain gives gives)
 
--- what a claim that found the number r says: below n, leaf r and its empty slot; else, the end of the pass
+-- what a claim that found the number r says: below n, leaf r and its empty slot, and that this pass had not claimed all leaves; else, the end of the pass
 abbrev pub claimed : {P I : Type 0} → Step (Option P) → Me (Option P) (View I) → ℕ → Me (Option P) (View I) → Type 0
-claimed step m r w = (r < m.0.leaves → w ≡ (with_leaf m.0 r, (leaf r, None) ∷ m.1)) × (m.0.leaves ≤ r → w ≡ (with_end m.0, m.1))
+claimed step m r w = (r < m.0.leaves → (w ≡ (with_leaf m.0 r, (leaf r, None) ∷ m.1)) × (m.0.claimed < m.0.leaves)) × (m.0.leaves ≤ r → w ≡ (with_end m.0, m.1))
 
 -- the inner node at m is in the hand, and the pass holds its slot, empty, and those of its children, each with its piece
 pub record Paired {P I : Type 0} (stands : I → ℕ → ℕ → P → Type 0) (n m : ℕ) (v : View I) (w : Me (Option P) (View I)) : Type 0 where

@@ -1,10 +1,14 @@
 //! Workers claim chunks and their pieces meet on a tree, with no lock.
 #![tactic(auto)]
 
+mod board;
 mod law;
+mod pass;
 mod piece;
 mod tree;
 mod view;
 
+pub use board::{Board, Made};
+pub use pass::Pass;
 pub use piece::Piece;
 pub use tree::Interval;

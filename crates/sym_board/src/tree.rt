@@ -36,7 +36,8 @@ pub(crate) fn number_of(lo: u64, hi: u64) -> u64
 /// Where the node of that number is in the tree over so many leaves.
 pub(crate) fn find(leaves: u64, node: u64) -> Spot
     requires { (0 < leaves) × (leaves ≤ 64) }
-    ensures { spot result.lo result.hi result.above result.is_left ≡ place leaves node }
+    ensures small { (result.lo ≤ 64) × (result.hi ≤ 64) }
+    ensures found { spot result.lo result.hi result.above result.is_left ≡ place leaves node }
 {
     let mut at = Spot {
         lo: 0,

@@ -1,0 +1,27 @@
+-- The interval of the node in a hand.
+use Rattle.std.proofs.Common.{◌≡◌, ◌≢◌, ℕ, ◌+◌, ◌-◌, ◌*◌, ◌<◌, ◌≤◌, refl, sym, ap, ap₂, ◌∙◌, subst, arith, Option, Some, None}
+use Rattle.std.proofs.lemmas.Option.{none-some, same_Some}
+use Rattle.sym_board.specs.Tree.{leaf, inner, number, nodes, root, place, side}
+use Rattle.sym_board.specs.Passes.{interval, span_of}
+use Rattle.sym_board.specs.declared.tree.Interval.{Interval}
+use Rattle.sym_board.proofs.Laws.{IsNode, at_node, root_near, root_lo, root_hi, leaf_lo, leaf_hi}
+
+pub no_span : (n : ℕ) (h : Option ℕ) → span_of n h ≡ None → h ≡ None
+no_span n None e = refl
+no_span n (Some k) e = absurd (none-some (interval (place n k).lo (place n k).hi) (sym e))
+
+-- the node of a hand that isn't empty
+pub some_span : (n : ℕ) (h : Option ℕ) (i : Interval) → span_of n h ≡ Some i → (k : ℕ) × (h ≡ Some k) × ((place n k).lo ≡ i.lo) × ((place n k).hi ≡ i.hi)
+some_span n None i e = absurd (none-some i e)
+some_span n (Some k) i e = let same : interval (place n k).lo (place n k).hi ≡ i = same_Some (interval (place n k).lo (place n k).hi) i e in (k, refl, ap (λ (x : Interval). x.lo) same, ap (λ (x : Interval). x.hi) same)
+
+module _ (n : ℕ) (some_leaf : 0 < n) (few : n ≤ 64) where
+  pub leaf_span : (i : ℕ) → i < n → span_of n (Some (leaf i)) ≡ Some (interval i (i + 1))
+  leaf_span i h = ap₂ (λ (a b : ℕ). Some (interval a b)) (leaf_lo n some_leaf few i h) (leaf_hi n some_leaf few i h)
+
+  -- the root is the one node from 0 to n
+  pub is_root : (k : ℕ) → k < nodes n → (place n k).lo ≡ 0 → (place n k).hi ≡ n → k ≡ root n
+  is_root k h a b = sym (at_node n some_leaf few k h).named ∙ ap₂ number a b
+
+  pub root_span : (k : ℕ) → k ≡ root n → span_of n (Some k) ≡ Some (interval 0 n)
+  root_span k e = ap (λ j. span_of n (Some j)) e ∙ ap₂ (λ (a b : ℕ). Some (interval a b)) (root_lo n some_leaf few) (root_hi n some_leaf few)
