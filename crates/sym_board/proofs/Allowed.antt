@@ -7,7 +7,7 @@ use native.Mathlib.Decide.{dec_le, ℕ_discrete}
 use lib.ListN.{get_elem?}
 use Rattle.atomic_table.specs.Table.{State, Me, Step as Told, Act, keeps, gives, takes, chain, Allows, Splits as MaySplit, Joins as MayJoin, homes_after, carried_after, Valid, stepped}
 use Rattle.atomic_table.proofs.Lists.{set_here, set_else}
-use Rattle.sym_board.specs.Tree.{leaf, inner, nodes, root, place, side}
+use Rattle.sym_board.specs.Tree.{leaf, inner, nodes, root, Place, spot, place, side}
 use Rattle.sym_board.specs.State.{total, arrivals}
 use Rattle.sym_board.specs.Lawful.{IsActive, IsEmpty}
 use Rattle.sym_board.specs.Core.{Phase, fresh, held, home, used, rank, mark, begins, InPhase, Grown, Seated, Orderly}
@@ -177,6 +177,20 @@ module _ {P I : Type 0} (stands : I → ℕ → ℕ → P → Type 0) (input : I
   crown_allows_as slots id k word v x me told is count hand pos st ew em =
       subst (λ (z : Me (Option P) (View I)). Allows Rule slots id z word (λ w. bit_or w 1) (crowned told z)) (sym (em ∙ ap (λ j. (v, hand_slots n j (Some x))) is))
         (subst (λ i. Allows Rule slots id (v, hand_slots n (root n) (Some x)) i (λ w. bit_or w 1) (crowned told (v, hand_slots n (root n) (Some x)))) (sym ew) (crown_allows slots id v x told count (hand ∙ ap Some is) pos st))
+
+  -- the same, where the number of leaves has another name
+  pub crown_allows_at : (leaves slots id k word : ℕ) (v : View I) (x : P) (me : Me (Option P) (View I)) (told : Told (Option P)) → n ≡ leaves → k ≡ root leaves → slots ≡ nodes leaves → v.hand ≡ Some k → 0 < v.passes → stands input 0 leaves x → word ≡ leaves → me ≡ (v, hand_slots leaves k (Some x))
+      → Allows Rule slots id me word (λ w. bit_or w 1) (crowned told me)
+  crown_allows_at leaves slots id k word v x me told same is count hand pos st ew em = subst (λ l. k ≡ root l → slots ≡ nodes l → stands input 0 l x → word ≡ l → me ≡ (v, hand_slots l k (Some x)) → Allows Rule slots id me word (λ w. bit_or w 1) (crowned told me)) same
+      (λ a b c d e. crown_allows_as slots id k word v x me told a b hand pos c d e) is count st ew em
+
+  pub arrive_allows_at : (leaves slots id k lo hi above bits : ℕ) (b : Bool) (v : View I) (x : P) (me : Me (Option P) (View I)) (told : Told (Option P)) → n ≡ leaves → 0 < leaves → leaves ≤ 64 → k < nodes leaves → k ≢ root leaves → spot lo hi above b ≡ place leaves k → slots ≡ nodes leaves → v.hand ≡ Some k → 0 < v.passes
+      → stands input lo hi x → bits ≡ bit b → me ≡ (v, hand_slots leaves k (Some x))
+      → Allows Rule slots id me above (λ w. bit_or w bits) (arrived stands told me)
+  arrive_allows_at leaves slots id k lo hi above bits b v x me told same some_leaf few near ne at count hand pos st eb em =
+      subst (λ l. 0 < l → l ≤ 64 → k < nodes l → k ≢ root l → spot lo hi above b ≡ place l k → slots ≡ nodes l → me ≡ (v, hand_slots l k (Some x)) → Allows Rule slots id me above (λ w. bit_or w bits) (arrived stands told me)) same
+        (λ p q r z y c e. arrive_allows slots id k above bits v x me told p q r z c hand pos (subst (λ (u : Place). stands input u.lo u.hi x) y st) (ap (λ (u : Place). u.above) y) (eb ∙ ap (λ (u : Place). bit u.is_left) y) e)
+        some_leaf few near ne at count em
 
   pub claim_allows_as : (slots id : ℕ) (me : Me (Option P) (View I)) (told : Told (Option P)) → me.0.hand ≡ None → me.0.ended < me.0.passes → Allows Rule slots id me 0 (λ w. (w + 1) % 2 ^ 64) (claimed told me)
   claim_allows_as slots id me told hand more = claim_allows slots id me.0 me.1 told hand more

@@ -11,3 +11,4 @@ pub mod Given
 pub mod Allowed
 pub mod Opening
 pub mod Spans
+pub mod Emptied

@@ -6,3 +6,4 @@ pub mod Core
 pub mod Plays
 pub mod Rule
 pub mod Passes
+pub mod Arrived

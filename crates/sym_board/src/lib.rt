@@ -1,6 +1,7 @@
 //! Workers claim chunks and their pieces meet on a tree, with no lock.
 #![tactic(auto)]
 
+mod arrive;
 mod board;
 mod law;
 mod pass;
@@ -8,6 +9,7 @@ mod piece;
 mod tree;
 mod view;
 
+pub use arrive::{Arrived, Carried};
 pub use board::{Board, Made};
 pub use pass::Pass;
 pub use piece::Piece;
