@@ -153,3 +153,36 @@ impl<P: Piece> Board<P> {
         }
     }
 }
+
+impl<P: Piece> Board<P> {
+    ghost use Rattle.sym_board.specs.Passes.{hand, has_ended, claims, board_leaves, board_input, IsPassOf, interval};
+    ghost use Rattle.sym_board.specs.Arrived.{MatchArrived, Meets, IsAbove};
+
+    /// Delivers the piece of the node in the hand and joins what it meets, up to `Left` or `Crowned`: the hand is then
+    /// empty. `Err` is want of memory alone. The hand then holds a node further up, whose piece is lost.
+    pub fn carry(
+        &self,
+        alloc: Global,
+        input: &P::Input,
+        pass: &mut Pass<P>,
+        piece: P,
+    ) -> Result<Carried, NoMemory>
+        requires of { IsPassOf self.now pass.old }
+        requires input { input.now ≡ board_input self.now }
+        requires held { (i : Interval) × (hand pass.old ≡ Some i) × P.stands_for (board_input self.now) i.lo i.hi piece }
+        ensures of { IsPassOf self.now pass.new }
+        ensures counts { (has_ended pass.new ≡ has_ended pass.old) × (claims pass.new ≡ claims pass.old) }
+        ensures ok { OnOk result (hand pass.new ≡ None) }
+        ensures root { hand pass.old ≡ Some (interval 0 (board_leaves self.now)) → result ≡ Ok Carried.Crowned }
+        ensures err { OnErr result (IsAbove (hand pass.old) (hand pass.new)) }
+    {
+        let mut piece = piece;
+        'levels: loop {
+            match self.deliver(pass, piece) {
+                Arrived::Left => return Ok(Carried::Left),
+                Arrived::Crowned => return Ok(Carried::Crowned),
+                Arrived::Pair(left, right) => piece = left.join(alloc, input, right)?,
+            }
+        }
+    }
+}
