@@ -12,3 +12,4 @@ pub mod Allowed
 pub mod Opening
 pub mod Spans
 pub mod Emptied
+pub mod Climbing

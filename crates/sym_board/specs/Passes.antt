@@ -1,5 +1,5 @@
 -- What callers see of a board and its passes.
-use Rattle.std.specs.Prelude.{◌≡◌, ℕ, ◌+◌, Bool, true, false, Option, Some, None}
+use Rattle.std.specs.Prelude.{◌≡◌, ℕ, ◌+◌, ◌-◌, Bool, true, false, Option, Some, None}
 use Rattle.sym_board.specs.Tree.{place, half}
 use Rattle.sym_board.specs.declared.tree.Interval.{Interval}
 use Rattle.sym_board.specs.declared.pass.Pass.{Pass}
@@ -12,6 +12,11 @@ interval lo hi = record { lo = lo; hi = hi }
 abbrev pub span_of : ℕ → Option ℕ → Option Interval
 span_of n None = None
 span_of n (Some k) = Some (interval (place n k).lo (place n k).hi)
+
+-- how many chunks
+abbrev pub span_len : Option Interval → ℕ
+span_len None = 0
+span_len (Some i) = i.hi - i.lo
 
 module _ {P I : Type 0} {g : _} where
   -- the chunks of the node in the hand
