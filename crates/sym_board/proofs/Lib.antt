@@ -13,3 +13,5 @@ pub mod Opening
 pub mod Spans
 pub mod Emptied
 pub mod Climbing
+pub mod Gathering
+pub mod Closing

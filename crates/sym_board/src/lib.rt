@@ -3,6 +3,7 @@
 
 mod arrive;
 mod board;
+mod close;
 mod law;
 mod pass;
 mod piece;
