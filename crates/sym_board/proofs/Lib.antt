@@ -15,3 +15,4 @@ pub mod Emptied
 pub mod Climbing
 pub mod Gathering
 pub mod Closing
+pub mod Chunks

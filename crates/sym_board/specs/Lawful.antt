@@ -73,3 +73,19 @@ module _ {P I : Type 0} where
     pub begun : (k : ℕ) → k < nodes n → HasBegun n s.words k → IsHeld n s k ⊎ HasArrived n s k
     pub waiting : (k : ℕ) → k < nodes n → IsWaiting n s k → Rests stands input n s k
     pub no_other : (k : ℕ) (x : P) → k < nodes n → get_elem? s.homes k ≡ some (some (Some x)) → IsWaiting n s k
+
+module _ {P I : Type 0} where
+  -- the node k holds the chunk i, in a hand or as a piece at home
+  pub record Carries (n : ℕ) (s : State (Option P) (View I)) (k i : ℕ) : Type 0 where
+    pub near : k < nodes n
+    pub from : (place n k).lo ≤ i
+    pub to : i < (place n k).hi
+    pub there : ((j : ℕ) × IsInHand s.views j k) ⊎ ((x : P) × (get_elem? s.homes k ≡ some (some (Some x))))
+
+  -- the chunk i lies in exactly one hand or in exactly one piece at home, and not in both
+  pub record IsCarriedOnce (n : ℕ) (s : State (Option P) (View I)) (i : ℕ) : Type 0 where
+    pub node : ℕ
+    pub carries : Carries n s node i
+    pub one_node : (k : ℕ) → Carries n s k i → k ≡ node
+    pub one_hand : (j l : ℕ) → IsInHand s.views j node → IsInHand s.views l node → j ≡ l
+    pub not_both : (j : ℕ) (x : P) → IsInHand s.views j node → get_elem? s.homes node ≢ some (some (Some x))
