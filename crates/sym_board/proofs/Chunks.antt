@@ -71,20 +71,18 @@ module _ (n : ℕ) (some_leaf : 0 < n) (few : n ≤ 64) (i : ℕ) where
       (node_kind n k h)
 
 module _ {P I : Type 0} (stands : I → ℕ → ℕ → P → Type 0) (input : I) (n seats : ℕ) (some_leaf : 0 < n) (few : n ≤ 64) (s : State (Option P) (View I)) (w : IsLawful stands input n seats s) where
-  Begun : ℕ → Type 0
+  abbrev pub Begun : ℕ → Type 0
   Begun k = HasBegun n s.words k
 
-  arrived_begun : (k : ℕ) → k < nodes n → arrivals n s.words k ≡ 1 → Begun k
-  unfolding Begun
+  pub arrived_begun : (k : ℕ) → k < nodes n → arrivals n s.words k ≡ 1 → Begun k
   arrived_begun k h a = ⊎_elim (λ b. b) (λ nb. let z = (w.fresh k h nb).not_arrived in absurd (omega arith)) (begun_or n s.words k h)
 
   -- a node has arrived or it hasn't
-  one_or_none : (k : ℕ) → k < nodes n → (arrivals n s.words k ≡ 0) ⊎ (arrivals n s.words k ≡ 1)
+  pub one_or_none : (k : ℕ) → k < nodes n → (arrivals n s.words k ≡ 0) ⊎ (arrivals n s.words k ≡ 1)
   one_or_none k h = ⊎_elim (λ b. ⊎_elim (λ x. inl x.not_arrived) (λ x. inr x.arrived) (w.begun k h b)) (λ nb. inl (w.fresh k h nb).not_arrived) (begun_or n s.words k h)
 
   -- a begun node's children have arrived
-  sides_arrived : (m : ℕ) → 0 < m → Begun (inner m) → (b : Bool) → arrivals n s.words (side n m b) ≡ 1
-  unfolding Begun
+  pub sides_arrived : (m : ℕ) → 0 < m → Begun (inner m) → (b : Bool) → arrivals n s.words (side n m b) ≡ 1
   sides_arrived m pos (inl t) b = absurd (not_inner t.0 m pos (sym t.1))
   sides_arrived m pos (inr t) true = subst (λ l. arrivals n s.words (side n l true) ≡ 1) (sym (same_inner m t.0 pos t.2 t.1)) t.4
   sides_arrived m pos (inr t) false = subst (λ l. arrivals n s.words (side n l false) ≡ 1) (sym (same_inner m t.0 pos t.2 t.1)) t.5
@@ -103,7 +101,6 @@ module _ {P I : Type 0} (stands : I → ℕ → ℕ → P → Type 0) (input : I
 
   -- a node that carries has begun, and the node above it hasn't
   carrying : (k i : ℕ) → Carries n s k i → Begun k × (k ≢ root n → Begun (inner (place n k).above) → ⊥)
-  unfolding Begun
   carrying k i c = ⊎_elim
       (λ t. ⊎_elim
         (λ b. (b, λ ne up. ⊎_elim (λ x. let one = (parent_arrived k c.near ne up).0 in let z = x.not_arrived in absurd (omega arith)) (λ x. x.no_hand t.0 t.1) (w.begun k c.near b)))
@@ -156,7 +153,6 @@ module _ {P I : Type 0} (stands : I → ℕ → ℕ → P → Type 0) (input : I
 
   -- each claimed chunk lies in exactly one hand or one piece at home
   pub carried : (i : ℕ) → i < n → i < slice_index s.words 0 → IsCarriedOnce n s i
-  unfolding Begun
   carried i h lt = let lo_is = leaf_lo n some_leaf few i h in let hi_is = leaf_hi n some_leaf few i h in
       let c = carrier i n (leaf i) (omega arith) (omega arith) (omega arith) (omega arith) (inl (i, refl, lt)) in
       let b = (carrying c.0 i c.1).0 in let near = c.1.near in

@@ -16,3 +16,4 @@ pub mod Climbing
 pub mod Gathering
 pub mod Closing
 pub mod Chunks
+pub mod Agreeing
