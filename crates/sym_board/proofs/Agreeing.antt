@@ -12,7 +12,7 @@ use Rattle.sym_board.specs.Lawful.{IsActive, IsEmpty, IsFresh, IsHeld, HasArrive
 use Rattle.sym_board.specs.Core.{Phase, fresh, held, home, used, rank, mark, begins, Family, InPhase, Grown, Seated, Orderly}
 use Rattle.sym_board.specs.Steps.{Step}
 use Rattle.sym_board.specs.declared.view.View.{View}
-use Rattle.sym_board.proofs.Laws.{at_node, at_inner, root_near}
+use Rattle.sym_board.proofs.TreeLaws.{at_node, at_inner, root_near}
 use Rattle.sym_board.proofs.Arrivals.{arrivals_root, arrivals_side, sibling_side}
 use Rattle.sym_board.proofs.Growing.{not_inner}
 use Rattle.sym_board.proofs.Keeping.{same_held, step_keeps}
@@ -42,20 +42,60 @@ module _ {P I : Type 0} (stands : I → ℕ → ℕ → P → Type 0) (input : I
     absent : arrivals n s.words k ≡ 0 → rank p ≡ 0
 
   fresh_status : (k : ℕ) → ¬ HasBegun n s.words k → IsFresh n s k → Status k fresh
-  fresh_status k nb f = let z = f.not_arrived in record { shape = f.at_home; marked = z; hand_to = λ j t. absurd (f.no_hand j t); hand_from = λ j e. absurd (fresh_held j e); begin_to = λ b. absurd (nb b); begin_from = λ _. refl;
-      at_root = λ _. omega arith; alone = λ _ _. sym z; met = λ _ one _. absurd (omega arith); absent = λ _. refl }
+  fresh_status k nb f = let z = f.not_arrived in record {
+    shape = f.at_home;
+    marked = z;
+    hand_to = λ j t. absurd (f.no_hand j t);
+    hand_from = λ j e. absurd (fresh_held j e);
+    begin_to = λ b. absurd (nb b);
+    begin_from = λ _. refl;
+    at_root = λ _. omega arith;
+    alone = λ _ _. sym z;
+    met = λ _ one _. absurd (omega arith);
+    absent = λ _. refl;
+  }
 
   held_status : (k : ℕ) → HasBegun n s.words k → (x : IsHeld n s k) → Status k (held x.holder)
-  held_status k b x = let z = x.not_arrived in record { shape = x.out; marked = z; hand_to = λ j t. ap held (sym (x.once j t)); hand_from = λ j e. subst (λ i. IsInHand s.views i k) (same_held x.holder j e) x.held; begin_to = λ _. refl; begin_from = λ nb. absurd (nb b);
-      at_root = λ _. omega arith; alone = λ _ _. sym z; met = λ _ one _. absurd (omega arith); absent = λ _. refl }
+  held_status k b x = let z = x.not_arrived in record {
+    shape = x.out;
+    marked = z;
+    hand_to = λ j t. ap held (sym (x.once j t));
+    hand_from = λ j e. subst (λ i. IsInHand s.views i k) (same_held x.holder j e) x.held;
+    begin_to = λ _. refl;
+    begin_from = λ nb. absurd (nb b);
+    at_root = λ _. omega arith;
+    alone = λ _ _. sym z;
+    met = λ _ one _. absurd (omega arith);
+    absent = λ _. refl;
+  }
 
   home_status : (k : ℕ) → k < nodes n → HasBegun n s.words k → HasArrived n s k → (k ≢ root n → arrivals n s.words (sibling n k) ≡ 0) → Status k home
-  home_status k h b x by_self = let one = x.arrived in record { shape = w.waiting k h (record { arrived = one; alone = by_self }); marked = one; hand_to = λ j t. absurd (x.no_hand j t); hand_from = λ j e. absurd (home_held j e); begin_to = λ _. refl; begin_from = λ nb. absurd (nb b);
-      at_root = λ _. omega arith; alone = λ _ _. sym one; met = λ ne _ sib. let z = by_self ne in absurd (omega arith); absent = λ z. absurd (omega arith) }
+  home_status k h b x by_self = let one = x.arrived in record {
+    shape = w.waiting k h (record { arrived = one; alone = by_self });
+    marked = one;
+    hand_to = λ j t. absurd (x.no_hand j t);
+    hand_from = λ j e. absurd (home_held j e);
+    begin_to = λ _. refl;
+    begin_from = λ nb. absurd (nb b);
+    at_root = λ _. omega arith;
+    alone = λ _ _. sym one;
+    met = λ ne _ sib. let z = by_self ne in absurd (omega arith);
+    absent = λ z. absurd (omega arith);
+  }
 
   used_status : (k : ℕ) → k < nodes n → HasBegun n s.words k → HasArrived n s k → k ≢ root n → arrivals n s.words (sibling n k) ≡ 1 → Status k used
-  used_status k h b x ne sib = let one = x.arrived in record { shape = λ p at. let z = (w.no_other k p h at).alone ne in absurd (omega arith); marked = one; hand_to = λ j t. absurd (x.no_hand j t); hand_from = λ j e. absurd (used_held j e); begin_to = λ _. refl; begin_from = λ nb. absurd (nb b);
-      at_root = λ e. absurd (ne e); alone = λ _ z. absurd (omega arith); met = λ _ _ _. refl; absent = λ z. absurd (omega arith) }
+  used_status k h b x ne sib = let one = x.arrived in record {
+    shape = λ p at. let z = (w.no_other k p h at).alone ne in absurd (omega arith);
+    marked = one;
+    hand_to = λ j t. absurd (x.no_hand j t);
+    hand_from = λ j e. absurd (used_held j e);
+    begin_to = λ _. refl;
+    begin_from = λ nb. absurd (nb b);
+    at_root = λ e. absurd (ne e);
+    alone = λ _ z. absurd (omega arith);
+    met = λ _ _ _. refl;
+    absent = λ z. absurd (omega arith);
+  }
 
   sibling_near : (k : ℕ) → k < nodes n → k ≢ root n → sibling n k < nodes n
   sibling_near k h ne = let u = (at_node n some_leaf few k h).hangs ne in ((at_inner n some_leaf few (place n k).above u.positive u.near).child (not (place n k).is_left)).near
@@ -63,9 +103,9 @@ module _ {P I : Type 0} (stands : I → ℕ → ℕ → P → Type 0) (input : I
   status : (k : ℕ) → k < nodes n → (p : Phase) × Status k p
   status k h = ⊎_elim
       (λ b. ⊎_elim (λ x. (held x.holder, held_status k b x))
-        (λ x. dite (ℕ_discrete k (root n)) (λ e. (home, home_status k h b x (λ ne. absurd (ne e))))
-          (λ ne. ⊎_elim (λ z. (home, home_status k h b x (λ _. z))) (λ one. (used, used_status k h b x ne one)) (one_or_none stands input n seats some_leaf few s w (sibling n k) (sibling_near k h ne))))
-        (w.begun k h b))
+      (λ x. dite (ℕ_discrete k (root n)) (λ e. (home, home_status k h b x (λ ne. absurd (ne e))))
+      (λ ne. ⊎_elim (λ z. (home, home_status k h b x (λ _. z))) (λ one. (used, used_status k h b x ne one)) (one_or_none stands input n seats some_leaf few s w (sibling n k) (sibling_near k h ne))))
+      (w.begun k h b))
       (λ nb. (fresh, fresh_status k nb (w.fresh k h nb)))
       (begun_or n s.words k h)
 
@@ -91,13 +131,13 @@ module _ {P I : Type 0} (stands : I → ℕ → ℕ → P → Type 0) (input : I
       let sl = sibling_side n some_leaf few m true pos less in let sr = sibling_side n some_leaf few m false pos less in
       let closed : (b : Bool) → arrivals n s.words (side n m b) ≡ 0 → begins (phase (inner m)) ≡ 0 = λ b z. u.begin_from (λ g. let one = sides_arrived stands input n seats some_leaf few s w m pos g b in absurd (omega arith)) in
       ⊎_elim
-        (λ lz. let x : rank (phase (side n m true)) ≡ 0 = l.absent lz in let y = r.alone rt.not_root (ap (arrivals n s.words) sr ∙ lz) in
-          inr (⊎_elim (λ rz. omega arith) (λ ro. omega arith) (one_or_none stands input n seats some_leaf few s w (side n m false) rt.near), closed true lz))
-        (λ lo. ⊎_elim
-          (λ rz. let y : rank (phase (side n m false)) ≡ 0 = r.absent rz in let x = l.alone lt.not_root (ap (arrivals n s.words) sl ∙ rz) in inr (omega arith, closed false rz))
-          (λ ro. let x = l.met lt.not_root lo (ap (arrivals n s.words) sl ∙ ro) in let y = r.met rt.not_root ro (ap (arrivals n s.words) sr ∙ lo) in inl (omega arith, u.begin_to (inr (m, refl, pos, less, lo, ro))))
-          (one_or_none stands input n seats some_leaf few s w (side n m false) rt.near))
-        (one_or_none stands input n seats some_leaf few s w (side n m true) lt.near)
+      (λ lz. let x : rank (phase (side n m true)) ≡ 0 = l.absent lz in let y = r.alone rt.not_root (ap (arrivals n s.words) sr ∙ lz) in
+      inr (⊎_elim (λ rz. omega arith) (λ ro. omega arith) (one_or_none stands input n seats some_leaf few s w (side n m false) rt.near), closed true lz))
+      (λ lo. ⊎_elim
+      (λ rz. let y : rank (phase (side n m false)) ≡ 0 = r.absent rz in let x = l.alone lt.not_root (ap (arrivals n s.words) sl ∙ rz) in inr (omega arith, closed false rz))
+      (λ ro. let x = l.met lt.not_root lo (ap (arrivals n s.words) sl ∙ ro) in let y = r.met rt.not_root ro (ap (arrivals n s.words) sr ∙ lo) in inl (omega arith, u.begin_to (inr (m, refl, pos, less, lo, ro))))
+      (one_or_none stands input n seats some_leaf few s w (side n m false) rt.near))
+      (one_or_none stands input n seats some_leaf few s w (side n m true) lt.near)
 
   word_is : (m : ℕ) → 0 < m → m < n → slice_index s.words m ≡ mark (phase (side n m true)) + 2 * mark (phase (side n m false))
   word_is m pos less = let t = at_inner n some_leaf few m pos less in let bits = w.two_bits m pos less in
@@ -109,25 +149,31 @@ module _ {P I : Type 0} (stands : I → ℕ → ℕ → P → Type 0) (input : I
 
   pub orderly : Orderly stands input n seats s
   orderly = let both = w.claims_sum in let least = w.leaves_sum in record {
-      some_leaf = some_leaf; few = few; few_seats = few_seats; phase = phase;
-      grown = record {
-        wide = w.word_count;
-        long = w.slot_count;
-        each_node = λ k h. (of_node k h).shape;
-        leaf_begun = λ i h lt. (of_node (leaf i) (omega arith)).begin_to (inl (i, refl, lt));
-        leaf_fresh = λ i h le. (of_node (leaf i) (omega arith)).begin_from (λ b. ⊎_elim (λ t. let e : leaf i ≡ leaf t.0 = t.1 in let lt = t.2 in absurd (omega arith)) (λ t. not_inner i t.0 t.2 t.1) b);
-        each_word = word_is;
-        each_family = family;
-        crown = sym (arrivals_root n s.words (root n) refl) ∙ (of_node (root n) (root_near n some_leaf few)).marked;
-        not_joined = (of_node (root n) (root_near n some_leaf few)).at_root refl };
-      seated = record {
-        each_view = w.each_view;
-        hand_held = λ j v k at e. (of_node k (node_near j v k at e)).hand_to j (v, at, e);
-        held_hand = λ k j h e. (of_node k h).hand_from j e;
-        passes_sum = w.passes_sum;
-        claims_sum = both;
-        leaves_sum = omega arith;
-        ended_late = λ pos. omega arith } }
+    some_leaf = some_leaf;
+    few = few;
+    few_seats = few_seats;
+    phase = phase;
+    grown = record {
+      wide = w.word_count;
+      long = w.slot_count;
+      each_node = λ k h. (of_node k h).shape;
+      leaf_begun = λ i h lt. (of_node (leaf i) (omega arith)).begin_to (inl (i, refl, lt));
+      leaf_fresh = λ i h le. (of_node (leaf i) (omega arith)).begin_from (λ b. ⊎_elim (λ t. let e : leaf i ≡ leaf t.0 = t.1 in let lt = t.2 in absurd (omega arith)) (λ t. not_inner i t.0 t.2 t.1) b);
+      each_word = word_is;
+      each_family = family;
+      crown = sym (arrivals_root n s.words (root n) refl) ∙ (of_node (root n) (root_near n some_leaf few)).marked;
+      not_joined = (of_node (root n) (root_near n some_leaf few)).at_root refl;
+    };
+    seated = record {
+      each_view = w.each_view;
+      hand_held = λ j v k at e. (of_node k (node_near j v k at e)).hand_to j (v, at, e);
+      held_hand = λ k j h e. (of_node k h).hand_from j e;
+      passes_sum = w.passes_sum;
+      claims_sum = both;
+      leaves_sum = omega arith;
+      ended_late = λ pos. omega arith;
+    };
+  }
 
   -- each step leads from a lawful state to a lawful one
   pub lawful_step : (t : State (Option P) (View I)) (id : ℕ) (v : View I) → get_elem? s.views id ≡ some v → 0 < v.passes → Step stands input n seats s t id v → IsLawful stands input n seats t

@@ -14,7 +14,7 @@ use Rattle.sym_board.specs.Core.{Phase, fresh, held, home, used, rank, mark, beg
 use Rattle.sym_board.specs.Steps.{bit, IsBelow, with_leaf, with_end, with_hand, less_one, one_pass, with_counts, spent, GoesHome, TakesUp, ClaimsLeaf, ClaimsNone, Claims, ArrivesFirst, ArrivesSecond, Crowns, Splits, Joins, Step, claim, arrive_first, arrive_second, crown, split, join}
 use Rattle.sym_board.specs.Plays.{cut, is_leaf, children, hand_slots, give_all, claimed, Paired, arrived, crowned}
 use Rattle.sym_board.specs.declared.view.View.{View}
-use Rattle.sym_board.proofs.Laws.{IsNode, Hangs, at_node, at_inner, root_near, root_lo, root_hi}
+use Rattle.sym_board.proofs.TreeLaws.{IsNode, Hangs, at_node, at_inner, root_near, root_lo, root_hi}
 use Rattle.sym_board.proofs.Totals.{total_le, total_one}
 use Rattle.sym_board.proofs.Phases.{quiet, mark_rank, in_phase}
 use Rattle.sym_board.proofs.Arrivals.{side_mark}
@@ -52,14 +52,21 @@ module _ {P I : Type 0} (stands : I → ℕ → ℕ → P → Type 0) (input : I
       let wraps : (next + 1) % 2 ^ 64 ≡ next + 1 = mod-eq_of_lt small in
       let words : set s.words 0 ((next + 1) % 2 ^ 64) ≡ set s.words 0 (next + 1) = ap (set s.words 0) wraps in
       dite (dec_le n next)
-        (λ past. (with_end v, keeps, tt,
-          step_keeps stands input n seats s (stepped s 0 ((next + 1) % 2 ^ 64) id c (with_end v) keeps) id v o at pos (claim (record { no_hand = hand; not_ended = more; words_are = words; found = inr (record { past = past; homes_are = refl; views_are = refl }) })),
-          ((λ lt. absurd (omega arith)), (λ le. refl))))
-        (λ no. let below : next < n = lt_of_not-le no in let k : ℕ = leaf next in
-          let calm : o.phase k ≡ fresh = quiet (o.phase k) (o.grown.leaf_fresh next below (omega arith)) in
-          (with_leaf v next, takes k None, in_phase stands input n (o.phase k) fresh s.homes k calm (o.grown.each_node k (omega arith)),
-          step_keeps stands input n seats s (stepped s 0 ((next + 1) % 2 ^ 64) id c (with_leaf v next) (takes k None)) id v o at pos (claim (record { no_hand = hand; not_ended = more; words_are = words; found = inl (record { below = below; homes_are = refl; views_are = refl }) })),
-          ((λ lt. (refl, let own = total_one (λ (x : View I). x.claimed) s.views id v at in omega arith)), (λ le. absurd (omega arith)))))
+      (λ past. (
+        with_end v,
+        keeps,
+        tt,
+        step_keeps stands input n seats s (stepped s 0 ((next + 1) % 2 ^ 64) id c (with_end v) keeps) id v o at pos (claim (record { no_hand = hand; not_ended = more; words_are = words; found = inr (record { past = past; homes_are = refl; views_are = refl }) })),
+        ((λ lt. absurd (omega arith)), (λ le. refl)),
+      ))
+      (λ no. let below : next < n = lt_of_not-le no in let k : ℕ = leaf next in
+      let calm : o.phase k ≡ fresh = quiet (o.phase k) (o.grown.leaf_fresh next below (omega arith)) in (
+        with_leaf v next,
+        takes k None,
+        in_phase stands input n (o.phase k) fresh s.homes k calm (o.grown.each_node k (omega arith)),
+        step_keeps stands input n seats s (stepped s 0 ((next + 1) % 2 ^ 64) id c (with_leaf v next) (takes k None)) id v o at pos (claim (record { no_hand = hand; not_ended = more; words_are = words; found = inl (record { below = below; homes_are = refl; views_are = refl }) })),
+        ((λ lt. (refl, let own = total_one (λ (x : View I). x.claimed) s.views id v at in omega arith)), (λ le. absurd (omega arith))),
+      ))
 
   -- the crowning of the root
   pub crown_allows : (slots id : ℕ) (v : View I) (x : P) (told : Told (Option P)) → slots ≡ nodes n → v.hand ≡ Some (root n) → 0 < v.passes → stands input 0 n x
@@ -68,11 +75,14 @@ module _ {P I : Type 0} (stands : I → ℕ → ℕ → P → Type 0) (input : I
       let here : o.phase k ≡ held id = o.seated.hand_held id v k at hand in
       let zero : slice_index s.words n ≡ 0 = o.grown.crown ∙ ap mark here in
       let one : bit_or (slice_index s.words n) 1 ≡ 1 = subst (λ w. bit_or w 1 ≡ 1) (sym zero) refl in
-      let st2 : stands input (place n k).lo (place n k).hi x = subst (λ a. stands input a (place n k).hi x) (sym (root_lo n o.some_leaf o.few)) (subst (λ b. stands input 0 b x) (sym (root_hi n o.some_leaf o.few)) st) in
-      (with_hand v None, give_all (is_leaf k), may_give n k (Some x) s.homes,
+      let st2 : stands input (place n k).lo (place n k).hi x = subst (λ a. stands input a (place n k).hi x) (sym (root_lo n o.some_leaf o.few)) (subst (λ b. stands input 0 b x) (sym (root_hi n o.some_leaf o.few)) st) in (
+        with_hand v None,
+        give_all (is_leaf k),
+        may_give n k (Some x) s.homes,
         step_keeps stands input n seats s (stepped s n (bit_or (slice_index s.words n) 1) id c (with_hand v None) (give_all (is_leaf k))) id v o at pos
-          (crown (record { piece = x; hand_is = hand; piece_stands = st2; words_are = ap (set s.words n) one; homes_are = goes_home n o.some_leaf o.few k (root_near n o.some_leaf o.few) x s.homes (long ∙ count); views_are = refl })),
-        ap (λ (l : List (ℕ × Option P)). (with_hand v None, l)) (nothing_held n k (Some x)))
+            (crown (record { piece = x; hand_is = hand; piece_stands = st2; words_are = ap (set s.words n) one; homes_are = goes_home n o.some_leaf o.few k (root_near n o.some_leaf o.few) x s.homes (long ∙ count); views_are = refl })),
+        ap (λ (l : List (ℕ × Option P)). (with_hand v None, l)) (nothing_held n k (Some x)),
+      )
 
   -- the word at which a child in the hand arrives, by what its sibling shows
   word_found : (s : State (Option P) (View I)) (o : Rule s) (m : ℕ) (b : Bool) → 0 < m → m < n → mark (o.phase (side n m b)) ≡ 0
@@ -113,7 +123,8 @@ module _ {P I : Type 0} (stands : I → ℕ → ℕ → P → Type 0) (input : I
         parent_out = set_else two l p none pl ∙ set_else one r p none pr ∙ set_here after p none (omega arith);
         side_out = elim [ true ↦ set_here two l none (omega arith) | false ↦ set_else two l r none rl ∙ set_here one r none (omega arith) ];
         others = λ j np ns. let out : get_elem? (set two l none) j ≡ get_elem? after j = set_else two l j none (ns true) ∙ set_else one r j none (ns false) ∙ set_else after p j none np in
-            ⊎_elim (λ e. inl (out ∙ e)) (λ e. inr (e.0, out ∙ e.1)) (go.others j (ns b)) }
+            ⊎_elim (λ e. inl (out ∙ e)) (λ e. inr (e.0, out ∙ e.1)) (go.others j (ns b));
+      }
 
   -- an arrival
   pub arrive_side : (slots id m : ℕ) (b : Bool) (v : View I) (x : P) (told : Told (Option P)) → slots ≡ nodes n → 0 < m → m < n → v.hand ≡ Some (side n m b) → 0 < v.passes
@@ -127,38 +138,48 @@ module _ {P I : Type 0} (stands : I → ℕ → ℕ → P → Type 0) (input : I
       let go : GoesHome n k x s.homes homes1 = goes_home n o.some_leaf o.few k (kid.child b).near x s.homes (long ∙ count) in
       let sib : arrivals n s.words q ≡ mark (o.phase q) = side_mark stands input n o.some_leaf o.few o.phase s.words s.homes o.grown m (not b) pos near in
       dite (ℕ_discrete (mark (o.phase q)) 0)
-        (λ z. let w0 : r ≡ 0 = found.0 z in
-          (with_hand v None, give, may_give n k (Some x) s.homes,
-          step_keeps stands input n seats s (stepped s m (bit_or r (bit b)) id c (with_hand v None) give) id v o at some_pass
+      (λ z. let w0 : r ≡ 0 = found.0 z in (
+        with_hand v None,
+        give,
+        may_give n k (Some x) s.homes,
+        step_keeps stands input n seats s (stepped s m (bit_or r (bit b)) id c (with_hand v None) give) id v o at some_pass
             (arrive_first (record { parent = m; is_left = b; piece = x; positive = pos; near = near; hand_is = hand; alone = sib ∙ z; piece_stands = st; words_are = ap (set s.words m) (bit_joins b r (inl w0)); homes_are = go; views_are = refl })),
-          ((λ e. ap (λ (l : List (ℕ × Option P)). (with_hand v None, l)) (nothing_held n k (Some x))), (λ ne. absurd (ne w0)))))
-        (λ nz. let one : mark (o.phase q) ≡ 1 = let few_mark = (mark_rank (o.phase q)).2 in omega arith in let w1 : r ≡ bit (not b) = found.1 one in
-          let rests : o.phase q ≡ home = met_home stands input n seats s s id v o at some_pass m b pos near here (sib ∙ one) in
-          let piece = in_phase stands input n (o.phase q) home s.homes q rests (o.grown.each_node q (kid.child (not b)).near) in
-          let y : P = piece.0 in
-          let qk : q ≢ k = other_side n o.some_leaf o.few m b pos near in
-          let q_home : get_elem? homes1 q ≡ some (some (Some y)) = ⊎_elim (λ same. same ∙ piece.1) (λ d. absurd (child_apart o.some_leaf o.few m b pos near d.0)) (go.others q qk) in
-          let calm : o.phase p ≡ fresh = above_fresh stands input n o.some_leaf o.few o.phase s.words s.homes o.grown id m b pos near here rests in
-          let p_home : get_elem? homes1 p ≡ some (some None) = ⊎_elim (λ same. same ∙ in_phase stands input n (o.phase p) fresh s.homes p calm (o.grown.each_node p (omega arith))) (λ d. d.1) (go.others p (λ d. not_parent n o.some_leaf o.few m b pos near (sym d))) in
-          let both : Sides s homes1 m = sides_of s homes1 m b x y go.here q_home st piece.2 in
-          let lft : ℕ = side n m true in let rgt : ℕ = side n m false in
-          let one_out : List (Maybe (Option P)) = set homes1 p none in let two_out : List (Maybe (Option P)) = set one_out rgt none in
-          let act : Act (Option P) = chain give (chain (takes p None) (chain (takes rgt (Some both.right)) (takes lft (Some both.left)))) in
-          let r_home : get_elem? one_out rgt ≡ some (some (Some both.right)) = set_else homes1 p rgt none (not_parent n o.some_leaf o.few m false pos near) ∙ both.right_home in
-          let l_home : get_elem? two_out lft ≡ some (some (Some both.left)) = set_else one_out rgt lft none (other_side n o.some_leaf o.few m false pos near) ∙ set_else homes1 p lft none (not_parent n o.some_leaf o.few m true pos near) ∙ both.left_home in
-          let w : View I = with_hand v (Some p) in
-          let me : IsActive input n seats v = is_active input n seats o.phase (slice_index s.words 0) s.views o.seated id v at some_pass in
-          let own : Me (Option P) (View I) = (w, carried_after c act) in
-          let paired : Paired stands n m v own = record {
-            left = both.left; right = both.right;
-            after = ap (λ (l : List (ℕ × Option P)). (w, (lft, Some both.left) ∷ (rgt, Some both.right) ∷ (p, None) ∷ l)) (nothing_held n k (Some x));
-            left_stands = λ i e. subst (λ j. stands j (place n p).lo m both.left) (same_Some input i (sym me.input_is ∙ e)) (subst (λ a. stands input a m both.left) kid.left_lo (subst (λ a. stands input (place n lft).lo a both.left) kid.left_hi both.left_stands));
-            right_stands = λ i e. subst (λ j. stands j m (place n p).hi both.right) (same_Some input i (sym me.input_is ∙ e)) (subst (λ a. stands input a (place n p).hi both.right) kid.right_lo (subst (λ a. stands input (place n rgt).lo a both.right) kid.right_hi both.right_stands)) } in
-          (w, act, (may_give n k (Some x) s.homes, (p_home, (r_home, l_home))),
-          step_keeps stands input n seats s (stepped s m (bit_or r (bit b)) id c w act) id v o at some_pass
+        ((λ e. ap (λ (l : List (ℕ × Option P)). (with_hand v None, l)) (nothing_held n k (Some x))), (λ ne. absurd (ne w0))),
+      ))
+      (λ nz. let one : mark (o.phase q) ≡ 1 = let few_mark = (mark_rank (o.phase q)).2 in omega arith in let w1 : r ≡ bit (not b) = found.1 one in
+      let rests : o.phase q ≡ home = met_home stands input n seats s s id v o at some_pass m b pos near here (sib ∙ one) in
+      let piece = in_phase stands input n (o.phase q) home s.homes q rests (o.grown.each_node q (kid.child (not b)).near) in
+      let y : P = piece.0 in
+      let qk : q ≢ k = other_side n o.some_leaf o.few m b pos near in
+      let q_home : get_elem? homes1 q ≡ some (some (Some y)) = ⊎_elim (λ same. same ∙ piece.1) (λ d. absurd (child_apart o.some_leaf o.few m b pos near d.0)) (go.others q qk) in
+      let calm : o.phase p ≡ fresh = above_fresh stands input n o.some_leaf o.few o.phase s.words s.homes o.grown id m b pos near here rests in
+      let p_home : get_elem? homes1 p ≡ some (some None) = ⊎_elim (λ same. same ∙ in_phase stands input n (o.phase p) fresh s.homes p calm (o.grown.each_node p (omega arith))) (λ d. d.1) (go.others p (λ d. not_parent n o.some_leaf o.few m b pos near (sym d))) in
+      let both : Sides s homes1 m = sides_of s homes1 m b x y go.here q_home st piece.2 in
+      let lft : ℕ = side n m true in let rgt : ℕ = side n m false in
+      let one_out : List (Maybe (Option P)) = set homes1 p none in let two_out : List (Maybe (Option P)) = set one_out rgt none in
+      let act : Act (Option P) = chain give (chain (takes p None) (chain (takes rgt (Some both.right)) (takes lft (Some both.left)))) in
+      let r_home : get_elem? one_out rgt ≡ some (some (Some both.right)) = set_else homes1 p rgt none (not_parent n o.some_leaf o.few m false pos near) ∙ both.right_home in
+      let l_home : get_elem? two_out lft ≡ some (some (Some both.left)) = set_else one_out rgt lft none (other_side n o.some_leaf o.few m false pos near) ∙ set_else homes1 p lft none (not_parent n o.some_leaf o.few m true pos near) ∙ both.left_home in
+      let w : View I = with_hand v (Some p) in
+      let me : IsActive input n seats v = is_active input n seats o.phase (slice_index s.words 0) s.views o.seated id v at some_pass in
+      let own : Me (Option P) (View I) = (w, carried_after c act) in
+      let paired : Paired stands n m v own = record {
+        left = both.left;
+        right = both.right;
+        after = ap (λ (l : List (ℕ × Option P)). (w, (lft, Some both.left) ∷ (rgt, Some both.right) ∷ (p, None) ∷ l)) (nothing_held n k (Some x));
+        left_stands = λ i e. subst (λ j. stands j (place n p).lo m both.left) (same_Some input i (sym me.input_is ∙ e)) (subst (λ a. stands input a m both.left) kid.left_lo (subst (λ a. stands input (place n lft).lo a both.left) kid.left_hi both.left_stands));
+        right_stands = λ i e. subst (λ j. stands j m (place n p).hi both.right) (same_Some input i (sym me.input_is ∙ e)) (subst (λ a. stands input a (place n p).hi both.right) kid.right_lo (subst (λ a. stands input (place n rgt).lo a both.right) kid.right_hi both.right_stands));
+      } in (
+        w,
+        act,
+        (may_give n k (Some x) s.homes, (p_home, (r_home, l_home))),
+        step_keeps stands input n seats s (stepped s m (bit_or r (bit b)) id c w act) id v o at some_pass
             (arrive_second (record { parent = m; is_left = b; positive = pos; near = near; hand_is = hand; met = sib ∙ one; words_are = ap (set s.words m) (bit_joins b r (inr w1)); homes_are = taken_up o.some_leaf o.few m b pos near x s.homes homes1 (long ∙ count) go; views_are = refl })),
-          ((λ e. absurd (bit_some (not b) (sym w1 ∙ e))),
-           (λ ne j e. subst (λ l. Paired stands l (place l j).above v own) (sym me.leaves_is) (subst (λ (i : ℕ). Paired stands n i v own) (sym (kid.child b).above_is ∙ ap (λ i. (place n i).above) (same_Some k j (sym hand ∙ e))) paired)))))
+        (
+          (λ e. absurd (bit_some (not b) (sym w1 ∙ e))),
+          (λ ne j e. subst (λ l. Paired stands l (place l j).above v own) (sym me.leaves_is) (subst (λ (i : ℕ). Paired stands n i v own) (sym (kid.child b).above_is ∙ ap (λ i. (place n i).above) (same_Some k j (sym hand ∙ e))) paired)),
+        ),
+      ))
 
   -- an arrival of the node k, named by where k is
   pub arrive_allows : (slots id k word bits : ℕ) (v : View I) (x : P) (me : Me (Option P) (View I)) (told : Told (Option P)) → 0 < n → n ≤ 64 → k < nodes n → k ≢ root n → slots ≡ nodes n → v.hand ≡ Some k → 0 < v.passes
@@ -166,17 +187,17 @@ module _ {P I : Type 0} (stands : I → ℕ → ℕ → P → Type 0) (input : I
       → Allows Rule slots id me word (λ w. bit_or w bits) (arrived stands told me)
   arrive_allows slots id k word bits v x me told some_leaf few near ne count hand pos st ew eb em = let u = (at_node n some_leaf few k near).hangs ne in let m : ℕ = (place n k).above in let b : Bool = (place n k).is_left in
       let at_side : Allows Rule slots id (v, hand_slots n k (Some x)) m (λ w. bit_or w (bit b)) (arrived stands told (v, hand_slots n k (Some x))) =
-        subst (λ j. v.hand ≡ Some j → stands input (place n j).lo (place n j).hi x → Allows Rule slots id (v, hand_slots n j (Some x)) m (λ w. bit_or w (bit b)) (arrived stands told (v, hand_slots n j (Some x)))) u.is_side
-          (λ e s. arrive_side slots id m b v x told count u.positive u.near e pos s) hand st in
+      subst (λ j. v.hand ≡ Some j → stands input (place n j).lo (place n j).hi x → Allows Rule slots id (v, hand_slots n j (Some x)) m (λ w. bit_or w (bit b)) (arrived stands told (v, hand_slots n j (Some x)))) u.is_side
+      (λ e s. arrive_side slots id m b v x told count u.positive u.near e pos s) hand st in
       subst (λ (z : Me (Option P) (View I)). Allows Rule slots id z word (λ w. bit_or w bits) (arrived stands told z)) (sym em)
-        (subst (λ i. Allows Rule slots id (v, hand_slots n k (Some x)) i (λ w. bit_or w bits) (arrived stands told (v, hand_slots n k (Some x)))) (sym ew)
-          (subst (λ i. Allows Rule slots id (v, hand_slots n k (Some x)) m (λ w. bit_or w i) (arrived stands told (v, hand_slots n k (Some x)))) (sym eb) at_side))
+      (subst (λ i. Allows Rule slots id (v, hand_slots n k (Some x)) i (λ w. bit_or w bits) (arrived stands told (v, hand_slots n k (Some x)))) (sym ew)
+      (subst (λ i. Allows Rule slots id (v, hand_slots n k (Some x)) m (λ w. bit_or w i) (arrived stands told (v, hand_slots n k (Some x)))) (sym eb) at_side))
 
   pub crown_allows_as : (slots id k word : ℕ) (v : View I) (x : P) (me : Me (Option P) (View I)) (told : Told (Option P)) → k ≡ root n → slots ≡ nodes n → v.hand ≡ Some k → 0 < v.passes → stands input 0 n x → word ≡ n → me ≡ (v, hand_slots n k (Some x))
       → Allows Rule slots id me word (λ w. bit_or w 1) (crowned told me)
   crown_allows_as slots id k word v x me told is count hand pos st ew em =
       subst (λ (z : Me (Option P) (View I)). Allows Rule slots id z word (λ w. bit_or w 1) (crowned told z)) (sym (em ∙ ap (λ j. (v, hand_slots n j (Some x))) is))
-        (subst (λ i. Allows Rule slots id (v, hand_slots n (root n) (Some x)) i (λ w. bit_or w 1) (crowned told (v, hand_slots n (root n) (Some x)))) (sym ew) (crown_allows slots id v x told count (hand ∙ ap Some is) pos st))
+      (subst (λ i. Allows Rule slots id (v, hand_slots n (root n) (Some x)) i (λ w. bit_or w 1) (crowned told (v, hand_slots n (root n) (Some x)))) (sym ew) (crown_allows slots id v x told count (hand ∙ ap Some is) pos st))
 
   -- the same, where the number of leaves has another name
   pub crown_allows_at : (leaves slots id k word : ℕ) (v : View I) (x : P) (me : Me (Option P) (View I)) (told : Told (Option P)) → n ≡ leaves → k ≡ root leaves → slots ≡ nodes leaves → v.hand ≡ Some k → 0 < v.passes → stands input 0 leaves x → word ≡ leaves → me ≡ (v, hand_slots leaves k (Some x))
@@ -189,8 +210,8 @@ module _ {P I : Type 0} (stands : I → ℕ → ℕ → P → Type 0) (input : I
       → Allows Rule slots id me above (λ w. bit_or w bits) (arrived stands told me)
   arrive_allows_at leaves slots id k lo hi above bits b v x me told same some_leaf few near ne at count hand pos st eb em =
       subst (λ l. 0 < l → l ≤ 64 → k < nodes l → k ≢ root l → spot lo hi above b ≡ place l k → slots ≡ nodes l → me ≡ (v, hand_slots l k (Some x)) → Allows Rule slots id me above (λ w. bit_or w bits) (arrived stands told me)) same
-        (λ p q r z y c e. arrive_allows slots id k above bits v x me told p q r z c hand pos (subst (λ (u : Place). stands input u.lo u.hi x) y st) (ap (λ (u : Place). u.above) y) (eb ∙ ap (λ (u : Place). bit u.is_left) y) e)
-        some_leaf few near ne at count em
+      (λ p q r z y c e. arrive_allows slots id k above bits v x me told p q r z c hand pos (subst (λ (u : Place). stands input u.lo u.hi x) y st) (ap (λ (u : Place). u.above) y) (eb ∙ ap (λ (u : Place). bit u.is_left) y) e)
+      some_leaf few near ne at count em
 
   pub claim_allows_as : (slots id : ℕ) (me : Me (Option P) (View I)) (told : Told (Option P)) → me.0.hand ≡ None → me.0.ended < me.0.passes → Allows Rule slots id me 0 (λ w. (w + 1) % 2 ^ 64) (claimed told me)
   claim_allows_as slots id me told hand more = claim_allows slots id me.0 me.1 told hand more

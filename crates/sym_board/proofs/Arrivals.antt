@@ -6,7 +6,7 @@ use native.Mathlib.Decide.{ℕ_discrete}
 use Rattle.sym_board.specs.Tree.{inner, nodes, root, place, side}
 use Rattle.sym_board.specs.State.{arrivals, sibling}
 use Rattle.sym_board.specs.Core.{Phase, mark, Grown}
-use Rattle.sym_board.proofs.Laws.{IsNode, Hangs, IsChild, at_node, at_inner, root_near}
+use Rattle.sym_board.proofs.TreeLaws.{IsNode, Hangs, IsChild, at_node, at_inner, root_near}
 use Rattle.sym_board.proofs.Phases.{mark_rank}
 
 pub arrivals_root : (n : ℕ) (words : List ℕ) (k : ℕ) → k ≡ root n → arrivals n words k ≡ slice_index words n

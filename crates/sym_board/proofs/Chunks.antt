@@ -9,7 +9,7 @@ use Rattle.sym_board.specs.Tree.{leaf, inner, nodes, root, place, side}
 use Rattle.sym_board.specs.State.{arrivals, sibling, HasBegun, IsInHand}
 use Rattle.sym_board.specs.Lawful.{IsFresh, IsHeld, HasArrived, IsWaiting, IsLawful, Carries, IsCarriedOnce}
 use Rattle.sym_board.specs.declared.view.View.{View}
-use Rattle.sym_board.proofs.Laws.{at_node, at_inner, root_near, leaf_lo, leaf_hi}
+use Rattle.sym_board.proofs.TreeLaws.{at_node, at_inner, root_near, leaf_lo, leaf_hi}
 use Rattle.sym_board.proofs.Growing.{not_inner, same_inner, out_not_some}
 use Rattle.sym_board.proofs.Lawful.{node_kind}
 
@@ -21,7 +21,7 @@ module _ (n : ℕ) (words : List ℕ) where
   inner_begun_or : (k m : ℕ) → k ≡ inner m → 0 < m → m < n → HasBegun n words k ⊎ (¬ HasBegun n words k)
   inner_begun_or k m e pos near = dite (ℕ_discrete (arrivals n words (side n m true)) 1)
       (λ a. dite (ℕ_discrete (arrivals n words (side n m false)) 1) (λ b. inl (inr (m, e, pos, near, a, b)))
-        (λ nb. inr (λ h. ⊎_elim (λ t. not_inner t.0 m pos (sym t.1 ∙ e)) (λ t. nb (subst (λ l. arrivals n words (side n l false) ≡ 1) (same_inner t.0 m t.2 pos (sym t.1 ∙ e)) t.5)) h)))
+      (λ nb. inr (λ h. ⊎_elim (λ t. not_inner t.0 m pos (sym t.1 ∙ e)) (λ t. nb (subst (λ l. arrivals n words (side n l false) ≡ 1) (same_inner t.0 m t.2 pos (sym t.1 ∙ e)) t.5)) h)))
       (λ na. inr (λ h. ⊎_elim (λ t. not_inner t.0 m pos (sym t.1 ∙ e)) (λ t. na (subst (λ l. arrivals n words (side n l true) ≡ 1) (same_inner t.0 m t.2 pos (sym t.1 ∙ e)) t.4)) h))
 
   -- a node has begun or it hasn't
@@ -61,13 +61,13 @@ module _ (n : ℕ) (some_leaf : 0 < n) (few : n ≤ 64) (i : ℕ) where
   climbs_to zero k h le from to = absurd (omega arith)
   climbs_to (suc f) k h le from to = ⊎_elim
       (λ l. let lo_is : (place n k).lo ≡ l.0 = ap (λ j. (place n j).lo) l.1 ∙ leaf_lo n some_leaf few l.0 l.2 in let hi_is : (place n k).hi ≡ l.0 + 1 = ap (λ j. (place n j).hi) l.1 ∙ leaf_hi n some_leaf few l.0 l.2 in
-        let same : l.0 ≡ i = omega arith in (0, l.1 ∙ ap leaf same))
+      let same : l.0 ≡ i = omega arith in (0, l.1 ∙ ap leaf same))
       (λ l. let m : ℕ = l.0 in let t = at_inner n some_leaf few m l.2 l.3 in
-        let lo_is : (place n k).lo ≡ (place n (inner m)).lo = ap (λ j. (place n j).lo) l.1 in let hi_is : (place n k).hi ≡ (place n (inner m)).hi = ap (λ j. (place n j).hi) l.1 in
-        let a = t.after in let b = t.before in let c1 = t.left_lo in let c2 = t.left_hi in let d1 = t.right_lo in let d2 = t.right_hi in
-        dite (dec_lt i m)
-          (λ lt. let s = climbs_to f (side n m true) (t.child true).near (omega arith) (omega arith) (omega arith) in (suc s.0, (side n m true, s.1, (t.child true).not_root, (t.child true).near, ap inner (t.child true).above_is ∙ sym l.1)))
-          (λ nl. let ge : ¬ (i < m) = nl in let s = climbs_to f (side n m false) (t.child false).near (omega arith) (omega arith) (omega arith) in (suc s.0, (side n m false, s.1, (t.child false).not_root, (t.child false).near, ap inner (t.child false).above_is ∙ sym l.1))))
+      let lo_is : (place n k).lo ≡ (place n (inner m)).lo = ap (λ j. (place n j).lo) l.1 in let hi_is : (place n k).hi ≡ (place n (inner m)).hi = ap (λ j. (place n j).hi) l.1 in
+      let a = t.after in let b = t.before in let c1 = t.left_lo in let c2 = t.left_hi in let d1 = t.right_lo in let d2 = t.right_hi in
+      dite (dec_lt i m)
+      (λ lt. let s = climbs_to f (side n m true) (t.child true).near (omega arith) (omega arith) (omega arith) in (suc s.0, (side n m true, s.1, (t.child true).not_root, (t.child true).near, ap inner (t.child true).above_is ∙ sym l.1)))
+      (λ nl. let ge : ¬ (i < m) = nl in let s = climbs_to f (side n m false) (t.child false).near (omega arith) (omega arith) (omega arith) in (suc s.0, (side n m false, s.1, (t.child false).not_root, (t.child false).near, ap inner (t.child false).above_is ∙ sym l.1))))
       (node_kind n k h)
 
 module _ {P I : Type 0} (stands : I → ℕ → ℕ → P → Type 0) (input : I) (n seats : ℕ) (some_leaf : 0 < n) (few : n ≤ 64) (s : State (Option P) (View I)) (w : IsLawful stands input n seats s) where
@@ -103,8 +103,8 @@ module _ {P I : Type 0} (stands : I → ℕ → ℕ → P → Type 0) (input : I
   carrying : (k i : ℕ) → Carries n s k i → Begun k × (k ≢ root n → Begun (inner (place n k).above) → ⊥)
   carrying k i c = ⊎_elim
       (λ t. ⊎_elim
-        (λ b. (b, λ ne up. ⊎_elim (λ x. let one = (parent_arrived k c.near ne up).0 in let z = x.not_arrived in absurd (omega arith)) (λ x. x.no_hand t.0 t.1) (w.begun k c.near b)))
-        (λ nb. absurd ((w.fresh k c.near nb).no_hand t.0 t.1)) (begun_or n s.words k c.near))
+      (λ b. (b, λ ne up. ⊎_elim (λ x. let one = (parent_arrived k c.near ne up).0 in let z = x.not_arrived in absurd (omega arith)) (λ x. x.no_hand t.0 t.1) (w.begun k c.near b)))
+      (λ nb. absurd ((w.fresh k c.near nb).no_hand t.0 t.1)) (begun_or n s.words k c.near))
       (λ t. let waits = w.no_other k t.0 c.near t.1 in (arrived_begun k c.near waits.arrived, λ ne up. let one = (parent_arrived k c.near ne up).1 in let z = waits.alone ne in absurd (omega arith)))
       c.there
 
@@ -116,8 +116,8 @@ module _ {P I : Type 0} (stands : I → ℕ → ℕ → P → Type 0) (input : I
   one_carrier i k l ck cl = let a = climbs_to n some_leaf few i ((place n k).hi - (place n k).lo) k ck.near (omega arith) ck.from ck.to in
       let b = climbs_to n some_leaf few i ((place n l).hi - (place n l).lo) l cl.near (omega arith) cl.from cl.to in
       dite (dec_lt a.0 b.0) (λ lt. absurd (lower_never i a.0 b.0 k l lt a.1 b.1 ck cl))
-        (λ nl. dite (dec_lt b.0 a.0) (λ gt. absurd (lower_never i b.0 a.0 l k gt b.1 a.1 cl ck))
-          (λ ng. let x : ¬ (a.0 < b.0) = nl in let y : ¬ (b.0 < a.0) = ng in let same : b.0 ≡ a.0 = omega arith in climbs_same n i a.0 k l a.1 (subst (λ d. Climbs n i d l) same b.1)))
+      (λ nl. dite (dec_lt b.0 a.0) (λ gt. absurd (lower_never i b.0 a.0 l k gt b.1 a.1 cl ck))
+      (λ ng. let x : ¬ (a.0 < b.0) = nl in let y : ¬ (b.0 < a.0) = ng in let same : b.0 ≡ a.0 = omega arith in climbs_same n i a.0 k l a.1 (subst (λ d. Climbs n i d l) same b.1)))
 
   -- a node's interval lies within its parent's, which is longer
   within_parent : (m : ℕ) (b : Bool) → 0 < m → m < n → ((place n (inner m)).lo ≤ (place n (side n m b)).lo) × ((place n (side n m b)).hi ≤ (place n (inner m)).hi) × ((place n (side n m b)).hi - (place n (side n m b)).lo < (place n (inner m)).hi - (place n (inner m)).lo)
@@ -136,15 +136,15 @@ module _ {P I : Type 0} (stands : I → ℕ → ℕ → P → Type 0) (input : I
       → k < nodes n → n - ((place n k).hi - (place n k).lo) < f + 1 → (place n k).lo ≤ i → i < (place n k).hi → HasBegun n s.words k → (l : ℕ) × Carries n s l i
   next_up i f k more h le from to b = ⊎_elim (λ x. (k, record { near = h; from = from; to = to; there = inl (x.holder, x.held) }))
       (λ x. dite (ℕ_discrete k (root n))
-        (λ e. carries_piece k i h from to (record { arrived = x.arrived; alone = λ ne. absurd (ne e) }))
-        (λ ne. let u = (at_node n some_leaf few k h).hangs ne in let m : ℕ = (place n k).above in let c : Bool = (place n k).is_left in
-          let sib_near = ((at_inner n some_leaf few m u.positive u.near).child (not c)).near in
-          ⊎_elim (λ z. carries_piece k i h from to (record { arrived = x.arrived; alone = λ _. z }))
-            (λ one. let p = within_parent m c u.positive u.near in let lo_is = ap (λ j. (place n j).lo) u.is_side in let hi_is = ap (λ j. (place n j).hi) u.is_side in
-              let p0 = p.0 in let p1 = p.1 in let p2 = p.2 in let top = (at_node n some_leaf few (inner m) (let pos = u.positive in let less = u.near in omega arith)).within in
-              let both = parts m c (subst (λ j. arrivals n s.words j ≡ 1) (sym u.is_side) x.arrived) one in
-              more (inner m) (let pos = u.positive in let less = u.near in omega arith) (omega arith) (omega arith) (omega arith) (inr (m, refl, u.positive, u.near, both.0, both.1)))
-            (one_or_none (side n m (not c)) sib_near)))
+      (λ e. carries_piece k i h from to (record { arrived = x.arrived; alone = λ ne. absurd (ne e) }))
+      (λ ne. let u = (at_node n some_leaf few k h).hangs ne in let m : ℕ = (place n k).above in let c : Bool = (place n k).is_left in
+      let sib_near = ((at_inner n some_leaf few m u.positive u.near).child (not c)).near in
+      ⊎_elim (λ z. carries_piece k i h from to (record { arrived = x.arrived; alone = λ _. z }))
+      (λ one. let p = within_parent m c u.positive u.near in let lo_is = ap (λ j. (place n j).lo) u.is_side in let hi_is = ap (λ j. (place n j).hi) u.is_side in
+      let p0 = p.0 in let p1 = p.1 in let p2 = p.2 in let top = (at_node n some_leaf few (inner m) (let pos = u.positive in let less = u.near in omega arith)).within in
+      let both = parts m c (subst (λ j. arrivals n s.words j ≡ 1) (sym u.is_side) x.arrived) one in
+      more (inner m) (let pos = u.positive in let less = u.near in omega arith) (omega arith) (omega arith) (omega arith) (inr (m, refl, u.positive, u.near, both.0, both.1)))
+      (one_or_none (side n m (not c)) sib_near)))
       (w.begun k h b)
 
   carrier : (i f k : ℕ) → k < nodes n → n - ((place n k).hi - (place n k).lo) < f → (place n k).lo ≤ i → i < (place n k).hi → HasBegun n s.words k → (l : ℕ) × Carries n s l i
@@ -156,7 +156,10 @@ module _ {P I : Type 0} (stands : I → ℕ → ℕ → P → Type 0) (input : I
   carried i h lt = let lo_is = leaf_lo n some_leaf few i h in let hi_is = leaf_hi n some_leaf few i h in
       let c = carrier i n (leaf i) (omega arith) (omega arith) (omega arith) (omega arith) (inl (i, refl, lt)) in
       let b = (carrying c.0 i c.1).0 in let near = c.1.near in
-      record { node = c.0; carries = c.1;
+      record {
+        node = c.0;
+        carries = c.1;
         one_node = λ k ck. one_carrier i k c.0 ck c.1;
         one_hand = λ j l p q. ⊎_elim (λ x. x.once j p ∙ sym (x.once l q)) (λ x. absurd (x.no_hand j p)) (w.begun c.0 near b);
-        not_both = λ j x p q. ⊎_elim (λ y. out_not_some x (sym y.out ∙ q)) (λ y. y.no_hand j p) (w.begun c.0 near b) }
+        not_both = λ j x p q. ⊎_elim (λ y. out_not_some x (sym y.out ∙ q)) (λ y. y.no_hand j p) (w.begun c.0 near b);
+      }

@@ -11,7 +11,7 @@ use Rattle.sym_board.specs.State.{total}
 use Rattle.sym_board.specs.Lawful.{IsActive, IsEmpty}
 use Rattle.sym_board.specs.Core.{Phase, fresh, held, home, used, rank, mark, begins, Family, InPhase, Orderly}
 use Rattle.sym_board.specs.declared.view.View.{View}
-use Rattle.sym_board.proofs.Laws.{at_node, at_inner, root_near, root_lo, root_hi}
+use Rattle.sym_board.proofs.TreeLaws.{at_node, at_inner, root_near, root_lo, root_hi}
 use Rattle.sym_board.proofs.Totals.{total_two, total_one, total_some}
 use Rattle.sym_board.proofs.Phases.{in_phase, mark_rank}
 use Rattle.sym_board.proofs.Lawful.{node_kind}
@@ -51,10 +51,10 @@ module _ {P I : Type 0} (stands : I → ℕ → ℕ → P → Type 0) (input : I
   all_arrived past free (suc f) k h le = begun_rank (o.phase k) (⊎_elim
       (λ l. ap (λ j. begins (o.phase j)) l.1 ∙ o.grown.leaf_begun l.0 l.2 (omega arith))
       (λ l. let m : ℕ = l.0 in let t = at_inner n o.some_leaf o.few m l.2 l.3 in
-        let lo_is : (place n k).lo ≡ (place n (inner m)).lo = ap (λ j. (place n j).lo) l.1 in let hi_is : (place n k).hi ≡ (place n (inner m)).hi = ap (λ j. (place n j).hi) l.1 in
-        let a = t.after in let b = t.before in let c1 = t.left_lo in let c2 = t.left_hi in let d1 = t.right_lo in let d2 = t.right_hi in
-        ap (λ j. begins (o.phase j)) l.1 ∙ above_begun (o.phase (side n m true)) (o.phase (side n m false)) (o.phase (inner m)) (o.grown.each_family m l.2 l.3)
-          (all_arrived past free f (side n m true) (t.child true).near (omega arith)) (all_arrived past free f (side n m false) (t.child false).near (omega arith)))
+      let lo_is : (place n k).lo ≡ (place n (inner m)).lo = ap (λ j. (place n j).lo) l.1 in let hi_is : (place n k).hi ≡ (place n (inner m)).hi = ap (λ j. (place n j).hi) l.1 in
+      let a = t.after in let b = t.before in let c1 = t.left_lo in let c2 = t.left_hi in let d1 = t.right_lo in let d2 = t.right_hi in
+      ap (λ j. begins (o.phase j)) l.1 ∙ above_begun (o.phase (side n m true)) (o.phase (side n m false)) (o.phase (inner m)) (o.grown.each_family m l.2 l.3)
+      (all_arrived past free f (side n m true) (t.child true).near (omega arith)) (all_arrived past free f (side n m false) (t.child false).near (omega arith)))
       (node_kind n k h)) (λ j e. free k j h e)
 
   -- One seat with an empty hand counts every pass: so the other views are empty, and where a leaf has no claim no pass has ended.
@@ -63,11 +63,11 @@ module _ {P I : Type 0} (stands : I → ℕ → ℕ → P → Type 0) (input : I
       let sum = o.seated.passes_sum in
       let others : (j : ℕ) (w : View I) → j ≢ id → get_elem? s.views j ≡ some w → IsEmpty w = λ j w ne there. ⊎_elim (λ (a : IsActive input n seats w). let pos = a.some_pass in let two = total_two (λ (x : View I). x.passes) s.views j id w v ne there at in absurd (omega arith)) (λ e. e) (o.seated.each_view j w there) in
       let free : (k j : ℕ) → k < nodes n → o.phase k ≢ held j = λ k j h e. let t = o.seated.held_hand k j h e in dite (ℕ_discrete j id)
-          (λ d. none-some k (sym hand ∙ ap (λ (x : View I). x.hand) (some-injective v t.0 (sym at ∙ ap (get_elem? s.views) (sym d) ∙ t.1)) ∙ t.2))
-          (λ ne. none-some k (sym (others j t.0 ne t.1).no_hand ∙ t.2)) in
+      (λ d. none-some k (sym hand ∙ ap (λ (x : View I). x.hand) (some-injective v t.0 (sym at ∙ ap (get_elem? s.views) (sym d) ∙ t.1)) ∙ t.2))
+      (λ ne. none-some k (sym (others j t.0 ne t.1).no_hand ∙ t.2)) in
       let open_leaf : ¬ (n ≤ slice_index s.words 0) = λ past. let r = root n in
-          let pos : 0 < rank (o.phase r) = all_arrived past free ((place n r).hi - (place n r).lo) r (root_near n o.some_leaf o.few) (omega arith) in
-          not_one (o.grown.crown ∙ ((mark_rank (o.phase r)).4 pos).1) in
+      let pos : 0 < rank (o.phase r) = all_arrived past free ((place n r).hi - (place n r).lo) r (root_near n o.some_leaf o.few) (omega arith) in
+      not_one (o.grown.crown ∙ ((mark_rank (o.phase r)).4 pos).1) in
       let below = lt_of_not-le open_leaf in let both = o.seated.claims_sum in
       let mine = total_one (λ (x : View I). x.claimed) s.views id v at in let over = total_one (λ (x : View I). x.ended) s.views id v at in
       let late : 0 < total (λ (x : View I). x.ended) s.views → total (λ (x : View I). x.claimed) s.views ≡ n = o.seated.ended_late in
@@ -83,7 +83,7 @@ module _ {P I : Type 0} (stands : I → ℕ → ℕ → P → Type 0) (input : I
       → v.hand ≡ None → v.passes ≡ seats → (v.ended ≡ 0) × (v.claimed < n)
   closed_none id v (s, seen, same, long, values) why hand all = uncrowned stands input n seats s seen.0 id v seen.1 hand all
       (λ w. ⊎_elim (λ t. t.2 (sym (at_slice words n t.0 t.1) ∙ ap (λ l. slice_index l n) (sym same) ∙ w))
-        (λ empty. let t = crowned_home stands input n seats s seen.0 w in none-some t.0 (some-injective None (Some t.0) (sym empty ∙ values (root n) (Some t.0) t.1))) why)
+      (λ empty. let t = crowned_home stands input n seats s seen.0 w in none-some t.0 (some-injective None (Some t.0) (sym empty ∙ values (root n) (Some t.0) t.1))) why)
 
 -- the view of a seat is more than `close_with` needs here
 pub forget_seen : {P I : Type 0} (holds : State (Option P) (View I) → Type 0) (id : ℕ) (v : View I) (words : List ℕ) (slots : List (Option P)) → Final (Seen holds id v) words slots → Final holds words slots

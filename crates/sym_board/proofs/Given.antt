@@ -9,7 +9,7 @@ use Rattle.atomic_table.proofs.Lists.{set_here, set_else}
 use Rattle.sym_board.specs.Tree.{inner, nodes, side}
 use Rattle.sym_board.specs.Steps.{IsBelow, GoesHome, TakesUp}
 use Rattle.sym_board.specs.Plays.{cut, is_leaf, children, hand_slots, give_all}
-use Rattle.sym_board.proofs.Laws.{at_inner}
+use Rattle.sym_board.proofs.TreeLaws.{at_inner}
 use Rattle.sym_board.proofs.Growing.{not_parent}
 
 module _ {P : Type 0} (n : ℕ) (k : ℕ) (o : Option P) where
@@ -40,10 +40,11 @@ module _ {P : Type 0} (n : ℕ) (some_leaf : 0 < n) (few : n ≤ 64) (k : ℕ) (
         same_length = length-set two r (some None) ∙ length-set one l (some None) ∙ length-set homes k (some (Some x));
         here = set_else two r k (some None) kr ∙ set_else one l k (some None) kl ∙ set_here homes k (some (Some x)) (omega arith);
         others = λ j nk. dite (ℕ_discrete j r)
-          (λ d. inr ((m, false, pos, less, e, d), ap (get_elem? (set two r (some None))) d ∙ set_here two r (some None) (omega arith)))
-          (λ nr. dite (ℕ_discrete j l)
+            (λ d. inr ((m, false, pos, less, e, d), ap (get_elem? (set two r (some None))) d ∙ set_here two r (some None) (omega arith)))
+            (λ nr. dite (ℕ_discrete j l)
             (λ d. inr ((m, true, pos, less, e, d), set_else two r j (some None) nr ∙ ap (get_elem? two) d ∙ set_here one l (some None) (omega arith)))
-            (λ nl. inl (set_else two r j (some None) nr ∙ set_else one l j (some None) nl ∙ set_else homes k j (some (Some x)) nk))) }
+            (λ nl. inl (set_else two r j (some None) nr ∙ set_else one l j (some None) nl ∙ set_else homes k j (some (Some x)) nk)));
+      }
 
   one_set : GoesHome n k x homes (set homes k (some (Some x)))
   one_set = record { same_length = length-set homes k (some (Some x)); here = set_here homes k (some (Some x)) (omega arith); others = λ j ne. inl (set_else homes k j (some (Some x)) ne) }

@@ -8,7 +8,7 @@ use Rattle.atomic_table.proofs.Lists.{set_here, set_else}
 use Rattle.sym_board.specs.Tree.{leaf, inner, nodes, root, place, side}
 use Rattle.sym_board.specs.Core.{Phase, fresh, held, home, used, rank, mark, begins, Family, InPhase, Grown}
 use Rattle.sym_board.specs.Steps.{bit, IsBelow, GoesHome, TakesUp}
-use Rattle.sym_board.proofs.Laws.{IsChild, IsInner, at_inner, root_near}
+use Rattle.sym_board.proofs.TreeLaws.{IsChild, IsInner, at_inner, root_near}
 use Rattle.sym_board.proofs.Phases.{put, put_here, put_else, At, at_put, put_same, quiet, is_used, mark_rank, rank_few, family_like, both_used, not_above, in_phase_same, in_phase, not_some}
 
 -- a leaf is no inner node
@@ -49,14 +49,16 @@ module _ {P I : Type 0} (stands : I → ℕ → ℕ → P → Type 0) (input : I
         wide = length-set words 0 (next + 1) ∙ g.wide;
         long = length-set homes k none ∙ g.long;
         each_node = λ j h. elim (at_put phase k (held id) j) as (λ _. InPhase stands input n (set homes k none) j (ph j)) [
-          inl t ↦ in_phase stands input n (held id) (ph j) (set homes k none) j (sym t.1) (subst (λ i. get_elem? (set homes k none) i ≡ some none) (sym t.0) (set_here homes k none (omega (arith, g.long))))
-        | inr t ↦ in_phase stands input n (phase j) (ph j) (set homes k none) j (sym t.1) (in_phase_same stands input n (phase j) homes (set homes k none) j (set_else homes k j none t.0) (g.each_node j h)) ];
+          | inl t ↦ in_phase stands input n (held id) (ph j) (set homes k none) j (sym t.1) (subst (λ i. get_elem? (set homes k none) i ≡ some none) (sym t.0) (set_here homes k none (omega (arith, g.long))))
+          | inr t ↦ in_phase stands input n (phase j) (ph j) (set homes k none) j (sym t.1) (in_phase_same stands input n (phase j) homes (set homes k none) j (set_else homes k j none t.0) (g.each_node j h))
+        ];
         leaf_begun = λ i h lt. elim (at_put phase k (held id) (leaf i)) as (λ _. begins (ph (leaf i)) ≡ 1) [ inl t ↦ ap begins t.1 | inr t ↦ ap begins t.1 ∙ g.leaf_begun i h (let ne : leaf i ≢ k = t.0 in omega arith) ];
         leaf_fresh = λ i h le. ap begins (put_else phase k (held id) (leaf i) (λ e. absurd (omega arith))) ∙ g.leaf_fresh i h (omega arith);
         each_word = λ m h near. word m (λ e. absurd (omega arith)) ∙ g.each_word m h near ∙ (let a = marks (side n m true) in let b = marks (side n m false) in omega arith);
         each_family = λ m h near. family_like (phase (side n m true)) (phase (side n m false)) (phase (inner m)) (ph (side n m true)) (ph (side n m false)) (ph (inner m)) (ranks (side n m true)) (ranks (side n m false)) (ap begins (put_else phase k (held id) (inner m) (λ e. not_inner next m h (sym e)))) (g.each_family m h near);
         crown = word n (λ e. absurd (omega arith)) ∙ g.crown ∙ sym (marks (root n));
-        not_joined = let a = ranks (root n) in let b = g.not_joined in omega arith }
+        not_joined = let a = ranks (root n) in let b = g.not_joined in omega arith;
+      }
 
   -- a claim finds every leaf claimed
   pub grown_past : n ≤ slice_index words 0 → Grown stands input n phase (set words 0 (slice_index words 0 + 1)) homes
@@ -72,7 +74,8 @@ module _ {P I : Type 0} (stands : I → ℕ → ℕ → P → Type 0) (input : I
         each_word = λ m h near. word m (λ e. absurd (omega arith)) ∙ g.each_word m h near;
         each_family = g.each_family;
         crown = word n (λ e. absurd (omega arith)) ∙ g.crown;
-        not_joined = g.not_joined }
+        not_joined = g.not_joined;
+      }
 
   -- the children of a begun inner node are used
   pub below_used : (j k : ℕ) → begins (phase k) ≡ 1 → IsBelow n j k → phase j ≡ used
@@ -105,9 +108,9 @@ module _ {P I : Type 0} (stands : I → ℕ → ℕ → P → Type 0) (input : I
       → slice_index (set words m (slice_index words m + bit b)) l ≡ mark (ph (side n l true)) + 2 * mark (ph (side n l false))
   words_after ph m b h near a c d l g0 nearl = let F : Type 0 = slice_index (set words m (slice_index words m + bit b)) l ≡ mark (ph (side n l true)) + 2 * mark (ph (side n l false)) in
       dite (ℕ_discrete l m)
-        (λ e. subst (λ i. slice_index (set words m (slice_index words m + bit b)) i ≡ mark (ph (side n i true)) + 2 * mark (ph (side n i false))) (sym e)
-          (get_or-set_same words m (slice_index words m + bit b) 0 (omega (arith, g.wide)) ∙ ap (λ w. w + bit b) (g.each_word m h near) ∙ sym (marks_after ph m b a c (d (side n m (not b)) (other_side n some_leaf few m b h near)))))
-        (λ ne. get_or-set_other words m l (slice_index words m + bit b) 0 ne ∙ g.each_word l g0 nearl ∙ (let s = d (side n l true) (λ q. ne (same_side n some_leaf few l m true b g0 nearl h near q).0) in let t = d (side n l false) (λ q. ne (same_side n some_leaf few l m false b g0 nearl h near q).0) in omega arith))
+      (λ e. subst (λ i. slice_index (set words m (slice_index words m + bit b)) i ≡ mark (ph (side n i true)) + 2 * mark (ph (side n i false))) (sym e)
+      (get_or-set_same words m (slice_index words m + bit b) 0 (omega (arith, g.wide)) ∙ ap (λ w. w + bit b) (g.each_word m h near) ∙ sym (marks_after ph m b a c (d (side n m (not b)) (other_side n some_leaf few m b h near)))))
+      (λ ne. get_or-set_other words m l (slice_index words m + bit b) 0 ne ∙ g.each_word l g0 nearl ∙ (let s = d (side n l true) (λ q. ne (same_side n some_leaf few l m true b g0 nearl h near q).0) in let t = d (side n l false) (λ q. ne (same_side n some_leaf few l m false b g0 nearl h near q).0) in omega arith))
 
   -- a child of the inner node at m arrives, and its sibling hasn't
   pub grown_first : (id m : ℕ) (b : Bool) (x : P) (after : List (Maybe (Option P))) → 0 < m → m < n → phase (side n m b) ≡ held id → mark (phase (side n m (not b))) ≡ 0
@@ -127,19 +130,20 @@ module _ {P I : Type 0} (stands : I → ℕ → ℕ → P → Type 0) (input : I
         leaf_fresh = λ i hi le. starts (leaf i) ∙ g.leaf_fresh i hi (omega arith);
         each_word = words_after ph m b h near (ap mark mine) (ap mark (put_here phase k home k refl)) (λ j ne. ap mark (put_else phase k home j ne));
         each_family = λ l g0 nearl. dite (ℕ_discrete l m)
-          (λ e. subst (λ i. Family (ph (side n i true)) (ph (side n i false)) (ph (inner i))) (sym e)
+            (λ e. subst (λ i. Family (ph (side n i true)) (ph (side n i false)) (ph (inner i))) (sym e)
             (let zero_mine : rank (phase k) ≡ 0 = ap rank mine in
-             let zero_other : rank (phase (side n m (not b))) ≡ 0 = (mark_rank (phase (side n m (not b)))).0 alone in
-             let old = sides_sum (λ j. rank (phase j)) m b in
-             let new = sides_sum (λ j. rank (ph j)) m b in
-             let one : rank (ph k) ≡ 1 = ap rank (put_here phase k home k refl) in
-             let none_other = ranks (side n m (not b)) (other_side n some_leaf few m b h near) in
-             let up = not_above (phase (side n m true)) (phase (side n m false)) (phase (inner m)) (g.each_family m h near) (omega arith) in
-             inr (omega arith, starts (inner m) ∙ up.0)))
-          (λ ne. family_like (phase (side n l true)) (phase (side n l false)) (phase (inner l)) (ph (side n l true)) (ph (side n l false)) (ph (inner l))
+            let zero_other : rank (phase (side n m (not b))) ≡ 0 = (mark_rank (phase (side n m (not b)))).0 alone in
+            let old = sides_sum (λ j. rank (phase j)) m b in
+            let new = sides_sum (λ j. rank (ph j)) m b in
+            let one : rank (ph k) ≡ 1 = ap rank (put_here phase k home k refl) in
+            let none_other = ranks (side n m (not b)) (other_side n some_leaf few m b h near) in
+            let up = not_above (phase (side n m true)) (phase (side n m false)) (phase (inner m)) (g.each_family m h near) (omega arith) in
+            inr (omega arith, starts (inner m) ∙ up.0)))
+            (λ ne. family_like (phase (side n l true)) (phase (side n l false)) (phase (inner l)) (ph (side n l true)) (ph (side n l false)) (ph (inner l))
             (ranks (side n l true) (λ q. ne (same_side n some_leaf few l m true b g0 nearl h near q).0)) (ranks (side n l false) (λ q. ne (same_side n some_leaf few l m false b g0 nearl h near q).0)) (starts (inner l)) (g.each_family l g0 nearl));
         crown = word n (λ e. absurd (omega arith)) ∙ g.crown ∙ ap mark (sym (put_else phase k home (root n) (λ e. child.not_root (sym e))));
-        not_joined = let a = ranks (root n) (λ e. child.not_root (sym e)) in let c = g.not_joined in omega arith }
+        not_joined = let a = ranks (root n) (λ e. child.not_root (sym e)) in let c = g.not_joined in omega arith;
+      }
 
   -- the root is crowned
   pub grown_crown : (id : ℕ) (x : P) (after : List (Maybe (Option P))) → phase (root n) ≡ held id → GoesHome n (root n) x homes after → stands input (place n (root n)).lo (place n (root n)).hi x
@@ -158,7 +162,8 @@ module _ {P I : Type 0} (stands : I → ℕ → ℕ → P → Type 0) (input : I
         each_word = λ m h near. word m (λ e. absurd (omega arith)) ∙ g.each_word m h near ∙ (let a = ap mark (same m true h near) in let c = ap mark (same m false h near) in omega arith);
         each_family = λ m h near. family_like (phase (side n m true)) (phase (side n m false)) (phase (inner m)) (ph (side n m true)) (ph (side n m false)) (ph (inner m)) (ap rank (same m true h near)) (ap rank (same m false h near)) (starts (inner m)) (g.each_family m h near);
         crown = get_or-set_same words n 1 0 (omega (arith, g.wide)) ∙ sym (ap mark (put_here phase k home k refl));
-        not_joined = let a = ap rank (put_here phase k home k refl) in omega arith }
+        not_joined = let a = ap rank (put_here phase k home k refl) in omega arith;
+      }
 
   -- the phases after a second arrival at the inner node at m by its child on the side b
   pub raised : ℕ → ℕ → Bool → ℕ → Phase
@@ -187,7 +192,7 @@ module _ {P I : Type 0} (stands : I → ℕ → ℕ → P → Type 0) (input : I
   raised_tells id m b j = dite (ℕ_discrete j (inner m))
       (λ e. parent e (ap (raised id m b) e ∙ raised_above id m b))
       (λ p. dite (ℕ_discrete j (side n m b)) (λ e. child p (inl e) (raised_used id m b j p (inl e)))
-        (λ q. dite (ℕ_discrete j (side n m (not b))) (λ e. child p (inr e) (raised_used id m b j p (inr e))) (λ r. other p q r (raised_else id m b j p q r))))
+      (λ q. dite (ℕ_discrete j (side n m (not b))) (λ e. child p (inr e) (raised_used id m b j p (inr e))) (λ r. other p q r (raised_else id m b j p q r))))
 
   neither : (m : ℕ) (b : Bool) (j : ℕ) → j ≢ side n m b → j ≢ side n m (not b) → (c : Bool) → j ≢ side n m c
   neither m true j p q true = p
@@ -228,12 +233,13 @@ module _ {P I : Type 0} (stands : I → ℕ → ℕ → P → Type 0) (input : I
         leaf_fresh = λ i hi le. starts (leaf i) (not_inner i m h) ∙ g.leaf_fresh i hi (omega arith);
         each_word = words_after ph m b h near (ap mark mine) (ap mark (raised_used id m b k (apart b) (inl refl))) marks;
         each_family = λ l g0 nearl. dite (ℕ_discrete l m)
-          (λ e. subst (λ i. Family (ph (side n i true)) (ph (side n i false)) (ph (inner i))) (sym e)
+            (λ e. subst (λ i. Family (ph (side n i true)) (ph (side n i false)) (ph (inner i))) (sym e)
             (let a = ap rank (raised_used id m b k (apart b) (inl refl)) in let c = ap rank (raised_used id m b q (apart (not b)) (inr refl)) in let new = sides_sum (λ j. rank (ph j)) m b in
-             inl (omega arith, ap begins (raised_above id m b))))
-          (λ ne. family_like (phase (side n l true)) (phase (side n l false)) (phase (inner l)) (ph (side n l true)) (ph (side n l false)) (ph (inner l))
+            inl (omega arith, ap begins (raised_above id m b))))
+            (λ ne. family_like (phase (side n l true)) (phase (side n l false)) (phase (inner l)) (ph (side n l true)) (ph (side n l false)) (ph (inner l))
             (ranks (side n l true) (λ e. ne (same_side n some_leaf few l m true b g0 nearl h near e).0) (λ e. ne (same_side n some_leaf few l m true (not b) g0 nearl h near e).0))
             (ranks (side n l false) (λ e. ne (same_side n some_leaf few l m false b g0 nearl h near e).0) (λ e. ne (same_side n some_leaf few l m false (not b) g0 nearl h near e).0))
             (starts (inner l) (λ e. ne (same_inner l m g0 h e))) (g.each_family l g0 nearl));
         crown = word n (λ e. absurd (omega arith)) ∙ g.crown ∙ sym (marks (root n) (λ e. (kin b).not_root (sym e)));
-        not_joined = let a = ranks (root n) (λ e. (kin b).not_root (sym e)) (λ e. (kin (not b)).not_root (sym e)) in let c = g.not_joined in omega arith }
+        not_joined = let a = ranks (root n) (λ e. (kin b).not_root (sym e)) (λ e. (kin (not b)).not_root (sym e)) in let c = g.not_joined in omega arith;
+      }

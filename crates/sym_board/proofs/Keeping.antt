@@ -12,7 +12,7 @@ use Rattle.sym_board.specs.Lawful.{IsActive, IsEmpty}
 use Rattle.sym_board.specs.Core.{Phase, fresh, held, home, used, rank, mark, begins, Grown, Seated, Orderly}
 use Rattle.sym_board.specs.Steps.{bit, with_leaf, with_end, with_hand, GoesHome, TakesUp, ClaimsLeaf, ClaimsNone, Claims, ArrivesFirst, ArrivesSecond, Crowns, Splits, Joins, Closes, Step, claim, arrive_first, arrive_second, crown, split, join, close}
 use Rattle.sym_board.specs.declared.view.View.{View}
-use Rattle.sym_board.proofs.Laws.{at_inner, root_near}
+use Rattle.sym_board.proofs.TreeLaws.{at_inner, root_near}
 use Rattle.sym_board.proofs.Phases.{put, put_here, put_else, At, at_put, quiet, is_home, mark_rank, both_used, not_above}
 use Rattle.sym_board.proofs.Arrivals.{side_mark}
 use Rattle.sym_board.proofs.Growing.{sides_sum, grown_claim, grown_past, grown_first, grown_second, grown_crown, raised, Raised, parent, child, other, raised_tells, raised_above, above_fresh}
@@ -33,9 +33,13 @@ same_held i j e = cc
 module _ {P I : Type 0} (stands : I → ℕ → ℕ → P → Type 0) (input : I) (n seats : ℕ) (s t : State (Option P) (View I)) (id : ℕ) (v : View I) (o : Orderly stands input n seats s) (at : get_elem? s.views id ≡ some v) (pos : 0 < v.passes) where
   assembled : (phase2 : ℕ → Phase) (words : List ℕ) (homes : List (Maybe (Option P))) (views : List (View I)) (next2 : ℕ) → Grown stands input n phase2 words homes → Seated input n seats phase2 next2 views → slice_index words 0 ≡ next2 → t.words ≡ words → t.homes ≡ homes → t.views ≡ views → Orderly stands input n seats t
   assembled phase2 words homes views next2 g sd zeroth a b c = record {
-      some_leaf = o.some_leaf; few = o.few; few_seats = o.few_seats; phase = phase2;
-      grown = subst (λ w. Grown stands input n phase2 w t.homes) (sym a) (subst (λ h. Grown stands input n phase2 words h) (sym b) g);
-      seated = subst (λ k. Seated input n seats phase2 k t.views) (sym (ap (λ w. slice_index w 0) a ∙ zeroth)) (subst (Seated input n seats phase2 next2) (sym c) sd) }
+    some_leaf = o.some_leaf;
+    few = o.few;
+    few_seats = o.few_seats;
+    phase = phase2;
+    grown = subst (λ w. Grown stands input n phase2 w t.homes) (sym a) (subst (λ h. Grown stands input n phase2 words h) (sym b) g);
+    seated = subst (λ k. Seated input n seats phase2 k t.views) (sym (ap (λ w. slice_index w 0) a ∙ zeroth)) (subst (Seated input n seats phase2 next2) (sym c) sd);
+  }
 
   me : IsActive input n seats v
   me = is_active input n seats o.phase (slice_index s.words 0) s.views o.seated id v at pos
@@ -49,25 +53,25 @@ module _ {P I : Type 0} (stands : I → ℕ → ℕ → P → Type 0) (input : I
       let calm : o.phase k0 ≡ fresh = quiet (o.phase k0) (o.grown.leaf_fresh next below (omega arith)) in
       let active : IsActive input n seats w = record { input_is = me.input_is; leaves_is = me.leaves_is; seats_is = me.seats_is; some_pass = pos; few_ended = me.few_ended; hand_near = λ k e. let d : k0 ≡ k = same_Some k0 k e in omega arith } in
       assembled (put o.phase k0 (held id)) (set s.words 0 (next + 1)) (set s.homes k0 none) (set s.views id w) (next + 1)
-        (grown_claim stands input n o.some_leaf o.few o.phase s.words s.homes o.grown id below)
-        (seated_set input n seats o.phase next s.views o.seated (put o.phase k0 (held id)) (next + 1) id v w at active
-          (λ k e. put_here o.phase k0 (held id) k (sym (same_Some k0 k e)))
-          (λ k h e. ⊎_elim (λ p. ap Some (sym p.0)) (λ p. absurd (none-some k (sym c.no_hand ∙ mine k h (sym p.1 ∙ e)))) (at_put o.phase k0 (held id) k))
-          (λ k j ne e. put_else o.phase k0 (held id) k (λ q. fresh_held j (sym calm ∙ ap o.phase (sym q) ∙ e)) ∙ e)
-          (λ k j ne e. ⊎_elim (λ p. absurd (ne (sym (same_held id j (sym p.1 ∙ e))))) (λ p. sym p.1 ∙ e) (at_put o.phase k0 (held id) k))
-          refl
-          (λ a e a2 e2 x y z. let z1 = z.both in let z2 = z.late in record { both = omega arith; few = let q : 0 < e → a ≡ n = z2 in omega arith; late = λ u. let q : 0 < e → a ≡ n = z2 in omega arith }))
-        (get_or-set_same s.words 0 (next + 1) 0 (omega (arith, o.grown.wide))) c.words_are l.homes_are l.views_are
+      (grown_claim stands input n o.some_leaf o.few o.phase s.words s.homes o.grown id below)
+      (seated_set input n seats o.phase next s.views o.seated (put o.phase k0 (held id)) (next + 1) id v w at active
+      (λ k e. put_here o.phase k0 (held id) k (sym (same_Some k0 k e)))
+      (λ k h e. ⊎_elim (λ p. ap Some (sym p.0)) (λ p. absurd (none-some k (sym c.no_hand ∙ mine k h (sym p.1 ∙ e)))) (at_put o.phase k0 (held id) k))
+      (λ k j ne e. put_else o.phase k0 (held id) k (λ q. fresh_held j (sym calm ∙ ap o.phase (sym q) ∙ e)) ∙ e)
+      (λ k j ne e. ⊎_elim (λ p. absurd (ne (sym (same_held id j (sym p.1 ∙ e))))) (λ p. sym p.1 ∙ e) (at_put o.phase k0 (held id) k))
+      refl
+      (λ a e a2 e2 x y z. let z1 = z.both in let z2 = z.late in record { both = omega arith; few = let q : 0 < e → a ≡ n = z2 in omega arith; late = λ u. let q : 0 < e → a ≡ n = z2 in omega arith }))
+      (get_or-set_same s.words 0 (next + 1) 0 (omega (arith, o.grown.wide))) c.words_are l.homes_are l.views_are
 
   keeps_none : Claims n s t id v → ClaimsNone n s t id v → Orderly stands input n seats t
   keeps_none c l = let next : ℕ = slice_index s.words 0 in let past : n ≤ next = l.past in let w : View I = with_end v in
       let active : IsActive input n seats w = record { input_is = me.input_is; leaves_is = me.leaves_is; seats_is = me.seats_is; some_pass = pos; few_ended = let q = c.not_ended in omega arith; hand_near = me.hand_near } in
       assembled o.phase (set s.words 0 (next + 1)) s.homes (set s.views id w) (next + 1)
-        (grown_past stands input n o.some_leaf o.few o.phase s.words s.homes o.grown past)
-        (seated_set input n seats o.phase next s.views o.seated o.phase (next + 1) id v w at active
-          (λ k e. o.seated.hand_held id v k at e) (λ k h e. mine k h e) (λ k j ne e. e) (λ k j ne e. e) refl
-          (λ a e a2 e2 x y z. let z1 = z.both in let z2 : 0 < e → a ≡ n = z.late in let z3 = z.few in record { both = omega arith; few = omega arith; late = λ u. ⊎_elim (λ q. omega arith) (λ q. let r = z2 q in omega arith) (eq-zero-or-pos e) }))
-        (get_or-set_same s.words 0 (next + 1) 0 (omega (arith, o.grown.wide))) c.words_are l.homes_are l.views_are
+      (grown_past stands input n o.some_leaf o.few o.phase s.words s.homes o.grown past)
+      (seated_set input n seats o.phase next s.views o.seated o.phase (next + 1) id v w at active
+      (λ k e. o.seated.hand_held id v k at e) (λ k h e. mine k h e) (λ k j ne e. e) (λ k j ne e. e) refl
+      (λ a e a2 e2 x y z. let z1 = z.both in let z2 : 0 < e → a ≡ n = z.late in let z3 = z.few in record { both = omega arith; few = omega arith; late = λ u. ⊎_elim (λ q. omega arith) (λ q. let r = z2 q in omega arith) (eq-zero-or-pos e) }))
+      (get_or-set_same s.words 0 (next + 1) 0 (omega (arith, o.grown.wide))) c.words_are l.homes_are l.views_are
 
   keeps_claim : Claims n s t id v → Orderly stands input n seats t
   keeps_claim c = ⊎_elim (keeps_leaf c) (keeps_none c) c.found
@@ -77,25 +81,25 @@ module _ {P I : Type 0} (stands : I → ℕ → ℕ → P → Type 0) (input : I
   emptied k0 hand = let next : ℕ = slice_index s.words 0 in let here : o.phase k0 ≡ held id = o.seated.hand_held id v k0 at hand in
       let active : IsActive input n seats (with_hand v None) = record { input_is = me.input_is; leaves_is = me.leaves_is; seats_is = me.seats_is; some_pass = pos; few_ended = me.few_ended; hand_near = λ k e. absurd (none-some k e) } in
       seated_set input n seats o.phase next s.views o.seated (put o.phase k0 home) next id v (with_hand v None) at active
-          (λ k e. absurd (none-some k e))
-          (λ k h e. ⊎_elim (λ p. absurd (home_held id (sym p.1 ∙ e))) (λ p. absurd (p.0 (same_Some k k0 (sym (mine k h (sym p.1 ∙ e)) ∙ hand)))) (at_put o.phase k0 home k))
-          (λ k j ne e. put_else o.phase k0 home k (λ q. ne (sym (same_held id j (sym here ∙ ap o.phase (sym q) ∙ e)))) ∙ e)
-          (λ k j ne e. ⊎_elim (λ p. absurd (home_held j (sym p.1 ∙ e))) (λ p. sym p.1 ∙ e) (at_put o.phase k0 home k))
-          refl (λ a e a2 e2 x y z. let z1 = z.both in let z2 : 0 < e → a ≡ n = z.late in let z3 = z.few in record { both = omega arith; few = omega arith; late = λ u. omega arith })
+      (λ k e. absurd (none-some k e))
+      (λ k h e. ⊎_elim (λ p. absurd (home_held id (sym p.1 ∙ e))) (λ p. absurd (p.0 (same_Some k k0 (sym (mine k h (sym p.1 ∙ e)) ∙ hand)))) (at_put o.phase k0 home k))
+      (λ k j ne e. put_else o.phase k0 home k (λ q. ne (sym (same_held id j (sym here ∙ ap o.phase (sym q) ∙ e)))) ∙ e)
+      (λ k j ne e. ⊎_elim (λ p. absurd (home_held j (sym p.1 ∙ e))) (λ p. sym p.1 ∙ e) (at_put o.phase k0 home k))
+      refl (λ a e a2 e2 x y z. let z1 = z.both in let z2 : 0 < e → a ≡ n = z.late in let z3 = z.few in record { both = omega arith; few = omega arith; late = λ u. omega arith })
 
   keeps_first : ArrivesFirst stands input n s t id v → Orderly stands input n seats t
   keeps_first c = let m : ℕ = c.parent in let b : Bool = c.is_left in let near : m < n = c.near in let h : 0 < m = c.positive in
       assembled (put o.phase (side n m b) home) (set s.words m (slice_index s.words m + bit b)) t.homes (set s.views id (with_hand v None)) (slice_index s.words 0)
-        (grown_first stands input n o.some_leaf o.few o.phase s.words s.homes o.grown id m b c.piece t.homes h near (o.seated.hand_held id v (side n m b) at c.hand_is)
-          (sym (side_mark stands input n o.some_leaf o.few o.phase s.words s.homes o.grown m (not b) h near) ∙ c.alone) c.homes_are c.piece_stands)
-        (emptied (side n m b) c.hand_is)
-        (get_or-set_other s.words m 0 (slice_index s.words m + bit b) 0 (λ e. absurd (omega arith))) c.words_are refl c.views_are
+      (grown_first stands input n o.some_leaf o.few o.phase s.words s.homes o.grown id m b c.piece t.homes h near (o.seated.hand_held id v (side n m b) at c.hand_is)
+      (sym (side_mark stands input n o.some_leaf o.few o.phase s.words s.homes o.grown m (not b) h near) ∙ c.alone) c.homes_are c.piece_stands)
+      (emptied (side n m b) c.hand_is)
+      (get_or-set_other s.words m 0 (slice_index s.words m + bit b) 0 (λ e. absurd (omega arith))) c.words_are refl c.views_are
 
   keeps_crown : Crowns stands input n s t id v → Orderly stands input n seats t
   keeps_crown c = let some_leaf = o.some_leaf in assembled (put o.phase (root n) home) (set s.words n 1) t.homes (set s.views id (with_hand v None)) (slice_index s.words 0)
-        (grown_crown stands input n o.some_leaf o.few o.phase s.words s.homes o.grown id c.piece t.homes (o.seated.hand_held id v (root n) at c.hand_is) c.homes_are c.piece_stands)
-        (emptied (root n) c.hand_is)
-        (get_or-set_other s.words n 0 1 0 (λ e. absurd (omega arith))) c.words_are refl c.views_are
+      (grown_crown stands input n o.some_leaf o.few o.phase s.words s.homes o.grown id c.piece t.homes (o.seated.hand_held id v (root n) at c.hand_is) c.homes_are c.piece_stands)
+      (emptied (root n) c.hand_is)
+      (get_or-set_other s.words n 0 1 0 (λ e. absurd (omega arith))) c.words_are refl c.views_are
 
   -- a sibling that has arrived rests at home where this node is in the hand
   pub met_home : (m : ℕ) (b : Bool) → 0 < m → m < n → o.phase (side n m b) ≡ held id → arrivals n s.words (side n m (not b)) ≡ 1 → o.phase (side n m (not b)) ≡ home
@@ -119,14 +123,14 @@ module _ {P I : Type 0} (stands : I → ℕ → ℕ → P → Type 0) (input : I
       let w : View I = with_hand v (Some (inner m)) in
       let active : IsActive input n seats w = record { input_is = me.input_is; leaves_is = me.leaves_is; seats_is = me.seats_is; some_pass = pos; few_ended = me.few_ended; hand_near = λ k e. let d : inner m ≡ k = same_Some (inner m) k e in omega arith } in
       assembled ph (set s.words m (slice_index s.words m + bit b)) t.homes (set s.views id w) next
-        (grown_second stands input n o.some_leaf o.few o.phase s.words s.homes o.grown id m b t.homes h near here met c.homes_are)
-        (seated_set input n seats o.phase next s.views o.seated ph next id v w at active
-          (λ k e. ap ph (sym (same_Some (inner m) k e)) ∙ raised_above stands input n o.some_leaf o.few o.phase s.words s.homes o.grown id m b)
-          (λ k hk e. elim (tells k) as (λ _. w.hand ≡ Some k) [ parent q d ↦ ap Some (sym q) | child q y d ↦ absurd (used_held id (sym d ∙ e)) | other q y z d ↦ absurd (y (same_Some k (side n m b) (sym (mine k hk (sym d ∙ e)) ∙ c.hand_is))) ])
-          (λ k j ne e. elim (tells k) as (λ _. ph k ≡ held j) [ parent q d ↦ absurd (fresh_held j (sym calm ∙ ap o.phase (sym q) ∙ e)) | child q y d ↦ absurd (⊎_elim (λ u. ne (sym (same_held id j (sym here ∙ ap o.phase (sym u) ∙ e)))) (λ u. home_held j (sym met ∙ ap o.phase (sym u) ∙ e)) y) | other q y z d ↦ d ∙ e ])
-          (λ k j ne e. elim (tells k) as (λ _. o.phase k ≡ held j) [ parent q d ↦ absurd (ne (sym (same_held id j (sym d ∙ e)))) | child q y d ↦ absurd (used_held j (sym d ∙ e)) | other q y z d ↦ sym d ∙ e ])
-          refl (λ a e a2 e2 x y z. let z1 = z.both in let z2 : 0 < e → a ≡ n = z.late in let z3 = z.few in record { both = omega arith; few = omega arith; late = λ u. omega arith }))
-        (get_or-set_other s.words m 0 (slice_index s.words m + bit b) 0 (λ e. absurd (omega arith))) c.words_are refl c.views_are
+      (grown_second stands input n o.some_leaf o.few o.phase s.words s.homes o.grown id m b t.homes h near here met c.homes_are)
+      (seated_set input n seats o.phase next s.views o.seated ph next id v w at active
+      (λ k e. ap ph (sym (same_Some (inner m) k e)) ∙ raised_above stands input n o.some_leaf o.few o.phase s.words s.homes o.grown id m b)
+      (λ k hk e. elim (tells k) as (λ _. w.hand ≡ Some k) [ parent q d ↦ ap Some (sym q) | child q y d ↦ absurd (used_held id (sym d ∙ e)) | other q y z d ↦ absurd (y (same_Some k (side n m b) (sym (mine k hk (sym d ∙ e)) ∙ c.hand_is))) ])
+      (λ k j ne e. elim (tells k) as (λ _. ph k ≡ held j) [ parent q d ↦ absurd (fresh_held j (sym calm ∙ ap o.phase (sym q) ∙ e)) | child q y d ↦ absurd (⊎_elim (λ u. ne (sym (same_held id j (sym here ∙ ap o.phase (sym u) ∙ e)))) (λ u. home_held j (sym met ∙ ap o.phase (sym u) ∙ e)) y) | other q y z d ↦ d ∙ e ])
+      (λ k j ne e. elim (tells k) as (λ _. o.phase k ≡ held j) [ parent q d ↦ absurd (ne (sym (same_held id j (sym d ∙ e)))) | child q y d ↦ absurd (used_held j (sym d ∙ e)) | other q y z d ↦ sym d ∙ e ])
+      refl (λ a e a2 e2 x y z. let z1 = z.both in let z2 : 0 < e → a ≡ n = z.late in let z3 = z.few in record { both = omega arith; few = omega arith; late = λ u. omega arith }))
+      (get_or-set_other s.words m 0 (slice_index s.words m + bit b) 0 (λ e. absurd (omega arith))) c.words_are refl c.views_are
 
   keeps_split : Splits s t id v → Orderly stands input n seats t
   keeps_split c = assembled o.phase s.words s.homes _ (slice_index s.words 0) o.grown (seated_cut input n seats o.phase (slice_index s.words 0) s.views o.seated id v at c.two c.none_ended) refl c.words_are c.homes_are c.views_are

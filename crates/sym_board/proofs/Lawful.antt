@@ -10,7 +10,7 @@ use Rattle.sym_board.specs.State.{total, arrivals, sibling, HasBegun, IsInHand}
 use Rattle.sym_board.specs.Lawful.{IsActive, IsEmpty, IsFresh, IsHeld, HasArrived, IsWaiting, Rests, IsLawful}
 use Rattle.sym_board.specs.Core.{Phase, fresh, held, home, used, rank, mark, begins, Family, InPhase, Grown, Seated, Orderly}
 use Rattle.sym_board.specs.declared.view.View.{View}
-use Rattle.sym_board.proofs.Laws.{at_node, at_inner, root_near}
+use Rattle.sym_board.proofs.TreeLaws.{at_node, at_inner, root_near}
 use Rattle.sym_board.proofs.Totals.{total_one}
 use Rattle.sym_board.proofs.Phases.{quiet, is_used, is_home, mark_rank, both_used, not_above, not_some, in_phase}
 use Rattle.sym_board.proofs.Arrivals.{arrivals_mark}
@@ -59,11 +59,11 @@ module _ {P I : Type 0} (stands : I → ℕ → ℕ → P → Type 0) (input : I
   pub begins_begun : (k : ℕ) → k < nodes n → begins (o.phase k) ≡ 1 → HasBegun n s.words k
   begins_begun k h e = ⊎_elim
       (λ l. dite (dec_le (slice_index s.words 0) l.0)
-        (λ le. let z = sym (ap (λ j. begins (o.phase j)) l.1 ∙ o.grown.leaf_fresh l.0 l.2 le) ∙ e in absurd (omega arith))
-        (λ lt. inl (l.0, l.1, lt_of_not-le lt)))
+      (λ le. let z = sym (ap (λ j. begins (o.phase j)) l.1 ∙ o.grown.leaf_fresh l.0 l.2 le) ∙ e in absurd (omega arith))
+      (λ lt. inl (l.0, l.1, lt_of_not-le lt)))
       (λ l. let m : ℕ = l.0 in let t = at_inner n o.some_leaf o.few m l.2 l.3 in
-        let u = both_used (o.phase (side n m true)) (o.phase (side n m false)) (o.phase (inner m)) (o.grown.each_family m l.2 l.3) (sym (ap (λ j. begins (o.phase j)) l.1) ∙ e) in
-        inr (m, l.1, l.2, l.3, shown (side n m true) (t.child true).near ∙ ap mark (is_used (o.phase (side n m true)) u.0), shown (side n m false) (t.child false).near ∙ ap mark (is_used (o.phase (side n m false)) u.1)))
+      let u = both_used (o.phase (side n m true)) (o.phase (side n m false)) (o.phase (inner m)) (o.grown.each_family m l.2 l.3) (sym (ap (λ j. begins (o.phase j)) l.1) ∙ e) in
+      inr (m, l.1, l.2, l.3, shown (side n m true) (t.child true).near ∙ ap mark (is_used (o.phase (side n m true)) u.0), shown (side n m false) (t.child false).near ∙ ap mark (is_used (o.phase (side n m false)) u.1)))
       (node_kind n k h)
 
   hand_phase : (j k : ℕ) → IsInHand s.views j k → o.phase k ≡ held j
@@ -91,7 +91,7 @@ module _ {P I : Type 0} (stands : I → ℕ → ℕ → P → Type 0) (input : I
   waiting_case k h used e w = let two : rank (o.phase k) ≡ 2 = ap rank e in dite (ℕ_discrete k (root n))
       (λ d. let one = o.grown.not_joined in let same = ap (λ j. rank (o.phase j)) d in absurd (omega arith))
       (λ ne. let f = family_ranks k h ne in let zero : mark (o.phase (sibling n k)) ≡ 0 = sym (shown (sibling n k) f.1) ∙ w.alone ne in
-        let z : rank (o.phase (sibling n k)) ≡ 0 = (mark_rank (o.phase (sibling n k))).0 zero in absurd (⊎_elim (λ q. omega arith) (λ q. omega arith) f.0))
+      let z : rank (o.phase (sibling n k)) ≡ 0 = (mark_rank (o.phase (sibling n k))).0 zero in absurd (⊎_elim (λ q. omega arith) (λ q. omega arith) f.0))
 
   alone_case : (k : ℕ) → k < nodes n → o.phase k ≡ home → k ≢ root n → arrivals n s.words (sibling n k) ≡ 0
   alone_case k h e ne = let f = family_ranks k h ne in let one : rank (o.phase k) ≡ 1 = ap rank e in let few : rank (o.phase (sibling n k)) ≤ 2 = (mark_rank (o.phase (sibling n k))).3 in
@@ -123,4 +123,5 @@ module _ {P I : Type 0} (stands : I → ℕ → ℕ → P → Type 0) (input : I
         fresh = λ k h no. fresh_case k h (quiet (o.phase k) (⊎_elim (λ z. z) (λ b. absurd (no (begins_begun k h b))) (begins_either (o.phase k))));
         begun = λ k h b. begun_case k h (o.phase k) refl (begun_begins k h b);
         waiting = λ k h w. waiting_case k h (o.phase k) refl w;
-        no_other = λ k x h at. other_case k x h (o.phase k) refl at }
+        no_other = λ k x h at. other_case k x h (o.phase k) refl at;
+      }

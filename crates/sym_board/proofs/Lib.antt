@@ -1,4 +1,4 @@
-pub mod Laws
+pub mod TreeLaws
 pub mod Seeking
 pub mod Totals
 pub mod Phases

@@ -32,26 +32,31 @@ module _ {P I : Type 0} (stands : I → ℕ → ℕ → P → Type 0) (input : I
 
   pub opened : (words : List ℕ) (count : ℕ) → count ≡ nodes n → 0 < n → n ≤ 64 → seats ≤ 64 → length words ≡ n + 1 → ((i : ℕ) → slice_index words i ≡ 0) → Orderly stands input n seats (opening words (replicate count None) v)
   opened words count sized some_leaf few few_seats wide zeros = record {
-      some_leaf = some_leaf; few = few; few_seats = few_seats;
-      phase = λ _. fresh;
-      grown = record {
-        wide = wide;
-        long = vacant_long P count ∙ sized;
-        each_node = λ k h. vacant_at count k (omega arith);
-        leaf_begun = λ i h lt. let z = zeros 0 in absurd (omega arith);
-        leaf_fresh = λ i h le. refl;
-        each_word = λ m pos near. zeros m;
-        each_family = λ m pos near. inr (omega arith, refl);
-        crown = zeros n;
-        not_joined = omega arith };
-      seated = record {
-        each_view = λ j x e. inl (subst (IsActive input n seats) (only j x e) active);
-        hand_held = λ j x k e h. absurd (none-some k (sym no_hand ∙ ap (λ (y : View I). y.hand) (only j x e) ∙ h));
-        held_hand = λ k j h e. absurd (fresh_held j e);
-        passes_sum = omega arith;
-        claims_sum = let z = zeros 0 in omega arith;
-        leaves_sum = omega arith;
-        ended_late = λ pos. absurd (omega arith) } }
+    some_leaf = some_leaf;
+    few = few;
+    few_seats = few_seats;
+    phase = λ _. fresh;
+    grown = record {
+      wide = wide;
+      long = vacant_long P count ∙ sized;
+      each_node = λ k h. vacant_at count k (omega arith);
+      leaf_begun = λ i h lt. let z = zeros 0 in absurd (omega arith);
+      leaf_fresh = λ i h le. refl;
+      each_word = λ m pos near. zeros m;
+      each_family = λ m pos near. inr (omega arith, refl);
+      crown = zeros n;
+      not_joined = omega arith;
+    };
+    seated = record {
+      each_view = λ j x e. inl (subst (IsActive input n seats) (only j x e) active);
+      hand_held = λ j x k e h. absurd (none-some k (sym no_hand ∙ ap (λ (y : View I). y.hand) (only j x e) ∙ h));
+      held_hand = λ k j h e. absurd (fresh_held j e);
+      passes_sum = omega arith;
+      claims_sum = let z = zeros 0 in omega arith;
+      leaves_sum = omega arith;
+      ended_late = λ pos. absurd (omega arith);
+    };
+  }
 
 -- the first words of a row of zeros
 pub zero_words : (c k i : ℕ) → slice_index (take k (replicate c 0)) i ≡ 0

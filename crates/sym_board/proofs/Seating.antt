@@ -39,12 +39,13 @@ module _ {I : Type 0} (input : I) (n seats : ℕ) (phase : ℕ → Phase) (next 
         each_view = λ j x h. ⊎_elim (λ p. inl (subst (IsActive input n seats) p.1 active)) (λ p. t.each_view j x p.1) (at_set views id j w x h);
         hand_held = λ j x k h d. ⊎_elim (λ p. to k (ap (λ (y : View I). y.hand) p.1 ∙ d) ∙ ap held (sym p.0)) (λ p. keep k j p.0 (t.hand_held j x k p.1 d)) (at_set views id j w x h);
         held_hand = λ k j h d. dite (ℕ_discrete j id)
-          (λ p. (w, subst (λ i. get_elem? (set views id w) i ≡ some w) (sym p) (set_here views id w (at_below views id v at)), from k h (d ∙ ap held p)))
-          (λ p. let o = t.held_hand k j h (back k j p d) in (o.0, set_else views id j w p ∙ o.1, o.2));
+            (λ p. (w, subst (λ i. get_elem? (set views id w) i ≡ some w) (sym p) (set_here views id w (at_below views id v at)), from k h (d ∙ ap held p)))
+            (λ p. let o = t.held_hand k j h (back k j p d) in (o.0, set_else views id j w p ∙ o.1, o.2));
         passes_sum = let a = total_set (λ (x : View I). x.passes) views id v w at in let b = t.passes_sum in omega arith;
         claims_sum = s.both;
         leaves_sum = s.few;
-        ended_late = s.late }
+        ended_late = s.late;
+      }
 
   active_of : (j : ℕ) (v : View I) → get_elem? views j ≡ some v → 0 < v.passes → IsActive input n seats v ⊎ IsEmpty v → IsActive input n seats v
   active_of j v at pos (inl a) = a
@@ -65,16 +66,20 @@ module _ {I : Type 0} (input : I) (n seats : ℕ) (phase : ℕ → Phase) (next 
       record {
         each_view = λ j x h. ⊎_elim (λ d. ⊎_elim (λ q. inl (subst (IsActive input n seats) q.1 first)) (λ q. t.each_view j x q.1) (at_set views id j (less_one v) x d)) (λ d. inl (subst (IsActive input n seats) d second)) (at_snoc vs (one_pass v) x j h);
         hand_held = λ j x k h d. ⊎_elim
-          (λ f. ⊎_elim (λ q. t.hand_held j v k (subst (λ i. get_elem? views i ≡ some v) (sym q.0) at) (ap (λ (y : View I). y.hand) q.1 ∙ d)) (λ q. t.hand_held j x k q.1 d) (at_set views id j (less_one v) x f))
-          (λ f. absurd (none-some k (ap (λ (y : View I). y.hand) f ∙ d))) (at_snoc vs (one_pass v) x j h);
+            (λ f. ⊎_elim (λ q. t.hand_held j v k (subst (λ i. get_elem? views i ≡ some v) (sym q.0) at) (ap (λ (y : View I). y.hand) q.1 ∙ d)) (λ q. t.hand_held j x k q.1 d) (at_set views id j (less_one v) x f))
+            (λ f. absurd (none-some k (ap (λ (y : View I). y.hand) f ∙ d))) (at_snoc vs (one_pass v) x j h);
         held_hand = λ k j h d. let o = t.held_hand k j h d in dite (ℕ_discrete j id)
-          (λ q. (less_one v, at_longer vs (one_pass v ∷ []) j (less_one v) (subst (λ i. get_elem? vs i ≡ some (less_one v)) (sym q) (set_here views id (less_one v) (at_below views id v at))),
-            ap (λ (y : View I). y.hand) (some-injective v o.0 (sym at ∙ ap (get_elem? views) (sym q) ∙ o.1)) ∙ o.2))
-          (λ q. (o.0, at_longer vs (one_pass v ∷ []) j o.0 (set_else views id j (less_one v) q ∙ o.1), o.2));
+            (λ q. (
+              less_one v,
+              at_longer vs (one_pass v ∷ []) j (less_one v) (subst (λ i. get_elem? vs i ≡ some (less_one v)) (sym q) (set_here views id (less_one v) (at_below views id v at))),
+              ap (λ (y : View I). y.hand) (some-injective v o.0 (sym at ∙ ap (get_elem? views) (sym q) ∙ o.1)) ∙ o.2,
+            ))
+            (λ q. (o.0, at_longer vs (one_pass v ∷ []) j o.0 (set_else views id j (less_one v) q ∙ o.1), o.2));
         passes_sum = omega arith;
         claims_sum = omega arith;
         leaves_sum = omega arith;
-        ended_late = λ pos. let late : 0 < total (λ (x : View I). x.ended) views → total (λ (x : View I). x.claimed) views ≡ n = t.ended_late in let got = late (omega arith) in omega arith }
+        ended_late = λ pos. let late : 0 < total (λ (x : View I). x.ended) views → total (λ (x : View I). x.claimed) views ≡ n = t.ended_late in let got = late (omega arith) in omega arith;
+      }
 
   -- a view takes in another one
   pub seated_join : (id other : ℕ) (v w : View I) → get_elem? views id ≡ some v → other ≢ id → get_elem? views other ≡ some w → 0 < v.passes → w.hand ≡ None → Seated input n seats phase next (set (set views id (with_counts v w)) other spent)
@@ -90,14 +95,18 @@ module _ {I : Type 0} (input : I) (n seats : ℕ) (phase : ℕ → Phase) (next 
       record {
         each_view = λ j x h. ⊎_elim (λ q. inr (subst IsEmpty q.1 empty)) (λ q. ⊎_elim (λ r. inl (subst (IsActive input n seats) r.1 active)) (λ r. t.each_view j x r.1) (at_set views id j both x q.1)) (at_set vs other j spent x h);
         hand_held = λ j x k h d. ⊎_elim (λ q. absurd (none-some k (ap (λ (y : View I). y.hand) q.1 ∙ d)))
-          (λ q. ⊎_elim (λ r. t.hand_held j v k (subst (λ i. get_elem? views i ≡ some v) (sym r.0) at) (ap (λ (y : View I). y.hand) r.1 ∙ d)) (λ r. t.hand_held j x k r.1 d) (at_set views id j both x q.1)) (at_set vs other j spent x h);
+            (λ q. ⊎_elim (λ r. t.hand_held j v k (subst (λ i. get_elem? views i ≡ some v) (sym r.0) at) (ap (λ (y : View I). y.hand) r.1 ∙ d)) (λ r. t.hand_held j x k r.1 d) (at_set views id j both x q.1)) (at_set vs other j spent x h);
         held_hand = λ k j h d. let o = t.held_hand k j h d in
-          let far : j ≢ other = λ q. none-some k (sym no_hand ∙ ap (λ (y : View I). y.hand) (some-injective w o.0 (sym there ∙ ap (get_elem? views) (sym q) ∙ o.1)) ∙ o.2) in
-          dite (ℕ_discrete j id)
-          (λ q. (both, set_else vs other j spent far ∙ subst (λ i. get_elem? vs i ≡ some both) (sym q) (set_here views id both (at_below views id v at)),
-            ap (λ (y : View I). y.hand) (some-injective v o.0 (sym at ∙ ap (get_elem? views) (sym q) ∙ o.1)) ∙ o.2))
-          (λ q. (o.0, set_else vs other j spent far ∙ set_else views id j both q ∙ o.1, o.2));
+            let far : j ≢ other = λ q. none-some k (sym no_hand ∙ ap (λ (y : View I). y.hand) (some-injective w o.0 (sym there ∙ ap (get_elem? views) (sym q) ∙ o.1)) ∙ o.2) in
+            dite (ℕ_discrete j id)
+            (λ q. (
+              both,
+              set_else vs other j spent far ∙ subst (λ i. get_elem? vs i ≡ some both) (sym q) (set_here views id both (at_below views id v at)),
+              ap (λ (y : View I). y.hand) (some-injective v o.0 (sym at ∙ ap (get_elem? views) (sym q) ∙ o.1)) ∙ o.2,
+            ))
+            (λ q. (o.0, set_else vs other j spent far ∙ set_else views id j both q ∙ o.1, o.2));
         passes_sum = omega arith;
         claims_sum = omega arith;
         leaves_sum = omega arith;
-        ended_late = λ pos2. let late : 0 < total (λ (x : View I). x.ended) views → total (λ (x : View I). x.claimed) views ≡ n = t.ended_late in let got = late (omega arith) in omega arith }
+        ended_late = λ pos2. let late : 0 < total (λ (x : View I). x.ended) views → total (λ (x : View I). x.claimed) views ≡ n = t.ended_late in let got = late (omega arith) in omega arith;
+      }

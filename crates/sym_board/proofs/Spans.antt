@@ -7,7 +7,7 @@ use Rattle.sym_board.specs.Arrived.{Meets}
 use Rattle.atomic_table.specs.Table.{rest}
 use Rattle.sym_board.specs.Passes.{interval, span_of}
 use Rattle.sym_board.specs.declared.tree.Interval.{Interval}
-use Rattle.sym_board.proofs.Laws.{IsNode, IsInner, at_node, at_inner, root_near, root_lo, root_hi, leaf_lo, leaf_hi}
+use Rattle.sym_board.proofs.TreeLaws.{IsNode, IsInner, at_node, at_inner, root_near, root_lo, root_hi, leaf_lo, leaf_hi}
 
 pub no_span : (n : ℕ) (h : Option ℕ) → span_of n h ≡ None → h ≡ None
 no_span n None e = refl
@@ -85,7 +85,13 @@ pub met_spans : {P I : Type 0} (stands : I → ℕ → ℕ → P → Type 0) (in
     → Meets stands input n (span_of n (Some (side n m b))) (span_of n (Some (inner m))) x y
 met_spans stands input n m b x y some_leaf few pos less p q = let t = at_inner n some_leaf few m pos less in let u = at_node n some_leaf few (inner m) (omega arith) in let lo : ℕ = (place n (inner m)).lo in let hi : ℕ = (place n (inner m)).hi in
     let cut_is : half lo hi ≡ m = t.cut in let before = t.before in let after = t.after in
-    record { lo = lo; hi = hi; two_chunks = omega arith; within = u.within; parent = refl;
+    record {
+      lo = lo;
+      hi = hi;
+      two_chunks = omega arith;
+      within = u.within;
+      parent = refl;
       child = subst (λ c. (span_of n (Some (side n m b)) ≡ Some (interval lo c)) ⊎ (span_of n (Some (side n m b)) ≡ Some (interval c hi))) (sym cut_is) (child_span n m b t);
       left = subst (λ c. stands input lo c x) (sym cut_is) p;
-      right = subst (λ c. stands input c hi y) (sym cut_is) q }
+      right = subst (λ c. stands input c hi y) (sym cut_is) q;
+    }

@@ -7,3 +7,4 @@ pub mod Plays
 pub mod Rule
 pub mod Passes
 pub mod Arrived
+pub mod Laws

@@ -51,12 +51,7 @@ impl<P: Piece> Board<P> {
 
     /// A board over `n` leaves, 1 to 64, with `seats` passes, 1 to 64. It takes all the memory that the board needs:
     /// `Err` is want of memory alone.
-    pub fn new(
-        alloc: Global,
-        input: &P::Input,
-        n: u32,
-        seats: u32,
-    ) -> Result<Made<P>, NoMemory>
+    pub fn new(alloc: Global, input: &P::Input, n: u32, seats: u32) -> Result<Made<P>, NoMemory>
         requires leaves { (1 ≤ n) × (n ≤ 64) }
         requires seats { (1 ≤ seats) × (seats ≤ 64) }
         ensures sizes { IfOk result (λ m. (board_leaves m.board ≡ n) × (board_seats m.board ≡ seats) × (vec_len m.passes ≡ seats)) }
@@ -69,7 +64,12 @@ impl<P: Piece> Board<P> {
             leaves,
             seats: u64::from(seats),
         };
-        let (table, seat) = Table::vacant(alloc, blank_words(n as usize + 1), 2 * n as usize - 1, &about)?;
+        let (table, seat) = Table::vacant(
+            alloc,
+            blank_words(n as usize + 1),
+            2 * n as usize - 1,
+            &about,
+        )?;
         let board = Board {
             table,
             leaves,
@@ -117,10 +117,7 @@ impl<P: Piece> Board<P> {
         ensures more { IfSome result (λ _. (has_ended pass.new ≡ false) × (claims pass.new ≡ claims pass.old + 1) × (claims pass.new ≤ board_leaves self.now)) }
         ensures none { IfNone result ((has_ended pass.new ≡ true) × (hand pass.new ≡ None) × (claims pass.new ≡ claims pass.old)) }
     {
-        let found = self
-            .table
-            .shared
-            .fetch_add::<Claim>(&mut pass.seat, 0, 1);
+        let found = self.table.shared.fetch_add::<Claim>(&mut pass.seat, 0, 1);
         if found < self.leaves {
             pass.hand = Some(2 * found);
             Some(found as u32)

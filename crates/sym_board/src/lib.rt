@@ -5,6 +5,7 @@ mod arrive;
 mod board;
 mod close;
 mod law;
+pub mod laws;
 mod pass;
 mod piece;
 mod tree;

@@ -11,7 +11,8 @@ invariant-slots g l = record {
   same_len : slots_len l.closed.slots ≡ slots_len l.fn.closed.slots;
   filled : Filled (slots_filled l.closed.slots) l.slot (slots_len l.closed.slots);
   empty : (k : ℕ) → k < l.slot → get_or (slots_filled l.closed.slots) k false ≡ false;
-  found : l.kept < l.slot → get_elem? (slots_items l.fn.closed.slots) l.kept ≡ some l.found }
+  found : l.kept < l.slot → get_elem? (slots_items l.fn.closed.slots) l.kept ≡ some l.found;
+}
 
 abbrev pub decreases-slots : goal.decreases-slots
 decreases-slots g l = slots_len l.closed.slots - l.slot

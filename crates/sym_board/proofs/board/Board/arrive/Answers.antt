@@ -2,7 +2,7 @@ use Rattle.std.proofs.Common.{◌≡◌, ◌≢◌, ◌<◌, ◌≤◌, ◌-◌,
 use Rattle.std.proofs.lemmas.Option.{same_Some}
 use Rattle.sym_board.specs.Tree.{inner, number, place, Place, side}
 use Rattle.sym_board.specs.Plays.{Paired}
-use Rattle.sym_board.proofs.Laws.{IsInner, at_inner}
+use Rattle.sym_board.proofs.TreeLaws.{IsInner, at_inner}
 use Rattle.sym_board.proofs.Spans.{side_left, side_right}
 use Rattle.sym_board.proofs.Emptied.{left_slot, left_is, right_slot, right_is, both_empty}
 use Rattle.sym_board.specs.Passes.{board_input}
@@ -38,7 +38,8 @@ returns-clause-met g c = let b = c.args.self.now in let m = c.args.at.above in l
     let l : c.number_of.result ≡ side b.leaves m true = c.number_of.ensures ∙ ap (λ (q : Place). number q.lo m) c.find-parent.ensures.found ∙ sym (side_left b.leaves m) in
     let r : c.number_of-2.result ≡ side b.leaves m false = c.number_of-2.ensures ∙ ap (λ (q : Place). number m q.hi) c.find-parent.ensures.found ∙ sym (side_right b.leaves m) in
     let x = left_is g.P.Piece.stands_for b.leaves m c.args.seat.now.me.0 c.meets.new.seat.me t c.number_of.result c.number_of-2.result l r c.take-left.result c.take-left.ensures.value in
-    let y = right_is g.P.Piece.stands_for b.leaves m c.args.seat.now.me.0 c.meets.new.seat.me t c.number_of.result c.number_of-2.result l r c.take-left.new.seat.me c.take-left.ensures.turned c.take-right.result c.take-right.ensures.value in
-    (both_empty g.P.Piece.stands_for b.leaves m c.args.seat.now.me.0 c.meets.new.seat.me t c.number_of.result c.number_of-2.result l r c.take-left.new.seat.me c.take-left.ensures.turned c.take-right.new.seat.me c.meets.ensures.parent.0 c.take-right.ensures.turned,
-     subst (g.P.Piece.stands_for (board_input b) (place b.leaves (inner m)).lo m) (same_Some t.left c.in-Some-Some.left (sym x ∙ c.in-Some-Some.is-0)) (t.left_stands (board_input b) c.requires.view.3),
-     subst (g.P.Piece.stands_for (board_input b) m (place b.leaves (inner m)).hi) (same_Some t.right c.in-Some-Some.right (sym y ∙ c.in-Some-Some.is-1)) (t.right_stands (board_input b) c.requires.view.3))
+    let y = right_is g.P.Piece.stands_for b.leaves m c.args.seat.now.me.0 c.meets.new.seat.me t c.number_of.result c.number_of-2.result l r c.take-left.new.seat.me c.take-left.ensures.turned c.take-right.result c.take-right.ensures.value in (
+      both_empty g.P.Piece.stands_for b.leaves m c.args.seat.now.me.0 c.meets.new.seat.me t c.number_of.result c.number_of-2.result l r c.take-left.new.seat.me c.take-left.ensures.turned c.take-right.new.seat.me c.meets.ensures.parent.0 c.take-right.ensures.turned,
+      subst (g.P.Piece.stands_for (board_input b) (place b.leaves (inner m)).lo m) (same_Some t.left c.in-Some-Some.left (sym x ∙ c.in-Some-Some.is-0)) (t.left_stands (board_input b) c.requires.view.3),
+      subst (g.P.Piece.stands_for (board_input b) m (place b.leaves (inner m)).hi) (same_Some t.right c.in-Some-Some.right (sym y ∙ c.in-Some-Some.is-1)) (t.right_stands (board_input b) c.requires.view.3),
+    )

@@ -9,7 +9,8 @@ invariant-levels g l = record {
   of : IsPassOf l.self l.pass;
   held : (i : Interval) × (hand l.pass ≡ Some i) × g.P.Piece.stands_for (board_input l.self) i.lo i.hi l.piece;
   counts : (has_ended l.pass ≡ has_ended l.initial.pass) × (claims l.pass ≡ claims l.initial.pass);
-  way : Way (board_leaves l.self) (hand l.initial.pass) (hand l.pass) }
+  way : Way (board_leaves l.self) (hand l.initial.pass) (hand l.pass);
+}
 
 abbrev pub decreases-levels : goal.decreases-levels
 decreases-levels g l = board_leaves l.self - span_len (hand l.pass)

@@ -8,7 +8,8 @@ invariant-passes g l = record {
   table : l.seat.table_id ≡ l.self.table.shared.table_id;
   some_pass : 0 < l.seat.me.0.passes;
   of : All (λ p. IsPassOf l.self p) l.passes.items;
-  counted : All (λ p. hand p ≡ None) l.fn.passes.items → Counted (λ p. hand p ≡ None) (λ p. has_ended p ≡ false) claims l.fn.passes.items l.passes.items l.seat.me.0.hand l.seat.me.0.passes l.seat.me.0.claimed l.seat.me.0.ended }
+  counted : All (λ p. hand p ≡ None) l.fn.passes.items → Counted (λ p. hand p ≡ None) (λ p. has_ended p ≡ false) claims l.fn.passes.items l.passes.items l.seat.me.0.hand l.seat.me.0.passes l.seat.me.0.claimed l.seat.me.0.ended;
+}
 
 abbrev pub decreases-passes : goal.decreases-passes
 decreases-passes g l = length l.passes.items
