@@ -16,3 +16,6 @@ pub use board::{Board, Made};
 pub use pass::Pass;
 pub use piece::Piece;
 pub use tree::Interval;
+
+#[cfg(test)]
+mod tests;
