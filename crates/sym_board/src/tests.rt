@@ -6,6 +6,7 @@ use crate::{Arrived, Board, Interval, Made, Pass, Piece};
 use std::alloc::Global;
 use std::test::Fail;
 use std::thread;
+use std::thread::Threads;
 use sym_base::NoMemory;
 
 // The list of a row of leaves, and the atomic steps that went into it: a claim for each leaf, and an arrival for each
@@ -45,16 +46,40 @@ fn leaf(alloc: Global, i: u32) -> Result<Row, NoMemory>
     Ok(Row { items, steps: 2 })
 }
 
-// A worker: it claims and carries until every leaf is claimed.
-fn work(alloc: Global, board: &Board<Row>, mut pass: Pass<Row>) -> Result<Pass<Row>, NoMemory>
+// A worker: it claims and carries until every leaf is claimed, or memory is refused.
+fn work(alloc: Global, board: &Board<Row>, mut pass: Pass<Row>) -> Pass<Row>
     requires { IsPassOf board.now pass × IsFree pass }
-    ensures { IfOk result (λ p. IsPassOf board.now p × (hand p ≡ None) × (has_ended p ≡ true)) }
+    ensures { IsPassOf board.now result }
 {
     'leaves: while let Some(i) = board.claim(&mut pass) {
-        let piece = leaf(alloc, i)?;
-        board.carry(alloc, &(), &mut pass, piece)?;
+        let Ok(piece) = leaf(alloc, i) else {
+            return pass;
+        };
+        if board.carry(alloc, &(), &mut pass, piece).is_err() {
+            return pass;
+        }
     }
-    Ok(pass)
+    pass
+}
+
+// Claims and carries so many leaves. Says whether there were as many.
+fn carry_leaves(
+    alloc: Global,
+    board: &Board<Row>,
+    pass: &mut Pass<Row>,
+    count: u32,
+) -> Result<bool, NoMemory>
+    requires { IsPassOf board.now pass.old × IsFree pass.old }
+    ensures { IfOk result (λ more. IsPassOf board.now pass.new × (more ≡ true → IsFree pass.new)) }
+{
+    'leaves: for _leaf in 0..count {
+        let Some(i) = board.claim(pass) else {
+            return Ok(false);
+        };
+        let piece = leaf(alloc, i)?;
+        board.carry(alloc, &(), pass, piece)?;
+    }
+    Ok(true)
 }
 
 // The last pass of a row of passes.
@@ -147,6 +172,57 @@ fn two_leaves_meet_in_either_order(rt: HostRuntime) -> Result<(), Fail> {
         assert!(rt; is_row(&left, 0, 1) && is_row(&right, 1, 2));
         let hand = if left_first { b.hand() } else { a.hand() };
         assert!(rt; hand == Some(Interval { lo: 0, hi: 2 }));
+    }
+    Ok(())
+}
+
+// A round of workers, each in a call of its own.
+fn round<R: Threads + Sync>(
+    rt: &R,
+    alloc: Global,
+    n: u32,
+    seats: u32,
+) -> Result<Option<Row>, NoMemory>
+    requires { (1 ≤ n) × (n ≤ 64) × (1 ≤ seats) × (seats ≤ 64) }
+    ensures { IfOk result (λ row. IfSome row (λ p. ⟦<Row as Piece>⟧.stands_for tt 0 n p)) }
+{
+    let Made { board, passes } = Board::new(alloc, &(), n, seats)?;
+    let done = thread::map_vec(
+        rt,
+        passes,
+        &|pass: Pass<Row>| -> Pass<Row>
+            requires { IsPassOf board pass × IsFree pass }
+            ensures { IsPassOf board result }
+        { work(alloc, &board, pass) },
+    )?;
+    Ok(board.close(done))
+}
+
+#[test]
+fn eight_threads_meet(rt: HostRuntime) -> Result<(), Fail> {
+    let Some(row) = round(&rt, rt.alloc(), 64, 8)? else {
+        panic!(rt; "not closed")
+    };
+    assert!(rt; is_row(&row, 0, 64));
+    // 64 claims that gave a leaf, and the arrivals of 127 nodes.
+    assert!(rt; row.steps == 64 + 127);
+    Ok(())
+}
+
+#[test]
+fn a_leaf_that_is_missing_leaves_the_board_open(rt: HostRuntime) -> Result<(), Fail> {
+    for in_hand in [false, true] {
+        let Made { board, mut passes } = Board::new(rt.alloc(), &(), 5, 1)?;
+        let Some(mut pass) = next_pass(&board, &mut passes) else {
+            panic!(rt; "no pass")
+        };
+        assert!(rt; carry_leaves(rt.alloc(), &board, &mut pass, 4)?);
+        if in_hand {
+            assert!(rt; board.claim(&mut pass) == Some(4));
+        }
+        let mut all = Vec::new(rt.alloc());
+        all.push(pass)?;
+        assert!(rt; board.close(all).is_none());
     }
     Ok(())
 }
