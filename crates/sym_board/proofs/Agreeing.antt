@@ -1,15 +1,15 @@
 -- A lawful state is orderly: its nodes' phases can be read from it. So lawful and orderly states are the same, and steps keep states lawful.
-use Rattle.std.proofs.Common.{◌≡◌, ◌≢◌, ℕ, zero, suc, ◌+◌, ◌-◌, ◌*◌, ◌/◌, ◌%◌, ◌<◌, ◌≤◌, ◌⊎◌, min, Bool, true, false, not, List, slice_index, refl, sym, ap, ◌∙◌, subst, inl, inr, ⊎_elim, arith, Option, Some, None}
+use Rattle.std.proofs.Common.{◌≡◌, ◌≢◌, ℕ, ◌+◌, ◌*◌, ◌<◌, ◌≤◌, Bool, true, false, not, slice_index, refl, sym, ap, ◌∙◌, subst, inl, inr, ⊎_elim, arith, Option, Some}
 use Rattle.std.proofs.lemmas.Option.{none-some}
-use mathlib.Core.Option.{some, none, some-injective}
+use mathlib.Core.Option.{some}
 use mathlib.Core.Logic.{dite}
 use native.Mathlib.Decide.{dec_lt, ℕ_discrete}
 use lib.ListN.{get_elem?}
 use Rattle.atomic_table.specs.Table.{State}
 use Rattle.sym_board.specs.Tree.{leaf, inner, nodes, root, place, side}
-use Rattle.sym_board.specs.State.{total, arrivals, sibling, HasBegun, IsInHand}
-use Rattle.sym_board.specs.Lawful.{IsActive, IsEmpty, IsFresh, IsHeld, HasArrived, IsWaiting, IsLawful}
-use Rattle.sym_board.specs.Core.{Phase, fresh, held, home, used, rank, mark, begins, Family, InPhase, Grown, Seated, Orderly}
+use Rattle.sym_board.specs.State.{arrivals, sibling, HasBegun, IsInHand}
+use Rattle.sym_board.specs.Lawful.{IsActive, IsEmpty, IsFresh, IsHeld, HasArrived, IsLawful}
+use Rattle.sym_board.specs.Core.{Phase, fresh, held, home, used, rank, mark, begins, Family, InPhase, Orderly}
 use Rattle.sym_board.specs.Steps.{Step}
 use Rattle.sym_board.specs.declared.view.View.{View}
 use Rattle.sym_board.proofs.TreeLaws.{at_node, at_inner, root_near}
@@ -17,7 +17,7 @@ use Rattle.sym_board.proofs.Arrivals.{arrivals_root, arrivals_side, sibling_side
 use Rattle.sym_board.proofs.Growing.{not_inner}
 use Rattle.sym_board.proofs.Keeping.{same_held, step_keeps}
 use Rattle.sym_board.proofs.Lawful.{lawful}
-use Rattle.sym_board.proofs.Chunks.{begun_or, Begun, one_or_none, sides_arrived}
+use Rattle.sym_board.proofs.Chunks.{begun_or, one_or_none, sides_arrived}
 
 fresh_held : (j : ℕ) → fresh ≡ held j → ⊥
 fresh_held j e = cc

@@ -1,20 +1,20 @@
 -- Each call's atomic step is a step of the board, so the rule allows it.
-use Rattle.std.proofs.Common.{◌≡◌, ◌≢◌, ℕ, ◌+◌, ◌-◌, ◌*◌, ◌/◌, ◌%◌, ◌^◌, ◌<◌, ◌≤◌, ◌⊎◌, Bool, true, false, not, List, [], ◌∷◌, ◌++◌, length, length-set, slice_index, set, bit_or, mod-eq_of_lt, lt_of_not-le, refl, sym, ap, ◌∙◌, subst, inl, inr, ⊎_elim, eq-zero-or-pos, arith, Option, Some, None}
-use Rattle.std.proofs.lemmas.Option.{none-some, same_Some}
-use mathlib.Core.Option.{Option as Maybe, some, none, some-injective}
+use Rattle.std.proofs.Common.{◌≡◌, ◌≢◌, ℕ, ◌+◌, ◌%◌, ◌^◌, ◌<◌, ◌≤◌, ◌⊎◌, Bool, true, false, not, List, [], ◌∷◌, ◌++◌, length, length-set, slice_index, set, bit_or, mod-eq_of_lt, lt_of_not-le, refl, sym, ap, ◌∙◌, subst, inl, inr, ⊎_elim, arith, Option, Some, None}
+use Rattle.std.proofs.lemmas.Option.{same_Some}
+use mathlib.Core.Option.{Option as Maybe, some, none}
 use mathlib.Core.Logic.{dite}
 use native.Mathlib.Decide.{dec_le, ℕ_discrete}
 use lib.ListN.{get_elem?}
-use Rattle.atomic_table.specs.Table.{State, Me, Step as Told, Act, keeps, gives, takes, chain, Allows, Splits as MaySplit, Joins as MayJoin, homes_after, carried_after, Valid, stepped}
+use Rattle.atomic_table.specs.Table.{State, Me, Step as Told, Act, keeps, takes, chain, Allows, Splits as MaySplit, Joins as MayJoin, homes_after, carried_after, stepped}
 use Rattle.atomic_table.proofs.Lists.{set_here, set_else}
 use Rattle.sym_board.specs.Tree.{leaf, inner, nodes, root, Place, spot, place, side}
 use Rattle.sym_board.specs.State.{total, arrivals}
 use Rattle.sym_board.specs.Lawful.{IsActive, IsEmpty}
-use Rattle.sym_board.specs.Core.{Phase, fresh, held, home, used, rank, mark, begins, InPhase, Grown, Seated, Orderly}
-use Rattle.sym_board.specs.Steps.{bit, IsBelow, with_leaf, with_end, with_hand, less_one, one_pass, with_counts, spent, GoesHome, TakesUp, ClaimsLeaf, ClaimsNone, Claims, ArrivesFirst, ArrivesSecond, Crowns, Splits, Joins, Step, claim, arrive_first, arrive_second, crown, split, join}
-use Rattle.sym_board.specs.Plays.{cut, is_leaf, children, hand_slots, give_all, claimed, Paired, arrived, crowned}
+use Rattle.sym_board.specs.Core.{fresh, held, home, mark, Orderly}
+use Rattle.sym_board.specs.Steps.{bit, IsBelow, with_leaf, with_end, with_hand, less_one, one_pass, with_counts, spent, GoesHome, TakesUp, claim, arrive_first, arrive_second, crown, split, join}
+use Rattle.sym_board.specs.Plays.{is_leaf, hand_slots, give_all, claimed, Paired, arrived, crowned}
 use Rattle.sym_board.specs.declared.view.View.{View}
-use Rattle.sym_board.proofs.TreeLaws.{IsNode, Hangs, at_node, at_inner, root_near, root_lo, root_hi}
+use Rattle.sym_board.proofs.TreeLaws.{at_node, at_inner, root_near, root_lo, root_hi}
 use Rattle.sym_board.proofs.Totals.{total_le, total_one}
 use Rattle.sym_board.proofs.Phases.{quiet, mark_rank, in_phase}
 use Rattle.sym_board.proofs.Arrivals.{side_mark}

@@ -1,12 +1,12 @@
 -- What the words show of the phases.
-use Rattle.std.proofs.Common.{◌≡◌, ◌≢◌, ℕ, ◌+◌, ◌*◌, ◌/◌, ◌%◌, ◌<◌, ◌≤◌, ◌⊎◌, Bool, true, false, not, cond, List, slice_index, eqb, eq-eqb, ne_eqb, refl, sym, ap, ◌∙◌, subst, inl, inr, arith, Option}
+use Rattle.std.proofs.Common.{◌≡◌, ◌≢◌, ℕ, ◌/◌, ◌%◌, ◌<◌, ◌≤◌, Bool, true, false, not, cond, List, slice_index, eq-eqb, ne_eqb, sym, ap, ◌∙◌, subst, arith, Option}
 use mathlib.Core.Option.{Option as Maybe}
 use mathlib.Core.Logic.{dite}
 use native.Mathlib.Decide.{ℕ_discrete}
-use Rattle.sym_board.specs.Tree.{inner, nodes, root, place, side}
+use Rattle.sym_board.specs.Tree.{nodes, root, place, side}
 use Rattle.sym_board.specs.State.{arrivals, sibling}
 use Rattle.sym_board.specs.Core.{Phase, mark, Grown}
-use Rattle.sym_board.proofs.TreeLaws.{IsNode, Hangs, IsChild, at_node, at_inner, root_near}
+use Rattle.sym_board.proofs.TreeLaws.{at_node, at_inner}
 use Rattle.sym_board.proofs.Phases.{mark_rank}
 
 pub arrivals_root : (n : ℕ) (words : List ℕ) (k : ℕ) → k ≡ root n → arrivals n words k ≡ slice_index words n

@@ -1,15 +1,13 @@
 -- In a lawful state each claimed chunk lies in exactly one hand or one piece at home.
-use Rattle.std.proofs.Common.{◌≡◌, ◌≢◌, ℕ, zero, suc, ◌+◌, ◌-◌, ◌*◌, ◌<◌, ◌≤◌, ◌⊎◌, Bool, true, false, not, List, slice_index, refl, sym, ap, ◌∙◌, subst, inl, inr, ⊎_elim, lt_of_not-le, arith, Option, Some, None}
-use mathlib.Core.Option.{some, none, some-injective}
+use Rattle.std.proofs.Common.{◌≡◌, ◌≢◌, ℕ, zero, suc, ◌+◌, ◌-◌, ◌<◌, ◌≤◌, ◌⊎◌, Bool, true, false, not, List, slice_index, refl, sym, ap, ◌∙◌, subst, inl, inr, ⊎_elim, arith, Option}
 use mathlib.Core.Logic.{dite}
-use native.Mathlib.Decide.{dec_le, dec_lt, ℕ_discrete}
-use lib.ListN.{get_elem?}
+use native.Mathlib.Decide.{dec_lt, ℕ_discrete}
 use Rattle.atomic_table.specs.Table.{State}
 use Rattle.sym_board.specs.Tree.{leaf, inner, nodes, root, place, side}
-use Rattle.sym_board.specs.State.{arrivals, sibling, HasBegun, IsInHand}
-use Rattle.sym_board.specs.Lawful.{IsFresh, IsHeld, HasArrived, IsWaiting, IsLawful, Carries, IsCarriedOnce}
+use Rattle.sym_board.specs.State.{arrivals, sibling, HasBegun}
+use Rattle.sym_board.specs.Lawful.{IsWaiting, IsLawful, Carries, IsCarriedOnce}
 use Rattle.sym_board.specs.declared.view.View.{View}
-use Rattle.sym_board.proofs.TreeLaws.{at_node, at_inner, root_near, leaf_lo, leaf_hi}
+use Rattle.sym_board.proofs.TreeLaws.{at_node, at_inner, leaf_lo, leaf_hi}
 use Rattle.sym_board.proofs.Growing.{not_inner, same_inner, out_not_some}
 use Rattle.sym_board.proofs.Lawful.{node_kind}
 

@@ -1,5 +1,5 @@
 -- The way of a hand up the tree.
-use Rattle.std.proofs.Common.{◌≡◌, ◌≢◌, ℕ, ◌+◌, ◌-◌, ◌*◌, ◌/◌, ◌<◌, ◌≤◌, ◌⊎◌, inl, inr, ⊎_elim, refl, sym, ap, ◌∙◌, subst, arith, Option, Some, None}
+use Rattle.std.proofs.Common.{◌≡◌, ◌≢◌, ℕ, ◌<◌, ◌≤◌, ◌⊎◌, inl, inr, ⊎_elim, sym, ap, ◌∙◌, subst, arith, Option, Some}
 use Rattle.std.proofs.lemmas.Option.{same_Some}
 use Rattle.sym_board.specs.Tree.{half}
 use Rattle.sym_board.specs.Passes.{interval, span_len}

@@ -1,18 +1,18 @@
 -- The state in which a board ends.
-use Rattle.std.proofs.Common.{◌≡◌, ◌≢◌, ℕ, zero, suc, ◌+◌, ◌-◌, ◌*◌, ◌<◌, ◌≤◌, ◌⊎◌, Bool, true, false, List, [], ◌∷◌, length, slice_index, refl, sym, ap, ◌∙◌, subst, subst₂, inl, inr, ⊎_elim, lt_of_not-le, eq-zero-or-pos, arith, Option, Some, None, IfSome, IfNone}
+use Rattle.std.proofs.Common.{◌≡◌, ◌≢◌, ℕ, zero, suc, ◌-◌, ◌<◌, ◌≤◌, ◌⊎◌, true, false, List, [], ◌∷◌, slice_index, refl, sym, ap, ◌∙◌, subst, subst₂, inl, inr, ⊎_elim, lt_of_not-le, eq-zero-or-pos, arith, Option, Some, None, IfSome, IfNone}
 use Rattle.std.proofs.lemmas.Option.{none-some, same_Some}
-use mathlib.Core.Option.{some, none, some-injective, some-ne-none}
+use mathlib.Core.Option.{some, some-injective, some-ne-none}
 use mathlib.Core.Logic.{dite}
-use native.Mathlib.Decide.{dec_le, ℕ_discrete}
+use native.Mathlib.Decide.{ℕ_discrete}
 use lib.ListN.{get_elem?}
 use Rattle.atomic_table.specs.Table.{State, Final, Seen}
-use Rattle.sym_board.specs.Tree.{leaf, inner, nodes, root, place, side}
+use Rattle.sym_board.specs.Tree.{inner, nodes, root, place, side}
 use Rattle.sym_board.specs.State.{total}
 use Rattle.sym_board.specs.Lawful.{IsActive, IsEmpty}
-use Rattle.sym_board.specs.Core.{Phase, fresh, held, home, used, rank, mark, begins, Family, InPhase, Orderly}
+use Rattle.sym_board.specs.Core.{Phase, fresh, held, home, used, rank, mark, begins, Family, Orderly}
 use Rattle.sym_board.specs.declared.view.View.{View}
 use Rattle.sym_board.proofs.TreeLaws.{at_node, at_inner, root_near, root_lo, root_hi}
-use Rattle.sym_board.proofs.Totals.{total_two, total_one, total_some}
+use Rattle.sym_board.proofs.Totals.{total_two, total_one}
 use Rattle.sym_board.proofs.Phases.{in_phase, mark_rank}
 use Rattle.sym_board.proofs.Lawful.{node_kind}
 

@@ -1,8 +1,7 @@
 -- The slots of an inner node's children are emptied, one after the other.
-use Rattle.std.proofs.Common.{◌≡◌, ◌≢◌, ℕ, ◌<◌, List, [], ◌∷◌, ◌++◌, true, false, refl, sym, ap, ◌∙◌, subst, Option, Some, None}
-use Rattle.std.proofs.lemmas.Option.{same_Some}
+use Rattle.std.proofs.Common.{◌≡◌, ℕ, ◌<◌, List, [], ◌∷◌, ◌++◌, true, false, sym, ap, ◌∙◌, Option, Some, None}
 use Rattle.atomic_table.specs.Table.{Me, rest}
-use Rattle.sym_board.specs.Tree.{inner, place, side}
+use Rattle.sym_board.specs.Tree.{inner, side}
 use Rattle.sym_board.specs.Steps.{with_hand}
 use Rattle.sym_board.specs.Plays.{hand_slots, Paired}
 use Rattle.sym_board.specs.declared.view.View.{View}

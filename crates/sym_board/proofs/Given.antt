@@ -1,13 +1,13 @@
 -- The slots of a hand go home.
-use Rattle.std.proofs.Common.{◌≡◌, ◌≢◌, ℕ, ◌+◌, ◌-◌, ◌*◌, ◌/◌, ◌%◌, ◌<◌, ◌≤◌, ◌⊎◌, Bool, true, false, List, [], ◌∷◌, length, length-set, set, eqb, eqb-true, eq-eqb, ne_eqb, true≢false, refl, sym, ap, ◌∙◌, subst, inl, inr, ⊎_elim, arith, Option, Some, None}
-use mathlib.Core.Option.{Option as Maybe, some, none}
+use Rattle.std.proofs.Common.{◌≡◌, ◌≢◌, ℕ, ◌%◌, ◌<◌, ◌≤◌, Bool, true, false, List, [], ◌∷◌, length, length-set, set, eqb, eq-eqb, true≢false, refl, sym, ap, ◌∙◌, inl, inr, arith, Option, Some, None}
+use mathlib.Core.Option.{Option as Maybe, some}
 use mathlib.Core.Logic.{dite}
 use native.Mathlib.Decide.{ℕ_discrete}
 use lib.ListN.{get_elem?}
-use Rattle.atomic_table.specs.Table.{Act, gives, takes, chain, homes_after, carried_after, Valid}
+use Rattle.atomic_table.specs.Table.{homes_after, carried_after, Valid}
 use Rattle.atomic_table.proofs.Lists.{set_here, set_else}
 use Rattle.sym_board.specs.Tree.{inner, nodes, side}
-use Rattle.sym_board.specs.Steps.{IsBelow, GoesHome, TakesUp}
+use Rattle.sym_board.specs.Steps.{GoesHome}
 use Rattle.sym_board.specs.Plays.{cut, is_leaf, children, hand_slots, give_all}
 use Rattle.sym_board.proofs.TreeLaws.{at_inner}
 use Rattle.sym_board.proofs.Growing.{not_parent}

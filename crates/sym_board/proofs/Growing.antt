@@ -1,15 +1,15 @@
 -- Each step keeps the phases in agreement with the words and the slots.
-use Rattle.std.proofs.Common.{◌≡◌, ◌≢◌, ℕ, zero, suc, ◌+◌, ◌-◌, ◌*◌, ◌<◌, ◌≤◌, ◌⊎◌, Bool, true, false, not, List, length, length-set, slice_index, set, get_or, get_or-set_same, get_or-set_other, true≢false, refl, sym, ap, ◌∙◌, subst, inl, inr, ⊎_elim, arith, Option, Some, None}
+use Rattle.std.proofs.Common.{◌≡◌, ◌≢◌, ℕ, ◌+◌, ◌*◌, ◌<◌, ◌≤◌, ◌⊎◌, Bool, true, false, not, List, length-set, slice_index, set, get_or-set_same, get_or-set_other, true≢false, refl, sym, ap, ◌∙◌, subst, inl, inr, ⊎_elim, arith, Option, Some, None}
 use mathlib.Core.Option.{Option as Maybe, some, none}
 use mathlib.Core.Logic.{dite}
-use native.Mathlib.Decide.{dec_le, ℕ_discrete}
+use native.Mathlib.Decide.{ℕ_discrete}
 use lib.ListN.{get_elem?}
 use Rattle.atomic_table.proofs.Lists.{set_here, set_else}
 use Rattle.sym_board.specs.Tree.{leaf, inner, nodes, root, place, side}
 use Rattle.sym_board.specs.Core.{Phase, fresh, held, home, used, rank, mark, begins, Family, InPhase, Grown}
 use Rattle.sym_board.specs.Steps.{bit, IsBelow, GoesHome, TakesUp}
-use Rattle.sym_board.proofs.TreeLaws.{IsChild, IsInner, at_inner, root_near}
-use Rattle.sym_board.proofs.Phases.{put, put_here, put_else, At, at_put, put_same, quiet, is_used, mark_rank, rank_few, family_like, both_used, not_above, in_phase_same, in_phase, not_some}
+use Rattle.sym_board.proofs.TreeLaws.{IsChild, at_inner}
+use Rattle.sym_board.proofs.Phases.{put, put_here, put_else, At, at_put, put_same, quiet, is_used, mark_rank, family_like, both_used, not_above, in_phase_same, in_phase, not_some}
 
 -- a leaf is no inner node
 pub not_inner : (i m : ℕ) → 0 < m → leaf i ≢ inner m

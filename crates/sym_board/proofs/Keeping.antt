@@ -1,22 +1,19 @@
 -- Each step leads from an orderly state to an orderly one.
-use Rattle.std.proofs.Common.{◌≡◌, ◌≢◌, ℕ, ◌+◌, ◌-◌, ◌*◌, ◌<◌, ◌≤◌, ◌⊎◌, Bool, true, false, not, List, length, slice_index, set, get_or-set_same, get_or-set_other, refl, sym, ap, ◌∙◌, subst, inl, inr, ⊎_elim, eq-zero-or-pos, arith, Option, Some, None}
+use Rattle.std.proofs.Common.{◌≡◌, ◌≢◌, ℕ, ◌+◌, ◌<◌, ◌≤◌, Bool, true, false, not, List, slice_index, set, get_or-set_same, get_or-set_other, refl, sym, ap, ◌∙◌, subst, ⊎_elim, eq-zero-or-pos, arith, Option, Some, None}
 use Rattle.std.proofs.lemmas.Option.{none-some, same_Some}
 use mathlib.Core.Option.{Option as Maybe, some, none, some-injective}
-use mathlib.Core.Logic.{dite}
-use native.Mathlib.Decide.{ℕ_discrete}
 use lib.ListN.{get_elem?}
 use Rattle.atomic_table.specs.Table.{State}
-use Rattle.sym_board.specs.Tree.{leaf, inner, nodes, root, place, side}
-use Rattle.sym_board.specs.State.{total, arrivals}
-use Rattle.sym_board.specs.Lawful.{IsActive, IsEmpty}
-use Rattle.sym_board.specs.Core.{Phase, fresh, held, home, used, rank, mark, begins, Grown, Seated, Orderly}
-use Rattle.sym_board.specs.Steps.{bit, with_leaf, with_end, with_hand, GoesHome, TakesUp, ClaimsLeaf, ClaimsNone, Claims, ArrivesFirst, ArrivesSecond, Crowns, Splits, Joins, Closes, Step, claim, arrive_first, arrive_second, crown, split, join, close}
+use Rattle.sym_board.specs.Tree.{leaf, inner, nodes, root, side}
+use Rattle.sym_board.specs.State.{arrivals}
+use Rattle.sym_board.specs.Lawful.{IsActive}
+use Rattle.sym_board.specs.Core.{Phase, fresh, held, home, used, rank, mark, Grown, Seated, Orderly}
+use Rattle.sym_board.specs.Steps.{bit, with_leaf, with_end, with_hand, ClaimsLeaf, ClaimsNone, Claims, ArrivesFirst, ArrivesSecond, Crowns, Splits, Joins, Step, claim, arrive_first, arrive_second, crown, split, join, close}
 use Rattle.sym_board.specs.declared.view.View.{View}
-use Rattle.sym_board.proofs.TreeLaws.{at_inner, root_near}
-use Rattle.sym_board.proofs.Phases.{put, put_here, put_else, At, at_put, quiet, is_home, mark_rank, both_used, not_above}
+use Rattle.sym_board.proofs.Phases.{put, put_here, put_else, at_put, quiet, is_home, mark_rank, not_above}
 use Rattle.sym_board.proofs.Arrivals.{side_mark}
-use Rattle.sym_board.proofs.Growing.{sides_sum, grown_claim, grown_past, grown_first, grown_second, grown_crown, raised, Raised, parent, child, other, raised_tells, raised_above, above_fresh}
-use Rattle.sym_board.proofs.Seating.{Sums, seated_set, seated_cut, seated_join, is_active}
+use Rattle.sym_board.proofs.Growing.{sides_sum, grown_claim, grown_past, grown_first, grown_second, grown_crown, raised, parent, child, other, raised_tells, raised_above, above_fresh}
+use Rattle.sym_board.proofs.Seating.{seated_set, seated_cut, seated_join, is_active}
 
 fresh_held : (j : ℕ) → fresh ≡ held j → ⊥
 fresh_held j e = cc

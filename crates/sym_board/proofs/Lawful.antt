@@ -1,18 +1,18 @@
 -- An orderly state is lawful.
-use Rattle.std.proofs.Common.{◌≡◌, ◌≢◌, ℕ, ◌+◌, ◌-◌, ◌*◌, ◌/◌, ◌%◌, ◌<◌, ◌≤◌, ◌⊎◌, min, Bool, true, false, not, List, length, slice_index, refl, sym, ap, ◌∙◌, subst, inl, inr, ⊎_elim, eq-zero-or-pos, lt_of_not-le, arith, Option, Some, None}
-use mathlib.Core.Option.{Option as Maybe, some, none, some-injective}
+use Rattle.std.proofs.Common.{◌≡◌, ◌≢◌, ℕ, ◌+◌, ◌/◌, ◌%◌, ◌<◌, ◌≤◌, ◌⊎◌, Bool, true, false, not, slice_index, refl, sym, ap, ◌∙◌, subst, inl, inr, ⊎_elim, eq-zero-or-pos, lt_of_not-le, arith, Option, Some, None}
+use mathlib.Core.Option.{Option as Maybe, some}
 use mathlib.Core.Logic.{dite}
 use native.Mathlib.Decide.{dec_le, ℕ_discrete}
 use lib.ListN.{get_elem?}
 use Rattle.atomic_table.specs.Table.{State}
 use Rattle.sym_board.specs.Tree.{leaf, inner, nodes, root, place, side}
 use Rattle.sym_board.specs.State.{total, arrivals, sibling, HasBegun, IsInHand}
-use Rattle.sym_board.specs.Lawful.{IsActive, IsEmpty, IsFresh, IsHeld, HasArrived, IsWaiting, Rests, IsLawful}
-use Rattle.sym_board.specs.Core.{Phase, fresh, held, home, used, rank, mark, begins, Family, InPhase, Grown, Seated, Orderly}
+use Rattle.sym_board.specs.Lawful.{IsFresh, IsHeld, HasArrived, IsWaiting, Rests, IsLawful}
+use Rattle.sym_board.specs.Core.{Phase, fresh, held, home, used, rank, mark, begins, Orderly}
 use Rattle.sym_board.specs.declared.view.View.{View}
-use Rattle.sym_board.proofs.TreeLaws.{at_node, at_inner, root_near}
+use Rattle.sym_board.proofs.TreeLaws.{at_node, at_inner}
 use Rattle.sym_board.proofs.Totals.{total_one}
-use Rattle.sym_board.proofs.Phases.{quiet, is_used, is_home, mark_rank, both_used, not_above, not_some, in_phase}
+use Rattle.sym_board.proofs.Phases.{quiet, is_used, mark_rank, both_used, not_some, in_phase}
 use Rattle.sym_board.proofs.Arrivals.{arrivals_mark}
 use Rattle.sym_board.proofs.Growing.{sides_sum, out_not_some}
 use Rattle.sym_board.proofs.Keeping.{same_held}

@@ -1,16 +1,12 @@
 -- A new board is orderly.
-use Rattle.std.proofs.Common.{◌≡◌, ◌≢◌, ℕ, zero, suc, ◌+◌, ◌-◌, ◌*◌, ◌<◌, ◌≤◌, ◌⊎◌, List, [], ◌∷◌, length, map, replicate, slice_index, take, get_or, get_or-take, length-take, refl, sym, ap, ◌∙◌, subst, inl, inr, arith, Option, Some, None}
+use Rattle.std.proofs.Common.{◌≡◌, ℕ, zero, suc, ◌+◌, ◌<◌, ◌≤◌, List, [], ◌∷◌, length, map, replicate, slice_index, take, refl, sym, ap, ◌∙◌, subst, inl, inr, arith, Option, None}
 use Rattle.std.proofs.lemmas.Option.{none-some}
-use Rattle.std.proofs.lemmas.List.{get_or-replicate}
-use mathlib.Core.Option.{Option as Maybe, some, none, some-injective, some-ne-none}
-use mathlib.Core.Logic.{dite}
-use native.Mathlib.Decide.{dec_lt}
+use mathlib.Core.Option.{some, some-injective, some-ne-none}
 use lib.ListN.{get_elem?}
-use Rattle.atomic_table.specs.Table.{State, opening}
-use Rattle.sym_board.specs.Tree.{leaf, inner, nodes, root, place, side}
-use Rattle.sym_board.specs.State.{total}
-use Rattle.sym_board.specs.Lawful.{IsActive, IsEmpty}
-use Rattle.sym_board.specs.Core.{Phase, fresh, held, Grown, Seated, Orderly}
+use Rattle.atomic_table.specs.Table.{opening}
+use Rattle.sym_board.specs.Tree.{nodes}
+use Rattle.sym_board.specs.Lawful.{IsActive}
+use Rattle.sym_board.specs.Core.{fresh, held, Orderly}
 use Rattle.sym_board.specs.declared.view.View.{View}
 
 vacant_at : {P : Type 0} (c k : ℕ) → k < c → get_elem? (map some (replicate {A = Option P} c None)) k ≡ some (some None)

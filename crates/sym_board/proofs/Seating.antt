@@ -1,18 +1,18 @@
 -- Each step keeps the views in agreement with the phases and the counts.
-use Rattle.std.proofs.Common.{◌≡◌, ◌≢◌, ℕ, zero, suc, ◌+◌, ◌-◌, ◌*◌, ◌<◌, ◌≤◌, ◌⊎◌, List, [], ◌∷◌, ◌++◌, length, set, length-set, refl, sym, ap, ◌∙◌, subst, inl, inr, ⊎_elim, arith, Option, Some, None}
-use Rattle.std.proofs.lemmas.Option.{none-some, same_Some}
-use mathlib.Core.Option.{some, none, some-injective}
+use Rattle.std.proofs.Common.{◌≡◌, ◌≢◌, ℕ, ◌+◌, ◌<◌, ◌≤◌, ◌⊎◌, List, [], ◌∷◌, ◌++◌, set, refl, sym, ap, ◌∙◌, subst, inl, inr, ⊎_elim, arith, Some, None}
+use Rattle.std.proofs.lemmas.Option.{none-some}
+use mathlib.Core.Option.{some, some-injective}
 use mathlib.Core.Logic.{dite}
 use native.Mathlib.Decide.{ℕ_discrete}
 use lib.ListN.{get_elem?}
-use Rattle.atomic_table.proofs.Lists.{at_set, set_here, set_else, at_longer, at_last, at_snoc}
+use Rattle.atomic_table.proofs.Lists.{at_set, set_here, set_else, at_longer, at_snoc}
 use Rattle.sym_board.specs.Tree.{nodes}
 use Rattle.sym_board.specs.State.{total}
 use Rattle.sym_board.specs.Lawful.{IsActive, IsEmpty}
 use Rattle.sym_board.specs.Core.{Phase, held, Seated}
 use Rattle.sym_board.specs.Steps.{less_one, one_pass, with_counts, spent}
 use Rattle.sym_board.specs.declared.view.View.{View}
-use Rattle.sym_board.proofs.Totals.{total_set, total_snoc, total_one, total_two, at_below}
+use Rattle.sym_board.proofs.Totals.{total_set, total_snoc, at_below}
 
 -- the sums a of claimed leaves and e of ended passes agree with the claim number
 pub record Sums (n next a e : ℕ) : Type 0 where

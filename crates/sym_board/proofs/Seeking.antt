@@ -1,5 +1,5 @@
 -- The way down the tree, one level at a time.
-use Rattle.std.proofs.Common.{◌≡◌, ◌≢◌, ℕ, zero, suc, ◌+◌, ◌-◌, ◌<◌, ◌≤◌, Bool, true, false, eqb, ltb, eq-eqb, ne_eqb, lt-ltb, le-ltb, refl, sym, ap, ◌∙◌, arith}
+use Rattle.std.proofs.Common.{◌≡◌, ◌≢◌, ℕ, zero, suc, ◌+◌, ◌-◌, ◌<◌, ◌≤◌, Bool, true, false, ltb, eq-eqb, ne_eqb, lt-ltb, le-ltb, refl, sym, ap, ◌∙◌, arith}
 use Rattle.sym_board.specs.Tree.{half, number, Place, top, left_of, right_of, seek, place, spot}
 
 pub seek_found : (f : ℕ) (p : Place) (k : ℕ) → number p.lo p.hi ≡ k → seek f p k ≡ p

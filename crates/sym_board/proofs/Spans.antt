@@ -1,5 +1,5 @@
 -- The interval of the node in a hand.
-use Rattle.std.proofs.Common.{◌≡◌, ◌≢◌, ℕ, ◌+◌, ◌-◌, ◌*◌, ◌/◌, ◌%◌, ◌<◌, ◌≤◌, ◌⊎◌, inl, inr, refl, sym, ap, ap₂, ◌∙◌, subst, arith, Option, Some, None, Bool, true, false, eqb, ne_eqb, List, [], ◌∷◌}
+use Rattle.std.proofs.Common.{◌≡◌, ◌≢◌, ℕ, ◌+◌, ◌-◌, ◌%◌, ◌<◌, ◌≤◌, ◌⊎◌, inl, inr, refl, sym, ap, ap₂, ◌∙◌, subst, arith, Option, Some, None, Bool, true, false, ne_eqb, List, [], ◌∷◌}
 use Rattle.std.proofs.lemmas.Option.{none-some, same_Some}
 use Rattle.sym_board.specs.Tree.{half, leaf, inner, number, nodes, root, Place, spot, place, side}
 use Rattle.sym_board.specs.Plays.{cut, is_leaf, children, hand_slots, slots_of}
@@ -7,7 +7,7 @@ use Rattle.sym_board.specs.Arrived.{Meets}
 use Rattle.atomic_table.specs.Table.{rest}
 use Rattle.sym_board.specs.Passes.{interval, span_of}
 use Rattle.sym_board.specs.declared.tree.Interval.{Interval}
-use Rattle.sym_board.proofs.TreeLaws.{IsNode, IsInner, at_node, at_inner, root_near, root_lo, root_hi, leaf_lo, leaf_hi}
+use Rattle.sym_board.proofs.TreeLaws.{IsInner, at_node, at_inner, root_lo, root_hi, leaf_lo, leaf_hi}
 
 pub no_span : (n : ℕ) (h : Option ℕ) → span_of n h ≡ None → h ≡ None
 no_span n None e = refl

@@ -1,7 +1,7 @@
 -- The laws of the tree, each computed for every number of leaves up to 64.
-use Rattle.std.proofs.Common.{◌≡◌, ℕ, zero, suc, ◌+◌, ◌-◌, ◌*◌, ◌/◌, ◌<◌, ◌≤◌, ◌≢◌, ◌⊎◌, Bool, true, false, eqb, ltb, eqb-true, ltb-true, eq-eqb, ne_eqb, true≢false, refl, sym, ap, ◌∙◌, subst, inl, inr, arith}
+use Rattle.std.proofs.Common.{◌≡◌, ℕ, zero, suc, ◌+◌, ◌-◌, ◌<◌, ◌≤◌, ◌≢◌, ◌⊎◌, Bool, true, false, eqb, ltb, eqb-true, ltb-true, eq-eqb, ne_eqb, true≢false, refl, sym, ap, ◌∙◌, inl, inr, arith}
 use Rattle.std.proofs.lemmas.Bool.Decides.{eqb_tells}
-use Rattle.sym_board.specs.Tree.{half, leaf, inner, nodes, number, root, Place, top, left_of, right_of, seek, place, side}
+use Rattle.sym_board.specs.Tree.{half, leaf, inner, nodes, number, root, seek, place, side}
 
 -- a fact on numbers that can be computed
 data Test : Type 0 where

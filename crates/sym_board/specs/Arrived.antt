@@ -1,5 +1,5 @@
 -- What a delivery answers.
-use Rattle.std.specs.Prelude.{◌≡◌, ◌≢◌, ℕ, ◌-◌, ◌<◌, ◌≤◌, ◌⊎◌, Option, Some, None}
+use Rattle.std.specs.Prelude.{◌≡◌, ℕ, ◌-◌, ◌<◌, ◌≤◌, ◌⊎◌, Option, Some}
 use Rattle.sym_board.specs.Tree.{half}
 use Rattle.sym_board.specs.Passes.{interval}
 use Rattle.sym_board.specs.declared.tree.Interval.{Interval}

@@ -1,6 +1,6 @@
 -- What callers see of a board and its passes.
-use Rattle.std.specs.Prelude.{◌≡◌, ℕ, ◌+◌, ◌-◌, Bool, true, false, Option, Some, None}
-use Rattle.sym_board.specs.Tree.{place, half}
+use Rattle.std.specs.Prelude.{◌≡◌, ℕ, ◌-◌, Bool, false, Option, Some, None}
+use Rattle.sym_board.specs.Tree.{place}
 use Rattle.sym_board.specs.declared.tree.Interval.{Interval}
 use Rattle.sym_board.specs.declared.pass.Pass.{Pass}
 use Rattle.sym_board.specs.declared.board.Board.{Board}

@@ -1,9 +1,9 @@
 -- What a pass holds with a node in its hand, and what each atomic step tells it.
-use Rattle.std.specs.Prelude.{◌≡◌, ◌≢◌, ℕ, ◌+◌, ◌-◌, ◌*◌, ◌/◌, ◌%◌, ◌<◌, ◌≤◌, Bool, true, false, List, [], ◌∷◌, Option, Some, None}
+use Rattle.std.specs.Prelude.{◌≡◌, ◌≢◌, ℕ, ◌+◌, ◌/◌, ◌%◌, ◌<◌, ◌≤◌, Bool, true, false, List, [], ◌∷◌, Option, Some, None}
 use Rattle.std.proofs.Common.{eqb}
-use Rattle.atomic_table.specs.Table.{Act, gives, takes, chain, Me, Step}
+use Rattle.atomic_table.specs.Table.{Act, gives, chain, Me, Step}
 use Rattle.sym_board.specs.Tree.{leaf, inner, place, side}
-use Rattle.sym_board.specs.Steps.{with_leaf, with_end, with_hand, less_one, one_pass, with_counts, spent}
+use Rattle.sym_board.specs.Steps.{with_leaf, with_end, with_hand}
 use Rattle.sym_board.specs.declared.view.View.{View}
 
 -- the m of an inner node

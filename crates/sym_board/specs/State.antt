@@ -1,10 +1,9 @@
 -- What the words, the slots at home and the views of a board's table show.
 -- Word 0 is the claim number. Word m, for m from 1 to n - 1, belongs to the inner node at m: bit 1 says that its left child has arrived and bit 2 its right one. Word n is 1 once the root is crowned.
-use Rattle.std.specs.Prelude.{◌≡◌, ◌≢◌, ℕ, zero, suc, ◌+◌, ◌-◌, ◌*◌, ◌/◌, ◌%◌, ◌<◌, ◌⊎◌, Bool, true, false, not, cond, List, [], ◌∷◌, slice_index, Option, Some, None}
+use Rattle.std.specs.Prelude.{◌≡◌, ℕ, ◌+◌, ◌/◌, ◌%◌, ◌<◌, ◌⊎◌, true, false, not, cond, List, [], ◌∷◌, slice_index, Some, None}
 use Rattle.std.proofs.Common.{eqb}
-use mathlib.Core.Option.{some, none}
+use mathlib.Core.Option.{some}
 use lib.ListN.{get_elem?}
-use Rattle.atomic_table.specs.Table.{State}
 use Rattle.sym_board.specs.Tree.{leaf, inner, root, place, side}
 use Rattle.sym_board.specs.declared.view.View.{View}
 

@@ -3,7 +3,7 @@ use Rattle.std.specs.Prelude.{◌≡◌, ◌≢◌, ℕ, ◌+◌, ◌-◌, ◌<�
 use mathlib.Core.Option.{Option as Maybe, some, none}
 use lib.ListN.{get_elem?}
 use Rattle.atomic_table.specs.Table.{State}
-use Rattle.sym_board.specs.Tree.{leaf, inner, nodes, root, place, side}
+use Rattle.sym_board.specs.Tree.{leaf, inner, root, place, side}
 use Rattle.sym_board.specs.State.{arrivals}
 use Rattle.sym_board.specs.declared.view.View.{View}
 

@@ -1,6 +1,6 @@
 -- The tree over n leaves. The node from 0 to n is the root. A node of one chunk is a leaf; a longer one has a left child with half its chunks, rounded up, and a right child with the rest.
 -- Nodes are numbered in order from the left: leaf i is 2i, and the inner node whose children meet at m is 2m - 1. So there are 2n - 1 of them, the inner nodes are one for each m from 1 to n - 1, and the tree is a search tree over the numbers.
-use Rattle.std.specs.Prelude.{◌≡◌, ℕ, zero, suc, ◌+◌, ◌-◌, ◌*◌, ◌/◌, Bool, true, false, cond}
+use Rattle.std.specs.Prelude.{ℕ, zero, suc, ◌+◌, ◌-◌, ◌*◌, ◌/◌, Bool, true, false, cond}
 use Rattle.std.proofs.Common.{eqb, ltb}
 
 -- where the children of the node from lo to hi meet

@@ -1,8 +1,4 @@
 //! The board: leaves to claim, and a tree on which pieces meet.
-//!
-//! Each claim and each arrival is one atomic step on one word. A round of n leaves costs at most n claims that give a
-//! leaf, one claim for each pass that ends, n - 1 first and second arrivals each, and one crowning: 2n - 1 steps of
-//! arrival in all. No memory is taken after `new`.
 ghost use Rattle.std.specs.Prelude.{◌≡◌, ℕ, ◌+◌, ◌-◌, ◌*◌, ◌<◌, ◌≤◌, None, Some, IfOk, IfSome, IfNone, All, vec_len, true, false, [], length, slice_index};
 ghost use Rattle.sym_board.specs.Tree.{nodes};
 ghost use Rattle.sym_board.specs.Rule.{first_view};

@@ -1,5 +1,5 @@
-use Rattle.std.proofs.Common.{◌≡◌, ◌≢◌, ◌<◌, ◌≤◌, ◌-◌, ◌+◌, sym, ap, ◌∙◌, subst, refl, arith}
-use Rattle.sym_board.specs.Tree.{number, seek, place, spot, half, Place}
+use Rattle.std.proofs.Common.{◌≡◌, ◌≢◌, ◌<◌, ◌≤◌, ◌-◌, ◌+◌, sym, ◌∙◌, subst, arith}
+use Rattle.sym_board.specs.Tree.{number, seek, place, spot, Place}
 use Rattle.sym_board.specs.declared.tree.Spot.{Spot}
 use Rattle.sym_board.proofs.Seeking.{seek_found, seek_top, level_left, level_right, level_last}
 use Rattle.sym_board.proofs.tree.find.Goals.{then-node-here, else-node-here}

@@ -1,8 +1,7 @@
-use Rattle.std.proofs.Common.{◌≡◌, ◌≢◌, ◌<◌, ◌≤◌, ◌-◌, ◌+◌, ◌*◌, ℕ, sym, ap, ◌∙◌, refl, subst, arith, Some, None, true, false, Option, List, [], ◌∷◌}
+use Rattle.std.proofs.Common.{◌≡◌, sym, ap, ◌∙◌, refl, subst, arith, Some, true, false}
 use Rattle.std.proofs.lemmas.Option.{same_Some}
 use Rattle.sym_board.specs.Tree.{inner, number, place, Place, side}
-use Rattle.sym_board.specs.Plays.{Paired}
-use Rattle.sym_board.proofs.TreeLaws.{IsInner, at_inner}
+use Rattle.sym_board.proofs.TreeLaws.{at_inner}
 use Rattle.sym_board.proofs.Spans.{side_left, side_right}
 use Rattle.sym_board.proofs.Emptied.{left_slot, left_is, right_slot, right_is, both_empty}
 use Rattle.sym_board.specs.Passes.{board_input}

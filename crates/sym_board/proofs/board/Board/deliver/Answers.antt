@@ -1,9 +1,8 @@
-use Rattle.std.proofs.Common.{◌≡◌, ◌≢◌, ◌<◌, ◌≤◌, ◌-◌, ◌+◌, ◌*◌, ℕ, sym, ap, ◌∙◌, refl, subst, subst₂, arith, Some, None, Option}
-use Rattle.sym_board.specs.Tree.{inner, place, side, nodes, root}
+use Rattle.std.proofs.Common.{◌≡◌, ◌<◌, sym, ap, ◌∙◌, refl, subst, subst₂, arith, Some}
+use Rattle.sym_board.specs.Tree.{inner, nodes}
 use Rattle.sym_board.specs.Plays.{hand_slots}
-use Rattle.sym_board.specs.Passes.{hand, interval, span_of, board_input}
+use Rattle.sym_board.specs.Passes.{hand, span_of, board_input}
 use Rattle.sym_board.specs.Arrived.{Meets}
-use Rattle.sym_board.specs.declared.tree.Interval.{Interval}
 use Rattle.sym_board.proofs.Spans.{filled, stands_spot, hung, spot_long, spot_root, spot_other, not_whole, root_span, met_spans}
 use Rattle.sym_board.proofs.board.Board.deliver.Goals as goal
 

@@ -1,4 +1,4 @@
-use Rattle.std.proofs.Common.{◌≡◌, ◌<◌, ◌≤◌, ◌+◌, All, None, Some, Option, ℕ, false, true, not, if◌then◌else◌, sym, ap, ◌∙◌, refl, subst, arith}
+use Rattle.std.proofs.Common.{◌≡◌, ◌<◌, ◌+◌, None, Some, false, not, sym, ap, ◌∙◌, refl, subst, arith}
 use Rattle.std.proofs.lemmas.List.Elements.{All-pop}
 use Rattle.sym_board.specs.Plays.{slots_of}
 use Rattle.sym_board.specs.Passes.{hand, has_ended, claims, IsPassOf}

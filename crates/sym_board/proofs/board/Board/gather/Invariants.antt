@@ -1,4 +1,4 @@
-use Rattle.std.proofs.Common.{◌≡◌, ◌<◌, All, None, false, length, vec_len}
+use Rattle.std.proofs.Common.{◌≡◌, ◌<◌, All, None, false, length}
 use Rattle.sym_board.specs.Passes.{hand, has_ended, claims, IsPassOf}
 use Rattle.sym_board.proofs.Gathering.{Counted}
 use Rattle.sym_board.proofs.board.Board.gather.Given as goal

@@ -1,4 +1,4 @@
-use Rattle.std.proofs.Common.{◌≡◌, ◌<◌, ◌≤◌, sym, ap, ◌∙◌, subst, arith}
+use Rattle.std.proofs.Common.{arith}
 use Rattle.sym_board.proofs.Allowed.{split_allows}
 use Rattle.sym_board.proofs.board.Board.hand_out.Goals as goal
 

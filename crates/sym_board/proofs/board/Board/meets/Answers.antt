@@ -1,8 +1,6 @@
-use Rattle.std.proofs.Common.{◌≡◌, ◌≢◌, ◌<◌, ◌≤◌, ◌-◌, ℕ, sym, ap, ◌∙◌, refl, subst, arith}
+use Rattle.std.proofs.Common.{ap, arith}
 use mathlib.Core.Option.{none}
 use Rattle.atomic_table.specs.Table.{step}
-use Rattle.sym_board.specs.Tree.{Place, place}
-use Rattle.sym_board.specs.Plays.{Paired}
 use Rattle.sym_board.proofs.Allowed.{arrive_allows_at}
 use Rattle.sym_board.proofs.Spans.{hung}
 use Rattle.sym_board.proofs.board.Board.meets.Goals as goal

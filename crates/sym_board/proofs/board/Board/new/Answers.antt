@@ -1,4 +1,4 @@
-use Rattle.std.proofs.Common.{◌≡◌, ◌<◌, ◌≤◌, ◌+◌, ◌-◌, ◌*◌, sym, ap, ◌∙◌, subst, arith, refl, Some}
+use Rattle.std.proofs.Common.{◌-◌, ◌*◌, arith, refl}
 use Rattle.std.proofs.lemmas.Option.{none-some}
 use Rattle.sym_board.specs.Rule.{first_view}
 use Rattle.sym_board.specs.declared.view.About.{About}
