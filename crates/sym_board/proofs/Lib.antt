@@ -17,3 +17,4 @@ pub mod Gathering
 pub mod Closing
 pub mod Chunks
 pub mod Agreeing
+pub mod Numbered

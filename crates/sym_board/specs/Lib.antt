@@ -8,3 +8,4 @@ pub mod Rule
 pub mod Passes
 pub mod Arrived
 pub mod Laws
+pub mod Nodes
