@@ -147,11 +147,46 @@ fn meet(
     Some((left, right))
 }
 
+// Leaves 0 and 1 meet, the third pass carries the others and finds no sixth one, and the board is closed.
+fn finish_five(
+    alloc: Global,
+    board: Board<Row>,
+    mut first: Pass<Row>,
+    first_piece: Row,
+    mut second: Pass<Row>,
+    second_piece: Row,
+    mut third: Pass<Row>,
+) -> Result<Option<Row>, NoMemory>
+    requires passes { IsPassOf board first × IsPassOf board second × IsPassOf board third × IsFree third }
+    requires first { (i : Interval) × (hand first ≡ Some i) × ⟦<Row as Piece>⟧.stands_for (board_input board) i.lo i.hi first_piece }
+    requires second { (i : Interval) × (hand second ≡ Some i) × ⟦<Row as Piece>⟧.stands_for (board_input board) i.lo i.hi second_piece }
+{
+    let Some((left, right)) = meet(&board, &mut first, first_piece, &mut second, second_piece)
+    else {
+        return Ok(None);
+    };
+    let met = is_row(&left, 0, 1) && is_row(&right, 1, 2);
+    if !met || second.hand() != Some(Interval { lo: 0, hi: 2 }) {
+        return Ok(None);
+    }
+    let piece = left.join(alloc, &(), right)?;
+    board.carry(alloc, &(), &mut second, piece)?;
+    if !carry_leaves(alloc, &board, &mut third, 3)? || board.claim(&mut third).is_some() {
+        return Ok(None);
+    }
+    let mut all = Vec::new(alloc);
+    all.push(first)?;
+    all.push(second)?;
+    all.push(third)?;
+    Ok(board.close(all))
+}
+
 #[test]
 fn two_leaves_meet_in_either_order(rt: HostRuntime) -> Result<(), Fail> {
     for left_first in [true, false] {
         let Made { board, mut passes } = Board::new(rt.alloc(), &(), 5, 3)?;
-        let (Some(mut a), Some(mut b)) = (
+        let (Some(mut a), Some(mut b), Some(c)) = (
+            next_pass(&board, &mut passes),
             next_pass(&board, &mut passes),
             next_pass(&board, &mut passes),
         ) else {
@@ -161,18 +196,54 @@ fn two_leaves_meet_in_either_order(rt: HostRuntime) -> Result<(), Fail> {
             panic!(rt; "too few leaves")
         };
         let (zero, one) = (leaf(rt.alloc(), i)?, leaf(rt.alloc(), j)?);
-        let met = if left_first {
-            meet(&board, &mut a, zero, &mut b, one)
+        let closed = if left_first {
+            finish_five(rt.alloc(), board, a, zero, b, one, c)?
         } else {
-            meet(&board, &mut b, one, &mut a, zero)
+            finish_five(rt.alloc(), board, b, one, a, zero, c)?
         };
-        let Some((left, right)) = met else {
-            panic!(rt; "no two pieces")
+        let Some(row) = closed else {
+            panic!(rt; "not closed")
         };
-        assert!(rt; is_row(&left, 0, 1) && is_row(&right, 1, 2));
-        let hand = if left_first { b.hand() } else { a.hand() };
-        assert!(rt; hand == Some(Interval { lo: 0, hi: 2 }));
+        assert!(rt; is_row(&row, 0, 5));
     }
+    Ok(())
+}
+
+#[test]
+fn three_leaves_have_five_nodes(rt: HostRuntime) -> Result<(), Fail> {
+    let Made { board, mut passes } = Board::new(rt.alloc(), &(), 3, 3)?;
+    let (Some(mut a), Some(mut b), Some(mut c)) = (
+        next_pass(&board, &mut passes),
+        next_pass(&board, &mut passes),
+        next_pass(&board, &mut passes),
+    ) else {
+        panic!(rt; "too few passes")
+    };
+    let (Some(i), Some(j), Some(k)) = (
+        board.claim(&mut a),
+        board.claim(&mut b),
+        board.claim(&mut c),
+    ) else {
+        panic!(rt; "too few leaves")
+    };
+    assert!(rt; a.hand() == Some(Interval { lo: 0, hi: 1 }));
+    assert!(rt; b.hand() == Some(Interval { lo: 1, hi: 2 }));
+    assert!(rt; c.hand() == Some(Interval { lo: 2, hi: 3 }));
+    let (zero, one, two) = (
+        leaf(rt.alloc(), i)?,
+        leaf(rt.alloc(), j)?,
+        leaf(rt.alloc(), k)?,
+    );
+    let Some((left, right)) = meet(&board, &mut a, zero, &mut b, one) else {
+        panic!(rt; "no two pieces")
+    };
+    assert!(rt; b.hand() == Some(Interval { lo: 0, hi: 2 }));
+    let piece = left.join(rt.alloc(), &(), right)?;
+    let Some((left, right)) = meet(&board, &mut c, two, &mut b, piece) else {
+        panic!(rt; "no two pieces")
+    };
+    assert!(rt; is_row(&left, 0, 2) && is_row(&right, 2, 3));
+    assert!(rt; b.hand() == Some(Interval { lo: 0, hi: 3 }));
     Ok(())
 }
 
