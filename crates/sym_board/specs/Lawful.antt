@@ -1,4 +1,4 @@
--- When the state of a board is lawful. The numbers of its parts are read from words, slots at home and views alone.
+-- When the state of a board is lawful. It reads the words, the slots at home and the views alone.
 use Rattle.std.specs.Prelude.{◌≡◌, ◌≢◌, ℕ, ◌+◌, ◌<◌, ◌≤◌, ◌⊎◌, min, length, slice_index, Option, Some, None}
 use mathlib.Core.Option.{some, none}
 use lib.ListN.{get_elem?}
@@ -54,7 +54,7 @@ module _ {P I : Type 0} where
   Rests stands input n s k = (x : P) × (get_elem? s.homes k ≡ some (some (Some x))) × stands input (place n k).lo (place n k).hi x
 
   pub record IsLawful (stands : I → ℕ → ℕ → P → Type 0) (input : I) (n seats : ℕ) (s : State (Option P) (View I)) : Type 0 where
-    -- the words and slots are those of a core state
+    -- one word for the claims, one for each inner node with two bits, and one for the crown; one slot for each node
     pub word_count : length s.words ≡ n + 1
     pub slot_count : length s.homes ≡ nodes n
     pub two_bits : (m : ℕ) → 0 < m → m < n → slice_index s.words m < 4
