@@ -1,0 +1,11 @@
+pub mod Tree
+pub mod State
+pub mod Lawful
+pub mod Steps
+pub mod Core
+pub mod Plays
+pub mod Rule
+pub mod Passes
+pub mod Arrived
+pub mod Laws
+pub mod Nodes

@@ -1,0 +1,30 @@
+//! A board, on which workers claim chunks and their pieces meet on a tree, with no lock.
+//!
+//! A worker with a [`Pass`] claims a leaf, makes its piece and carries it up: where the sibling's piece has arrived, it
+//! joins the two and goes on with the parent's, and else it leaves its piece for the sibling's worker. The root's piece
+//! stands for the whole input, and [`Board::close`] gives it.
+//!
+//! Each claim and each arrival is one atomic step on one word. No call waits or tries again, and after [`Board::new`]
+//! only `join` takes memory. A round of n leaves makes n claims that give a leaf, one more for each pass that ends, and
+//! 2n - 1 arrivals, one for each node of the tree: 64 and 127 for 64 leaves. Making a board with p passes loads the
+//! claim word p - 1 times, and closing it with all of them as often.
+#![tactic(auto)]
+
+mod arrive;
+mod board;
+mod close;
+mod law;
+pub mod laws;
+mod pass;
+mod piece;
+mod tree;
+mod view;
+
+pub use arrive::{Arrived, Carried};
+pub use board::{Board, Made};
+pub use pass::Pass;
+pub use piece::Piece;
+pub use tree::Interval;
+
+#[cfg(test)]
+mod tests;
