@@ -1,6 +1,7 @@
 //! The files of the disk, as a store.
-ghost use Rattle.std.specs.Prelude.{◌≡◌, ℕ, ◌+◌, ◌≤◌, List, None, length, drop, IfOk, OnOk, OnErr};
+ghost use Rattle.std.specs.Prelude.{◌≡◌, ℕ, ◌≤◌, List, None, length, drop, IfOk, IfSome, OnOk, OnErr};
 ghost use Rattle.sym_base.specs.Counts.{Rose, counted};
+ghost use Rattle.sym_base.specs.Edges.{ReadsAt};
 
 use std::alloc::Global;
 use std::io::{ErrorKind, Read, Seek, SeekFrom};
@@ -143,7 +144,16 @@ impl<'a, R: Files> Store for DiskStore<'a, R> {
     ghost faults = { λ s _. s };
 
     /// Reads as many bytes as the system gives at once, at most 64 KiB.
-    fn read_at(&mut self, name: &str, at: u64, into: &mut [u8]) -> Result<usize, Failed> {
+    fn read_at(&mut self, name: &str, at: u64, into: &mut [u8]) -> Result<usize, Failed>
+        requires { at ≤ FILE_MAX }
+        ensures bound { IfOk result (λ k. k ≤ length into.old) }
+        ensures rest { IfOk result (λ k. drop k into.new ≡ drop k into.old) }
+        ensures bytes { IfOk result (λ k. IfSome None (λ bytes. ReadsAt bytes at k into.old into.new)) }
+        ensures later { (other : List ℕ) → self.old ≤ self.new }
+        ensures failed { OnErr result (Rose self.old self.new) }
+        ensures read { OnOk result (self.new ≡ self.old) }
+        ensures fault { OnErr result (self.new ≡ counted self.old) }
+    {
         match self.read_some(name, at, into) {
             Ok(count) => Ok(count),
             Err(_) => {

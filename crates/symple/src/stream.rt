@@ -1,5 +1,6 @@
 //! A stream of output, as a sink.
-ghost use Rattle.std.specs.Prelude.{◌≡◌, ◌≤◌, None, length, IfSome};
+ghost use Rattle.std.specs.Prelude.{◌≡◌, ◌≤◌, None, length, IfSome, IfOk, IfErr, OnOk, OnErr};
+ghost use Rattle.sym_base.specs.Counts.{counted};
 
 use std::io::{ErrorKind, Write};
 use std::marker::Model;
@@ -42,7 +43,14 @@ impl<W: Write> Sink for StreamSink<W> {
 
     /// Writes as many bytes as the stream takes at once. A stream that takes none of some bytes
     /// has failed.
-    fn write_some(&mut self, bytes: &[u8]) -> Result<usize, SinkErr> {
+    fn write_some(&mut self, bytes: &[u8]) -> Result<usize, SinkErr>
+        ensures bound { IfOk result (λ k. k ≤ length bytes.now) }
+        ensures some { IfOk result (λ k. k ≡ 0 → length bytes.now ≡ 0) }
+        ensures later { self.old ≤ self.new }
+        ensures written { OnOk result (self.new ≡ self.old) }
+        ensures fault { OnErr result (self.new ≡ counted self.old) }
+        ensures only_failed { IfErr result (λ error. error ≡ SinkErr.Failed) }
+    {
         match write_piece(&mut self.stream, bytes) {
             Some(count) => Ok(count),
             None => {
