@@ -1,0 +1,49 @@
+//! The program `symple`: one command, from its words to its report on standard output.
+#![tactic(auto)]
+
+mod disk;
+mod stream;
+
+use crate::disk::DiskStore;
+use crate::stream::StreamSink;
+use std::env;
+use std::io::{ErrorKind, Write};
+use std::process::ExitCode;
+use std::rt::{Env, Files};
+use sym_top::{Status, symple};
+
+fn main(rt: HostRuntime) -> ExitCode {
+    ExitCode::from(run(&rt, rt.stdout(), rt.stderr()).number())
+}
+
+// Runs the command that the words of this process give, over the files that it reaches.
+fn run<R, O, E>(rt: &R, out: O, err: E) -> Status
+where
+    R: Files + Env + AllocGlobal + Drop,
+    O: Write + Drop,
+    E: Write + Drop,
+{
+    let words = match words_of(rt) {
+        Ok(words) => words,
+        Err(status) => return status,
+    };
+    let Ok(mut files) = DiskStore::new(rt.alloc(), rt) else {
+        return Status::NoMemory;
+    };
+    let mut out = StreamSink::new(out);
+    let mut err = StreamSink::new(err);
+    symple(rt.alloc(), &words, &mut files, &mut out, &mut err)
+}
+
+// The words behind the program's name. Where one of them isn't UTF-8 there is no such command.
+fn words_of<R: Env + AllocGlobal>(rt: &R) -> Result<Vec<String>, Status> {
+    let words = match env::args(rt) {
+        Ok(words) => words,
+        Err(error) if error.kind() == ErrorKind::OutOfMemory => return Err(Status::NoMemory),
+        Err(_) => return Err(Status::Usage),
+    };
+    match words.skip(1).collect(rt.alloc()) {
+        Ok(words) => Ok(words),
+        Err(_) => Err(Status::NoMemory),
+    }
+}
