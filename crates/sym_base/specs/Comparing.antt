@@ -1,13 +1,14 @@
 -- What a comparison says of two whole numbers.
-use Rattle.std.specs.Prelude.{◌≡◌, ◌≢◌, ℤ, ◌<ℤ◌, ◌≤ℤ◌}
+use Rattle.std.specs.Prelude.{ℤ, Bool, not, int_lt, int_le}
+use Rattle.std.specs.Ordering.{int_eq}
 use Rattle.sym_base.specs.declared.compare.Compare.{Compare}
 use Rattle.sym_base.specs.declared.compare.Compare.TheVariants as compare
 
--- x compares so with y.
-abbrev pub Compares : Compare → ℤ → ℤ → Type 0
-Compares compare.Eq x y = x ≡ y
-Compares compare.Ne x y = x ≢ y
-Compares compare.Lt x y = x <ℤ y
-Compares compare.Le x y = x ≤ℤ y
-Compares compare.Gt x y = y <ℤ x
-Compares compare.Ge x y = y ≤ℤ x
+-- Whether x compares so with y.
+abbrev pub compares : Compare → ℤ → ℤ → Bool
+compares compare.Eq x y = int_eq x y
+compares compare.Ne x y = not (int_eq x y)
+compares compare.Lt x y = int_lt x y
+compares compare.Le x y = int_le x y
+compares compare.Gt x y = int_lt y x
+compares compare.Ge x y = int_le y x
