@@ -1,0 +1,7 @@
+pub mod Led
+pub mod Parted
+pub mod Products
+pub mod Quotients
+pub mod Taken
+pub mod Truths
+pub mod Unions
