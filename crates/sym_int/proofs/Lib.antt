@@ -5,3 +5,4 @@ pub mod Quotients
 pub mod Taken
 pub mod Truths
 pub mod Unions
+pub mod Values
