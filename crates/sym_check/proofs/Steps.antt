@@ -6,11 +6,11 @@ use Rattle.sym_base.specs.declared.state.State.{State}
 use Rattle.sym_base.specs.declared.state.Outcome.TheVariants.{Going, Ended}
 use Rattle.sym_base.specs.declared.state.Cell.TheVariants.{Int}
 use Rattle.sym_base.specs.declared.state.FaultKind.TheVariants.{Over}
-use Rattle.sym_base.specs.States.{with_int}
+use Rattle.sym_base.specs.States.{number_at, with_int}
 use Rattle.sym_check.proofs.CounterTrees.{le-Decides}
 use Rattle.sym_base.specs.declared.record.Record.{Record}
 use Rattle.sym_base.specs.declared.state.Outcome.{Outcome}
-use Rattle.sym_check.specs.Steps.{Update, step, after, initial, counting, IsValid, IsValidOutcome, int_at, added, addend_of, records_with, without, keys, grouped}
+use Rattle.sym_check.specs.Steps.{Update, step, after, initial, counting, IsValid, IsValidOutcome, added, addend_of, records_with, without, keys, grouped}
 
 pub after-snoc : (update : Update) (records : List Record) (rec : Record) (outcome : Outcome) → after update (records ++ rec ∷ []) outcome ≡ step update (after update records outcome) rec
 after-snoc update [] rec outcome = refl
@@ -34,7 +34,7 @@ grouped-some update first rec rest =
 
 -- What the cell is to hold after a record.
 abbrev sum_at : Counter → State → Record → ℤ
-sum_at c state rec = int_at state 0 +ℤ added (addend_of c.amount) rec
+sum_at c state rec = number_at state 0 +ℤ added (addend_of c.amount) rec
 
 -- A counter's first state is valid, and no step makes a state that isn't.
 pub initial-valid : (c : Counter) → IsCounter c → IsValid c (initial c)

@@ -6,22 +6,13 @@ use Rattle.sym_base.specs.declared.value.Key.{Key}
 use Rattle.sym_base.specs.declared.value.Key.TheVariants.{Whole}
 use Rattle.sym_base.specs.contracts.value.KeyPartialEq.TheImpl as same_key
 use Rattle.sym_base.specs.declared.record.Record.{Record}
-use Rattle.sym_base.specs.declared.state.Cell.{Cell}
 use Rattle.sym_base.specs.declared.state.Cell.TheVariants as cell
 use Rattle.sym_base.specs.declared.state.State.{State}
 use Rattle.sym_base.specs.declared.state.FaultKind.TheVariants.{Over}
 use Rattle.sym_base.specs.declared.state.Outcome.{Outcome}
 use Rattle.sym_base.specs.declared.state.Outcome.TheVariants.{Going, Ended}
-use Rattle.sym_base.specs.States.{with_int}
+use Rattle.sym_base.specs.States.{number_at, with_int}
 use Rattle.sym_base.specs.Counters.{Counter, Amount, Fixed, OfField}
-
--- The number in an integer cell; a state that fits a script has one there.
-abbrev pub int_in : Option Cell → ℤ
-int_in (Some (cell.Int x)) = x
-int_in _ = pos 0
-
-abbrev pub int_at : State → ℕ → ℤ
-int_at state cell = int_in (slice_get state.cells cell)
 
 -- The number in a number field; a record that fits a script has one there.
 abbrev pub num_in : Option Value → ℤ
@@ -69,7 +60,7 @@ added FieldValue rec = num_at rec 0
 
 -- Adds to the one cell, whose range this is.
 abbrev pub adding : ℤ → ℤ → Addend → Update
-adding lo hi addend state rec = assigned state 0 lo hi (int_at state 0 +ℤ added addend rec) rec.no
+adding lo hi addend state rec = assigned state 0 lo hi (number_at state 0 +ℤ added addend rec) rec.no
 
 -- A counter's update.
 abbrev pub counting : Counter → Update

@@ -4,7 +4,8 @@ use Rattle.sym_base.specs.declared.record.Record.{Record}
 use Rattle.sym_base.specs.declared.state.Cell.TheVariants.{Int}
 use Rattle.sym_base.specs.declared.state.State.{State}
 use Rattle.sym_base.specs.Counters.{Counter}
-use Rattle.sym_check.specs.Steps.{int_at, added, Addend, Number, FieldValue, Update, adding, addend_of}
+use Rattle.sym_base.specs.States.{number_at}
+use Rattle.sym_check.specs.Steps.{added, Addend, Number, FieldValue, Update, adding, addend_of}
 use Rattle.sym_top.specs.declared.plan.Amount.{Amount}
 use Rattle.sym_top.specs.declared.plan.Amount.TheVariants as amount
 use Rattle.sym_top.specs.declared.plan.Plan.{Plan}
@@ -22,7 +23,7 @@ abbrev pub within : ℤ → ℤ → ℤ → Option ℤ
 within lo hi x = cond (int_le lo x && int_le x hi) (Some x) None
 
 abbrev pub sum_of : Plan → State → Record → Option ℤ
-sum_of plan state rec = within plan.lo plan.hi (int_at state 0 +ℤ added (addend plan.amount) rec)
+sum_of plan state rec = within plan.lo plan.hi (number_at state 0 +ℤ added (addend plan.amount) rec)
 
 -- The state that a plan's group begins with.
 abbrev pub plan_initial : Plan → State

@@ -6,7 +6,7 @@ use Rattle.sym_base.specs.declared.state.FaultKind.{FaultKind}
 use Rattle.sym_base.specs.declared.state.FaultKind.TheVariants as kind
 use Rattle.sym_base.specs.declared.state.Outcome.{Outcome}
 use Rattle.sym_base.specs.declared.state.Outcome.TheVariants.{Going, Ended}
-use Rattle.sym_check.specs.Steps.{int_at}
+use Rattle.sym_base.specs.States.{number_at}
 
 abbrev pub kind_text : List ℕ → FaultKind → List ℕ
 kind_text name (kind.Over cell) = slice_index_or (name ∷ []) cell [] ++ codes " overflows"
@@ -16,5 +16,5 @@ abbrev pub fault_text : List ℕ → Fault → List ℕ
 fault_text name fault = codes "fault: " ++ (kind_text name fault.kind ++ (codes " at record " ++ decimal fault.no))
 
 abbrev pub shown : List ℕ → Outcome → List ℕ
-shown name (Going state) = signed_decimal (int_at state 0)
+shown name (Going state) = signed_decimal (number_at state 0)
 shown name (Ended fault) = fault_text name fault

@@ -14,7 +14,7 @@ use Rattle.sym_base.specs.declared.state.FaultKind.{FaultKind}
 use Rattle.sym_base.specs.declared.state.FaultKind.TheVariants as kind
 use Rattle.sym_base.specs.declared.state.Outcome.{Outcome}
 use Rattle.sym_base.specs.declared.state.Outcome.TheVariants.{Going, Ended}
-use Rattle.sym_check.specs.Steps.{int_at}
+use Rattle.sym_base.specs.States.{number_at}
 
 -- What a row shows behind its keys: the columns of a last state, or a fault with its record.
 pub data RowBody : Type 0 where
@@ -28,7 +28,7 @@ pub record Row : Type 0 where
 
 -- The columns of a state: a counter shows its one cell.
 abbrev pub columns_of : State → List Column
-columns_of state = column.Num (int_at state 0) ∷ []
+columns_of state = column.Num (number_at state 0) ∷ []
 
 -- The values of a key; a label's name isn't known yet, since no group has one.
 abbrev pub key_columns : Key → List Column

@@ -1,0 +1,7 @@
+use Rattle.sym_enum.specs.Labels.{has_label}
+use Rattle.sym_enum.proofs.Bits.{set_or}
+use Rattle.sym_enum.proofs.label_set.LabelSet.unite.Goals as goal
+
+pub returns : goal.returns
+unfolding has_label
+returns c = λ label. set_or c.args.self.now.bits c.args.other.now.bits label

@@ -1,0 +1,135 @@
+//! What an enum cell holds, as a form over an unknown state.
+ghost use Rattle.std.specs.Prelude.{◌≡◌, ◌↔◌, IsTrue};
+ghost use Rattle.sym_base.specs.declared.state.State.{State as OneState};
+ghost use Rattle.sym_enum.specs.Labels.{has_label, label_value, IsConst, IsDecided, Admits};
+
+use crate::label_set::LabelSet;
+use sym_base::{Cell, State};
+
+/// The label of an enum cell after some records, over the state before them.
+#[derive(Clone, Copy, Debug, PartialEq, Eq)]
+pub enum EnumForm {
+    /// This label.
+    Const(u8),
+    /// The label that the cell with this number held.
+    Copy(u16),
+}
+
+/// The states at which a form's label is in a set.
+#[derive(Clone, Copy, Debug, PartialEq, Eq)]
+pub enum PulledLabels {
+    /// All states.
+    All,
+    /// No state.
+    Never,
+    /// The states in which the label of the cell with this number is in the set.
+    In { cell: u16, set: LabelSet },
+}
+
+impl EnumForm {
+    /// The form's label at a state; 0 where the copied cell is no enum cell.
+    pub fn value(&self, state: &State) -> u8
+        ensures { result ≡ label_value self.now state.now }
+    {
+        match self {
+            EnumForm::Const(label) => *label,
+            EnumForm::Copy(cell) => match state.cells.get(*cell as usize) {
+                Some(Cell::Enum(label)) => *label,
+                _ => 0,
+            },
+        }
+    }
+
+    /// This form over the state before the records of an earlier path, where `inner` is the
+    /// earlier path's form of the copied cell: a copy becomes `inner`.
+    pub fn through(&self, inner: &EnumForm) -> EnumForm
+        ensures constant { IsConst self.now → result ≡ self.now }
+        ensures copied { (IsConst self.now → ⊥) → result ≡ inner.now }
+    {
+        match self {
+            EnumForm::Const(_) => *self,
+            EnumForm::Copy(_) => *inner,
+        }
+    }
+
+    /// The states at which the form's label is in `set`. A constant gives `All` or `Never`, and
+    /// a copy neither.
+    pub fn pull(set: &LabelSet, form: &EnumForm) -> PulledLabels
+        ensures exact { (state : OneState) → Admits result state ↔ IsTrue (has_label set.now (label_value form.now state)) }
+        ensures shape { IsDecided result ↔ IsConst form.now }
+    {
+        match form {
+            EnumForm::Const(label) if set.has(*label) => PulledLabels::All,
+            EnumForm::Const(_) => PulledLabels::Never,
+            EnumForm::Copy(cell) => PulledLabels::In {
+                cell: *cell,
+                set: *set,
+            },
+        }
+    }
+}
+
+#[cfg(test)]
+mod tests {
+    use super::*;
+    use std::test::Fail;
+    use sym_base::Cells;
+
+    #[test]
+    fn sets_of_labels_by_their_members(rt: HostRuntime) {
+        for count in 1..=32u8 {
+            let all = LabelSet::full(count);
+            assert_eq!(rt; all.only().is_some(), count == 1);
+            assert!(rt; !all.is_empty());
+            for label in 0..40u8 {
+                let (only, rest) = all.split(label);
+                assert_eq!(rt; all.has(label), label < count);
+                assert_eq!(rt; only.has(label), label < count);
+                assert!(rt; !rest.has(label));
+                assert!(rt; only.unite(&rest) == all);
+                assert!(rt; only.meet(&rest).is_empty());
+                assert_eq!(rt; only.only(), if label < count { Some(label) } else { None });
+            }
+        }
+        for label in 0..32u8 {
+            assert_eq!(rt; LabelSet::one(label).only(), Some(label));
+        }
+    }
+
+    #[test]
+    fn forms_at_a_state_and_through_an_earlier_form(rt: HostRuntime) -> Result<(), Fail> {
+        let mut cells = Cells::new(rt.alloc());
+        cells.push(Cell::Int(7))?;
+        cells.push(Cell::Enum(3))?;
+        let state = State { cells };
+        assert_eq!(rt; EnumForm::Const(2).value(&state), 2);
+        assert_eq!(rt; EnumForm::Copy(1).value(&state), 3);
+        assert_eq!(rt; EnumForm::Copy(0).value(&state), 0);
+        assert_eq!(rt;
+            EnumForm::Copy(4).through(&EnumForm::Copy(1)),
+            EnumForm::Copy(1)
+        );
+        assert_eq!(rt;
+            EnumForm::Const(2).through(&EnumForm::Copy(1)),
+            EnumForm::Const(2)
+        );
+        Ok(())
+    }
+
+    #[test]
+    fn a_constant_pulls_all_or_none_and_a_copy_its_cell(rt: HostRuntime) {
+        let set = LabelSet::one(2);
+        assert_eq!(rt;
+            EnumForm::pull(&set, &EnumForm::Const(2)),
+            PulledLabels::All
+        );
+        assert_eq!(rt;
+            EnumForm::pull(&set, &EnumForm::Const(3)),
+            PulledLabels::Never
+        );
+        assert_eq!(rt;
+            EnumForm::pull(&set, &EnumForm::Copy(5)),
+            PulledLabels::In { cell: 5, set }
+        );
+    }
+}

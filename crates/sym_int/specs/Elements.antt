@@ -1,0 +1,67 @@
+-- Integer forms as elements of list forms, over an earlier path's forms and spans.
+use Rattle.std.specs.Prelude.{◌≡◌, ℕ, ℤ, pos, ◌+ℤ◌, ◌*ℤ◌, ◌⊎◌, Option, Some, None, List, [], ◌∷◌, slice_get}
+use Rattle.sym_base.specs.Numbers.{IsNumber}
+use Rattle.sym_base.specs.States.{HoldsInt, number_at}
+use Rattle.sym_base.specs.declared.state.Cell.{Cell}
+use Rattle.sym_base.specs.declared.state.Cell.TheVariants.{Int}
+use Rattle.sym_base.specs.declared.state.State.{State}
+use Rattle.sym_int.specs.Lines.{form_on, form_cell, form_value}
+use Rattle.sym_int.specs.Points.{HasPoint}
+use Rattle.sym_int.specs.declared.element.IntForms.{IntForms}
+use Rattle.sym_int.specs.declared.line.IntForm.{IntForm}
+use Rattle.sym_int.specs.declared.line.IntForm.TheVariants as form
+use Rattle.sym_int.specs.declared.span.Span.{Span}
+
+-- The form is the constant 0.
+abbrev pub IsZero : IntForm → Type 0
+IsZero (form.Const number) = number.value ≡ pos 0
+IsZero (form.Line line) = ⊥
+
+-- The numbers of the cells lie in their spans.
+abbrev pub InSpans : List Span → State → Type 0
+InSpans spans state = (cell : ℕ) (span : Span) → slice_get spans cell ≡ Some span → HasPoint span (number_at state cell)
+
+-- A context covers the states whose cells lie in their spans. Where a cell isn't an integer
+-- cell, its form is 0.
+pub record Covers (context : IntForms) (state : State) : Type 0 where
+  pub spans : InSpans context.spans state
+  pub others : (cell : ℕ) (form : IntForm) → slice_get context.forms cell ≡ Some form → ((x : ℤ) × HoldsInt state cell x) ⊎ IsZero form
+
+-- A cell in which an integer cell's number is replaced.
+abbrev pub led_cell : ℤ → Cell → Cell
+led_cell x (Int old) = Int x
+led_cell x cell = cell
+
+-- The cells of which the integer cells hold their forms' numbers at a state.
+abbrev pub led_cells : State → List IntForm → List Cell → List Cell
+led_cells state (form ∷ forms) (cell ∷ cells) = led_cell (form_value form state) cell ∷ led_cells state forms cells
+led_cells state (form ∷ forms) [] = []
+led_cells state [] cells = cells
+
+-- The state whose integer cells hold their forms' numbers, and whose other cells are as before.
+abbrev pub led_to : IntForms → State → State
+led_to context state = record state { cells = led_cells state context.forms state.cells }
+
+-- A number that depends on a cell is a number of a script wherever the cell is in its span.
+abbrev pub StaysOnSpan : (ℤ → ℤ) → Option Span → Type 0
+StaysOnSpan number None = ⊥
+StaysOnSpan number (Some span) = (x : ℤ) → HasPoint span x → IsNumber (number x)
+
+abbrev pub StaysOn : (ℤ → ℤ) → Option ℕ → List Span → Type 0
+StaysOn number None spans = IsNumber (number (pos 0))
+StaysOn number (Some cell) spans = StaysOnSpan number (slice_get spans cell)
+
+-- A line over the form of its cell stays among the numbers of a script on the spans.
+abbrev pub Composes : IntForm → Option IntForm → List Span → Type 0
+Composes outer None spans = ⊥
+Composes outer (Some inner) spans = StaysOn (λ x. form_on outer (form_on inner x)) (form_cell inner) spans
+
+-- The condition of a form's way through a context.
+abbrev pub CanGoThrough : IntForm → IntForms → Type 0
+CanGoThrough (form.Const number) context = Unit {0}
+CanGoThrough (form.Line line) context = Composes (form.Line line) (slice_get context.forms line.cell) context.spans
+
+-- The condition under which a cell's number may be put into a form.
+abbrev pub CanFix : IntForm → ℕ → ℤ → Type 0
+CanFix (form.Const number) cell x = Unit {0}
+CanFix (form.Line line) cell x = line.cell ≡ cell → IsNumber (line.a *ℤ x +ℤ line.b)

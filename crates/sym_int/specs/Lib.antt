@@ -1,0 +1,4 @@
+pub mod Elements
+pub mod Lines
+pub mod Parts
+pub mod Points

@@ -1,0 +1,111 @@
+//! Integer forms as the elements of list forms.
+ghost use Rattle.std.specs.Prelude.{◌≡◌, IfOk};
+ghost use Rattle.sym_base.specs.declared.state.State.{State as OneState};
+ghost use Rattle.sym_base.specs.declared.value.Value.TheVariants.{Num};
+ghost use Rattle.sym_int.specs.Elements.{Covers, InSpans, StaysOn, CanGoThrough, CanFix, led_to};
+ghost use Rattle.sym_int.specs.Lines.{form_value, wide_on, wide_cell, wide_value};
+
+use crate::line::{IntForm, Number, Wide};
+use crate::span::Span;
+use std::alloc::Global;
+use sym_base::{Element, NoMemory, Plain, Sequence};
+
+/// A list of integer forms.
+pub type FormList = Sequence<IntForm>;
+
+/// A list of spans.
+pub type Spans = Sequence<Span>;
+
+/// What an earlier path says of the integer cells: the form of each cell, and the span in which
+/// the cell lies before the path. Both lists have one entry for each cell; where a cell isn't an
+/// integer cell, these are the constant 0 and the span from 0 to 0.
+#[derive(Debug, PartialEq, Eq, Drop)]
+pub struct IntForms {
+    pub forms: FormList,
+    pub spans: Spans,
+}
+
+impl Plain for IntForm {
+    fn copied(&self, _alloc: Global) -> Result<IntForm, NoMemory> {
+        Ok(*self)
+    }
+}
+
+impl Plain for Span {
+    fn copied(&self, _alloc: Global) -> Result<Span, NoMemory> {
+        Ok(*self)
+    }
+}
+
+impl IntForms {
+    /// Equal forms and spans of their own.
+    pub fn copy(&self, alloc: Global) -> Result<IntForms, NoMemory>
+        ensures { IfOk result (λ forms. forms ≡ self.now) }
+    {
+        Ok(IntForms {
+            forms: self.forms.copy(alloc)?,
+            spans: self.spans.copy(alloc)?,
+        })
+    }
+}
+
+/// The form on the span of the cell that it names.
+fn taken_on(wide: &Wide, spans: &Spans) -> IntForm
+    requires { StaysOn (wide_on wide.now) (wide_cell wide.now) spans.now }
+    ensures { (state : OneState) → InSpans spans.now state → form_value result state ≡ wide_value wide.now state }
+{
+    match wide {
+        Wide::Const(number) => IntForm::Const(Number {
+            value: number.value as i64,
+        }),
+        Wide::Line(line) => match spans.get(line.cell as usize) {
+            Some(span) => wide.taken(span),
+            None => unreachable!(),
+        },
+    }
+}
+
+/// An integer form is its number at each state.
+impl Element for IntForm {
+    type Context = IntForms;
+
+    ghost value_at = { λ form state. Num (form_value form state) };
+
+    ghost covers = { Covers };
+
+    ghost leads_to = { led_to };
+
+    ghost can_go_through = { CanGoThrough };
+
+    ghost can_fix = { CanFix };
+
+    fn copy(&self, _alloc: Global) -> Result<IntForm, NoMemory> {
+        Ok(*self)
+    }
+
+    fn through(&self, _alloc: Global, context: &IntForms) -> Result<IntForm, NoMemory> {
+        match self {
+            IntForm::Const(_) => Ok(*self),
+            IntForm::Line(line) => match context.forms.get(line.cell as usize) {
+                Some(inner) => {
+                    let wide = IntForm::through(self, inner);
+                    Ok(taken_on(&wide, &context.spans))
+                }
+                None => unreachable!(),
+            },
+        }
+    }
+
+    fn fixed(&self, _alloc: Global, cell: u16, value: i64) -> Result<IntForm, NoMemory> {
+        match self {
+            IntForm::Const(_) => Ok(*self),
+            IntForm::Line(line) => {
+                if line.cell != cell {
+                    return Ok(*self);
+                }
+                let value = line.at(value) as i64;
+                Ok(IntForm::Const(Number { value }))
+            }
+        }
+    }
+}
