@@ -42,3 +42,6 @@ pub use tree::script::Script;
 pub use tree::statement::{Stmt, Stmts};
 pub use value::{Key, NUM_MAX, Nums, Value, Values};
 pub use write::write_all;
+
+#[cfg(test)]
+mod copies;

@@ -1,4 +1,6 @@
 -- The sequential meaning: what one record does to a group, and what many do.
+-- The update, the fold over records and groups are those of the SYMPLE paper (SOSP 2015), the counter and
+-- its faults are this project's profile.
 use Rattle.std.specs.Prelude.{◌≡◌, Bool, ℕ, ℤ, pos, ◌+ℤ◌, ◌≤ℤ◌, int_le, map, cond, ◌&&◌, List, [], ◌∷◌, Option, Some, slice_get}
 use Rattle.sym_base.specs.declared.value.Value.{Value}
 use Rattle.sym_base.specs.declared.value.Value.TheVariants as value

@@ -1,4 +1,5 @@
 -- The counter form as a relation between the tokens of a text and what they say.
+-- The language is this project's profile.
 use Rattle.std.specs.Prelude.{◌≡◌, ℕ, ℤ, neg_ℤ, Bool, cond, List, [], ◌∷◌, Some}
 use Rattle.sym_base.specs.declared.tree.name.Name.{Name}
 use Rattle.sym_base.specs.Counters.{Counter, Amount, Fixed, OfField, IsCounter, counter_tree}

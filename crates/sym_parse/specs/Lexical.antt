@@ -1,4 +1,5 @@
 -- Lexical rules: how the bytes of a text fall into blanks, comments and tokens.
+-- The rules are this project's profile.
 use Rattle.std.specs.Prelude.{ℕ, zero, suc, ◌+◌, ◌-◌, Bool, false, not, cond, ◌==◌, ◌||◌, ◌&&◌, nat_eq, nat_le, pos, List, [], ◌∷◌, length, drop, Option, Some, None, option_map, codes}
 use Rattle.std.specs.List.{find, prefix_len, take_while, starts_with}
 use Rattle.std.specs.Str.{bytes_eq}
@@ -162,6 +163,7 @@ tokens_from at zero (b ∷ rest) =
     (cond (is_hash b) (tokens_from (at + 1) (prefix_len is_commented rest) rest)
     (with_token at (found_at (b ∷ rest)) (λ size. tokens_from (at + 1) (size - 1) rest)))
 
--- The tokens of a text, or `None` where a byte of it begins no token.
+-- The tokens of a text, or `None` where it has a fault: a byte that begins no token, or a name or a
+-- number that is too long, too large or run into a name.
 abbrev pub tokens_of : List ℕ → Option (List Token)
 tokens_of text = tokens_from 0 0 text

@@ -1,4 +1,5 @@
 -- Commands: what the words behind the program's name mean.
+-- The command is this project's profile.
 use Rattle.std.specs.Prelude.{ℕ, eqb, Bool, false, not, cond, ◌&&◌, List, [], ◌∷◌, Option, None, Some, codes}
 use Rattle.std.specs.Str.{bytes_eq}
 

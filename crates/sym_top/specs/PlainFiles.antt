@@ -1,6 +1,7 @@
 -- Plain files: the form of file that is read today. A file is plain for a field where it has no
 -- bytes, or where its first line is the field's name and each later line is a number, and every
 -- line ends with LF.
+-- The form of file is this project's profile.
 use Rattle.std.specs.Prelude.{◌≡◌, ℕ, ◌+◌, ◌-◌, ◌*◌, ◌≤◌, ℤ, pos, neg_ℤ, List, [], ◌∷◌, ◌++◌, length}
 use Rattle.std.specs.List.{All}
 use Rattle.sym_base.specs.declared.record.Record.{Record}

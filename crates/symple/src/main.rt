@@ -2,6 +2,8 @@
 #![tactic(auto)]
 
 mod disk;
+#[cfg(test)]
+mod list_forms;
 mod stream;
 
 use crate::disk::DiskStore;
