@@ -1,10 +1,11 @@
 -- Counters: the form of script that is run today. It has one number field, one integer cell, one
 -- assignment that adds a number or the field to the cell, and one column that shows the cell.
-use Rattle.std.specs.Prelude.{◌≡◌, ◌≢◌, ℕ, ℤ, pos, negsuc, ◌-◌, ◌≤ℤ◌, List, [], ◌∷◌, None}
+use Rattle.std.specs.Prelude.{◌≡◌, ◌≢◌, ℕ, ℤ, pos, ◌≤ℤ◌, List, [], ◌∷◌, None}
 use Rattle.sym_base.specs.declared.tree.name.Name.{Name}
 use Rattle.sym_base.specs.declared.tree.expression.BinOp.TheVariants.{Add}
 use Rattle.sym_base.specs.declared.tree.declaration.KindRef.TheVariants as kind
 use Rattle.sym_base.specs.declared.tree.declaration.CellDecl.TheVariants as cell
+pub use Rattle.sym_base.specs.Numbers.{num_max, IsNumber}
 use Rattle.sym_base.specs.Trees.{ScriptTree, ExprTree, Num, Named, Bin, Set, Then, Done}
 
 -- What is added: a number with its place, or the value of the field.
@@ -41,13 +42,6 @@ counter_tree c = record {
   update = Then (Set c.target (Bin Add (Named c.source) (amount_tree c.amount) c.plus)) Done;
   columns = record { name = c.column; value = Named c.shown } ∷ [];
 }
-
--- The largest number of a script; the least is its opposite.
-abbrev pub num_max : ℕ
-num_max = 1000000000000
-
-abbrev pub IsNumber : ℤ → Type 0
-IsNumber n = (negsuc (num_max - 1) ≤ℤ n) × (n ≤ℤ pos num_max)
 
 -- A number is written without a sign, and a name is the field's.
 abbrev pub IsAmount : List ℕ → Amount → Type 0

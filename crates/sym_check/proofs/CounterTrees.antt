@@ -1,5 +1,5 @@
 -- Reading a counter off a tree finds exactly the counter whose tree it is.
-use Rattle.std.proofs.Common.{◌≡◌, ℕ, ℤ, pos, negsuc, ◌-◌, ◌≤ℤ◌, int_le, Bool, true, false, cond, not, ◌&&◌, List, [], ◌∷◌, Option, None, Some, refl, ap, arith, ◌∙◌, subst}
+use Rattle.std.proofs.Common.{◌≡◌, ℕ, ℤ, pos, negsuc, ◌≤ℤ◌, int_le, Bool, true, false, cond, not, ◌&&◌, List, [], ◌∷◌, Option, None, Some, refl, ap, arith, ◌∙◌, subst}
 use Rattle.std.specs.Bool.{Decides}
 use Rattle.std.proofs.lemmas.Int.{ints}
 use Rattle.std.proofs.lemmas.Bool.Decides.{Decides-eqb}
@@ -16,7 +16,7 @@ use Rattle.sym_base.specs.declared.tree.declaration.KindRef.TheVariants as kind
 use Rattle.sym_base.specs.declared.tree.declaration.Literal.{Literal}
 use Rattle.sym_base.specs.Trees.{ScriptTree, TestTree, ColumnTree, ExprTree, Num, Named, Bin, StmtsTree, Set, Then, Done}
 use Rattle.sym_base.specs.Counters.{Counter, Amount, Fixed, OfField, IsAmount, IsNumber, IsCounter, IsCounterTree, counter_tree, amount_tree, num_max}
-use Rattle.sym_check.specs.CounterTrees.{counter_of, is_counter, is_number, is_amount, only_counter, same_text, amount_of, changed, change_of, range_of, name_of, plain_field, single, Range, Change, gathered}
+use Rattle.sym_check.specs.CounterTrees.{counter_of, is_counter, is_number, is_amount, only_counter, same_text, amount_of, change_with, change_of, range_of, name_of, plain_field, counter_of_lists, Range, Change, counter_of_parts}
 
 pub le-Decides : (a b : ℤ) → Decides (int_le a b) (a ≤ℤ b)
 le-Decides a b = (λ e. grind (arith, ints), λ h. grind (arith, ints))
@@ -33,7 +33,8 @@ not-Decides true f = (λ e. absurd (cc), λ h. absurd (h (f.0 refl)))
 not-Decides false f = (λ e p. let t = f.1 p in cc, λ h. refl)
 
 number-Decides : (n : ℤ) → Decides (is_number n) (IsNumber n)
-number-Decides n = and-Decides _ _ (le-Decides (negsuc (num_max - 1)) n) (le-Decides n (pos num_max))
+number-Decides (pos n) = (λ e. grind (arith, ints), λ h. grind (arith, ints))
+number-Decides (negsuc n) = (λ e. grind (arith, ints), λ h. grind (arith, ints))
 
 amount-Decides : (field : List ℕ) (a : Amount) → Decides (is_amount field a) (IsAmount field a)
 amount-Decides field (Fixed n at) = and-Decides _ _ (le-Decides (pos 0) n) (le-Decides n (pos num_max))
@@ -82,8 +83,8 @@ only-read d c e = only-cases (is_counter d) d c refl e
     only-cases true d c t e = let same : d ≡ c = cc in (same, (counter-Decides c).0 (subst (λ x. is_counter x ≡ true) same t))
     only-cases false d c t e = absurd (cc)
 
--- The parts that a counter was gathered from.
-record IsGathered (field : Option Name) (cell : Name) (range : Option Range) (change : Option Change) (column : Name) (shown : Option Name) (c : Counter) : Type 0 where
+-- The parts that a counter was counter_of_parts from.
+record IsMadeOf (field : Option Name) (cell : Name) (range : Option Range) (change : Option Change) (column : Name) (shown : Option Name) (c : Counter) : Type 0 where
   lawful : IsCounter c
   field_is : field ≡ Some c.field
   cell_is : cell ≡ c.cell
@@ -92,8 +93,8 @@ record IsGathered (field : Option Name) (cell : Name) (range : Option Range) (ch
   column_is : column ≡ c.column
   shown_is : shown ≡ Some c.shown
 
-gathered-read : (field : Option Name) (cell : Name) (range : Option Range) (change : Option Change) (column : Name) (shown : Option Name) (c : Counter) → gathered field cell range change column shown ≡ Some c → IsGathered field cell range change column shown c
-gathered-read (Some field) cell (Some range) (Some change) column (Some shown) c e =
+parts-read : (field : Option Name) (cell : Name) (range : Option Range) (change : Option Change) (column : Name) (shown : Option Name) (c : Counter) → counter_of_parts field cell range change column shown ≡ Some c → IsMadeOf field cell range change column shown c
+parts-read (Some field) cell (Some range) (Some change) column (Some shown) c e =
     let h = only-read _ c e in record {
       lawful = h.1;
       field_is = ap (λ (d : Counter). Some d.field) h.0;
@@ -103,7 +104,7 @@ gathered-read (Some field) cell (Some range) (Some change) column (Some shown) c
       column_is = ap (λ (d : Counter). d.column) h.0;
       shown_is = ap (λ (d : Counter). Some d.shown) h.0;
     }
-gathered-read _ cell _ _ column _ c e = absurd (cc)
+parts-read _ cell _ _ column _ c e = absurd (cc)
 
 range-read : (d : CellDecl) (range : Range) → range_of d ≡ Some range → d ≡ cell.Int range.lo range.hi range.first
 range-read (cell.Int lo hi first) range e = let same : record { lo = lo; hi = hi; first = first } ≡ range = cc in ap (λ (r : Range). cell.Int r.lo r.hi r.first) same
@@ -118,15 +119,15 @@ amount-back (Num n at) a e = let same : Fixed n at ≡ a = cc in ap amount_tree 
 amount-back (Named name) a e = let same : OfField name ≡ a = cc in ap amount_tree same
 amount-back _ a e = absurd (cc)
 
-changed-read : (target source : Name) (plus : ℕ) (a : Option Amount) (change : Change) → changed target source plus a ≡ Some change → (target ≡ change.target) × (source ≡ change.source) × (plus ≡ change.plus) × (a ≡ Some change.amount)
-changed-read target source plus None change e = absurd (cc)
-changed-read target source plus (Some a) change e =
+change_with-read : (target source : Name) (plus : ℕ) (a : Option Amount) (change : Change) → change_with target source plus a ≡ Some change → (target ≡ change.target) × (source ≡ change.source) × (plus ≡ change.plus) × (a ≡ Some change.amount)
+change_with-read target source plus None change e = absurd (cc)
+change_with-read target source plus (Some a) change e =
     let same : record { target = target; source = source; plus = plus; amount = a } ≡ change = cc in
     (ap (λ (x : Change). x.target) same, ap (λ (x : Change). x.source) same, ap (λ (x : Change). x.plus) same, ap (λ (x : Change). Some x.amount) same)
 
 change-read : (u : StmtsTree) (change : Change) → change_of u ≡ Some change → u ≡ Then (Set change.target (Bin Add (Named change.source) (amount_tree change.amount) change.plus)) Done
 change-read (Then (Set target (Bin Add (Named source) amount plus)) Done) change e =
-    let h = changed-read target source plus (amount_of amount) change e in
+    let h = change_with-read target source plus (amount_of amount) change e in
     let a : amount ≡ amount_tree change.amount = amount-back amount change.amount h.3 in
     let t : target ≡ change.target = h.0 in
     let s : source ≡ change.source = h.1 in
@@ -138,9 +139,9 @@ field-read : (name : Name) (header : Option (List ℕ)) (k : KindRef) (default :
 field-read name None kind.Num None field e = (cc, refl, refl, refl)
 field-read name _ _ _ field e = absurd (cc)
 
-single-read : (enums : List EnumDecl) (fields : List FieldDecl) (group : Option Name) (states : List StateDecl) (tests : List TestTree) (update : StmtsTree) (columns : List ColumnTree) (c : Counter) → single enums fields group states tests update columns ≡ Some c → IsCounterTree c (record { enums = enums; fields = fields; group = group; states = states; tests = tests; update = update; columns = columns })
-single-read [] (field ∷ []) None (state ∷ []) [] update (column ∷ []) c e =
-    let g = gathered-read _ _ _ _ _ _ c e in
+lists-read : (enums : List EnumDecl) (fields : List FieldDecl) (group : Option Name) (states : List StateDecl) (tests : List TestTree) (update : StmtsTree) (columns : List ColumnTree) (c : Counter) → counter_of_lists enums fields group states tests update columns ≡ Some c → IsCounterTree c (record { enums = enums; fields = fields; group = group; states = states; tests = tests; update = update; columns = columns })
+lists-read [] (field ∷ []) None (state ∷ []) [] update (column ∷ []) c e =
+    let g = parts-read _ _ _ _ _ _ c e in
     let f = field-read field.name field.header field.kind field.default c.field g.field_is in
     let fields : field ≡ record { name = c.field; header = None; kind = kind.Num; default = None } =
     ap (λ x. record { name = x; header = field.header; kind = field.kind; default = field.default }) f.0
@@ -162,7 +163,7 @@ single-read [] (field ∷ []) None (state ∷ []) [] update (column ∷ []) c e 
           ∙ ap (λ x. record (counter_tree c) { update = x; columns = column ∷ [] }) updates
           ∙ ap (λ x. record (counter_tree c) { columns = x ∷ [] }) columns;
     }
-single-read _ _ _ _ _ _ _ c e = absurd (cc)
+lists-read _ _ _ _ _ _ _ c e = absurd (cc)
 
 pub read : (tree : ScriptTree) (c : Counter) → counter_of tree ≡ Some c → IsCounterTree c tree
-read tree c e = single-read tree.enums tree.fields tree.group tree.states tree.tests tree.update tree.columns c e
+read tree c e = lists-read tree.enums tree.fields tree.group tree.states tree.tests tree.update tree.columns c e

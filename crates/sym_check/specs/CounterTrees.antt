@@ -53,12 +53,12 @@ pub record Change : Type 0 where
   pub plus : ℕ
   pub amount : Amount
 
-abbrev pub changed : Name → Name → ℕ → Option Amount → Option Change
-changed target source plus None = None
-changed target source plus (Some amount) = Some (record { target = target; source = source; plus = plus; amount = amount })
+abbrev pub change_with : Name → Name → ℕ → Option Amount → Option Change
+change_with target source plus None = None
+change_with target source plus (Some amount) = Some (record { target = target; source = source; plus = plus; amount = amount })
 
 abbrev pub change_of : StmtsTree → Option Change
-change_of (Then (Set target (Bin Add (Named source) amount plus)) Done) = changed target source plus (amount_of amount)
+change_of (Then (Set target (Bin Add (Named source) amount plus)) Done) = change_with target source plus (amount_of amount)
 change_of _ = None
 
 pub record Range : Type 0 where
@@ -79,8 +79,8 @@ abbrev pub plain_field : Name → Option (List ℕ) → KindRef → Option Liter
 plain_field name None kind.Num None = Some name
 plain_field name _ _ _ = None
 
-abbrev pub gathered : Option Name → Name → Option Range → Option Change → Name → Option Name → Option Counter
-gathered (Some field) cell (Some range) (Some change) column (Some shown) = only_counter (record {
+abbrev pub counter_of_parts : Option Name → Name → Option Range → Option Change → Name → Option Name → Option Counter
+counter_of_parts (Some field) cell (Some range) (Some change) column (Some shown) = only_counter (record {
   field = field;
   cell = cell;
   lo = range.lo;
@@ -93,13 +93,13 @@ gathered (Some field) cell (Some range) (Some change) column (Some shown) = only
   column = column;
   shown = shown;
 })
-gathered _ cell _ _ column _ = None
+counter_of_parts _ cell _ _ column _ = None
 
-abbrev pub single : List EnumDecl → List FieldDecl → Option Name → List StateDecl → List TestTree → StmtsTree → List ColumnTree → Option Counter
-single [] (field ∷ []) None (state ∷ []) [] update (column ∷ []) =
-    gathered (plain_field field.name field.header field.kind field.default) state.name (range_of state.cell) (change_of update) column.name (name_of column.value)
-single _ _ _ _ _ _ _ = None
+abbrev pub counter_of_lists : List EnumDecl → List FieldDecl → Option Name → List StateDecl → List TestTree → StmtsTree → List ColumnTree → Option Counter
+counter_of_lists [] (field ∷ []) None (state ∷ []) [] update (column ∷ []) =
+    counter_of_parts (plain_field field.name field.header field.kind field.default) state.name (range_of state.cell) (change_of update) column.name (name_of column.value)
+counter_of_lists _ _ _ _ _ _ _ = None
 
 -- The counter with this tree, where there is one.
 abbrev pub counter_of : ScriptTree → Option Counter
-counter_of t = single t.enums t.fields t.group t.states t.tests t.update t.columns
+counter_of t = counter_of_lists t.enums t.fields t.group t.states t.tests t.update t.columns

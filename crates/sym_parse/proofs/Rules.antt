@@ -1,5 +1,5 @@
 -- The rules of a counter, as tests and as facts.
-use Rattle.std.proofs.Common.{◌≡◌, ◌≢◌, ℕ, ℤ, pos, neg_ℤ, ◌≤ℤ◌, Bool, true, false, not, cond, ◌&&◌, int_le, List, [], ◌∷◌, refl, sym, subst, arith}
+use Rattle.std.proofs.Common.{zero, suc, negsuc, ◌≡◌, ◌≢◌, ℕ, ℤ, pos, neg_ℤ, ◌≤ℤ◌, Bool, true, false, not, cond, ◌&&◌, int_le, List, [], ◌∷◌, refl, sym, subst, arith}
 use Rattle.std.proofs.lemmas.Int.{ints}
 use Rattle.std.proofs.lemmas.Slice.Eq.{bytes_eq-Decides}
 use Rattle.std.specs.List.{list_all}
@@ -65,8 +65,11 @@ bounds-of n h =
     (a, b)
 
 number-by : (minus : Bool) (n : ℤ) → (pos 0 ≤ℤ n) × (n ≤ℤ pos num_max) → IsNumber (cond minus (neg_ℤ n) n)
-number-by true n h = (omega (arith, ints, h.0, h.1), omega (arith, ints, h.0, h.1))
-number-by false n h = (omega (arith, ints, h.0, h.1), h.1)
+number-by true (pos zero) h = omega arith
+number-by true (pos (suc n)) h = let high = h.1 in omega (arith, ints)
+number-by true (negsuc n) h = let low = h.0 in absurd (omega (arith, ints))
+number-by false (pos n) h = let high = h.1 in omega (arith, ints)
+number-by false (negsuc n) h = let low = h.0 in absurd (omega (arith, ints))
 
 value-number : (w : Written) → in-bounds w.size ≡ true → IsNumber (value w)
 value-number w h = number-by w.minus w.size (bounds-of w.size h)

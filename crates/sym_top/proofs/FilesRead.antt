@@ -1,5 +1,5 @@
 -- What is read of a file is what a plain file says.
-use Rattle.std.proofs.Common.{◌≡◌, ℕ, ◌≤◌, eqb, leb, not, Bool, true, false, cond, ◌&&◌, ℤ, pos, neg_ℤ, List, [], ◌∷◌, ◌++◌, length, take, drop, nat_eq, Option, None, Some, refl, sym, ap, subst, ◌∙◌, arith, append_assoc, length-append}
+use Rattle.std.proofs.Common.{zero, suc, ◌≡◌, ℕ, ◌≤◌, eqb, leb, not, Bool, true, false, cond, ◌&&◌, ℤ, pos, neg_ℤ, List, [], ◌∷◌, ◌++◌, length, take, drop, nat_eq, Option, None, Some, refl, sym, ap, subst, ◌∙◌, arith, append_assoc, length-append}
 use Rattle.std.specs.Option.{option_map}
 use Rattle.std.specs.List.{All, list_all}
 use Rattle.std.specs.Cmp.{first_so, second_so}
@@ -7,7 +7,6 @@ use Rattle.std.specs.Cmp.Derive.{both_true}
 use Rattle.std.proofs.lemmas.Bool.Decides.{nat_tests, Decides-eqb}
 use Rattle.std.specs.Cmp.Lexicographic.{pointwise}
 use Rattle.std.proofs.lemmas.Slice.Eq.{slice_eq-Decides}
-use Rattle.std.proofs.lemmas.Int.{ints}
 use Rattle.std.proofs.lemmas.List.{append-nil, take-append-drop}
 use Rattle.std.proofs.lemmas.List.Elements.{All-nil, All-cons, All-head, All-tail}
 use Rattle.std.proofs.Math.Seq.{take-append_seam, drop-append_seam}
@@ -60,16 +59,18 @@ size-is bs h small = size-some bs h.some h.few (digits-is bs h.each) small
 
 -- Numbers.
 pos-number : (n : ℕ) → n ≤ num_max → IsNumber (pos n)
-pos-number n h = (omega (arith, ints), omega (arith, ints))
+pos-number n h = h
 
 neg-number : (n : ℕ) → n ≤ num_max → IsNumber (neg_ℤ (pos n))
-neg-number n h = (omega (arith, ints), omega (arith, ints))
+neg-number zero h = h
+neg-number (suc n) h = h
 
 number-pos : (n : ℕ) → IsNumber (pos n) → n ≤ num_max
-number-pos n h = let high = h.1 in omega (arith, ints)
+number-pos n h = h
 
 number-neg : (n : ℕ) → IsNumber (neg_ℤ (pos n)) → n ≤ num_max
-number-neg n h = let low = h.0 in omega (arith, ints)
+number-neg zero h = omega arith
+number-neg (suc n) h = h
 
 mapped : (f : ℕ → ℤ) (o : Option ℕ) (n : ℤ) → option_map f o ≡ Some n → (m : ℕ) × (o ≡ Some m) × (n ≡ f m)
 mapped f None n e = absurd (cc)

@@ -91,18 +91,25 @@ pub struct ColumnDecl {
     pub value: Expr,
 }
 
+/// The enums, in order of declaration.
 pub type EnumDecls = Sequence<EnumDecl>;
 
+/// The fields, in order of declaration.
 pub type FieldDecls = Sequence<FieldDecl>;
 
+/// The parts of a hold cell, in order.
 pub type Parts = Sequence<Part>;
 
+/// The cells, in order of declaration.
 pub type StateDecls = Sequence<StateDecl>;
 
+/// The parameters of a test, in order.
 pub type Params = Sequence<Param>;
 
+/// The tests, in order of declaration.
 pub type TestDecls = Sequence<TestDecl>;
 
+/// The columns of the report, in order.
 pub type ColumnDecls = Sequence<ColumnDecl>;
 
 impl EnumDecl {
