@@ -4,6 +4,7 @@ use Rattle.std.proofs.lemmas.Option.{cond_some}
 use Rattle.sym_base.specs.declared.tree.name.Name.{Name}
 use Rattle.sym_base.specs.Counters.{Counter}
 use Rattle.sym_parse.specs.Lexical.{tokens_of}
+use Rattle.sym_parse.proofs.TokensFound.{are-found, are-tokens}
 use Rattle.sym_parse.specs.Terminals.{Lexeme, lexemes_of}
 use Rattle.sym_parse.specs.Reading as read
 use Rattle.sym_parse.specs.Reading.{◌>>=◌, keeps_rules, counter_at, counter_of, counter_form}
@@ -89,7 +90,7 @@ read-is-text text c e =
     let s = form-spelled (lexemes_of text t.0) c g in
     record {
       tokens = t.0;
-      lexed = t.1;
+      lexed = are-tokens text t.0 t.1;
       built = record {
         lo = s.lo;
         hi = s.hi;
@@ -108,7 +109,8 @@ text-is-read text c t =
     let b = t.built in
     let f = form-read (lexemes_of text t.tokens) b.lo b.hi b.first c b.lo_value b.hi_value b.first_value b.spelled in
     let r = rules-kept c b.lawful in
-    rw (t.lexed, f, r) refl
+    let found : tokens_of text ≡ Some t.tokens = are-found 0 text t.tokens t.lexed in
+    rw (found, f, r) refl
 
 pub agrees : (text : List ℕ) (c : Counter) → IsText text c ↔ (counter_at text ≡ Some c)
 agrees text c = (text-is-read text c, read-is-text text c)

@@ -7,3 +7,4 @@ pub mod Spelling
 pub mod Tokens
 pub mod Agreement
 pub mod Texts
+pub mod TokensFound

@@ -19,7 +19,7 @@ use Rattle.sym_parse.specs.Terminals.{is_lawful}
 use Rattle.sym_parse.proofs.Letters.{both, join}
 use Rattle.sym_parse.proofs.Numbers.{digits-prefix}
 
-find-passes : {X : Type 0} (p : X → Bool) (xs : List X) (x : X) → find p xs ≡ Some x → p x ≡ true
+pub find-passes : {X : Type 0} (p : X → Bool) (xs : List X) (x : X) → find p xs ≡ Some x → p x ≡ true
 find-passes {X} p [] x e = cc
 find-passes {X} p (y ∷ ys) x e =
     let step : (b : Bool) → p y ≡ b → cond b (Some y) (find p ys) ≡ Some x → p x ≡ true = λ b. elim b as (λ b. p y ≡ b → cond b (Some y) (find p ys) ≡ Some x → p x ≡ true) [
@@ -28,7 +28,7 @@ find-passes {X} p (y ∷ ys) x e =
     ] in
     step (p y) refl e
 
-symbol-long : (s : Symbol) → 0 < length (symbol_text s)
+pub symbol-long : (s : Symbol) → 0 < length (symbol_text s)
 symbol-long s = elim s as (λ s. 0 < length (symbol_text s)) [
   | symbol.OpenBrace ↦ omega arith
   | symbol.CloseBrace ↦ omega arith

@@ -1,6 +1,6 @@
 -- The counter form as a relation between the tokens of a text and what they say.
 -- The language is this project's profile.
-use Rattle.std.specs.Prelude.{◌≡◌, ℕ, ℤ, neg_ℤ, Bool, cond, List, [], ◌∷◌, Some}
+use Rattle.std.specs.Prelude.{◌≡◌, ℕ, ℤ, neg_ℤ, Bool, cond, List, [], ◌∷◌}
 use Rattle.sym_base.specs.declared.tree.name.Name.{Name}
 use Rattle.sym_base.specs.Counters.{Counter, Amount, Fixed, OfField, IsCounter, counter_tree}
 use Rattle.sym_base.specs.Trees.{ScriptTree}
@@ -9,7 +9,7 @@ use Rattle.sym_parse.specs.declared.token.Keyword.{Keyword}
 use Rattle.sym_parse.specs.declared.token.Keyword.TheVariants as keyword
 use Rattle.sym_parse.specs.declared.token.Symbol.{Symbol}
 use Rattle.sym_parse.specs.declared.token.Symbol.TheVariants as symbol
-use Rattle.sym_parse.specs.Lexical.{tokens_of}
+use Rattle.sym_parse.specs.TokenLists.{AreTokens}
 use Rattle.sym_parse.specs.Terminals.{Terminal, Lexeme, lexemes_of}
 use Rattle.sym_parse.specs.Terminals as terminal
 
@@ -108,7 +108,7 @@ pub record IsBuilt (lexemes : List Lexeme) (c : Counter) : Type 0 where
 -- The text has tokens, and they are the counter's.
 pub record IsText (text : List ℕ) (c : Counter) : Type 0 where
   pub tokens : List Token
-  pub lexed : tokens_of text ≡ Some tokens
+  pub lexed : AreTokens 0 text tokens
   pub built : IsBuilt (lexemes_of text tokens) c
 
 -- The text is that of a counter whose tree this is.

@@ -8,6 +8,7 @@
 mod counter;
 mod cursor;
 pub mod error;
+pub mod laws;
 mod lexer;
 mod parser;
 mod reader;

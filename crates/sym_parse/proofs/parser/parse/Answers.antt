@@ -62,3 +62,7 @@ returns-clause-exact c =
 
 pub returns-clause-agree : goal.returns-clause-agree
 returns-clause-agree c = agrees c.args.bytes.now
+
+pub returns-in-Err-Fault-clause-not_built : goal.returns-in-Err-Fault-clause-not_built
+returns-in-Err-Fault-clause-not_built c =
+    (refl, none-accepted c.args.bytes.now (at-none c.args.bytes.now (c.in-Err-Fault.ensures.fault (ap Err c.in-Err-Fault.field-0-is))))
