@@ -4,7 +4,7 @@ ghost use Rattle.sym_base.specs.Trees.{script_tree};
 ghost use Rattle.sym_check.specs.CounterTrees.{counter_of};
 
 use std::alloc::Global;
-use sym_base::Script;
+use sym_base::{NoMemory, Script};
 use thiserror::Error;
 
 /// Why a script isn't taken. Today only want of memory; `check` takes none yet.
@@ -32,10 +32,31 @@ impl Checked {
         Checked { script }
     }
 
+    /// An equal script of its own.
+    pub fn copy(&self, alloc: Global) -> Result<Checked, NoMemory>
+        ensures { IfOk result (λ copy. checked_tree copy ≡ checked_tree self.now) }
+    {
+        let script = self.script.copy(alloc)?;
+        Ok(Checked::of(script))
+    }
+
     /// The script.
     pub fn script(&self) -> &Script
         ensures { script_tree result.now ≡ checked_tree self.now }
     {
         &self.script
+    }
+}
+
+#[cfg(test)]
+mod tests {
+    use super::*;
+    use std::test::Fail;
+
+    #[test]
+    fn the_text_of_an_error_is_its_variant(rt: HostRuntime) -> Result<(), Fail> {
+        let no_memory = format!(in rt.alloc(); "{}", CheckErr::NoMemory)?;
+        assert_eq!(rt; no_memory.as_str(), "NoMemory");
+        Ok(())
     }
 }

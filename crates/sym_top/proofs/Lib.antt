@@ -2,5 +2,6 @@ pub mod Digits
 pub mod LineByLine
 pub mod Passing
 pub mod FilesRead
+pub mod Joining
 pub mod EndsFound
 pub mod Preparing

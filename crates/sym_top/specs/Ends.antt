@@ -10,7 +10,7 @@ use Rattle.sym_top.specs.declared.status.Status.{Status}
 use Rattle.sym_top.specs.declared.status.Status.TheVariants as status
 use Rattle.sym_top.specs.Commands.{Run, options}
 use Rattle.sym_top.specs.PlainFiles.{IsPlain, records_of}
-use Rattle.sym_top.specs.Tables.{Row, row_of, table_text, some_faulty}
+use Rattle.sym_top.specs.Tables.{Row, row_of, one_cell, table_text, some_faulty}
 
 pub record End : Type 0 where
   pub status : Status
@@ -29,7 +29,7 @@ refused s = record { status = s; text = [] }
 
 -- The rows of a counter's report.
 abbrev pub rows_of : Counter → List (Key × Outcome) → List Row
-rows_of c = map (row_of (c.cell.text ∷ []))
+rows_of c = map (row_of (one_cell c.cell.text))
 
 -- A report of rows under the counter's column: Faulted where a row is faulty.
 abbrev pub reported : Counter → List Row → End

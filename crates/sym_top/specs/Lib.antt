@@ -7,7 +7,6 @@ pub mod PlainFiles
 pub mod PlainReading
 pub mod Plans
 pub mod Promises
-pub mod ShownRows
 pub mod Statuses
 pub mod Tables
 pub mod Words

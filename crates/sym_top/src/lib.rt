@@ -10,6 +10,8 @@ mod numbers;
 mod plan;
 mod planning;
 mod report;
+mod rows;
+mod shown;
 mod status;
 mod steps;
 mod top;

@@ -10,10 +10,11 @@ use sym_base::{ReadErr, Store, read_all};
 use sym_check::{CheckErr, Checked, check};
 use sym_parse::{ParseErr, parse};
 
-// The most bytes of a script and of a file.
+// The most bytes of a script.
 const SCRIPT_MAX: u64 = 65_536;
 
-const FILE_MAX: u64 = 67_108_864;
+// The most bytes of a file of records.
+const RECORDS_MAX: u64 = 67_108_864;
 
 // What a failed read comes to.
 fn read_status(error: ReadErr) -> Status
@@ -78,7 +79,7 @@ pub fn load_file<F: Store>(alloc: Global, files: &mut F, name: &str) -> Result<V
     ensures same { F.holds files.new ≡ F.holds files.old }
     ensures later { (other : List ℕ) → F.faults files.old other ≤ F.faults files.new other }
 {
-    match read_all(alloc, files, name, FILE_MAX) {
+    match read_all(alloc, files, name, RECORDS_MAX) {
         Ok(bytes) => Ok(bytes),
         Err(error) => Err(read_status(error)),
     }

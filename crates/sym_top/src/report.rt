@@ -1,85 +1,63 @@
 //! The report's text.
-ghost use Rattle.std.specs.Prelude.{◌≡◌, ◌++◌, ◌∷◌, [], map, slice_index_or, List, ℕ, IfOk, OnOk, codes};
-ghost use Rattle.std.specs.Fmt.{decimal, signed_decimal};
-ghost use Rattle.sym_top.specs.Folds.{group_list};
-ghost use Rattle.sym_top.specs.Tables.{row_of, line_of, table_text, some_faulty};
-ghost use Rattle.sym_top.specs.ShownRows.{kind_text, fault_text, shown};
+ghost use Rattle.std.specs.Prelude.{◌≡◌, ◌++◌, ◌∷◌, [], IfOk, OnOk, codes};
+ghost use Rattle.std.specs.Fmt.{decimal};
+ghost use Rattle.sym_top.specs.Tables.{joined, body_texts, rows_with, table_text};
 
-use crate::plan::Plan;
-use crate::steps::int_at;
+use crate::rows::RowBody;
+use crate::shown::push_joined;
 use itoa::Buffer;
 use std::alloc::Global;
-use sym_base::{Fault, FaultKind, NoMemory, Outcome, Text};
+use sym_base::{NoMemory, Text};
 
-// Appends the name of the cell with this number; there is only the first.
-fn push_cell(text: &mut Vec<u8>, name: &Text, cell: u16) -> Result<(), NoMemory>
-    ensures { OnOk result (text.new.items ≡ text.old.items ++ slice_index_or (name.now ∷ []) cell []) }
+// Appends what stands before the number of a record, and this number.
+fn push_record(text: &mut Vec<u8>, before: &[u8], no: u64) -> Result<(), NoMemory>
+    ensures { OnOk result (text.new.items ≡ text.old.items ++ (before.now ++ decimal no)) }
 {
-    if cell == 0 {
-        text.extend_from_slice(name.as_bytes())?;
-    }
-    Ok(())
-}
-
-// Appends a fault's kind.
-fn push_kind(text: &mut Vec<u8>, name: &Text, kind: FaultKind) -> Result<(), NoMemory>
-    ensures { OnOk result (text.new.items ≡ text.old.items ++ kind_text name.now kind) }
-{
-    match kind {
-        FaultKind::Over(cell) => {
-            push_cell(text, name, cell)?;
-            text.extend_from_slice(b" overflows")?;
-        }
-        FaultKind::Arith => text.extend_from_slice(b"arithmetic")?,
-    }
-    Ok(())
-}
-
-// Appends a fault with its record.
-#[tactic(auto, using(std::proofs::Common::append_assoc))]
-fn push_fault(text: &mut Vec<u8>, name: &Text, fault: &Fault) -> Result<(), NoMemory>
-    ensures { OnOk result (text.new.items ≡ text.old.items ++ fault_text name.now fault.now) }
-{
-    text.extend_from_slice(b"fault: ")?;
-    push_kind(text, name, fault.kind)?;
-    text.extend_from_slice(b" at record ")?;
+    text.extend_from_slice(before)?;
     let mut buffer = Buffer::new();
-    text.extend_from_slice(buffer.format(fault.no).as_bytes())?;
+    text.extend_from_slice(buffer.format(no).as_bytes())?;
     Ok(())
 }
 
-// Appends the last text of a row.
-fn push_shown(text: &mut Vec<u8>, name: &Text, outcome: &Outcome) -> Result<(), NoMemory>
-    ensures { OnOk result (text.new.items ≡ text.old.items ++ shown name.now outcome.now) }
+// Appends a cell that overflows, and the record.
+#[tactic(auto, using(std::proofs::Common::append_assoc))]
+fn push_over(text: &mut Vec<u8>, cell: &Text, no: u64) -> Result<(), NoMemory>
+    ensures { OnOk result (text.new.items ≡ text.old.items ++ (cell.now ++ (codes " overflows at record " ++ decimal no))) }
 {
-    match outcome {
-        Outcome::Going(state) => {
-            let mut buffer = Buffer::new();
-            text.extend_from_slice(buffer.format(int_at(state)).as_bytes())?;
+    text.extend_from_slice(cell.as_bytes())?;
+    push_record(text, b" overflows at record ", no)
+}
+
+// Appends what a row shows.
+#[tactic(auto, using(std::proofs::Common::append_assoc))]
+fn push_body(text: &mut Vec<u8>, body: &RowBody) -> Result<(), NoMemory>
+    ensures { OnOk result (text.new.items ≡ text.old.items ++ joined (codes " | ") (body_texts body.now)) }
+{
+    match body {
+        RowBody::Columns(columns) => push_joined(text, b" | ", columns.as_slice())?,
+        RowBody::Over { cell, no } => {
+            text.extend_from_slice(b"fault: ")?;
+            push_over(text, cell, *no)?;
         }
-        Outcome::Ended(fault) => push_fault(text, name, fault)?,
+        RowBody::Arith { no } => {
+            text.extend_from_slice(b"fault: ")?;
+            push_record(text, b"arithmetic at record ", *no)?;
+        }
     }
     Ok(())
 }
 
-/// The table of at most one group.
+/// The table of at most one group, under the name of its one column.
 #[tactic(auto, using(std::proofs::Common::append_assoc))]
-pub fn table(alloc: Global, plan: &Plan<'_>, group: &Option<Outcome>) -> Result<Vec<u8>, NoMemory>
-    ensures { IfOk result (λ text. text.items ≡ table_text (plan.now.column.now ∷ []) (map (row_of (plan.now.cell.now ∷ [])) (group_list group.now))) }
+pub fn table(alloc: Global, column: &Text, body: &Option<RowBody>) -> Result<Vec<u8>, NoMemory>
+    ensures { IfOk result (λ text. text.items ≡ table_text (column.now ∷ []) (rows_with body.now)) }
 {
-    let mut text = Vec::from_slice(alloc, plan.column.as_bytes())?;
+    let mut text = Vec::from_slice(alloc, column.as_bytes())?;
     text.extend_from_slice(b"\n")?;
-    if let Some(outcome) = group {
-        push_shown(&mut text, plan.cell, outcome)?;
+    if let Some(body) = body {
+        push_body(&mut text, body)?;
         text.extend_from_slice(b"\n")?;
     }
     text.extend_from_slice(b"--\n")?;
     Ok(text)
-}
-
-/// Whether a group ended in a fault.
-pub fn faulty(group: &Option<Outcome>) -> bool
-    ensures { (names : List (List ℕ)) → result ≡ some_faulty (map (row_of names) (group_list group.now)) }
-{
-    matches!(group, Some(Outcome::Ended(_)))
 }

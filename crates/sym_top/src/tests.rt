@@ -1,4 +1,5 @@
 //! Whole runs over stores and sinks in memory.
+use crate::load::load_script;
 use crate::status::Status;
 use crate::top::symple;
 use std::alloc::{AllocError, Global};
@@ -197,6 +198,38 @@ fn a_failed_read_of_either_file_stops_the_run(rt: HostRuntime) -> Result<(), Fai
         let again = end_of(rt.alloc(), &mut files)?;
         assert_eq!(rt; again.0, Status::Done, "after read {call}");
     }
+    Ok(())
+}
+
+#[test]
+fn a_file_that_is_absent_is_a_failed_read(rt: HostRuntime) -> Result<(), Fail> {
+    let mut files = MemStore::new(rt.alloc());
+    assert_eq!(rt;
+        end_of(rt.alloc(), &mut files)?.0,
+        Status::ReadFault,
+        "no script"
+    );
+    files.add(rt.alloc(), "script", COUNTER.as_bytes())?;
+    assert_eq!(rt;
+        end_of(rt.alloc(), &mut files)?.0,
+        Status::ReadFault,
+        "no file"
+    );
+    files.add(rt.alloc(), "file", b"x\n5\n")?;
+    assert_eq!(rt; end_of(rt.alloc(), &mut files)?.0, Status::Done);
+    Ok(())
+}
+
+#[test]
+fn a_checked_script_is_copied(rt: HostRuntime) -> Result<(), Fail> {
+    let mut files = store_of(rt.alloc(), BALANCE, "")?;
+    let checked = match load_script(rt.alloc(), &mut files, "script") {
+        Ok(checked) => checked,
+        Err(status) => return Err(Fail::from(format!(in rt.alloc(); "{status:?}")?)),
+    };
+    let copy = checked.copy(rt.alloc())?;
+    let shown = format!(in rt.alloc(); "{copy:?}")?;
+    assert_eq!(rt; shown, format!(in rt.alloc(); "{checked:?}")?);
     Ok(())
 }
 

@@ -11,11 +11,10 @@ ghost use Rattle.sym_top.specs.Loading.{ReportGives, IsReportRefusal, EndGives, 
 ghost use Rattle.sym_top.specs.Promises.{Unless, IsRefusal, IsReported, IsWritten, ReadFailed, ScriptRefused, NoneFailed, TellsFiles};
 
 use crate::commands::read_words;
-use crate::compute::{Report, fold_status, report_status};
+use crate::compute::{Report, fold_status, make_report};
 use crate::lines::pass;
 use crate::load::{load_file, load_script};
 use crate::planning::plan;
-use crate::report::{faulty, table};
 use crate::status::Status;
 use std::alloc::Global;
 use sym_base::{Sink, SinkErr, Store, write_all};
@@ -33,12 +32,10 @@ fn compute(alloc: Global, checked: &Checked, bytes: &[u8]) -> Result<Report, Sta
         Ok(group) => group,
         Err(error) => return Err(fold_status(error)),
     };
-    let text = match table(alloc, &plan, &group) {
-        Ok(text) => text,
-        Err(_) => return Err(Status::NoMemory),
-    };
-    let status = report_status(faulty(&group));
-    Ok(Report { text, status })
+    match make_report(alloc, &plan, &group) {
+        Ok(report) => Ok(report),
+        Err(_) => Err(Status::NoMemory),
+    }
 }
 
 // Reads the run's files and makes its report.
