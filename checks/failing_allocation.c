@@ -1,0 +1,43 @@
+// Preloaded into a program, makes one of its allocations fail: the one whose number, counted from
+// 1, is in the environment variable FAIL_ALLOCATION. At the end of the program the number of all
+// allocations is written to the file that ALLOCATION_COUNT names. Works with the GNU C library.
+
+#include <errno.h>
+#include <stddef.h>
+#include <stdio.h>
+#include <stdlib.h>
+
+void *__libc_malloc(size_t size);
+void *__libc_realloc(void *old, size_t size);
+
+static unsigned long allocations;
+static unsigned long failing;
+
+__attribute__((constructor)) static void begin(void) {
+    const char *number = getenv("FAIL_ALLOCATION");
+    failing = number ? strtoul(number, NULL, 10) : 0;
+    allocations = 0;
+}
+
+__attribute__((destructor)) static void end(void) {
+    unsigned long total = allocations;
+    const char *name = getenv("ALLOCATION_COUNT");
+    failing = 0;
+    FILE *file = name ? fopen(name, "w") : NULL;
+    if (file) {
+        fprintf(file, "%lu\n", total);
+        fclose(file);
+    }
+}
+
+static int fails(void) {
+    allocations++;
+    if (allocations != failing)
+        return 0;
+    errno = ENOMEM;
+    return 1;
+}
+
+void *malloc(size_t size) { return fails() ? NULL : __libc_malloc(size); }
+
+void *realloc(void *old, size_t size) { return fails() ? NULL : __libc_realloc(old, size); }

@@ -1,0 +1,108 @@
+#!/bin/sh
+# Runs the program as its users do, by the launcher, and tests its statuses and what it writes, over
+# the files and streams of the system: one row for each status but that of want of memory. Then runs
+# each row once for each of its allocations, with that one refused: the answer has to stay as it
+# was, or be status 8 with nothing written.
+# Needs a C compiler as cc. The last line counts the runs that passed and failed.
+set -u
+
+here=$(CDPATH='' cd -P "$(dirname "$0")" && pwd)
+root=$(dirname "$here")
+examples=$root/examples
+program=$root/crates/symple/out/symple
+no_memory=8
+
+work=$(mktemp -d) || exit 1
+trap 'rm -rf "$work"' EXIT
+trap 'exit 1' HUP INT TERM
+
+passed=0
+failed=0
+
+note() {
+    if [ "$1" -eq 0 ]; then
+        passed=$((passed + 1))
+    else
+        failed=$((failed + 1))
+        echo "checks/program.sh: $2" >&2
+    fi
+}
+
+# Whether the run before ended with this status, wrote this on standard output, and nothing on
+# standard error.
+answered() {
+    [ "$status" -eq "$1" ] && printf '%s' "$2" | cmp -s - "$work/out" && [ ! -s "$work/err" ]
+}
+
+# Runs the words with the allocation of this number refused, and counts all allocations.
+run_short() {
+    number=$1
+    shift
+    FAIL_ALLOCATION=$number ALLOCATION_COUNT=$work/count LD_PRELOAD=$work/failing.so \
+        "$program" "$@" >"$out" 2>"$work/err"
+    status=$?
+}
+
+# row NAME STATUS TEXT WORDS..: the words give this status and this text.
+row() {
+    name=$1
+    wanted=$2
+    text=$3
+    shift 3
+    : >"$work/out"
+    "$root/symple" "$@" >"$out" 2>"$work/err"
+    status=$?
+    answered "$wanted" "$text"
+    note $? "$name: status $status in place of $wanted, or another output"
+    run_short 0 "$@"
+    total=$(cat "$work/count")
+    refusal=1
+    while [ "$refusal" -le "$total" ]; do
+        run_short "$refusal" "$@"
+        answered "$wanted" "$text" || answered "$no_memory" ""
+        note $? "$name, allocation $refusal of $total refused: status $status"
+        refusal=$((refusal + 1))
+    done
+}
+
+cc -O2 -shared -fPIC -o "$work/failing.so" "$here/failing_allocation.c" || exit 1
+# Builds the program where it has to be built, so that no row sees what a build says.
+"$root/symple" run "$examples/counter.symple" "$examples/counter.csv" >/dev/null || exit 1
+
+out=$work/out
+printf 'milliseconds\n1\nx\n' >"$work/words.csv"
+printf 'people\n' >"$work/no_records.csv"
+head -c 65537 /dev/zero | tr '\0' ' ' >"$work/large.symple"
+truncate -s 67108865 "$work/large.csv"
+
+row "a counter" 0 'events
+6
+--
+' run "$examples/counter.symple" "$examples/counter.csv"
+row "a sum" 0 'balance
+10226
+--
+' run "$examples/balance.symple" "$examples/balance.csv"
+row "a file without records" 0 'aboard
+--
+' run "$examples/lift.symple" "$work/no_records.csv"
+row "an overflow" 1 'aboard
+fault: aboard overflows at record 4
+--
+' run "$examples/lift.symple" "$examples/lift.csv"
+row "no words" 2 ''
+row "a word too few" 2 '' run "$examples/counter.symple"
+row "a word that isn't UTF-8" 2 '' run "$examples/counter.symple" "$(printf '\377')"
+row "a script that is no counter" 3 '' run "$examples/counter.csv" "$examples/counter.csv"
+row "a file that isn't plain" 4 '' run "$examples/counter.symple" "$work/words.csv"
+row "another heading" 4 '' run "$examples/counter.symple" "$examples/lift.csv"
+row "an absent script" 5 '' run "$work/absent" "$examples/counter.csv"
+row "an absent file" 5 '' run "$examples/counter.symple" "$work/absent"
+row "a folder in place of a file" 5 '' run "$examples/counter.symple" "$work"
+row "a large script" 7 '' run "$work/large.symple" "$examples/counter.csv"
+row "a large file" 7 '' run "$examples/counter.symple" "$work/large.csv"
+out=/dev/full
+row "a full device" 6 '' run "$examples/counter.symple" "$examples/counter.csv"
+
+echo "checks: $passed passed, $failed failed"
+[ "$failed" -eq 0 ]
