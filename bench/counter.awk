@@ -1,5 +1,6 @@
 # What symple does with counter.symple: adds each number of a file to a total that has to stay in
-# a range, tests that each line is a number in its range, and prints the report.
+# a range, tests that each line is a number of at most 13 digits in its range, and prints the report.
+# That the last line has an end isn't tested, since awk doesn't tell.
 
 function refuse() {
     refused = 1
@@ -12,7 +13,7 @@ NR == 1 {
     next
 }
 
-!/^-?[0-9]+$/ || $0 < -1000000000000 || $0 > 1000000000000 {
+!/^-?[0-9]+$/ || length($0) > 13 + /^-/ || $0 < -1000000000000 || $0 > 1000000000000 {
     refuse()
 }
 
