@@ -48,13 +48,13 @@ abbrev pub fault_body : List (List ℕ) → FaultKind → ℕ → RowBody
 fault_body names (kind.Over cell) record_no = Over (slice_index_or names cell []) record_no
 fault_body names kind.Arith record_no = Arith record_no
 
-abbrev pub body_of : List (List ℕ) → Outcome → RowBody
-body_of names (Going state) = Columns (columns_of state)
-body_of names (Ended fault) = fault_body names fault.kind fault.no
+abbrev pub row_body_of : List (List ℕ) → Outcome → RowBody
+row_body_of names (Going state) = Columns (columns_of state)
+row_body_of names (Ended fault) = fault_body names fault.kind fault.no
 
 -- The row of a group.
 abbrev pub row_of : Names → (Key × Outcome) → Row
-row_of names group = record { keys = key_columns names.labels group.0; body = body_of names.cells group.1 }
+row_of names group = record { keys = key_columns names.labels group.0; body = row_body_of names.cells group.1 }
 
 -- A row is faulty where it has a fault or a column that couldn't be computed.
 abbrev pub is_bad : Column → Bool

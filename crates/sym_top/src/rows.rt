@@ -1,7 +1,7 @@
 //! What a report shows of a group.
 ghost use Rattle.std.specs.Prelude.{◌≡◌, [], ◌∷◌, IfOk, slice_index_or};
 ghost use Rattle.std.specs.List.{list_any};
-ghost use Rattle.sym_top.specs.Tables.{body_of, columns_of, fault_body as fault_body_of, is_bad, is_faulty as is_faulty_of};
+ghost use Rattle.sym_top.specs.Tables.{row_body_of, columns_of, fault_body as fault_body_of, is_bad, is_faulty as is_faulty_of};
 
 use crate::steps::int_at;
 use std::alloc::Global;
@@ -54,7 +54,7 @@ fn fault_body(alloc: Global, name: &Text, fault: &Fault) -> Result<RowBody, NoMe
 
 /// What the row of a group shows, in a script whose one cell has this name.
 pub fn row_body(alloc: Global, name: &Text, outcome: &Outcome) -> Result<RowBody, NoMemory>
-    ensures { IfOk result (λ body. body ≡ body_of (name.now ∷ []) outcome.now) }
+    ensures { IfOk result (λ body. body ≡ row_body_of (name.now ∷ []) outcome.now) }
 {
     match outcome {
         Outcome::Going(state) => Ok(RowBody::Columns(columns(alloc, state)?)),

@@ -25,11 +25,11 @@ pub enum Status {
 
 impl Status {
     ghost use Rattle.std.specs.Prelude.{◌≡◌};
-    ghost use Rattle.sym_top.specs.Statuses.{number_of};
+    ghost use Rattle.sym_top.specs.Statuses.{exit_number};
 
     /// The status as a process gives it: 0 to 8, in the order above.
     pub fn number(self) -> u8
-        ensures { result ≡ number_of self }
+        ensures { result ≡ exit_number self }
     {
         match self {
             Status::Done => 0,
