@@ -1,4 +1,5 @@
 pub mod Digits
+pub mod FirstLine
 pub mod LineByLine
 pub mod Passing
 pub mod FilesRead

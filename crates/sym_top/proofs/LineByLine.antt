@@ -1,20 +1,12 @@
 -- A body is read line by line.
-use Rattle.std.proofs.Common.{◌≡◌, ◌==◌, nat_lt, ℕ, suc, ◌+◌, ◌<◌, ◌≤◌, eqb, Bool, true, false, ℤ, List, [], ◌∷◌, ◌++◌, length, take, drop, Option, None, Some, refl, sym, ap, ◌∙◌, arith, append_assoc, length-append}
+use Rattle.std.proofs.Common.{◌≡◌, ◌⊎◌, inl, inr, nat_lt, ℕ, suc, ◌+◌, ◌<◌, ◌≤◌, eqb, ℤ, List, [], ◌∷◌, ◌++◌, length, take, drop, Option, None, Some, refl, sym, ap, ◌∙◌, arith, append_assoc, length-append}
 use Rattle.std.proofs.lemmas.List.{append-nil}
-use Rattle.std.specs.List.{position}
 use Rattle.std.proofs.lemmas.Bool.Decides.{nat_tests}
 use Rattle.sym_base.specs.declared.state.Outcome.{Outcome}
 use Rattle.sym_check.specs.Steps.{Update, step}
-use Rattle.sym_top.specs.PlainFiles.{line_feed}
-use Rattle.sym_top.specs.PlainReading.{numbers_behind, number_of, with_number, before}
+use Rattle.sym_top.specs.PlainReading.{numbers_behind, number_of, with_number, before, first_line}
 use Rattle.sym_top.specs.Folds.{folded, record_at}
-
-one-add : (n : ℕ) → 1 + n ≡ suc n
-one-add n = omega arith
-
-by_test : {P : Type 0} (t : Bool) → (t ≡ true → P) → (t ≡ false → P) → P
-by_test true passed failed = passed refl
-by_test false passed failed = failed refl
+use Rattle.sym_top.proofs.FirstLine.{by_test, one-add}
 
 -- Bytes with no end of a line in them are no lines.
 pub behind-open : (line bytes : List ℕ) → length bytes ≤ before bytes → 0 < length line + length bytes → numbers_behind line bytes ≡ None
@@ -52,16 +44,12 @@ pub fold-other : (update : Update) (record_no : ℕ) (outcome : Outcome) (bytes 
 fold-other update record_no outcome bytes h e =
     ap (folded update record_no outcome) (behind-line [] bytes h ∙ ap (λ o. with_number o (numbers_behind [] (drop (suc (before bytes)) bytes))) e)
 
--- What `position` gives of the first end of a line.
-pub split-none : (bytes : List ℕ) → position (λ b. b == line_feed) bytes ≡ None → length bytes ≤ before bytes
-split-none bytes e = by_test (nat_lt (before bytes) (length bytes))
-    (λ t. absurd (let u = rw t at e in cc))
-    (λ t. grind (arith, nat_tests))
-
-pub split-some : (bytes : List ℕ) (n : ℕ) → position (λ b. b == line_feed) bytes ≡ Some n → (before bytes < length bytes) × (n ≡ before bytes)
-split-some bytes n e = by_test (nat_lt (before bytes) (length bytes))
-    (λ t. (grind (arith, nat_tests), let u = rw t at e in cc))
-    (λ t. absurd (let u = rw t at e in cc))
+-- A line that isn't read.
+pub fold-stop : (update : Update) (record_no : ℕ) (outcome : Outcome) (bytes : List ℕ) → 0 < length bytes → (length bytes ≤ before bytes) ⊎ (number_of (first_line bytes) ≡ None) → folded update record_no outcome (numbers_behind [] bytes) ≡ None
+fold-stop update record_no outcome bytes some (inl h) = fold-open update record_no outcome bytes h some
+fold-stop update record_no outcome bytes some (inr e) = by_test (nat_lt (before bytes) (length bytes))
+    (λ t. fold-other update record_no outcome bytes (grind (arith, nat_tests)) e)
+    (λ t. fold-open update record_no outcome bytes (grind (arith, nat_tests)) some)
 
 -- No line is left.
 pub fold-done : (update : Update) (record_no : ℕ) (outcome : Outcome) (bytes : List ℕ) → length bytes ≡ 0 → folded update record_no outcome (numbers_behind [] bytes) ≡ Some outcome

@@ -1,5 +1,5 @@
 -- What is read of a line, of lines and of a file: plain files as the code meets them.
-use Rattle.std.specs.Prelude.{ℕ, leb, eqb, Bool, cond, not, ◌&&◌, ℤ, pos, neg_ℤ, nat_eq, List, [], ◌∷◌, ◌++◌, length, take, drop, Option, None, Some}
+use Rattle.std.specs.Prelude.{◌≡◌, ◌⊎◌, ℕ, ◌<◌, ◌≤◌, leb, eqb, Bool, false, cond, not, ◌&&◌, ℤ, pos, neg_ℤ, nat_eq, List, [], ◌∷◌, ◌++◌, length, take, drop, Option, None, Some}
 use Rattle.std.specs.Option.{option_map}
 use Rattle.std.specs.List.{list_all, prefix_len}
 use Rattle.std.specs.Cmp.Lexicographic.{pointwise}
@@ -27,6 +27,26 @@ with_number (Some n) ns = option_map (λ rest. n ∷ rest) ns
 -- The number of bytes before the first end of a line.
 abbrev pub before : List ℕ → ℕ
 before bytes = prefix_len (λ b. not (eqb b line_feed)) bytes
+
+-- The first line, without its end.
+abbrev pub first_line : List ℕ → List ℕ
+first_line bytes = take (before bytes) bytes
+
+-- The size that a first line with an end spells in digits alone, and the number of its digits.
+abbrev pub SizeGives : List ℕ → Option (ℕ × ℕ) → Type 0
+SizeGives bytes None = (length bytes ≤ before bytes) ⊎ (size_of (first_line bytes) ≡ None)
+SizeGives bytes (Some read) = (before bytes < length bytes) × (size_of (first_line bytes) ≡ Some read.0) × (read.1 ≡ before bytes)
+
+-- A minus in front, what follows it, and the number of a size with or without one.
+abbrev pub has_minus : List ℕ → Bool
+has_minus [] = false
+has_minus (b ∷ rest) = eqb b minus
+
+abbrev pub behind_minus : List ℕ → List ℕ
+behind_minus bytes = cond (has_minus bytes) (drop 1 bytes) bytes
+
+abbrev pub signed : Bool → ℕ → ℤ
+signed negative size = cond negative (neg_ℤ (pos size)) (pos size)
 
 -- No line is begun at the end.
 abbrev pub at_end : List ℕ → Option (List ℤ)

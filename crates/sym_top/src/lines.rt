@@ -1,13 +1,12 @@
 //! Folds the lines of a plain file.
-ghost use Rattle.std.specs.Prelude.{◌≡◌, ◌==◌, ◌≤◌, suc, take, drop, IfNone, IfSome, ◌<◌, ◌^◌, ℕ, ℤ, List, Option, Some, None, [], option_copied, length, IfOk};
+ghost use Rattle.std.specs.Prelude.{◌≡◌, ◌<◌, ◌^◌, ℕ, ℤ, List, Option, Some, None, [], option_copied, length, IfOk};
 ghost use Rattle.std.specs.Option.{option_map};
-ghost use Rattle.std.specs.List.{position};
-ghost use Rattle.sym_top.specs.PlainReading.{before};
 ghost use Rattle.sym_top.specs.PlainReading.{body_of, numbers_behind};
 ghost use Rattle.sym_top.specs.PlainFiles.{records_from};
 ghost use Rattle.sym_top.specs.Folds.{FoldGives, PassGives, folded, record_at};
 ghost use Rattle.sym_top.specs.Plans.{plan_update, plan_initial};
 ghost use Rattle.sym_base.specs.declared.state.Outcome.TheVariants.{Going};
+ghost use Rattle.sym_base.specs.declared.value.Value.TheVariants.{Num};
 
 use crate::numbers::read_number;
 use crate::plan::Plan;
@@ -57,20 +56,29 @@ fn record_of(alloc: Global, no: u64, number: i64) -> Result<Record, NoMemory>
     Ok(Record { no, fields })
 }
 
-// The number of bytes before the first end of a line.
-fn line_size(bytes: &[u8]) -> Option<usize>
-    ensures { result ≡ position (λ b. b == LINE_FEED) bytes.now }
+// Makes a field hold this number. A number is written where it lies.
+fn set_number(field: &mut Value, number: i64)
+    ensures { field.new ≡ Num number }
 {
-    bytes.iter().position(|b| *b == LINE_FEED)
+    match field {
+        Value::Num(held) => *held = number,
+        other => *other = Value::Num(number),
+    }
 }
 
-// The first line without its end and the bytes behind its end, where it has one.
-fn split_line(bytes: &[u8]) -> Option<(&[u8], &[u8])>
-    ensures none { IfNone result (length bytes.now ≤ before bytes.now) }
-    ensures some { IfSome result (λ parts. (before bytes.now < length bytes.now) × (parts.0.now ≡ take (before bytes.now) bytes.now) × (parts.1.now ≡ drop (suc (before bytes.now)) bytes.now)) }
+// The record of this number, in the room of a record of one field.
+fn renewed(rec: Record, no: u64, number: i64) -> Record
+    requires { length rec.fields ≡ 1 }
+    ensures { result ≡ record_at no number }
 {
-    let size = line_size(bytes)?;
-    Some((&bytes[..size], &bytes[size + 1..]))
+    let mut fields = rec.fields.into_vec();
+    if let Some(field) = fields.first_mut() {
+        set_number(field, number);
+    }
+    Record {
+        no,
+        fields: Values::of(fields),
+    }
 }
 
 // How the one group stands after the lines of a body, each a record; the records are numbered
@@ -80,16 +88,15 @@ fn fold_lines(alloc: Global, plan: &Plan<'_>, body: &[u8]) -> Result<Outcome, Fo
     ensures { FoldGives (folded (plan_update plan.now) 1 (Going (plan_initial plan.now)) (numbers_behind [] body.now)) result }
 {
     let mut outcome = Outcome::Going(initial(alloc, plan)?);
+    // Each record takes the room of the one before it.
+    let mut rec = record_of(alloc, 0, 0)?;
     let mut no: u64 = 1;
     let mut rest = body;
     'lines: while !rest.is_empty() {
-        let Some((line, behind)) = split_line(rest) else {
+        let Some((number, behind)) = read_number(rest) else {
             return Err(FoldErr::NotPlain);
         };
-        let Some(number) = read_number(line) else {
-            return Err(FoldErr::NotPlain);
-        };
-        let rec = record_of(alloc, no, number)?;
+        rec = renewed(rec, no, number);
         outcome = next(plan, outcome, &rec);
         no += 1;
         rest = behind;

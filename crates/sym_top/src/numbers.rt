@@ -1,6 +1,8 @@
-//! Numbers as they stand in a plain file.
-ghost use Rattle.std.specs.Prelude.{◌≡◌, ◌≤◌, IfSome, pos, neg_ℤ};
-ghost use Rattle.sym_top.specs.PlainReading.{size_of, number_of};
+//! Numbers as they stand on the lines of a plain file.
+ghost use Rattle.std.specs.Prelude.{◌≡◌, ◌≤◌, ◌<◌, ◌⊎◌, ◌==◌, ◌&&◌, leb, suc, length, drop, cond, IfNone, IfSome, Some, None};
+ghost use Rattle.sym_top.specs.PlainReading.{before, first_line, number_of, is_digit as is_one_digit, SizeGives, has_minus, behind_minus, signed as signed_size};
+
+const LINE_FEED: u8 = b'\n';
 
 // The largest size of a number.
 const NUM_MAX_SIZE: u64 = 1_000_000_000_000;
@@ -8,56 +10,73 @@ const NUM_MAX_SIZE: u64 = 1_000_000_000_000;
 // The most digits of a number.
 const MOST_DIGITS: usize = 13;
 
-// The number that one to thirteen digits stand for, where it is at most 10^12.
-fn read_size(digits: &[u8]) -> Option<u64>
-    ensures value { result ≡ size_of digits.now }
-    ensures small { IfSome result (λ size. size ≤ NUM_MAX_SIZE) }
+// The size that the first line spells and the number of its digits. `None` where the line has no
+// end, or isn't one to thirteen digits that stand for at most 10^12.
+fn read_size(bytes: &[u8]) -> Option<(u64, usize)>
+    ensures value { SizeGives bytes.now result }
+    ensures small { IfSome result (λ read. read.0 ≤ NUM_MAX_SIZE) }
 {
-    if digits.is_empty() {
-        return None;
-    }
-    if digits.len() > MOST_DIGITS {
-        return None;
-    }
+    let front = &bytes[..bytes.len().min(MOST_DIGITS + 1)];
     let mut size: u64 = 0;
-    'digits: for digit in digits {
-        if *digit < b'0' {
-            return None;
+    'digits: for (count, byte) in front.iter().enumerate() {
+        if !is_digit(*byte) {
+            return ended(*byte, size, count);
         }
-        if *digit > b'9' {
-            return None;
-        }
-        size = 10 * size + u64::from(*digit - b'0');
-        if size > NUM_MAX_SIZE {
-            return None;
-        }
+        size = 10 * size + u64::from(*byte - b'0');
     }
-    Some(size)
+    None
 }
 
-// The number of this size that is below zero.
-fn negative(size: u64) -> i64
+// Whether a byte is a decimal digit.
+fn is_digit(byte: u8) -> bool
+    ensures { result ≡ is_one_digit byte }
+{
+    b'0' <= byte && byte <= b'9'
+}
+
+// A size with the number of its digits, where the line ends behind them, there are some, and
+// they stand for at most 10^12.
+fn ended(byte: u8, size: u64, count: usize) -> Option<(u64, usize)>
+    ensures { result ≡ cond ((byte == LINE_FEED) && (leb 1 count && leb size NUM_MAX_SIZE)) (Some (size, count)) None }
+{
+    if byte == LINE_FEED && 1 <= count && size <= NUM_MAX_SIZE {
+        Some((size, count))
+    } else {
+        None
+    }
+}
+
+// Whether a minus stands in front, and the bytes behind it.
+fn split_minus(bytes: &[u8]) -> (bool, &[u8])
+    ensures minus { result.0 ≡ has_minus bytes.now }
+    ensures rest { result.1.now ≡ behind_minus bytes.now }
+{
+    match bytes {
+        [b'-', rest @ ..] => (true, rest),
+        _ => (false, bytes),
+    }
+}
+
+// The number of this size.
+fn signed(negative: bool, size: u64) -> i64
     requires { size ≤ NUM_MAX_SIZE }
-    ensures { result ≡ neg_ℤ (pos size) }
+    ensures { result ≡ signed_size negative size }
 {
-    -(size as i64)
+    let number = size as i64;
+    if negative { -number } else { number }
 }
 
-/// The number of a line: an optional minus and one to thirteen digits, with a value in
-/// -10^12 to 10^12; `None` where the line is anything else.
-#[tactic(auto, unfolding(crate::specs::PlainReading::number_of))]
-pub fn read_number(line: &[u8]) -> Option<i64>
-    ensures { result ≡ number_of line.now }
+/// The number of the first line and the bytes behind the line's end. `None` where the line has no
+/// end, or is anything but an optional minus and one to thirteen digits with a value in -10^12 to
+/// 10^12.
+// Apart from its callers, so that its loop has the registers to itself.
+#[inline(never)]
+pub fn read_number(bytes: &[u8]) -> Option<(i64, &[u8])>
+    ensures none { IfNone result ((length bytes.now ≤ before bytes.now) ⊎ (number_of (first_line bytes.now) ≡ None)) }
+    ensures some { IfSome result (λ read. (before bytes.now < length bytes.now) × (number_of (first_line bytes.now) ≡ Some read.0)) }
+    ensures rest { IfSome result (λ read. read.1.now ≡ drop (suc (before bytes.now)) bytes.now) }
 {
-    match line {
-        [] => None,
-        [b'-', digits @ ..] => match read_size(digits) {
-            Some(size) => Some(negative(size)),
-            None => None,
-        },
-        _ => match read_size(line) {
-            Some(size) => Some(size as i64),
-            None => None,
-        },
-    }
+    let (negative, digits) = split_minus(bytes);
+    let (size, count) = read_size(digits)?;
+    Some((signed(negative, size), &digits[count + 1..]))
 }

@@ -1,5 +1,6 @@
 //! The sequential step.
 ghost use Rattle.std.specs.Prelude.{◌≡◌, ℤ, ◌+ℤ◌, IfOk, int_le, ◌&&◌, Bool, cond, Some, None};
+ghost use Rattle.sym_base.specs.declared.state.Cell.TheVariants.{Int};
 ghost use Rattle.sym_base.specs.States.{number_at, with_int as with_number};
 ghost use Rattle.sym_check.specs.Steps.{num_at, added as added_at, step as one_step, assigned};
 ghost use Rattle.sym_top.specs.Plans.{addend, plan_update, plan_initial, sum_of};
@@ -40,13 +41,23 @@ fn added(amount: Amount, rec: &Record) -> i64
     }
 }
 
+// Makes a cell hold this number. An integer cell is written where it lies.
+fn set_int(cell: &mut Cell, number: i64)
+    ensures { cell.new ≡ Int number }
+{
+    match cell {
+        Cell::Int(held) => *held = number,
+        other => *other = Cell::Int(number),
+    }
+}
+
 // The state whose one cell holds this number instead.
 fn with_int(state: State, number: i64) -> State
     ensures { result ≡ with_number state 0 number }
 {
     let mut cells = state.cells.into_vec();
     if let Some(cell) = cells.first_mut() {
-        *cell = Cell::Int(number);
+        set_int(cell, number);
     }
     State {
         cells: Cells::of(cells),

@@ -1,22 +1,40 @@
-use Rattle.std.proofs.Common.{sym, arith}
-use Rattle.std.proofs.lemmas.Bool.Decides.{nat_tests}
-use Rattle.sym_top.proofs.Digits.{size-empty, size-long, size-stopped, size-passed, size-read, low, high}
+use Rattle.std.proofs.Common.{◌≡◌, ◌<◌, ◌≤◌, true, length, get_or, take, sym, ap, ◌∙◌, arith, length-take, ℕ}
+use Rattle.sym_top.specs.PlainReading.{before, first_line, is_digit}
+use Rattle.sym_top.proofs.FirstLine.{first-length, first-at, front-at, goes-on, value-on, digits-on, size-ended, size-unended, size-fits, size-more, digit-not-end, digit-most}
 use Rattle.sym_top.proofs.numbers.read_size.Goals as goal
 
-pub returns-then-is_empty-clause-value : goal.returns-then-is_empty-clause-value
-returns-then-is_empty-clause-value c = sym (size-empty c.args.digits.now (grind (arith, nat_tests)))
+pub returns-then-not-is_digit-clause-value : goal.returns-then-not-is_digit-clause-value
+returns-then-not-is_digit-clause-value c =
+    let at = front-at c.args.bytes.now c.min.result c.digits.count c.min.ensures c.digits-test.true in
+    rw c.ended.ensures (size-ended c.args.bytes.now c.digits.count c.digits.size _ c.digits.invariant.inside at.0 at.1 at.2 (sym c.if-not-is_digit.ensures) c.digits.invariant.value c.digits.invariant.digits)
 
-pub returns-then-digits-gt-MOST_DIGITS-clause-value : goal.returns-then-digits-gt-MOST_DIGITS-clause-value
-returns-then-digits-gt-MOST_DIGITS-clause-value c = sym (size-long c.args.digits.now (omega arith))
+pub overflow_mul-size : goal.overflow_mul-size
+overflow_mul-size c =
+    let at = front-at c.args.bytes.now c.min.result c.digits.count c.min.ensures c.digits-test.true in
+    let small = size-fits c.digits.size c.digits.count c.digits.invariant.small at.1 in
+    omega arith
 
-pub returns-then-digit-lt48-clause-value : goal.returns-then-digit-lt48-clause-value
-returns-then-digit-lt48-clause-value c = sym (size-stopped c.args.digits.now c.digits.digit-index c.digits-test.true c.digits.invariant.1 (low _ c.if-digit-lt48.true))
+pub overflow_add-size : goal.overflow_add-size
+overflow_add-size c =
+    let at = front-at c.args.bytes.now c.min.result c.digits.count c.min.ensures c.digits-test.true in
+    let small = size-fits c.digits.size c.digits.count c.digits.invariant.small at.1 in
+    let most : get_or (take c.min.result c.args.bytes.now) c.digits.count 0 ≤ 57 = digit-most (get_or (take c.min.result c.args.bytes.now) c.digits.count 0) (sym c.if-not-is_digit.ensures) in
+    omega arith
 
-pub returns-then-digit-gt57-clause-value : goal.returns-then-digit-gt57-clause-value
-returns-then-digit-gt57-clause-value c = sym (size-stopped c.args.digits.now c.digits.digit-index c.digits-test.true c.digits.invariant.1 (high _ c.if-digit-gt57.true))
-
-pub returns-then-size-gt-NUM_MAX_SIZE-clause-value : goal.returns-then-size-gt-NUM_MAX_SIZE-clause-value
-returns-then-size-gt-NUM_MAX_SIZE-clause-value c = sym (size-passed c.args.digits.now c.digits.digit-index c.digits.size c.digits-test.true c.digits.invariant.0 (omega arith))
+pub digits-preserved : goal.digits-preserved
+digits-preserved c =
+    let at = front-at c.args.bytes.now c.min.result c.digits.count c.min.ensures c.digits-test.true in
+    let digit : is_digit (get_or (take c.min.result c.args.bytes.now) c.digits.count 0) ≡ true = sym c.if-not-is_digit.ensures in
+    let most : get_or (take c.min.result c.args.bytes.now) c.digits.count 0 ≤ 57 = digit-most _ digit in
+    let on : c.digits.count < before c.args.bytes.now = goes-on _ _ c.digits.invariant.inside at.0 (digit-not-end _ (ap is_digit at.2 ∙ digit)) in
+    let within : c.digits.count < length (first_line c.args.bytes.now) = rw (first-length c.args.bytes.now) on in
+    let here = first-at c.args.bytes.now c.digits.count on ∙ at.2 in
+    record {
+      inside = omega arith;
+      value = rw c.from.ensures (value-on _ c.digits.count c.digits.size _ within here c.digits.invariant.value);
+      digits = digits-on _ c.digits.count _ within here digit c.digits.invariant.digits;
+      small = size-more c.digits.size c.digits.count c.from.result c.digits.invariant.small (omega arith);
+    }
 
 pub returns-clause-value : goal.returns-clause-value
-returns-clause-value c = size-read c.args.digits.now c.digits.digit-index c.digits.size (omega arith) c.digits.invariant.0 c.digits.invariant.1 (grind (arith, nat_tests)) (omega arith) c.digits.invariant.2
+returns-clause-value c = size-unended c.args.bytes.now c.digits.count c.digits.invariant.inside (omega (arith, c.min.ensures, length-take {A = ℕ}))
