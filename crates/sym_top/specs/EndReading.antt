@@ -1,4 +1,4 @@
--- The end of a run as the code finds it; None where the store doesn't tell what decides.
+-- The end of a run, as the function that the code is proved against; None where the store doesn't tell what decides.
 use Rattle.std.specs.Prelude.{ℕ, List, length, cond, nat_lt, Option, None, Some, ℤ}
 use Rattle.sym_base.specs.Counters.{Counter}
 use Rattle.sym_parse.specs.Reading.{counter_at}

@@ -1,4 +1,4 @@
--- What is read of a line, of lines and of a file: plain files as the code meets them.
+-- What is read of a line, of lines and of a file: the functions that the code is proved against.
 use Rattle.std.specs.Prelude.{◌≡◌, ◌⊎◌, ℕ, ◌<◌, ◌≤◌, leb, eqb, Bool, false, cond, not, ◌&&◌, ℤ, pos, neg_ℤ, nat_eq, List, [], ◌∷◌, ◌++◌, length, take, drop, Option, None, Some}
 use Rattle.std.specs.Option.{option_map}
 use Rattle.std.specs.List.{list_all, prefix_len}

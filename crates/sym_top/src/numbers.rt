@@ -2,10 +2,12 @@
 ghost use Rattle.std.specs.Prelude.{◌≡◌, ◌≤◌, ◌<◌, ◌⊎◌, ◌==◌, ◌&&◌, leb, suc, length, drop, cond, IfNone, IfSome, Some, None};
 ghost use Rattle.sym_top.specs.PlainReading.{before, first_line, number_of, is_digit as is_one_digit, SizeGives, has_minus, behind_minus, signed as signed_size};
 
+use sym_base::NUM_MAX;
+
 const LINE_FEED: u8 = b'\n';
 
 // The largest size of a number.
-const NUM_MAX_SIZE: u64 = 1_000_000_000_000;
+const NUM_MAX_SIZE: u64 = NUM_MAX as u64;
 
 // The most digits of a number.
 const MOST_DIGITS: usize = 13;

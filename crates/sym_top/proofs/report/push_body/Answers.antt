@@ -1,6 +1,5 @@
-use Rattle.std.proofs.Common.{◌≡◌, ◌++◌, ap, sym, ◌∙◌, append_assoc, codes}
+use Rattle.std.proofs.Common.{◌++◌, ap, ◌∙◌, append_assoc, codes}
 use Rattle.std.specs.Fmt.{decimal}
-use Rattle.sym_top.specs.Tables.{joined, body_texts}
 use Rattle.sym_top.proofs.report.push_body.Goals as goal
 
 pub returns-in_ok-push_record-in-Arith : goal.returns-in_ok-push_record-in-Arith
