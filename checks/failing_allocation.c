@@ -8,6 +8,8 @@
 #include <stdlib.h>
 
 void *__libc_malloc(size_t size);
+void *__libc_calloc(size_t count, size_t size);
+void *__libc_memalign(size_t alignment, size_t size);
 void *__libc_realloc(void *old, size_t size);
 
 static unsigned long allocations;
@@ -40,4 +42,15 @@ static int fails(void) {
 
 void *malloc(size_t size) { return fails() ? NULL : __libc_malloc(size); }
 
+void *calloc(size_t count, size_t size) { return fails() ? NULL : __libc_calloc(count, size); }
+
 void *realloc(void *old, size_t size) { return fails() ? NULL : __libc_realloc(old, size); }
+
+void *aligned_alloc(size_t alignment, size_t size) {
+    return fails() ? NULL : __libc_memalign(alignment, size);
+}
+
+int posix_memalign(void **result, size_t alignment, size_t size) {
+    *result = aligned_alloc(alignment, size);
+    return *result ? 0 : ENOMEM;
+}

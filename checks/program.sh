@@ -1,9 +1,9 @@
 #!/bin/sh
 # Runs the program as its users do, by the launcher, and tests its statuses and what it writes, over
-# the files and streams of the system: one row for each status but that of want of memory. Then runs
-# each row once for each of its allocations, with that one refused: the answer has to stay as it
-# was, or be status 8 with nothing written.
-# Needs a C compiler as cc. The last line counts the runs that passed and failed.
+# the files and streams of the system: one row or more for each status but that of want of memory.
+# Then runs each row once for each of its allocations, with that one refused: the answer has to stay
+# as it was, or be status 8 with nothing written, and at least one run of each row has to end with 8.
+# Needs a C compiler as cc, and the GNU C library. The last line counts what passed and failed.
 set -u
 
 here=$(CDPATH='' cd -P "$(dirname "$0")" && pwd)
@@ -12,7 +12,8 @@ examples=$root/examples
 program=$root/crates/symple/out/symple
 no_memory=8
 
-work=$(mktemp -d) || exit 1
+# In /tmp, since a preloaded library's path can have no blank and no colon.
+work=$(TMPDIR=/tmp mktemp -d) || exit 1
 trap 'rm -rf "$work"' EXIT
 trap 'exit 1' HUP INT TERM
 
@@ -54,15 +55,27 @@ row() {
     status=$?
     answered "$wanted" "$text"
     note $? "$name: status $status in place of $wanted, or another output"
+    refuse_each "$@"
+}
+
+# Runs the words of a row with none and then with each of their allocations refused.
+refuse_each() {
+    rm -f "$work/count"
     run_short 0 "$@"
-    total=$(cat "$work/count")
+    answered "$wanted" "$text"
+    note $? "$name, no allocation refused: status $status"
+    total=$(cat "$work/count") || total=0
     refusal=1
+    short=0
     while [ "$refusal" -le "$total" ]; do
         run_short "$refusal" "$@"
         answered "$wanted" "$text" || answered "$no_memory" ""
         note $? "$name, allocation $refusal of $total refused: status $status"
+        [ "$status" -ne "$no_memory" ] || short=$((short + 1))
         refusal=$((refusal + 1))
     done
+    [ "$short" -ge 1 ]
+    note $? "$name: none of $total refused allocations gave status $no_memory"
 }
 
 cc -O2 -shared -fPIC -o "$work/failing.so" "$here/failing_allocation.c" || exit 1
@@ -101,6 +114,7 @@ row "an absent file" 5 '' run "$examples/counter.symple" "$work/absent"
 row "a folder in place of a file" 5 '' run "$examples/counter.symple" "$work"
 row "a large script" 7 '' run "$work/large.symple" "$examples/counter.csv"
 row "a large file" 7 '' run "$examples/counter.symple" "$work/large.csv"
+# What goes to this device can't be read back: only the status is compared.
 out=/dev/full
 row "a full device" 6 '' run "$examples/counter.symple" "$examples/counter.csv"
 
