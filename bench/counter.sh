@@ -3,7 +3,7 @@
 # program written by hand in Rust, which do the same work, and against a bare sum in awk, which
 # tests neither the lines nor the range. All first have to write the same report; then each runs
 # three times, in turn. Prints the least wall time, the least processor time and the most memory
-# of each, and how many times symple's wall time and memory the others' are.
+# of each, and the ratios of its wall time and memory to symple's.
 # Needs rustc, mawk or gawk, GNU date and GNU time (Debian's packages rustc, mawk and time).
 # Usage: bench/counter.sh [RECORDS]
 set -eu

@@ -1,7 +1,8 @@
 -- Texts that are joined.
 use Rattle.std.proofs.Common.{◌≡◌, ◌≤◌, ℕ, List, [], ◌∷◌, ◌++◌, length, map, drop, get_or, sym, ap, ◌∙◌, arith}
 use Rattle.std.proofs.lemmas.List.{append-nil}
-use Rattle.sym_top.specs.Tables.{joined, behind_each}
+use Rattle.sym_top.specs.Appending.{behind_each}
+use Rattle.sym_top.specs.Tables.{joined}
 
 first-joined : (separator x : List ℕ) (rest : List (List ℕ)) → joined separator (x ∷ rest) ≡ x ++ behind_each separator rest
 first-joined separator x [] = sym (append-nil x)

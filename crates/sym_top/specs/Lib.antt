@@ -1,3 +1,4 @@
+pub mod Appending
 pub mod Commands
 pub mod EndReading
 pub mod Ends

@@ -1,8 +1,8 @@
 -- A report: rows of values or faults, and their text in the form `table`.
 -- Rows and the pass that they show are the SYMPLE paper's (SOSP 2015), the texts this project's profile.
-use Rattle.std.specs.Prelude.{ℕ, ltb, eqb, List, [], ◌∷◌, ◌++◌, map, Bool, true, false, cond, ◌||◌, codes, slice_index_or, Option, None, Some}
+use Rattle.std.specs.Prelude.{ℕ, ltb, eqb, List, [], ◌∷◌, ◌++◌, map, Bool, true, false, cond, ◌||◌, codes, slice_index_or}
 use Rattle.std.specs.Fmt.{decimal, signed_decimal}
-use Rattle.std.specs.List.{list_any}
+use Rattle.std.specs.List.{list_any, flat_map}
 use Rattle.sym_base.specs.declared.value.Value.TheVariants as value
 use Rattle.sym_base.specs.declared.value.Key.{Key}
 use Rattle.sym_base.specs.declared.value.Key.TheVariants.{Whole, One}
@@ -56,20 +56,16 @@ row_body_of names (Ended fault) = fault_body names fault.kind fault.no
 abbrev pub row_of : Names → (Key × Outcome) → Row
 row_of names group = record { keys = key_columns names.labels group.0; body = row_body_of names.cells group.1 }
 
--- A row is faulty where it has a fault or a column that couldn't be computed.
+-- A column that couldn't be computed.
 abbrev pub is_bad : Column → Bool
 is_bad (column.Bad fault) = true
 is_bad _ = false
 
+-- A row is faulty where it has a fault or such a column.
 abbrev pub is_faulty : RowBody → Bool
 is_faulty (Columns columns) = list_any is_bad columns
 is_faulty (Over cell record_no) = true
 is_faulty (Arith record_no) = true
-
--- The rows of at most one group, which has no keys.
-abbrev pub rows_with : Option RowBody → List Row
-rows_with None = []
-rows_with (Some body) = record { keys = []; body = body } ∷ []
 
 abbrev pub some_faulty : List Row → Bool
 some_faulty = list_any (λ row. is_faulty row.body)
@@ -86,11 +82,6 @@ abbrev pub joined : List ℕ → List (List ℕ) → List ℕ
 joined separator [] = []
 joined separator (x ∷ []) = x
 joined separator (x ∷ y ∷ rest) = x ++ (separator ++ joined separator (y ∷ rest))
-
--- Texts one after another, each behind a separator.
-abbrev pub behind_each : List ℕ → List (List ℕ) → List ℕ
-behind_each separator [] = []
-behind_each separator (x ∷ rest) = separator ++ (x ++ behind_each separator rest)
 
 abbrev pub list_text : List (List ℕ) → List ℕ
 list_text elements = codes "[" ++ (joined (codes " ") elements ++ codes "]")
@@ -121,8 +112,7 @@ abbrev pub row_text : Row → List ℕ
 row_text row = line_of (map value_text row.keys ++ body_texts row.body)
 
 abbrev pub rows_text : List Row → List ℕ
-rows_text [] = []
-rows_text (row ∷ rest) = row_text row ++ rows_text rest
+rows_text = flat_map row_text
 
 -- The whole table: the line of the heads, a line for each row, and the line of the end.
 abbrev pub table_text : List (List ℕ) → List Row → List ℕ

@@ -1,7 +1,8 @@
 //! From a checked script and a file's bytes to the report.
 ghost use Rattle.std.specs.Prelude.{◌≡◌, ◌∷◌, [], if◌then◌else◌, IfOk, map};
 ghost use Rattle.sym_top.specs.Folds.{fold_status_of, group_list};
-ghost use Rattle.sym_top.specs.Tables.{row_of, one_cell, rows_with, some_faulty, table_text};
+ghost use Rattle.sym_top.specs.Appending.{rows_with};
+ghost use Rattle.sym_top.specs.Tables.{row_of, one_cell, some_faulty, table_text};
 
 use crate::lines::FoldErr;
 use crate::plan::Plan;
@@ -43,10 +44,10 @@ fn has_fault(row: &Option<RowBody>) -> bool
 }
 
 // A report is Faulted where a row is.
-fn report_status(has_fault: bool) -> Status
-    ensures { result ≡ (if has_fault then Status.Faulted else Status.Done) }
+fn report_status(faulty: bool) -> Status
+    ensures { result ≡ (if faulty then Status.Faulted else Status.Done) }
 {
-    if has_fault {
+    if faulty {
         Status::Faulted
     } else {
         Status::Done

@@ -8,13 +8,11 @@ ghost use Rattle.sym_top.specs.Plans.{plan_update, plan_initial};
 ghost use Rattle.sym_base.specs.declared.state.Outcome.TheVariants.{Going};
 ghost use Rattle.sym_base.specs.declared.value.Value.TheVariants.{Num};
 
-use crate::numbers::read_number;
+use crate::numbers::{LINE_FEED, read_number};
 use crate::plan::Plan;
 use crate::steps::{initial, next};
 use std::alloc::Global;
 use sym_base::{NoMemory, Outcome, Record, Text, Value, Values};
-
-const LINE_FEED: u8 = b'\n';
 
 /// Why a file has no report.
 #[derive(Clone, Copy, Debug, PartialEq, Eq)]

@@ -4,7 +4,8 @@ ghost use Rattle.sym_top.specs.PlainReading.{before, first_line, number_of, is_d
 
 use sym_base::NUM_MAX;
 
-const LINE_FEED: u8 = b'\n';
+/// The byte that ends a line.
+pub const LINE_FEED: u8 = b'\n';
 
 // The largest size of a number.
 const NUM_MAX_SIZE: u64 = NUM_MAX as u64;
@@ -71,7 +72,7 @@ fn signed(negative: bool, size: u64) -> i64
 /// The number of the first line and the bytes behind the line's end. `None` where the line has no
 /// end, or is anything but an optional minus and one to thirteen digits with a value in -10^12 to
 /// 10^12.
-// Apart from its callers, so that its loop has the registers to itself.
+// Not inlined, which was measured to be faster.
 #[inline(never)]
 pub fn read_number(bytes: &[u8]) -> Option<(i64, &[u8])>
     ensures none { IfNone result ((length bytes.now ≤ before bytes.now) ⊎ (number_of (first_line bytes.now) ≡ None)) }

@@ -1,7 +1,8 @@
 //! The report's text.
 ghost use Rattle.std.specs.Prelude.{◌≡◌, ◌++◌, ◌∷◌, [], IfOk, OnOk, codes};
 ghost use Rattle.std.specs.Fmt.{decimal};
-ghost use Rattle.sym_top.specs.Tables.{joined, body_texts, rows_with, table_text};
+ghost use Rattle.sym_top.specs.Appending.{rows_with};
+ghost use Rattle.sym_top.specs.Tables.{joined, body_texts, table_text};
 
 use crate::rows::RowBody;
 use crate::shown::push_joined;

@@ -1,7 +1,8 @@
 //! The texts of values, as a report shows them.
 ghost use Rattle.std.specs.Prelude.{◌≡◌, ◌++◌, List, ℕ, map, OnOk};
 ghost use Rattle.std.specs.Fmt.{signed_decimal};
-ghost use Rattle.sym_top.specs.Tables.{joined, behind_each, value_text, word_text, list_text, bad_text, shown_byte as shown_byte_of};
+ghost use Rattle.sym_top.specs.Appending.{behind_each};
+ghost use Rattle.sym_top.specs.Tables.{joined, value_text, word_text, list_text, bad_text, shown_byte as shown_byte_of};
 
 use itoa::Buffer;
 use sym_base::{Column, NoMemory, ReportFault, Text};

@@ -90,7 +90,7 @@ fn write_report<O: Sink>(out: &mut O, report: &Report) -> Status
 /// `Usage`, `Script`, `Input` and `TooLarge` come exactly where the words, the script, the file
 /// or a size is refused, in the order words, size of the script, script, size of the file, file.
 /// `ReadFault` and `WriteFault` come only where a fault of a named file or of `out` was counted
-/// in this call. Nothing is written before the whole report stands.
+/// in this call. Nothing is written before the whole report is made.
 pub fn symple<F: Store, O: Sink, E: Sink>(
     alloc: Global,
     words: &Vec<String>,

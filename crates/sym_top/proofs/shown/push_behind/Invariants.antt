@@ -1,6 +1,6 @@
 -- What was appended, and what the items that are left add, is the whole.
 use Rattle.std.proofs.Common.{◌≡◌, ◌++◌, drop, map}
-use Rattle.sym_top.specs.Tables.{behind_each}
+use Rattle.sym_top.specs.Appending.{behind_each}
 use Rattle.sym_top.proofs.shown.push_behind.Given as goal
 
 abbrev pub invariant-items : goal.invariant-items

@@ -1,5 +1,5 @@
 use Rattle.std.proofs.Common.{◌≤◌, ◌-◌, ◌++◌, map, drop, take_all, length, length-drop, ap, sym, ◌∙◌, append_assoc, arith}
-use Rattle.sym_top.specs.Tables.{behind_each}
+use Rattle.sym_top.specs.Appending.{behind_each}
 use Rattle.sym_top.proofs.Joining.{joined-rest}
 use Rattle.sym_top.proofs.shown.push_joined.Goals as goal
 
