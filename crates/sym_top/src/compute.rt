@@ -1,4 +1,4 @@
-//! From a checked script and a file's bytes to the report.
+//! The report of a file's group, and the status that goes with it.
 ghost use Rattle.std.specs.Prelude.{◌≡◌, ◌∷◌, [], if◌then◌else◌, IfOk, map};
 ghost use Rattle.sym_top.specs.Folds.{fold_status_of, group_list};
 ghost use Rattle.sym_top.specs.Appending.{rows_with};
