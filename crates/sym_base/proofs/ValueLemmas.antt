@@ -6,9 +6,9 @@ use Rattle.std.specs.Bool.{Decides}
 use Rattle.std.specs.Cmp.{IsTotalOrder, nat_cmp_total, int_cmp_total}
 use Rattle.std.specs.Cmp.Lexicographic.{lists_total, nat_list_cmp_total, pointwise, pointwise_decides}
 use Rattle.std.specs.FinMap.{IsAntisymmetric, nat_cmp-IsAntisymmetric, int_cmp-IsAntisymmetric, slice_cmp-IsAntisymmetric}
-use Rattle.sym_base.specs.contracts.value.ValuePartialEq.TheImpl as equality
-use Rattle.sym_base.specs.declared.value.Value.{Value}
-use Rattle.sym_base.specs.declared.value.Value.TheVariants.{Num, Word, Label}
+use Rattle.sym_base.specs.contracts.values.value.ValuePartialEq.TheImpl as equality
+use Rattle.sym_base.specs.declared.values.value.Value.{Value}
+use Rattle.sym_base.specs.declared.values.value.Value.TheVariants.{Num, Word, Label}
 use Rattle.sym_base.specs.Order.{value_cmp, values_cmp}
 
 antisymm : (x y : Value) → value_cmp x y ≡ ordering_reverse (value_cmp y x)

@@ -1,8 +1,8 @@
 -- What a comparison says of two whole numbers.
 use Rattle.std.specs.Prelude.{ℤ, Bool, not, int_lt, int_le}
 use Rattle.std.specs.Ordering.{int_eq}
-use Rattle.sym_base.specs.declared.compare.Compare.{Compare}
-use Rattle.sym_base.specs.declared.compare.Compare.TheVariants as compare
+use Rattle.sym_base.specs.declared.tree.compare.Compare.{Compare}
+use Rattle.sym_base.specs.declared.tree.compare.Compare.TheVariants as compare
 
 -- Whether x compares so with y.
 abbrev pub compares : Compare → ℤ → ℤ → Bool

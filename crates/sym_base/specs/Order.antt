@@ -4,8 +4,8 @@ use Rattle.std.specs.declared.cmp.Ordering.{Ordering}
 use Rattle.std.specs.declared.cmp.Ordering.TheVariants.{Less, Greater}
 use Rattle.std.specs.Ordering.{nat_cmp, int_cmp}
 use Rattle.std.specs.Cmp.Lexicographic.{slice_cmp}
-use Rattle.sym_base.specs.declared.value.Value.{Value}
-use Rattle.sym_base.specs.declared.value.Value.TheVariants.{Num, Word, Label}
+use Rattle.sym_base.specs.declared.values.value.Value.{Value}
+use Rattle.sym_base.specs.declared.values.value.Value.TheVariants.{Num, Word, Label}
 
 -- Numbers come first and go by size, then words by their bytes, then labels by number.
 abbrev pub value_cmp : Value → Value → Ordering

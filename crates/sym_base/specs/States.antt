@@ -1,8 +1,8 @@
 -- States as lists of cells.
 use Rattle.std.specs.Prelude.{◌≡◌, ℕ, ℤ, pos, Option, Some, None, slice_get, slice_set}
-use Rattle.sym_base.specs.declared.state.Cell.{Cell}
-use Rattle.sym_base.specs.declared.state.Cell.TheVariants.{Enum, Int}
-use Rattle.sym_base.specs.declared.state.State.{State}
+use Rattle.sym_base.specs.declared.values.state.Cell.{Cell}
+use Rattle.sym_base.specs.declared.values.state.Cell.TheVariants.{Enum, Int}
+use Rattle.sym_base.specs.declared.values.state.State.{State}
 
 -- The cell with this number is an enum cell that holds this label.
 pub record HoldsLabel (state : State) (cell label : ℕ) : Type 0 where

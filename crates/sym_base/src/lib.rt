@@ -1,37 +1,18 @@
-//! Values, records, states and reports, the syntax tree of a script, and the edges
-//! through which bytes come in and go out.
+//! Values, records, states and reports (`values`), the syntax tree of a script (`tree`), and the
+//! stores and sinks through which bytes come in and go out (`edge`).
 #![tactic(auto)]
 
-pub mod compare;
-pub mod element;
-pub mod mem_sink;
-pub mod mem_store;
-pub mod memory;
-pub mod read;
-pub mod record;
-pub mod report;
-pub mod sequence;
-pub mod sink;
-pub mod state;
-pub mod store;
-pub mod text;
-pub mod tree;
-pub mod value;
-pub mod write;
+mod edge;
+mod tree;
+mod values;
 
-pub use compare::Compare;
-pub use element::Element;
-pub use mem_sink::MemSink;
-pub use mem_store::MemStore;
-pub use memory::NoMemory;
-pub use read::{ReadErr, read_all};
-pub use record::Record;
-pub use report::{Column, Columns, ReportFault};
-pub use sequence::{Plain, Sequence};
-pub use sink::{Sink, SinkErr};
-pub use state::{Cell, Cells, Fault, FaultKind, Outcome, State};
-pub use store::{FILE_MAX, Failed, Store};
-pub use text::{Text, Texts, Words};
+pub use edge::mem_sink::MemSink;
+pub use edge::mem_store::MemStore;
+pub use edge::read::{ReadErr, read_all};
+pub use edge::sink::{Sink, SinkErr};
+pub use edge::store::{FILE_MAX, Failed, Store};
+pub use edge::write::write_all;
+pub use tree::compare::Compare;
 pub use tree::declaration::{
     CellDecl, ColumnDecl, ColumnDecls, EnumDecl, EnumDecls, FieldDecl, FieldDecls, KindRef,
     Literal, Param, Params, Part, Parts, StateDecl, StateDecls, TestDecl, TestDecls,
@@ -40,8 +21,14 @@ pub use tree::expression::{BinOp, Expr, Exprs};
 pub use tree::name::{Name, Names};
 pub use tree::script::Script;
 pub use tree::statement::{Stmt, Stmts};
-pub use value::{Key, NUM_MAX, Nums, Value, Values};
-pub use write::write_all;
+pub use values::element::Element;
+pub use values::memory::NoMemory;
+pub use values::record::Record;
+pub use values::report::{Column, Columns, ReportFault};
+pub use values::sequence::{Plain, Sequence};
+pub use values::state::{Cell, Cells, Fault, FaultKind, Outcome, State};
+pub use values::text::{Text, Texts, Words};
+pub use values::value::{Key, NUM_MAX, Nums, Value, Values};
 
 #[cfg(test)]
 mod copies;

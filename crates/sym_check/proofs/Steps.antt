@@ -1,15 +1,15 @@
 -- Folding over records.
 use Rattle.std.proofs.Common.{◌≡◌, ℤ, ◌+ℤ◌, int_le, Bool, true, false, cond, ◌&&◌, slice_set, List, [], ◌∷◌, ◌++◌, map, refl, ap, ◌∙◌}
 use Rattle.sym_base.specs.Counters.{Counter, IsCounter}
-use Rattle.sym_base.specs.declared.value.Key.TheVariants.{Whole}
-use Rattle.sym_base.specs.declared.state.State.{State}
-use Rattle.sym_base.specs.declared.state.Outcome.TheVariants.{Going, Ended}
-use Rattle.sym_base.specs.declared.state.Cell.TheVariants.{Int}
-use Rattle.sym_base.specs.declared.state.FaultKind.TheVariants.{Over}
+use Rattle.sym_base.specs.declared.values.value.Key.TheVariants.{Whole}
+use Rattle.sym_base.specs.declared.values.state.State.{State}
+use Rattle.sym_base.specs.declared.values.state.Outcome.TheVariants.{Going, Ended}
+use Rattle.sym_base.specs.declared.values.state.Cell.TheVariants.{Int}
+use Rattle.sym_base.specs.declared.values.state.FaultKind.TheVariants.{Over}
 use Rattle.sym_base.specs.States.{number_at, with_int}
 use Rattle.sym_check.proofs.CounterTrees.{le-Decides}
-use Rattle.sym_base.specs.declared.record.Record.{Record}
-use Rattle.sym_base.specs.declared.state.Outcome.{Outcome}
+use Rattle.sym_base.specs.declared.values.record.Record.{Record}
+use Rattle.sym_base.specs.declared.values.state.Outcome.{Outcome}
 use Rattle.sym_check.specs.Steps.{Update, step, after, initial, counting, IsValid, IsValidOutcome, added, addend_of, records_with, without, keys, grouped}
 
 pub after-snoc : (update : Update) (records : List Record) (rec : Record) (outcome : Outcome) → after update (records ++ rec ∷ []) outcome ≡ step update (after update records outcome) rec

@@ -2,17 +2,17 @@
 -- The update, the fold over records and groups are those of the SYMPLE paper (SOSP 2015), the counter and
 -- its faults are this project's profile.
 use Rattle.std.specs.Prelude.{◌≡◌, Bool, ℕ, ℤ, pos, ◌+ℤ◌, ◌≤ℤ◌, int_le, map, cond, ◌&&◌, List, [], ◌∷◌, Option, Some, slice_get}
-use Rattle.sym_base.specs.declared.value.Value.{Value}
-use Rattle.sym_base.specs.declared.value.Value.TheVariants as value
-use Rattle.sym_base.specs.declared.value.Key.{Key}
-use Rattle.sym_base.specs.declared.value.Key.TheVariants.{Whole}
-use Rattle.sym_base.specs.contracts.value.KeyPartialEq.TheImpl as same_key
-use Rattle.sym_base.specs.declared.record.Record.{Record}
-use Rattle.sym_base.specs.declared.state.Cell.TheVariants as cell
-use Rattle.sym_base.specs.declared.state.State.{State}
-use Rattle.sym_base.specs.declared.state.FaultKind.TheVariants.{Over}
-use Rattle.sym_base.specs.declared.state.Outcome.{Outcome}
-use Rattle.sym_base.specs.declared.state.Outcome.TheVariants.{Going, Ended}
+use Rattle.sym_base.specs.declared.values.value.Value.{Value}
+use Rattle.sym_base.specs.declared.values.value.Value.TheVariants as value
+use Rattle.sym_base.specs.declared.values.value.Key.{Key}
+use Rattle.sym_base.specs.declared.values.value.Key.TheVariants.{Whole}
+use Rattle.sym_base.specs.contracts.values.value.KeyPartialEq.TheImpl as same_key
+use Rattle.sym_base.specs.declared.values.record.Record.{Record}
+use Rattle.sym_base.specs.declared.values.state.Cell.TheVariants as cell
+use Rattle.sym_base.specs.declared.values.state.State.{State}
+use Rattle.sym_base.specs.declared.values.state.FaultKind.TheVariants.{Over}
+use Rattle.sym_base.specs.declared.values.state.Outcome.{Outcome}
+use Rattle.sym_base.specs.declared.values.state.Outcome.TheVariants.{Going, Ended}
 use Rattle.sym_base.specs.States.{number_at, with_int}
 use Rattle.sym_base.specs.Counters.{Counter, Amount, Fixed, OfField}
 

@@ -1,14 +1,14 @@
 //! Laws of the definitions that contracts cite.
 ghost use Rattle.std.specs.Prelude.{◌≡◌, ◌↔◌, ◌++◌, ◌∷◌, [], List, Some};
-ghost use Rattle.sym_base.specs.declared.record.Record.{Record as OneRecord};
-ghost use Rattle.sym_base.specs.declared.state.Outcome.{Outcome as OneOutcome};
+ghost use Rattle.sym_base.specs.declared.values.record.Record.{Record as OneRecord};
+ghost use Rattle.sym_base.specs.declared.values.state.Outcome.{Outcome as OneOutcome};
 ghost use Rattle.sym_base.specs.Trees.{ScriptTree};
 ghost use Rattle.sym_base.specs.Counters.{Counter, IsCounter, IsCounterTree};
 ghost use Rattle.sym_check.specs.CounterTrees.{counter_of};
 ghost use Rattle.sym_check.specs.Steps.{Update, IsValid, IsValidOutcome, initial, counting, grouped, step, after};
-ghost use Rattle.sym_base.specs.declared.state.State.{State as OneState};
-ghost use Rattle.sym_base.specs.declared.state.Outcome.TheVariants.{Going};
-ghost use Rattle.sym_base.specs.declared.value.Key.TheVariants.{Whole};
+ghost use Rattle.sym_base.specs.declared.values.state.State.{State as OneState};
+ghost use Rattle.sym_base.specs.declared.values.state.Outcome.TheVariants.{Going};
+ghost use Rattle.sym_base.specs.declared.values.value.Key.TheVariants.{Whole};
 
 /// The counter that is read off a tree is the one whose tree it is.
 pub fn counters_are_read()

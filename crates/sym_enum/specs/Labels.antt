@@ -2,7 +2,7 @@
 use Rattle.std.specs.Prelude.{◌≡◌, ℕ, ◌↔◌, ◌==◌, Bool, IsTrue}
 use Rattle.std.specs.Int.{bit_at}
 use Rattle.sym_base.specs.States.{label_at}
-use Rattle.sym_base.specs.declared.state.State.{State}
+use Rattle.sym_base.specs.declared.values.state.State.{State}
 use Rattle.sym_enum.specs.declared.form.EnumForm.{EnumForm}
 use Rattle.sym_enum.specs.declared.form.EnumForm.TheVariants.{Const, Copy}
 use Rattle.sym_enum.specs.declared.form.PulledLabels.{PulledLabels}

@@ -1,6 +1,6 @@
 //! What an enum cell holds, as a form over an unknown state.
 ghost use Rattle.std.specs.Prelude.{◌≡◌, ◌↔◌, IsTrue};
-ghost use Rattle.sym_base.specs.declared.state.State.{State as OneState};
+ghost use Rattle.sym_base.specs.declared.values.state.State.{State as OneState};
 ghost use Rattle.sym_enum.specs.Labels.{has_label, label_value, IsConst, IsDecided, Admits};
 
 use crate::label_set::LabelSet;

@@ -2,9 +2,9 @@
 use Rattle.std.proofs.Common.{◌≡◌, ℕ, zero, suc, ℤ, pos, ◌+ℤ◌, ◌*ℤ◌, ◌≤ℤ◌, ◌⊎◌, inl, inr, Some, None, List, [], ◌∷◌, slice_get, refl, sym, ap, ◌∙◌, arith}
 use Rattle.std.proofs.lemmas.Int.{ints, by_lt_z}
 use Rattle.sym_base.specs.States.{HoldsInt, number_at, number_in}
-use Rattle.sym_base.specs.declared.state.Cell.{Cell}
-use Rattle.sym_base.specs.declared.state.Cell.TheVariants.{Enum, Int, Hold, Nums, Words}
-use Rattle.sym_base.specs.declared.state.State.{State}
+use Rattle.sym_base.specs.declared.values.state.Cell.{Cell}
+use Rattle.sym_base.specs.declared.values.state.Cell.TheVariants.{Enum, Int, Hold, Nums, Words}
+use Rattle.sym_base.specs.declared.values.state.State.{State}
 use Rattle.sym_int.specs.Elements.{IsZero, led_cell, led_cells}
 use Rattle.sym_int.specs.Lines.{form_value}
 use Rattle.sym_int.specs.Parts.{IsTaken}

@@ -3,7 +3,7 @@ use Rattle.std.proofs.Common.{◌≡◌, ℤ, pos, ◌+ℤ◌, ◌-ℤ◌, ◌<�
 use Rattle.std.proofs.lemmas.Bool.{both_ways}
 use Rattle.std.proofs.lemmas.Int.{ints, by_lt_z}
 use Rattle.sym_base.specs.Comparing.{compares}
-use Rattle.sym_base.specs.declared.compare.Compare.{Compare}
+use Rattle.sym_base.specs.declared.tree.compare.Compare.{Compare}
 use Rattle.sym_int.proofs.Truths.{same_or_not}
 use Rattle.sym_int.specs.Lines.{wide_on, wide_cell}
 use Rattle.sym_int.specs.Parts.{HasTruth, InPart, InOrder, IsWithin, TellsPart, TellsTruth, piece_span}

@@ -3,7 +3,7 @@ use Rattle.std.proofs.Common.{◌≡◌, ℕ, ℤ, ◌≤ℤ◌, ◌↔◌, Some
 use Rattle.std.proofs.lemmas.Int.{ints}
 use Rattle.sym_base.specs.Numbers.{IsNumber}
 use Rattle.sym_base.specs.States.{number_at}
-use Rattle.sym_base.specs.declared.state.State.{State}
+use Rattle.sym_base.specs.declared.values.state.State.{State}
 use Rattle.sym_int.specs.Lines.{form_on, form_cell, form_value, wide_on, wide_cell, wide_value}
 use Rattle.sym_int.specs.Points.{HasPoint}
 use Rattle.sym_int.specs.declared.line.IntForm.{IntForm}

@@ -2,9 +2,9 @@
 use Rattle.std.specs.Prelude.{◌≡◌, ℕ, ℤ, pos, ◌+ℤ◌, ◌*ℤ◌, ◌⊎◌, Option, Some, None, List, [], ◌∷◌, slice_get}
 use Rattle.sym_base.specs.Numbers.{IsNumber}
 use Rattle.sym_base.specs.States.{HoldsInt, number_at}
-use Rattle.sym_base.specs.declared.state.Cell.{Cell}
-use Rattle.sym_base.specs.declared.state.Cell.TheVariants.{Int}
-use Rattle.sym_base.specs.declared.state.State.{State}
+use Rattle.sym_base.specs.declared.values.state.Cell.{Cell}
+use Rattle.sym_base.specs.declared.values.state.Cell.TheVariants.{Int}
+use Rattle.sym_base.specs.declared.values.state.State.{State}
 use Rattle.sym_int.specs.Lines.{form_on, form_cell, form_value}
 use Rattle.sym_int.specs.Points.{HasPoint}
 use Rattle.sym_int.specs.declared.element.IntForms.{IntForms}

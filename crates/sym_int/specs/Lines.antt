@@ -1,7 +1,7 @@
 -- The numbers that forms stand for.
 use Rattle.std.specs.Prelude.{ℕ, ℤ, ◌+ℤ◌, ◌*ℤ◌, Option, Some, None}
 use Rattle.sym_base.specs.States.{number_at}
-use Rattle.sym_base.specs.declared.state.State.{State}
+use Rattle.sym_base.specs.declared.values.state.State.{State}
 use Rattle.sym_int.specs.declared.line.IntForm.{IntForm}
 use Rattle.sym_int.specs.declared.line.IntForm.TheVariants as form
 use Rattle.sym_int.specs.declared.line.Wide.{Wide}

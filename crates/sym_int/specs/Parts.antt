@@ -1,7 +1,7 @@
 -- The parts of a span by what a form's numbers are at its points.
 use Rattle.std.specs.Prelude.{◌≡◌, ℕ, ℤ, ◌<ℤ◌, ◌≤ℤ◌, ◌⊎◌, Bool, not, Option, Some, None}
 use Rattle.sym_base.specs.Comparing.{compares}
-use Rattle.sym_base.specs.declared.compare.Compare.{Compare}
+use Rattle.sym_base.specs.declared.tree.compare.Compare.{Compare}
 use Rattle.sym_int.specs.Lines.{form_on, wide_on, form_cell, wide_cell}
 use Rattle.sym_int.specs.Points.{HasPoint}
 use Rattle.sym_int.specs.declared.pieces.Cut.{Cut}

@@ -1,7 +1,7 @@
 //! Integer forms as the elements of list forms.
 ghost use Rattle.std.specs.Prelude.{◌≡◌, IfOk};
-ghost use Rattle.sym_base.specs.declared.state.State.{State as OneState};
-ghost use Rattle.sym_base.specs.declared.value.Value.TheVariants.{Num};
+ghost use Rattle.sym_base.specs.declared.values.state.State.{State as OneState};
+ghost use Rattle.sym_base.specs.declared.values.value.Value.TheVariants.{Num};
 ghost use Rattle.sym_int.specs.Elements.{Covers, InSpans, StaysOn, CanGoThrough, CanFix, led_to};
 ghost use Rattle.sym_int.specs.Lines.{form_value, wide_on, wide_cell, wide_value};
 

@@ -8,7 +8,7 @@ use Rattle.std.specs.Cmp.Lexicographic.{pointwise, pointwise_decides}
 use Rattle.std.specs.FinMap.{entries, entries_sorted, get-entries, same_entries_map}
 use Rattle.std.proofs.Math.ListN.{get_or-map}
 use Rattle.std.proofs.lemmas.List.{length-map}
-use Rattle.sym_base.specs.declared.value.Value.{Value}
+use Rattle.sym_base.specs.declared.values.value.Value.{Value}
 use Rattle.sym_base.proofs.ValueLemmas.{values_eq-Decides}
 use Rattle.sym_pred.specs.contracts.literal.LiteralPartialEq.TheImpl as literal_equality
 use Rattle.sym_pred.specs.contracts.form.HoldFormPartialEq.TheImpl as form_equality

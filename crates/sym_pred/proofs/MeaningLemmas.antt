@@ -5,7 +5,7 @@ use Rattle.std.proofs.lemmas.Option.{same_Some}
 use Rattle.std.specs.Ordering.{eq_by_cmp, is_eq}
 use Rattle.std.specs.Cmp.{tied_itself}
 use Rattle.std.specs.FinMap.{get, insert, remove, get-insert, get-remove, same_map}
-use Rattle.sym_base.specs.declared.value.Value.{Value}
+use Rattle.sym_base.specs.declared.values.value.Value.{Value}
 use Rattle.sym_pred.specs.declared.literal.Literal.{Literal}
 use Rattle.sym_pred.specs.declared.facts.Added.{Added}
 use Rattle.sym_pred.specs.declared.facts.Added.TheVariants.{Same, Longer, Against}

@@ -5,8 +5,8 @@ use Rattle.std.specs.Ordering.{nat_cmp, ordering_then}
 use Rattle.std.specs.Coded.{Coded, coded×, coded_ℕ, coded_list, coded_bool}
 use Rattle.std.specs.FinMap.{FinMap}
 use Rattle.std.specs.FinMap as map
-use Rattle.sym_base.specs.contracts.value.Value as value
-use Rattle.sym_base.specs.declared.value.Value.{Value}
+use Rattle.sym_base.specs.contracts.values.value.Value as value
+use Rattle.sym_base.specs.declared.values.value.Value.{Value}
 use Rattle.sym_base.specs.Order.{values_cmp}
 
 -- An atom: a test, by its number, with arguments. A literal gives it an outcome.

@@ -1,9 +1,9 @@
 -- The parts that hold forms give.
 use Rattle.std.specs.Prelude.{◌≡◌, List, Option, Some, None, slice_get}
-use Rattle.sym_base.specs.declared.value.Value.{Value}
-use Rattle.sym_base.specs.declared.state.State.{State}
-use Rattle.sym_base.specs.declared.state.Cell.{Cell}
-use Rattle.sym_base.specs.declared.state.Cell.TheVariants.{Enum, Int, Hold, Nums, Words}
+use Rattle.sym_base.specs.declared.values.value.Value.{Value}
+use Rattle.sym_base.specs.declared.values.state.State.{State}
+use Rattle.sym_base.specs.declared.values.state.Cell.{Cell}
+use Rattle.sym_base.specs.declared.values.state.Cell.TheVariants.{Enum, Int, Hold, Nums, Words}
 use Rattle.sym_pred.specs.declared.form.HoldForm.{HoldForm}
 use Rattle.sym_pred.specs.declared.form.HoldForm.TheVariants.{Const, Copy}
 

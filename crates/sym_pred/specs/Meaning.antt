@@ -1,7 +1,7 @@
 -- What facts say of the parts of a hold cell, and how two lots of facts stand to each other.
 use Rattle.std.specs.Prelude.{◌≡◌, ◌≢◌, ℕ, Bool, not, List, Some, ◌⊎◌}
 use Rattle.std.specs.FinMap.{get}
-use Rattle.sym_base.specs.declared.value.Value.{Value}
+use Rattle.sym_base.specs.declared.values.value.Value.{Value}
 use Rattle.sym_pred.specs.Facts.{Atom, FactMap}
 
 -- What each test answers, by its number, for arguments and the parts of a hold cell.

@@ -9,7 +9,7 @@ ghost use Rattle.sym_pred.specs.Meaning.{Truth, Stands, Admits, Clash, Unite};
 ghost use Rattle.sym_pred.specs.Answers.{IsAdded, AdmitsAdded};
 ghost use Rattle.sym_pred.specs.Places.{IsInOrder, IsPlace};
 ghost use Rattle.sym_pred.specs.Merged.{merged, IsDifference};
-ghost use Rattle.sym_base.specs.declared.value.Value.{Value as OneValue};
+ghost use Rattle.sym_base.specs.declared.values.value.Value.{Value as OneValue};
 
 use crate::literal::Literal;
 use std::alloc::Global;

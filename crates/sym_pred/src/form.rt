@@ -1,6 +1,6 @@
 //! What a path makes of a hold cell.
 ghost use Rattle.std.specs.Prelude.{◌≡◌, IfOk, IsSome, Some};
-ghost use Rattle.sym_base.specs.declared.state.State.{State as OneState};
+ghost use Rattle.sym_base.specs.declared.values.state.State.{State as OneState};
 ghost use Rattle.sym_pred.specs.HoldForms.{parts_at, composed, Leads};
 
 use std::alloc::Global;

@@ -2,7 +2,7 @@
 use Rattle.std.proofs.Common.{◌≡◌, ◌⊎◌, inl, inr, nat_lt, ℕ, suc, ◌+◌, ◌<◌, ◌≤◌, eqb, ℤ, List, [], ◌∷◌, ◌++◌, length, take, drop, Option, None, Some, refl, sym, ap, ◌∙◌, arith, append_assoc, length-append}
 use Rattle.std.proofs.lemmas.List.{append-nil}
 use Rattle.std.proofs.lemmas.Bool.Decides.{nat_tests}
-use Rattle.sym_base.specs.declared.state.Outcome.{Outcome}
+use Rattle.sym_base.specs.declared.values.state.Outcome.{Outcome}
 use Rattle.sym_check.specs.Steps.{Update, step}
 use Rattle.sym_top.specs.PlainReading.{numbers_behind, number_of, with_number, before, first_line}
 use Rattle.sym_top.specs.Folds.{folded, record_at}

@@ -1,9 +1,9 @@
 -- A file's numbers are those of its body, and some record means one group.
 use Rattle.std.proofs.Common.{◌∙◌, ◌≡◌, ℕ, ◌+◌, ◌<◌, eqb, Bool, true, false, cond, ℤ, List, [], ◌∷◌, ◌++◌, length, Option, None, Some, refl, sym, ap, arith, length-append}
-use Rattle.sym_base.specs.declared.value.Key.TheVariants.{Whole}
-use Rattle.sym_base.specs.declared.state.State.{State}
-use Rattle.sym_base.specs.declared.state.Outcome.{Outcome}
-use Rattle.sym_base.specs.declared.state.Outcome.TheVariants.{Going}
+use Rattle.sym_base.specs.declared.values.value.Key.TheVariants.{Whole}
+use Rattle.sym_base.specs.declared.values.state.State.{State}
+use Rattle.sym_base.specs.declared.values.state.Outcome.{Outcome}
+use Rattle.sym_base.specs.declared.values.state.Outcome.TheVariants.{Going}
 use Rattle.sym_check.specs.Steps.{Update, after, grouped}
 use Rattle.sym_check.proofs.Steps.{grouped-some}
 use Rattle.sym_top.specs.PlainFiles.{records_from, line_feed, records_of}

@@ -1,8 +1,8 @@
 -- What a run comes to: its status and its text, as a relation in the words of the subject.
 -- Statuses, limits and their order are this project's profile.
 use Rattle.std.specs.Prelude.{◌≡◌, ℕ, ◌<◌, ◌≤◌, List, [], length, cond, map, ◌∷◌, Option, None, Some, ℤ}
-use Rattle.sym_base.specs.declared.value.Key.{Key}
-use Rattle.sym_base.specs.declared.state.Outcome.{Outcome}
+use Rattle.sym_base.specs.declared.values.value.Key.{Key}
+use Rattle.sym_base.specs.declared.values.state.Outcome.{Outcome}
 use Rattle.sym_base.specs.Counters.{Counter}
 use Rattle.sym_check.specs.Steps.{groups}
 use Rattle.sym_parse.specs.Grammar.{IsText}

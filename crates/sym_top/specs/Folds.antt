@@ -1,10 +1,10 @@
 -- What folding the lines of a file comes to.
 use Rattle.std.specs.Prelude.{◌≡◌, ℕ, ℤ, List, [], ◌∷◌, Option, None, Some, Result, Ok, Err}
-use Rattle.sym_base.specs.declared.record.Record.{Record}
-use Rattle.sym_base.specs.declared.value.Value.TheVariants.{Num}
-use Rattle.sym_base.specs.declared.value.Key.{Key}
-use Rattle.sym_base.specs.declared.value.Key.TheVariants.{Whole}
-use Rattle.sym_base.specs.declared.state.Outcome.{Outcome}
+use Rattle.sym_base.specs.declared.values.record.Record.{Record}
+use Rattle.sym_base.specs.declared.values.value.Value.TheVariants.{Num}
+use Rattle.sym_base.specs.declared.values.value.Key.{Key}
+use Rattle.sym_base.specs.declared.values.value.Key.TheVariants.{Whole}
+use Rattle.sym_base.specs.declared.values.state.Outcome.{Outcome}
 use Rattle.sym_check.specs.Steps.{Update, after, grouped}
 use Rattle.sym_top.specs.declared.status.Status.{Status}
 use Rattle.sym_top.specs.declared.status.Status.TheVariants as status

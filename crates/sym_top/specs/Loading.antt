@@ -1,8 +1,8 @@
 -- What loading a run's files gives, and what folding them gives.
 use Rattle.std.specs.Prelude.{◌≡◌, ℕ, ◌<◌, ◌≤◌, List, None, Some, Result, Ok, Err, length, ℤ}
 use Rattle.std.specs.declared.vec.Vec.{Vec}
-use Rattle.sym_base.specs.declared.read.ReadErr.{ReadErr}
-use Rattle.sym_base.specs.declared.read.ReadErr.TheVariants as read
+use Rattle.sym_base.specs.declared.edge.read.ReadErr.{ReadErr}
+use Rattle.sym_base.specs.declared.edge.read.ReadErr.TheVariants as read
 use Rattle.sym_base.specs.Counters.{Counter, counter_tree}
 use Rattle.sym_check.specs.declared.checked.Checked.{Checked}
 use Rattle.sym_check.specs.CheckedScripts.{checked_tree}

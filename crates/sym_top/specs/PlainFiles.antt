@@ -4,8 +4,8 @@
 -- The form of file is this project's profile.
 use Rattle.std.specs.Prelude.{◌≡◌, ℕ, ◌+◌, ◌-◌, ◌*◌, ◌≤◌, ℤ, pos, neg_ℤ, List, [], ◌∷◌, ◌++◌, length}
 use Rattle.std.specs.List.{All}
-use Rattle.sym_base.specs.declared.record.Record.{Record}
-use Rattle.sym_base.specs.declared.value.Value.TheVariants as value
+use Rattle.sym_base.specs.declared.values.record.Record.{Record}
+use Rattle.sym_base.specs.declared.values.value.Value.TheVariants as value
 use Rattle.sym_base.specs.Counters.{IsNumber}
 
 -- The byte that ends a line, and the sign of a negative number.

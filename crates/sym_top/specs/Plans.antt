@@ -1,8 +1,8 @@
 -- What the code keeps of a counter while it folds.
 use Rattle.std.specs.Prelude.{◌≡◌, ℤ, ◌+ℤ◌, int_le, cond, ◌&&◌, [], ◌∷◌, Option, Some, None}
-use Rattle.sym_base.specs.declared.record.Record.{Record}
-use Rattle.sym_base.specs.declared.state.Cell.TheVariants.{Int}
-use Rattle.sym_base.specs.declared.state.State.{State}
+use Rattle.sym_base.specs.declared.values.record.Record.{Record}
+use Rattle.sym_base.specs.declared.values.state.Cell.TheVariants.{Int}
+use Rattle.sym_base.specs.declared.values.state.State.{State}
 use Rattle.sym_base.specs.Counters.{Counter}
 use Rattle.sym_base.specs.States.{number_at}
 use Rattle.sym_check.specs.Steps.{added, Addend, Number, FieldValue, Update, adding, addend_of}

@@ -3,18 +3,18 @@
 use Rattle.std.specs.Prelude.{ℕ, ltb, eqb, List, [], ◌∷◌, ◌++◌, map, Bool, true, false, cond, ◌||◌, codes, slice_index_or}
 use Rattle.std.specs.Fmt.{decimal, signed_decimal}
 use Rattle.std.specs.List.{list_any, flat_map}
-use Rattle.sym_base.specs.declared.value.Value.TheVariants as value
-use Rattle.sym_base.specs.declared.value.Key.{Key}
-use Rattle.sym_base.specs.declared.value.Key.TheVariants.{Whole, One}
-use Rattle.sym_base.specs.declared.report.Column.{Column}
-use Rattle.sym_base.specs.declared.report.Column.TheVariants as column
-use Rattle.sym_base.specs.declared.report.ReportFault.{ReportFault}
-use Rattle.sym_base.specs.declared.report.ReportFault.TheVariants.{Overflow, Zero}
-use Rattle.sym_base.specs.declared.state.State.{State}
-use Rattle.sym_base.specs.declared.state.FaultKind.{FaultKind}
-use Rattle.sym_base.specs.declared.state.FaultKind.TheVariants as kind
-use Rattle.sym_base.specs.declared.state.Outcome.{Outcome}
-use Rattle.sym_base.specs.declared.state.Outcome.TheVariants.{Going, Ended}
+use Rattle.sym_base.specs.declared.values.value.Value.TheVariants as value
+use Rattle.sym_base.specs.declared.values.value.Key.{Key}
+use Rattle.sym_base.specs.declared.values.value.Key.TheVariants.{Whole, One}
+use Rattle.sym_base.specs.declared.values.report.Column.{Column}
+use Rattle.sym_base.specs.declared.values.report.Column.TheVariants as column
+use Rattle.sym_base.specs.declared.values.report.ReportFault.{ReportFault}
+use Rattle.sym_base.specs.declared.values.report.ReportFault.TheVariants.{Overflow, Zero}
+use Rattle.sym_base.specs.declared.values.state.State.{State}
+use Rattle.sym_base.specs.declared.values.state.FaultKind.{FaultKind}
+use Rattle.sym_base.specs.declared.values.state.FaultKind.TheVariants as kind
+use Rattle.sym_base.specs.declared.values.state.Outcome.{Outcome}
+use Rattle.sym_base.specs.declared.values.state.Outcome.TheVariants.{Going, Ended}
 use Rattle.sym_base.specs.States.{number_at}
 use Rattle.sym_top.specs.declared.rows.RowBody.{RowBody}
 use Rattle.sym_top.specs.declared.rows.RowBody.TheVariants.{Columns, Over, Arith}

@@ -5,8 +5,8 @@ ghost use Rattle.sym_top.specs.PlainReading.{body_of, numbers_behind};
 ghost use Rattle.sym_top.specs.PlainFiles.{records_from};
 ghost use Rattle.sym_top.specs.Folds.{FoldGives, PassGives, folded, record_at};
 ghost use Rattle.sym_top.specs.Plans.{plan_update, plan_initial};
-ghost use Rattle.sym_base.specs.declared.state.Outcome.TheVariants.{Going};
-ghost use Rattle.sym_base.specs.declared.value.Value.TheVariants.{Num};
+ghost use Rattle.sym_base.specs.declared.values.state.Outcome.TheVariants.{Going};
+ghost use Rattle.sym_base.specs.declared.values.value.Value.TheVariants.{Num};
 
 use crate::numbers::{LINE_FEED, read_number};
 use crate::plan::Plan;

@@ -1,6 +1,6 @@
 //! The sequential step.
 ghost use Rattle.std.specs.Prelude.{◌≡◌, ℤ, ◌+ℤ◌, IfOk, int_le, ◌&&◌, Bool, cond, Some, None};
-ghost use Rattle.sym_base.specs.declared.state.Cell.TheVariants.{Int};
+ghost use Rattle.sym_base.specs.declared.values.state.Cell.TheVariants.{Int};
 ghost use Rattle.sym_base.specs.States.{number_at, with_int as with_number};
 ghost use Rattle.sym_check.specs.Steps.{num_at, added as added_at, step as one_step, assigned};
 ghost use Rattle.sym_top.specs.Plans.{addend, plan_update, plan_initial, sum_of};

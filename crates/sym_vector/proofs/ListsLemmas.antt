@@ -1,8 +1,8 @@
 -- How matched lists grow, and what the lists are worth that list forms give.
 use Rattle.std.proofs.Common.{◌≡◌, ℕ, ℤ, ◌+◌, ◌<◌, ◌≤◌, get_or, subst, arith, List, [], ◌∷◌, ◌++◌, length, take, drop, map, refl, sym, ap, ◌∙◌, append_assoc}
 use Rattle.std.proofs.lemmas.List.{map-append, take-append-drop, take-append-le, drop-append-le, length-take, take_more, take_all}
-use Rattle.sym_base.specs.declared.state.State.{State}
-use Rattle.sym_base.specs.declared.value.Value.{Value}
+use Rattle.sym_base.specs.declared.values.state.State.{State}
+use Rattle.sym_base.specs.declared.values.value.Value.{Value}
 use Rattle.std.specs.List.{AllZip}
 use Rattle.sym_vector.specs.Lists.{list_at}
 

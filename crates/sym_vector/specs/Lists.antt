@@ -1,7 +1,7 @@
 -- The lists that list forms give.
 use Rattle.std.specs.Prelude.{List, ◌++◌, map}
-use Rattle.sym_base.specs.declared.state.State.{State}
-use Rattle.sym_base.specs.declared.value.Value.{Value}
+use Rattle.sym_base.specs.declared.values.state.State.{State}
+use Rattle.sym_base.specs.declared.values.value.Value.{Value}
 
 -- The list that a form gives at a state: the old list of its cell, with the values of the added
 -- elements there behind it. `value` is what an element is worth at a state.

@@ -2,8 +2,8 @@
 #![tactic(auto)]
 
 ghost use Rattle.std.specs.Prelude.{◌≡◌, ℤ, [], ◌∷◌, ◌++◌, All, IfOk, length, take, drop, slice_get, option_copied, ◌==◌, List};
-ghost use Rattle.sym_base.specs.declared.state.State.{State as OneState};
-ghost use Rattle.sym_base.specs.declared.value.Value.{Value as OneValue};
+ghost use Rattle.sym_base.specs.declared.values.state.State.{State as OneState};
+ghost use Rattle.sym_base.specs.declared.values.value.Value.{Value as OneValue};
 ghost use Rattle.sym_base.specs.States.{HoldsInt, with_int};
 ghost use Rattle.std.specs.List.{AllZip};
 ghost use Rattle.sym_vector.specs.Lists.{list_at};

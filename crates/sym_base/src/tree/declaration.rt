@@ -2,9 +2,9 @@
 ghost use Rattle.std.specs.Prelude.{◌≡◌, IfOk, map};
 ghost use Rattle.sym_base.specs.Trees.{test_tree, column_tree};
 
-use crate::memory::NoMemory;
-use crate::sequence::{Plain, Sequence};
-use crate::text::Text;
+use crate::values::memory::NoMemory;
+use crate::values::sequence::{Plain, Sequence};
+use crate::values::text::Text;
 use crate::tree::expression::Expr;
 use crate::tree::name::{Name, Names};
 use std::alloc::Global;

@@ -3,8 +3,8 @@
 ghost use Rattle.std.specs.Prelude.{◌≡◌, IfOk};
 ghost use Rattle.sym_base.specs.Trees.{expr_tree, exprs_tree};
 
-use crate::memory::NoMemory;
-use crate::text::Text;
+use crate::values::memory::NoMemory;
+use crate::values::text::Text;
 use crate::tree::name::Name;
 use std::alloc::Global;
 

@@ -1,9 +1,9 @@
 //! Names as they stand in a script's text.
 ghost use Rattle.std.specs.Prelude.{◌≡◌, IfOk};
 
-use crate::memory::NoMemory;
-use crate::sequence::{Plain, Sequence};
-use crate::text::Text;
+use crate::values::memory::NoMemory;
+use crate::values::sequence::{Plain, Sequence};
+use crate::values::text::Text;
 use std::alloc::Global;
 
 /// A name and the place of its first byte.

@@ -2,7 +2,7 @@
 ghost use Rattle.std.specs.Prelude.{◌≡◌, IfOk};
 ghost use Rattle.sym_base.specs.Trees.{script_tree};
 
-use crate::memory::NoMemory;
+use crate::values::memory::NoMemory;
 use crate::tree::declaration::{
     ColumnDecls, EnumDecls, FieldDecls, StateDecls, TestDecls, copy_columns, copy_tests,
 };

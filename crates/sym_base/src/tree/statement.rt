@@ -2,7 +2,7 @@
 ghost use Rattle.std.specs.Prelude.{◌≡◌, IfOk};
 ghost use Rattle.sym_base.specs.Trees.{stmt_tree, stmts_tree};
 
-use crate::memory::NoMemory;
+use crate::values::memory::NoMemory;
 use crate::tree::expression::{Expr, Exprs};
 use crate::tree::name::Name;
 use std::alloc::Global;

@@ -1,6 +1,6 @@
 -- What the lines that are left make of the outcome so far is what all lines make of the first one.
 use Rattle.std.proofs.Common.{◌≡◌, ◌≤◌, ◌+◌, length, []}
-use Rattle.sym_base.specs.declared.state.Outcome.TheVariants.{Going}
+use Rattle.sym_base.specs.declared.values.state.Outcome.TheVariants.{Going}
 use Rattle.sym_top.specs.PlainReading.{numbers_behind}
 use Rattle.sym_top.specs.Folds.{folded}
 use Rattle.sym_top.specs.Plans.{plan_update, plan_initial}

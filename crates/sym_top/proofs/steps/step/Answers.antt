@@ -2,9 +2,9 @@ use Rattle.std.proofs.Common.{◌≡◌, ℤ, Bool, true, false, cond, Some, Non
 use Rattle.std.proofs.Common.{rules, w64}
 use Rattle.std.proofs.lemmas.Int.{to_z-of_z}
 use mir.Val.{SFits}
-use Rattle.sym_base.specs.declared.state.State.{State}
-use Rattle.sym_base.specs.declared.state.Outcome.{Outcome}
-use Rattle.sym_base.specs.declared.state.Outcome.TheVariants.{Going}
+use Rattle.sym_base.specs.declared.values.state.State.{State}
+use Rattle.sym_base.specs.declared.values.state.Outcome.{Outcome}
+use Rattle.sym_base.specs.declared.values.state.Outcome.TheVariants.{Going}
 use Rattle.sym_base.specs.States.{with_int}
 use Rattle.sym_top.proofs.steps.step.Goals as goal
 

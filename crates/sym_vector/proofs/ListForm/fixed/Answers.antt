@@ -1,6 +1,6 @@
 use Rattle.std.proofs.Common.{◌≡◌, ◌+◌, ℤ, take, List, sym, subst, ◌∙◌, to_z, of_z, w64}
 use Rattle.std.proofs.lemmas.Int.{to_z-of_z}
-use Rattle.sym_base.specs.declared.state.State.{State}
+use Rattle.sym_base.specs.declared.values.state.State.{State}
 use Rattle.sym_base.specs.States.{HoldsInt, with_int}
 use Rattle.std.specs.List.{AllZip}
 use Rattle.sym_vector.proofs.ListsLemmas.{AllZip-next, AllZip-whole, list_at-fixed}

@@ -1,6 +1,6 @@
 -- The elements fixed so far are the first ones of the form.
 use Rattle.std.proofs.Common.{◌≡◌, ℤ, take, All}
-use Rattle.sym_base.specs.declared.state.State.{State}
+use Rattle.sym_base.specs.declared.values.state.State.{State}
 use Rattle.sym_base.specs.States.{HoldsInt, with_int}
 use Rattle.std.specs.List.{AllZip}
 use Rattle.sym_vector.proofs.ListForm.fixed.Given as goal

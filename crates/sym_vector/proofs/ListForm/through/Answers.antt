@@ -1,5 +1,5 @@
 use Rattle.std.proofs.Common.{◌≡◌, ◌+◌, length, take, drop, List, sym, ap, subst, ◌∙◌}
-use Rattle.sym_base.specs.declared.state.State.{State}
+use Rattle.sym_base.specs.declared.values.state.State.{State}
 use Rattle.std.specs.List.{AllZip}
 use Rattle.sym_vector.proofs.ListsLemmas.{AllZip-next, AllZip-whole, take-push, drop-push, list_at-composed}
 use Rattle.sym_vector.proofs.ListForm.through.Goals as goal

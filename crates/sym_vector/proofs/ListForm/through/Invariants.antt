@@ -1,6 +1,6 @@
 -- Behind the left form's elements stand the first of these, each taken through the context.
 use Rattle.std.proofs.Common.{◌≡◌, take, drop, length, All}
-use Rattle.sym_base.specs.declared.state.State.{State}
+use Rattle.sym_base.specs.declared.values.state.State.{State}
 use Rattle.std.specs.List.{AllZip}
 use Rattle.sym_vector.proofs.ListForm.through.Given as goal
 

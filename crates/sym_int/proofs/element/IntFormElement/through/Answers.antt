@@ -1,6 +1,6 @@
 use Rattle.std.proofs.Common.{◌≡◌, ℤ, ◌+ℤ◌, ◌*ℤ◌, sym, ap, ◌∙◌}
 use Rattle.sym_base.specs.States.{number_at}
-use Rattle.sym_base.specs.declared.value.Value.TheVariants.{Num}
+use Rattle.sym_base.specs.declared.values.value.Value.TheVariants.{Num}
 use Rattle.sym_int.proofs.Led.{number_there}
 use Rattle.sym_int.specs.Elements.{led_to}
 use Rattle.sym_int.specs.Lines.{form_value}

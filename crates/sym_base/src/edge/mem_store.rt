@@ -1,0 +1,128 @@
+//! A store in memory, whose reads can be made to fail.
+ghost use Rattle.std.specs.Prelude.{◌≡◌, ◌≢◌, ℕ, ◌-◌, ◌≤◌, ◌↔◌, List, [], ◌∷◌, ◌++◌, Some, length, drop, min, IfOk, IfSome, OnOk, OnErr, IsErr, IsTrue, Contains, option_map};
+ghost use Rattle.sym_base.specs.Counts.{Rose};
+ghost use Rattle.sym_base.specs.Edges.{ReadsAt};
+ghost use Rattle.sym_base.specs.InMemory.{file_at, files_of, FailsNext, after_read, after_fault};
+
+use crate::values::memory::NoMemory;
+use crate::values::sequence::Sequence;
+use crate::edge::store::{FILE_MAX, Failed, Store};
+use std::alloc::Global;
+use std::collections::BTreeMap;
+use std::marker::Model;
+
+/// A store of files in memory, which tells what they hold. Its reads are counted from 1, and a
+/// read fails where its number was set by `fail_at` or where there is no file of the name; it has
+/// one count of faults, for every name. A contract sees the files, the numbers and the counts.
+#[derive(Drop)]
+pub struct MemStore {
+    files: BTreeMap<String, Sequence<u8>>,
+    failing: Vec<u64>,
+    reads: u64,
+    faults: u64,
+}
+
+impl Model for MemStore {
+    ghost use Rattle.sym_base.specs.InMemory.{StoreInMemory, files_of};
+
+    ghost Value = { StoreInMemory };
+
+    ghost view = { λ s. record { files = files_of s.files.entries; failing = s.failing.items; reads = s.reads; faults = s.faults } };
+}
+
+impl MemStore {
+    /// A store with no files and no reads that fail. It takes no memory until a file is added.
+    pub fn new(alloc: Global) -> MemStore
+        ensures { result ≡ record { files = []; failing = []; reads = 0; faults = 0 } }
+    {
+        MemStore {
+            files: BTreeMap::new(alloc),
+            failing: Vec::new(alloc),
+            reads: 0,
+            faults: 0,
+        }
+    }
+
+    /// Sets the file of this name to a copy of these bytes, in place of an older file of that
+    /// name. After an `Err` the store is as before.
+    pub fn add(&mut self, alloc: Global, name: &str, bytes: &[u8]) -> Result<(), NoMemory>
+        ensures set { OnOk result (file_at self.new.files name.now ≡ Some bytes.now) }
+        ensures others { OnOk result ((other : List ℕ) → other ≢ name.now → file_at self.new.files other ≡ file_at self.old.files other) }
+        ensures counts { OnOk result (self.new ≡ record self.old { files = self.new.files }) }
+        ensures err { OnErr result (self.new ≡ self.old) }
+    {
+        let name = String::from_str(alloc, name)?;
+        let bytes = Sequence::of(Vec::from_slice(alloc, bytes)?);
+        let _older = self.files.insert(name, bytes)?;
+        Ok(())
+    }
+
+    /// Makes the read of this number fail. Reads are counted from 1, over all names. After an
+    /// `Err` the store is as before.
+    pub fn fail_at(&mut self, _alloc: Global, call: u64) -> Result<(), NoMemory>
+        ensures ok { OnOk result (self.new ≡ record self.old { failing = self.old.failing ++ call ∷ [] }) }
+        ensures err { OnErr result (self.new ≡ self.old) }
+    {
+        self.failing.push(call)?;
+        Ok(())
+    }
+}
+
+impl Store for MemStore {
+    ghost holds = { λ s. file_at s.files };
+
+    ghost faults = { λ s _. s.faults };
+
+    /// Reads as many bytes as there are and `into` has room for. A read that fails leaves `into`.
+    fn read_at(&mut self, name: &str, at: u64, into: &mut [u8]) -> Result<usize, Failed>
+        requires { at ≤ FILE_MAX }
+        ensures bound { IfOk result (λ k. k ≤ length into.old) }
+        ensures rest { IfOk result (λ k. drop k into.new ≡ drop k into.old) }
+        ensures bytes { IfOk result (λ k. IfSome (file_at self.old.files name.now) (λ bytes. ReadsAt bytes at k into.old into.new)) }
+        ensures same { file_at self.new.files ≡ file_at self.old.files }
+        ensures later { (other : List ℕ) → self.old.faults ≤ self.new.faults }
+        ensures failed { OnErr result (Rose self.old.faults self.new.faults) }
+        ensures fails { IsErr result ↔ FailsNext self.old name.now }
+        ensures most { IfOk result (λ k. IfSome (file_at self.old.files name.now) (λ bytes. k ≡ min (length into.old) (length bytes - at))) }
+        ensures read { OnOk result (self.new ≡ after_read self.old) }
+        ensures fault { OnErr result (self.new ≡ after_fault self.old) }
+        ensures kept { OnErr result (into.new ≡ into.old) }
+    {
+        self.reads = self.reads.saturating_add(1);
+        if !is_listed(self.failing.as_slice(), self.reads) {
+            if let Some(bytes) = find(&self.files, name) {
+                return Ok(copy_front(bytes, at, into));
+            }
+        }
+        self.faults = self.faults.saturating_add(1);
+        Err(Failed)
+    }
+}
+
+// Whether a call's number is among those that are to fail.
+pub(crate) fn is_listed(failing: &[u64], call: u64) -> bool
+    ensures { IsTrue result ↔ Contains failing.now call }
+{
+    failing.contains(&call)
+}
+
+// The bytes of the file of this name.
+fn find<'a>(files: &'a BTreeMap<String, Sequence<u8>>, name: &str) -> Option<&'a [u8]>
+    ensures { option_map (λ bytes. bytes.now) result ≡ file_at (files_of files.now.entries) name.now }
+{
+    let bytes = files.get(name)?;
+    Some(bytes.as_slice())
+}
+
+// Copies the bytes from a place on into the front of a buffer, as many as it has room for.
+fn copy_front(bytes: &[u8], at: u64, into: &mut [u8]) -> usize
+    requires { at ≤ FILE_MAX }
+    ensures most { result ≡ min (length into.old) (length bytes.now - at) }
+    ensures reads { ReadsAt bytes.now at result into.old into.new }
+{
+    let start = (at as usize).min(bytes.len());
+    let rest = &bytes[start..];
+    let count = rest.len().min(into.len());
+    into[..count].copy_from_slice(&rest[..count]);
+    count
+}

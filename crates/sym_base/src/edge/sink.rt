@@ -1,0 +1,79 @@
+//! Where bytes go to: a sink that takes them piece by piece.
+ghost use Rattle.std.specs.Prelude.{◌≡◌, ℕ, ◌≤◌, List, Option, length, take, IfOk, OnErr, IsErrOf};
+ghost use Rattle.sym_base.specs.Counts.{Rose};
+ghost use Rattle.sym_base.specs.Edges.{appended};
+ghost use Rattle.sym_base.specs.declared.edge.sink.SinkErr.TheVariants as sink_error;
+
+use crate::values::memory::NoMemory;
+use crate::edge::store::Failed;
+use std::alloc::{AllocError, AllocFailed};
+
+/// Why a write took nothing.
+#[derive(Clone, Copy, Debug, PartialEq, Eq)]
+pub enum SinkErr {
+    /// The write failed, which the sink counts.
+    Failed,
+    /// A sink in memory had no more of it, which the sink counts.
+    NoMemory,
+}
+
+impl From<Failed> for SinkErr {
+    ghost from_gives = { λ _ e. e ≡ sink_error.Failed };
+
+    fn from(_failed: Failed) -> SinkErr {
+        SinkErr::Failed
+    }
+}
+
+impl From<NoMemory> for SinkErr {
+    ghost from_gives = { λ _ e. e ≡ sink_error.NoMemory };
+
+    fn from(_refused: NoMemory) -> SinkErr {
+        SinkErr::NoMemory
+    }
+}
+
+impl From<AllocError> for SinkErr {
+    ghost from_gives = { λ _ e. e ≡ sink_error.NoMemory };
+
+    fn from(_refused: AllocError) -> SinkErr {
+        SinkErr::NoMemory
+    }
+}
+
+impl<T: Drop> From<AllocFailed<T>> for SinkErr {
+    ghost from_gives = { λ _ e. e ≡ sink_error.NoMemory };
+
+    fn from(_refused: AllocFailed<T>) -> SinkErr {
+        SinkErr::NoMemory
+    }
+}
+
+/// A sink of bytes. A sink may tell what was written to it or not, as a stream doesn't.
+pub trait Sink {
+    // All bytes that were written, where the sink tells them.
+    ghost written: { Self → Option (List ℕ) };
+
+    // How many writes have failed.
+    ghost faults: { Self → ℕ };
+
+    // How many writes were refused for want of the sink's own memory: 0 where it isn't in memory.
+    ghost short: { Self → ℕ };
+
+    /// Appends the first of these bytes and gives their number, which is 0 only where there are
+    /// no bytes. After an `Err` what was written is as before.
+    ///
+    /// # Errors
+    ///
+    /// `Failed` where the write failed, `NoMemory` where the sink's own memory ended; the sink
+    /// counts each of the two.
+    fn write_some(&mut self, bytes: &[u8]) -> Result<usize, SinkErr>
+        ensures bound { IfOk result (λ k. k ≤ length bytes.now) }
+        ensures some { IfOk result (λ k. k ≡ 0 → length bytes.now ≡ 0) }
+        ensures ok { IfOk result (λ k. written self.new ≡ appended (written self.old) (take k bytes.now)) }
+        ensures err { OnErr result (written self.new ≡ written self.old) }
+        ensures later { faults self.old ≤ faults self.new }
+        ensures later_short { short self.old ≤ short self.new }
+        ensures failed { IsErrOf result SinkErr.Failed → Rose (faults self.old) (faults self.new) }
+        ensures no_memory { IsErrOf result SinkErr.NoMemory → Rose (short self.old) (short self.new) };
+}

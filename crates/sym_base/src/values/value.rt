@@ -1,0 +1,68 @@
+//! Numbers, words and labels, which are what records and states hold.
+ghost use Rattle.std.specs.Prelude.{◌≡◌, IfOk};
+
+use crate::values::memory::NoMemory;
+use crate::values::sequence::{Plain, Sequence};
+use crate::values::text::Text;
+use std::alloc::Global;
+
+/// The largest number of a script and of its data; the least is its opposite.
+pub const NUM_MAX: i64 = 1_000_000_000_000;
+
+/// A value of a field, of a part of a hold cell, or of an argument of a test. Values stand in
+/// the order numbers by size, words by bytes, labels by number.
+#[derive(Debug, PartialEq, Eq, PartialOrd, Ord, Hash, Drop)]
+pub enum Value {
+    /// A whole number in `-NUM_MAX` to `NUM_MAX`.
+    Num(i64),
+    /// A text.
+    Word(Text),
+    /// The number of a label of its enum, counted from 0.
+    Label(u8),
+}
+
+/// A list of values.
+pub type Values = Sequence<Value>;
+
+/// The elements of a `nums` cell.
+pub type Nums = Sequence<i64>;
+
+/// What tells one group of records from another.
+#[derive(Debug, PartialEq, Eq, Hash, Drop)]
+pub enum Key {
+    /// All records are of one group.
+    Whole,
+    /// The records whose group field has this value.
+    One(Value),
+}
+
+impl Value {
+    /// An equal value of its own.
+    pub fn copy(&self, alloc: Global) -> Result<Value, NoMemory>
+        ensures { IfOk result (λ v. v ≡ self.now) }
+    {
+        match self {
+            Value::Num(number) => Ok(Value::Num(*number)),
+            Value::Word(text) => Ok(Value::Word(text.copy(alloc)?)),
+            Value::Label(label) => Ok(Value::Label(*label)),
+        }
+    }
+}
+
+impl Plain for Value {
+    fn copied(&self, alloc: Global) -> Result<Value, NoMemory> {
+        self.copy(alloc)
+    }
+}
+
+impl Key {
+    /// An equal key of its own.
+    pub fn copy(&self, alloc: Global) -> Result<Key, NoMemory>
+        ensures { IfOk result (λ k. k ≡ self.now) }
+    {
+        match self {
+            Key::Whole => Ok(Key::Whole),
+            Key::One(value) => Ok(Key::One(value.copy(alloc)?)),
+        }
+    }
+}
