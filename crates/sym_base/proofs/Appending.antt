@@ -3,7 +3,7 @@ use Rattle.std.proofs.Common.{◌≡◌, ℕ, ◌+◌, ◌-◌, ◌≤◌, List,
 use Rattle.std.specs.Prelude.{Option, Some, None}
 use Rattle.std.proofs.Math.Seq.{take-add}
 use Rattle.std.proofs.lemmas.List.{take_all}
-use Rattle.sym_base.specs.Edges.{appended}
+use Rattle.sym_base.specs.Transfers.{appended}
 
 -- Two pieces, one behind the other, are one piece.
 pub appended-appended : (before : Option (List ℕ)) (x y : List ℕ) → appended (appended before x) y ≡ appended before (x ++ y)

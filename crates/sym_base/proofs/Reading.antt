@@ -3,7 +3,7 @@ use Rattle.std.proofs.Common.{◌≡◌, ℕ, ◌+◌, ◌≤◌, List, ◌++◌
 use Rattle.std.specs.Prelude.{Option, Some, None}
 use Rattle.std.proofs.Math.Seq.{take-add, take-append-add}
 use Rattle.std.proofs.lemmas.List.{take-take, take-append-le, length-take-le}
-use Rattle.sym_base.specs.Edges.{ReadsAt}
+use Rattle.sym_base.specs.Transfers.{ReadsAt}
 
 -- Two facts of what an option may hold give a third one.
 pub IfSome-both : {X : Type 0} (o : Option X) (P Q R : X → Type 0) → ((x : X) → P x → Q x → R x) → IfSome o P → IfSome o Q → IfSome o R

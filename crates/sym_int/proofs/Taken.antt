@@ -1,7 +1,7 @@
 -- The bounds of a line whose numbers at two points or more are numbers of a script.
 use Rattle.std.proofs.Common.{◌≡◌, ◌+◌, ◌*◌, ◌^◌, ◌≤◌, ℤ, pos, ◌+ℤ◌, ◌*ℤ◌, ◌<ℤ◌, ◌≤ℤ◌, ap, arith, unsigned_abs}
 use Rattle.std.proofs.lemmas.Int.{ints}
-use Rattle.sym_base.specs.Numbers.{IsNumber}
+use Rattle.sym_base.specs.Limits.{IsNumber}
 use Rattle.sym_int.proofs.Products.{times_sum, product_size}
 
 slope_between : (a b lo : ℤ) → IsNumber (a *ℤ lo +ℤ b) → IsNumber (a *ℤ (lo +ℤ pos 1) +ℤ b) → unsigned_abs a ≤ 2 * 10 ^ 12

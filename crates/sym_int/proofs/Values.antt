@@ -1,7 +1,7 @@
 -- A form's number at a state by the number of its cell, and spans with the same points.
 use Rattle.std.proofs.Common.{◌≡◌, ℕ, ℤ, ◌≤ℤ◌, ◌↔◌, Some, None, Option, refl, ap, arith}
 use Rattle.std.proofs.lemmas.Int.{ints}
-use Rattle.sym_base.specs.Numbers.{IsNumber}
+use Rattle.sym_base.specs.Limits.{IsNumber}
 use Rattle.sym_base.specs.States.{number_at}
 use Rattle.sym_base.specs.declared.values.state.State.{State}
 use Rattle.sym_int.specs.Lines.{form_on, form_cell, form_value, wide_on, wide_cell, wide_value}

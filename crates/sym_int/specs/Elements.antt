@@ -1,6 +1,6 @@
 -- Integer forms as elements of list forms, over an earlier path's forms and spans.
 use Rattle.std.specs.Prelude.{◌≡◌, ℕ, ℤ, pos, ◌+ℤ◌, ◌*ℤ◌, ◌⊎◌, Option, Some, None, List, [], ◌∷◌, slice_get}
-use Rattle.sym_base.specs.Numbers.{IsNumber}
+use Rattle.sym_base.specs.Limits.{IsNumber}
 use Rattle.sym_base.specs.States.{HoldsInt, number_at}
 use Rattle.sym_base.specs.declared.values.state.Cell.{Cell}
 use Rattle.sym_base.specs.declared.values.state.Cell.TheVariants.{Int}

@@ -1,6 +1,6 @@
 -- The points of a span.
 use Rattle.std.specs.Prelude.{ℤ, ◌≤ℤ◌, ◌↔◌, ◌⊎◌, Option, Some, None}
-use Rattle.sym_base.specs.Numbers.{IsNumber}
+use Rattle.sym_base.specs.Limits.{IsNumber}
 use Rattle.sym_int.specs.declared.span.Span.{Span}
 
 -- The number lies between the ends.

@@ -1,6 +1,6 @@
 //! A span cut where the truth of a comparison changes.
 ghost use Rattle.std.specs.Prelude.{◌≡◌, ℤ, ◌<ℤ◌, ◌≤ℤ◌, ◌+ℤ◌, ◌-ℤ◌, ◌↔◌, None, pos, IfSome, MatchOption};
-ghost use Rattle.sym_base.specs.Numbers.{IsNumber};
+ghost use Rattle.sym_base.specs.Limits.{IsNumber};
 ghost use Rattle.sym_int.specs.Lines.{wide_cell};
 ghost use Rattle.sym_int.specs.Parts.{Between, HasTruth, InPieces, InOrder, TellsPart, TellsTruth};
 ghost use Rattle.sym_int.specs.Points.{HasPoint, IsPart};

@@ -1,6 +1,6 @@
 //! The forms of integer cells at a state, and over one another.
 ghost use Rattle.std.specs.Prelude.{◌≡◌, ◌≢◌, ◌≤◌, ◌*◌, ◌+◌, ◌^◌, ◌+ℤ◌, ◌*ℤ◌, None, ℤ, pos, unsigned_abs};
-ghost use Rattle.sym_base.specs.Numbers.{IsNumber};
+ghost use Rattle.sym_base.specs.Limits.{IsNumber};
 ghost use Rattle.sym_base.specs.States.{number_at};
 ghost use Rattle.sym_base.specs.declared.values.state.State.{State as OneState};
 ghost use Rattle.sym_int.specs.Lines.{form_on, form_value, form_cell, wide_on, wide_value, wide_cell};

@@ -1,6 +1,6 @@
 //! Forms: a constant, or a line over the number that a cell held.
 ghost use Rattle.std.specs.Prelude.{◌≤◌, ◌≢◌, ◌+◌, ◌*◌, ◌^◌, pos, unsigned_abs};
-ghost use Rattle.sym_base.specs.Numbers.{IsNumber};
+ghost use Rattle.sym_base.specs.Limits.{IsNumber};
 
 /// A constant number.
 #[derive(Clone, Copy, Debug, PartialEq, Eq)]

@@ -1,6 +1,6 @@
 //! The numbers of a cell at which a form is in a span.
 ghost use Rattle.std.specs.Prelude.{◌≡◌, ℤ, ◌+ℤ◌, ◌*ℤ◌, ◌↔◌};
-ghost use Rattle.sym_base.specs.Numbers.{IsNumber};
+ghost use Rattle.sym_base.specs.Limits.{IsNumber};
 ghost use Rattle.sym_int.specs.Lines.{form_on, form_cell, wide_on};
 ghost use Rattle.sym_int.specs.Parts.{IsPulledOver, Pulls};
 ghost use Rattle.sym_int.specs.Points.{HasPoint};

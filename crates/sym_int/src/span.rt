@@ -1,6 +1,6 @@
 //! Spans of numbers.
 ghost use Rattle.std.specs.Prelude.{◌≤ℤ◌};
-ghost use Rattle.sym_base.specs.Numbers.{IsNumber};
+ghost use Rattle.sym_base.specs.Limits.{IsNumber};
 
 use sym_base::NUM_MAX;
 

@@ -1,7 +1,7 @@
 //! A form that stays among the numbers of a script on a span.
 ghost use Rattle.std.specs.Prelude.{◌≡◌, ℤ, ◌*ℤ◌, ◌+ℤ◌};
 ghost use Rattle.sym_int.specs.declared.line.Wide.TheVariants as wide_form;
-ghost use Rattle.sym_base.specs.Numbers.{IsNumber};
+ghost use Rattle.sym_base.specs.Limits.{IsNumber};
 ghost use Rattle.sym_int.specs.Lines.{wide_on};
 ghost use Rattle.sym_int.specs.Parts.{IsTaken};
 ghost use Rattle.sym_int.specs.Points.{HasPoint};

@@ -54,29 +54,14 @@ fn record_of(alloc: Global, no: u64, number: i64) -> Result<Record, NoMemory>
     Ok(Record { no, fields })
 }
 
-// Makes a field hold this number. A number is written where it lies.
-fn set_number(field: &mut Value, number: i64)
-    ensures { field.new ≡ Num number }
-{
-    match field {
-        Value::Num(held) => *held = number,
-        other => *other = Value::Num(number),
-    }
-}
-
 // The record of this number, in the room of a record of one field.
 fn renewed(rec: Record, no: u64, number: i64) -> Record
     requires { length rec.fields ≡ 1 }
     ensures { result ≡ record_at no number }
 {
-    let mut fields = rec.fields.into_vec();
-    if let Some(field) = fields.first_mut() {
-        set_number(field, number);
-    }
-    Record {
-        no,
-        fields: Values::of(fields),
-    }
+    let mut fields = rec.fields;
+    fields.set(0, Value::Num(number));
+    Record { no, fields }
 }
 
 // How the one group stands after the lines of a body, each a record; the records are numbered

@@ -3,7 +3,7 @@ ghost use Rattle.std.specs.Prelude.{◌≡◌, [], ◌∷◌, IfOk, slice_index_
 ghost use Rattle.std.specs.List.{list_any};
 ghost use Rattle.sym_top.specs.Tables.{row_body_of, columns_of, fault_body as fault_body_of, is_bad, is_faulty as is_faulty_of};
 
-use crate::steps::int_at;
+
 use std::alloc::Global;
 use sym_base::{Column, Columns, Fault, FaultKind, NoMemory, Outcome, State, Text};
 
@@ -23,7 +23,7 @@ fn columns(alloc: Global, state: &State) -> Result<Columns, NoMemory>
     ensures { IfOk result (λ shown. shown ≡ columns_of state.now) }
 {
     let mut shown = Columns::new(alloc);
-    shown.push(Column::Num(i128::from(int_at(state))))?;
+    shown.push(Column::Num(i128::from(state.number_at(0))))?;
     Ok(shown)
 }
 

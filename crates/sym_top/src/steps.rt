@@ -1,7 +1,5 @@
 //! The sequential step.
 ghost use Rattle.std.specs.Prelude.{◌≡◌, ℤ, ◌+ℤ◌, IfOk, int_le, ◌&&◌, Bool, cond, Some, None};
-ghost use Rattle.sym_base.specs.declared.values.state.Cell.TheVariants.{Int};
-ghost use Rattle.sym_base.specs.States.{number_at, with_int as with_number};
 ghost use Rattle.sym_check.specs.Steps.{num_at, added as added_at, step as one_step, assigned};
 ghost use Rattle.sym_top.specs.Plans.{addend, plan_update, plan_initial, sum_of};
 
@@ -18,16 +16,6 @@ pub fn initial(alloc: Global, plan: &Plan<'_>) -> Result<State, NoMemory>
     Ok(State { cells })
 }
 
-/// The number in the one cell.
-pub fn int_at(state: &State) -> i64
-    ensures { result ≡ number_at state.now 0 }
-{
-    match state.cells.get(0) {
-        Some(Cell::Int(number)) => *number,
-        _ => 0,
-    }
-}
-
 // What is added at a record.
 fn added(amount: Amount, rec: &Record) -> i64
     ensures { result ≡ added_at (addend amount) rec.now }
@@ -38,29 +26,6 @@ fn added(amount: Amount, rec: &Record) -> i64
             Some(Value::Num(number)) => *number,
             _ => 0,
         },
-    }
-}
-
-// Makes a cell hold this number. An integer cell is written where it lies.
-fn set_int(cell: &mut Cell, number: i64)
-    ensures { cell.new ≡ Int number }
-{
-    match cell {
-        Cell::Int(held) => *held = number,
-        other => *other = Cell::Int(number),
-    }
-}
-
-// The state whose one cell holds this number instead.
-fn with_int(state: State, number: i64) -> State
-    ensures { result ≡ with_number state 0 number }
-{
-    let mut cells = state.cells.into_vec();
-    if let Some(cell) = cells.first_mut() {
-        set_int(cell, number);
-    }
-    State {
-        cells: Cells::of(cells),
     }
 }
 
@@ -80,7 +45,7 @@ fn sum_within(number: i64, by: i64, lo: i64, hi: i64) -> Option<i64>
 fn sum_at(plan: &Plan<'_>, state: &State, rec: &Record) -> Option<i64>
     ensures { result ≡ sum_of plan.now state.now rec.now }
 {
-    sum_within(int_at(state), added(plan.amount, rec), plan.lo, plan.hi)
+    sum_within(state.number_at(0), added(plan.amount, rec), plan.lo, plan.hi)
 }
 
 /// How a state stands after a record.
@@ -88,7 +53,7 @@ pub fn step(plan: &Plan<'_>, state: State, rec: &Record) -> Outcome
     ensures { result ≡ plan_update plan.now state rec.now }
 {
     match sum_at(plan, &state, rec) {
-        Some(sum) => Outcome::Going(with_int(state, sum)),
+        Some(sum) => Outcome::Going(state.with_int(0, sum)),
         None => Outcome::Ended(Fault {
             kind: FaultKind::Over(0),
             no: rec.no,

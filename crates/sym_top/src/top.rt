@@ -3,7 +3,7 @@ ghost use Rattle.std.specs.Prelude.{◌≡◌, ◌≤◌, ◌⊎◌, ◌↔◌, 
 ghost use Rattle.std.specs.String.{string_bytes};
 ghost use Rattle.sym_base.specs.Counts.{Rose};
 ghost use Rattle.sym_base.specs.Counters.{Counter, counter_tree};
-ghost use Rattle.sym_base.specs.Edges.{appended, AppendsPrefix};
+ghost use Rattle.sym_base.specs.Transfers.{appended, AppendsPrefix};
 ghost use Rattle.sym_check.specs.CheckedScripts.{checked_tree};
 ghost use Rattle.sym_top.specs.Commands.{options};
 ghost use Rattle.sym_top.specs.Ends.{End, IsEnd, file_max};

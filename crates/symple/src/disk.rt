@@ -1,7 +1,7 @@
 //! The files of the disk, as a store.
 ghost use Rattle.std.specs.Prelude.{◌≡◌, ℕ, ◌≤◌, List, None, length, drop, IfOk, IfSome, OnOk, OnErr};
 ghost use Rattle.sym_base.specs.Counts.{Rose, counted};
-ghost use Rattle.sym_base.specs.Edges.{ReadsAt};
+ghost use Rattle.sym_base.specs.Transfers.{ReadsAt};
 
 use std::alloc::Global;
 use std::io::{ErrorKind, Read, Seek, SeekFrom};

@@ -1,7 +1,7 @@
 //! A sink in memory, whose writes can be made short and to fail.
 ghost use Rattle.std.specs.Prelude.{◌≡◌, ℕ, ◌≤◌, ◌↔◌, List, [], ◌∷◌, ◌++◌, Some, length, take, min, IfOk, OnOk, OnErr, IsErrOf, Contains};
 ghost use Rattle.sym_base.specs.Counts.{Rose, counted};
-ghost use Rattle.sym_base.specs.Edges.{appended};
+ghost use Rattle.sym_base.specs.Transfers.{appended};
 ghost use Rattle.sym_base.specs.InMemory.{after_write, after_failed_write, after_short_write};
 
 use crate::edge::mem_store::is_listed;

@@ -1,12 +1,13 @@
 //! A store in memory, whose reads can be made to fail.
 ghost use Rattle.std.specs.Prelude.{◌≡◌, ◌≢◌, ℕ, ◌-◌, ◌≤◌, ◌↔◌, List, [], ◌∷◌, ◌++◌, Some, length, drop, min, IfOk, IfSome, OnOk, OnErr, IsErr, IsTrue, Contains, option_map};
 ghost use Rattle.sym_base.specs.Counts.{Rose};
-ghost use Rattle.sym_base.specs.Edges.{ReadsAt};
+ghost use Rattle.sym_base.specs.Transfers.{ReadsAt};
 ghost use Rattle.sym_base.specs.InMemory.{file_at, files_of, FailsNext, after_read, after_fault};
 
 use crate::values::memory::NoMemory;
 use crate::values::sequence::Sequence;
-use crate::edge::store::{FILE_MAX, Failed, Store};
+use crate::edge::store::{Failed, Store};
+use crate::limits::FILE_MAX;
 use std::alloc::Global;
 use std::collections::BTreeMap;
 use std::marker::Model;

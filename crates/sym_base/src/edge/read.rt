@@ -4,7 +4,8 @@ ghost use Rattle.sym_base.specs.Counts.{Rose};
 ghost use Rattle.sym_base.specs.declared.edge.read.ReadErr.TheVariants as read_error;
 
 use crate::values::memory::NoMemory;
-use crate::edge::store::{FILE_MAX, Failed, Store};
+use crate::edge::store::{Failed, Store};
+use crate::limits::FILE_MAX;
 use std::alloc::{AllocError, AllocFailed, Global};
 
 /// Why a file was not read whole.
@@ -16,22 +17,6 @@ pub enum ReadErr {
     TooLarge,
     /// An allocation was refused.
     NoMemory,
-}
-
-impl From<Failed> for ReadErr {
-    ghost from_gives = { λ _ e. e ≡ read_error.Failed };
-
-    fn from(_failed: Failed) -> ReadErr {
-        ReadErr::Failed
-    }
-}
-
-impl From<NoMemory> for ReadErr {
-    ghost from_gives = { λ _ e. e ≡ read_error.NoMemory };
-
-    fn from(_refused: NoMemory) -> ReadErr {
-        ReadErr::NoMemory
-    }
 }
 
 impl From<AllocError> for ReadErr {

@@ -1,12 +1,7 @@
 //! Where bytes go to: a sink that takes them piece by piece.
 ghost use Rattle.std.specs.Prelude.{◌≡◌, ℕ, ◌≤◌, List, Option, length, take, IfOk, OnErr, IsErrOf};
 ghost use Rattle.sym_base.specs.Counts.{Rose};
-ghost use Rattle.sym_base.specs.Edges.{appended};
-ghost use Rattle.sym_base.specs.declared.edge.sink.SinkErr.TheVariants as sink_error;
-
-use crate::values::memory::NoMemory;
-use crate::edge::store::Failed;
-use std::alloc::{AllocError, AllocFailed};
+ghost use Rattle.sym_base.specs.Transfers.{appended};
 
 /// Why a write took nothing.
 #[derive(Clone, Copy, Debug, PartialEq, Eq)]
@@ -15,38 +10,6 @@ pub enum SinkErr {
     Failed,
     /// A sink in memory had no more of it, which the sink counts.
     NoMemory,
-}
-
-impl From<Failed> for SinkErr {
-    ghost from_gives = { λ _ e. e ≡ sink_error.Failed };
-
-    fn from(_failed: Failed) -> SinkErr {
-        SinkErr::Failed
-    }
-}
-
-impl From<NoMemory> for SinkErr {
-    ghost from_gives = { λ _ e. e ≡ sink_error.NoMemory };
-
-    fn from(_refused: NoMemory) -> SinkErr {
-        SinkErr::NoMemory
-    }
-}
-
-impl From<AllocError> for SinkErr {
-    ghost from_gives = { λ _ e. e ≡ sink_error.NoMemory };
-
-    fn from(_refused: AllocError) -> SinkErr {
-        SinkErr::NoMemory
-    }
-}
-
-impl<T: Drop> From<AllocFailed<T>> for SinkErr {
-    ghost from_gives = { λ _ e. e ≡ sink_error.NoMemory };
-
-    fn from(_refused: AllocFailed<T>) -> SinkErr {
-        SinkErr::NoMemory
-    }
 }
 
 /// A sink of bytes. A sink may tell what was written to it or not, as a stream doesn't.

@@ -1,10 +1,9 @@
 //! Where bytes come from: named files that are read piece by piece.
 ghost use Rattle.std.specs.Prelude.{◌≡◌, ℕ, ◌≤◌, List, Option, length, drop, IfOk, IfSome, OnErr};
 ghost use Rattle.sym_base.specs.Counts.{Rose};
-ghost use Rattle.sym_base.specs.Edges.{ReadsAt};
+ghost use Rattle.sym_base.specs.Transfers.{ReadsAt};
 
-/// The most bytes of a file that can be read, 256 MiB: no read begins behind them.
-pub const FILE_MAX: u64 = 268_435_456;
+use crate::limits::FILE_MAX;
 
 /// A read or a write failed.
 #[derive(Clone, Copy, Debug, PartialEq, Eq)]

@@ -1,7 +1,7 @@
 //! Whole lists of bytes into a sink.
 ghost use Rattle.std.specs.Prelude.{◌≡◌, ℕ, ◌≤◌, OnOk, OnErr, IsErrOf};
 ghost use Rattle.sym_base.specs.Counts.{Rose};
-ghost use Rattle.sym_base.specs.Edges.{appended, AppendsPrefix};
+ghost use Rattle.sym_base.specs.Transfers.{appended, AppendsPrefix};
 
 use crate::edge::sink::{Sink, SinkErr};
 

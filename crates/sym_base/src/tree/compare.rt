@@ -1,7 +1,7 @@
 //! How two numbers are compared.
 
 /// A comparison of two whole numbers.
-#[derive(Clone, Copy, Debug, PartialEq, Eq)]
+#[derive(Clone, Copy, PartialEq, Eq)]
 pub enum Compare {
     Eq,
     Ne,

@@ -10,14 +10,14 @@ use crate::tree::name::{Name, Names};
 use std::alloc::Global;
 
 /// An enum and its labels, which are numbered from 0 in this order.
-#[derive(Debug, PartialEq, Eq, Drop)]
+#[derive(PartialEq, Eq, Drop)]
 pub struct EnumDecl {
     pub name: Name,
     pub labels: Names,
 }
 
 /// The kind of a value, as it is written.
-#[derive(Debug, PartialEq, Eq, Drop)]
+#[derive(PartialEq, Eq, Drop)]
 pub enum KindRef {
     Num,
     Word,
@@ -26,7 +26,7 @@ pub enum KindRef {
 }
 
 /// A value, as it is written.
-#[derive(Debug, PartialEq, Eq, Drop)]
+#[derive(PartialEq, Eq, Drop)]
 pub enum Literal {
     Num { value: i64, at: u32 },
     Text { text: Text, at: u32 },
@@ -35,7 +35,7 @@ pub enum Literal {
 }
 
 /// A field of the records.
-#[derive(Debug, PartialEq, Eq, Drop)]
+#[derive(PartialEq, Eq, Drop)]
 pub struct FieldDecl {
     pub name: Name,
     /// The text of its column in a file's header, where that isn't the name.
@@ -46,14 +46,14 @@ pub struct FieldDecl {
 }
 
 /// A part of a hold cell: its kind and its first value.
-#[derive(Debug, PartialEq, Eq, Drop)]
+#[derive(PartialEq, Eq, Drop)]
 pub struct Part {
     pub kind: KindRef,
     pub first: Literal,
 }
 
 /// What a cell holds, and what it holds at first. Ranges have both ends in them.
-#[derive(Debug, PartialEq, Eq, Drop)]
+#[derive(PartialEq, Eq, Drop)]
 pub enum CellDecl {
     Int { lo: i64, hi: i64, first: i64 },
     Nums { lo: i64, hi: i64 },
@@ -63,21 +63,21 @@ pub enum CellDecl {
 }
 
 /// A cell of the state.
-#[derive(Debug, PartialEq, Eq, Drop)]
+#[derive(PartialEq, Eq, Drop)]
 pub struct StateDecl {
     pub name: Name,
     pub cell: CellDecl,
 }
 
 /// A parameter of a test.
-#[derive(Debug, PartialEq, Eq, Drop)]
+#[derive(PartialEq, Eq, Drop)]
 pub struct Param {
     pub name: Name,
     pub kind: KindRef,
 }
 
 /// A test on the parts of a hold cell and further arguments.
-#[derive(Debug, Drop)]
+#[derive(Drop)]
 pub struct TestDecl {
     pub name: Name,
     pub params: Params,
@@ -85,7 +85,7 @@ pub struct TestDecl {
 }
 
 /// A column of the report.
-#[derive(Debug, Drop)]
+#[derive(Drop)]
 pub struct ColumnDecl {
     pub name: Name,
     pub value: Expr,
@@ -300,26 +300,30 @@ impl ColumnDecl {
     }
 }
 
-/// Equal test declarations of their own.
-pub fn copy_tests(alloc: Global, tests: &TestDecls) -> Result<TestDecls, NoMemory>
-    ensures { IfOk result (λ t. map test_tree t ≡ map test_tree tests.now) }
-{
-    let mut copied = Vec::with_capacity(alloc, tests.len())?;
-    'tests: for test in tests.as_slice() {
-        let test = test.copy(alloc)?;
-        copied.push(test)?;
+impl Sequence<TestDecl> {
+    /// Equal test declarations of their own.
+    pub fn copy(&self, alloc: Global) -> Result<TestDecls, NoMemory>
+        ensures { IfOk result (λ t. map test_tree t ≡ map test_tree self.now) }
+    {
+        let mut copied = Vec::with_capacity(alloc, self.len())?;
+        'tests: for test in self.as_slice() {
+            let test = test.copy(alloc)?;
+            copied.push(test)?;
+        }
+        Ok(Sequence::of(copied))
     }
-    Ok(Sequence::of(copied))
 }
 
-/// Equal columns of their own.
-pub fn copy_columns(alloc: Global, columns: &ColumnDecls) -> Result<ColumnDecls, NoMemory>
-    ensures { IfOk result (λ c. map column_tree c ≡ map column_tree columns.now) }
-{
-    let mut copied = Vec::with_capacity(alloc, columns.len())?;
-    'columns: for column in columns.as_slice() {
-        let column = column.copy(alloc)?;
-        copied.push(column)?;
+impl Sequence<ColumnDecl> {
+    /// Equal columns of their own.
+    pub fn copy(&self, alloc: Global) -> Result<ColumnDecls, NoMemory>
+        ensures { IfOk result (λ c. map column_tree c ≡ map column_tree self.now) }
+    {
+        let mut copied = Vec::with_capacity(alloc, self.len())?;
+        'columns: for column in self.as_slice() {
+            let column = column.copy(alloc)?;
+            copied.push(column)?;
+        }
+        Ok(Sequence::of(copied))
     }
-    Ok(Sequence::of(copied))
 }

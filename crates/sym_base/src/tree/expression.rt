@@ -9,7 +9,7 @@ use crate::tree::name::Name;
 use std::alloc::Global;
 
 /// An operator of two operands.
-#[derive(Clone, Copy, Debug, PartialEq, Eq)]
+#[derive(Clone, Copy, PartialEq, Eq)]
 pub enum BinOp {
     Or,
     And,
@@ -30,7 +30,7 @@ pub enum BinOp {
 /// An expression. A leaf's place is that of its token, an operator's that of its sign or word,
 /// a call's that of its name.
 #[cycle(expression)]
-#[derive(Debug, Drop)]
+#[derive(Drop)]
 pub enum Expr {
     Num(i64, u32),
     Text(Text, u32),
@@ -43,7 +43,7 @@ pub enum Expr {
 
 /// A list of expressions: its end, or the first one with the rest.
 #[cycle(expression)]
-#[derive(Debug, Drop)]
+#[derive(Drop)]
 pub enum Exprs {
     End,
     More(Box<Expr>, Box<Exprs>),

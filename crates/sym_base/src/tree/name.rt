@@ -7,7 +7,7 @@ use crate::values::text::Text;
 use std::alloc::Global;
 
 /// A name and the place of its first byte.
-#[derive(Debug, PartialEq, Eq, Drop)]
+#[derive(PartialEq, Eq, Drop)]
 pub struct Name {
     pub text: Text,
     pub at: u32,

@@ -4,14 +4,14 @@ ghost use Rattle.sym_base.specs.Trees.{script_tree};
 
 use crate::values::memory::NoMemory;
 use crate::tree::declaration::{
-    ColumnDecls, EnumDecls, FieldDecls, StateDecls, TestDecls, copy_columns, copy_tests,
+    ColumnDecls, EnumDecls, FieldDecls, StateDecls, TestDecls,
 };
 use crate::tree::name::Name;
 use crate::tree::statement::Stmts;
 use std::alloc::Global;
 
 /// A script: its declarations in order, its update and its report.
-#[derive(Debug, Drop)]
+#[derive(Drop)]
 pub struct Script {
     pub enums: EnumDecls,
     pub fields: FieldDecls,
@@ -41,9 +41,9 @@ impl Script {
         let fields = self.fields.copy(alloc)?;
         let group = copy_group(alloc, &self.group)?;
         let states = self.states.copy(alloc)?;
-        let tests = copy_tests(alloc, &self.tests)?;
+        let tests = self.tests.copy(alloc)?;
         let update = self.update.copy(alloc)?;
-        let columns = copy_columns(alloc, &self.columns)?;
+        let columns = self.columns.copy(alloc)?;
         Ok(Script {
             enums,
             fields,

@@ -9,7 +9,7 @@ use std::alloc::Global;
 
 /// A statement.
 #[cycle(statement)]
-#[derive(Debug, Drop)]
+#[derive(Drop)]
 pub enum Stmt {
     /// Names the value of an expression until the end of the block.
     Let(Name, Expr),
@@ -28,7 +28,7 @@ pub enum Stmt {
 
 /// A list of statements: its end, or the first one with the rest.
 #[cycle(statement)]
-#[derive(Debug, Drop)]
+#[derive(Drop)]
 pub enum Stmts {
     End,
     More(Box<Stmt>, Box<Stmts>),

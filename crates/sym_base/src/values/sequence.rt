@@ -1,5 +1,5 @@
 //! The one list type of plain values.
-ghost use Rattle.std.specs.Prelude.{◌≡◌, ◌++◌, ◌∷◌, [], IfOk, OnOk, OnErr, length, slice_get, option_copied, ◌==◌, refl};
+ghost use Rattle.std.specs.Prelude.{◌≡◌, ◌++◌, ◌∷◌, [], IfOk, OnOk, OnErr, length, slice_get, slice_set, option_copied, ◌==◌, refl};
 ghost use Rattle.std.specs.Cmp.Lexicographic.{pointwise, lists_equiv, lists_per, slice_cmp, slice_partial_cmp, lists_total, lists_ties, lists_agrees, lists_po};
 
 use crate::values::memory::NoMemory;
@@ -89,6 +89,16 @@ impl<T: Drop> Sequence<T> {
     {
         self.items.push(item)?;
         Ok(())
+    }
+
+    /// Puts an item in the place of the one at `index`, counted from 0. Where there are at most
+    /// `index` items, the list is as before.
+    pub fn set(&mut self, index: usize, item: T)
+        ensures { self.new ≡ slice_set self.old index item }
+    {
+        if let Some(place) = self.items.get_mut(index) {
+            *place = item;
+        }
     }
 }
 

@@ -1,10 +1,11 @@
 //! The state of a group, and how a group stands after some records.
 ghost use Rattle.std.specs.Prelude.{◌≡◌, IfOk};
+ghost use Rattle.sym_base.specs.States.{label_at, number_at, parts_at, with_int};
 
 use crate::values::memory::NoMemory;
 use crate::values::sequence::{Plain, Sequence};
 use crate::values::text::Words;
-use crate::values::value::{Nums, Values};
+use crate::values::value::{Nums, Value, Values};
 use std::alloc::Global;
 
 /// What one cell of a state holds.
@@ -85,6 +86,47 @@ impl State {
         Ok(State {
             cells: self.cells.copy(alloc)?,
         })
+    }
+
+    /// The label of the enum cell with this number, counted from 0; 0 where no enum cell has it.
+    pub fn label_at(&self, cell: u16) -> u8
+        ensures { result ≡ label_at self.now cell }
+    {
+        match self.cells.get(usize::from(cell)) {
+            Some(Cell::Enum(label)) => *label,
+            _ => 0,
+        }
+    }
+
+    /// The number in the integer cell with this number, counted from 0; 0 where no integer cell
+    /// has it.
+    pub fn number_at(&self, cell: u16) -> i64
+        ensures { result ≡ number_at self.now cell }
+    {
+        match self.cells.get(usize::from(cell)) {
+            Some(Cell::Int(number)) => *number,
+            _ => 0,
+        }
+    }
+
+    /// The parts in the hold cell with this number, counted from 0; none where no hold cell has it.
+    pub fn parts_at(&self, cell: u16) -> &[Value]
+        ensures { result.now ≡ parts_at self.now cell }
+    {
+        match self.cells.get(usize::from(cell)) {
+            Some(Cell::Hold(parts)) => parts.as_slice(),
+            _ => &[],
+        }
+    }
+
+    /// The state in which the cell with this number, counted from 0, is an integer cell with
+    /// `number` in it. Where the state has no such cell, it is as before.
+    pub fn with_int(self, cell: u16, number: i64) -> State
+        ensures { result ≡ with_int self cell number }
+    {
+        let mut cells = self.cells;
+        cells.set(usize::from(cell), Cell::Int(number));
+        State { cells }
     }
 }
 

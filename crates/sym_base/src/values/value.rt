@@ -6,9 +6,6 @@ use crate::values::sequence::{Plain, Sequence};
 use crate::values::text::Text;
 use std::alloc::Global;
 
-/// The largest number of a script and of its data; the least is its opposite.
-pub const NUM_MAX: i64 = 1_000_000_000_000;
-
 /// A value of a field, of a part of a hold cell, or of an argument of a test. Values stand in
 /// the order numbers by size, words by bytes, labels by number.
 #[derive(Debug, PartialEq, Eq, PartialOrd, Ord, Hash, Drop)]

@@ -1,6 +1,6 @@
 use Rattle.std.proofs.Common.{arith, refl, lit<, ◌^◌, ◌*◌, ℤ, ◌∙◌}
 use Rattle.std.proofs.lemmas.Int.{ints}
-use Rattle.sym_base.specs.Numbers.{IsNumber}
+use Rattle.sym_base.specs.Limits.{IsNumber}
 use Rattle.sym_int.proofs.Products.{shown, shown_64}
 use Rattle.sym_int.proofs.Taken.{slope_of_two, offset_of_two, same_on_one}
 use Rattle.sym_int.proofs.wide.taken_line.Goals as goal

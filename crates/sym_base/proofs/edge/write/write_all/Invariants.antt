@@ -1,5 +1,5 @@
 use Rattle.std.proofs.Common.{length, ◌-◌, ◌≡◌, ◌≤◌, take}
-use Rattle.sym_base.specs.Edges.{appended}
+use Rattle.sym_base.specs.Transfers.{appended}
 use Rattle.sym_base.proofs.edge.write.write_all.Given as goal
 
 -- The first bytes, up to the place reached, are appended.

@@ -1,5 +1,4 @@
--- What goes through the edges of a program: bytes that are read from a named file, and bytes
--- that are appended to a sink.
+-- Bytes that move: read from a named file into a buffer, or appended to a sink.
 use Rattle.std.specs.Prelude.{◌≡◌, ℕ, ◌≤◌, List, ◌++◌, length, take, drop, Option, Some, None, ◌⊎◌}
 
 -- A read put count bytes of a file, from a place of it on, into the front of a buffer and left
