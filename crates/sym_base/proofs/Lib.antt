@@ -1,4 +1,5 @@
 mod Appending
 mod Files
+mod LawfulExamples
 mod Reading
 pub mod ValueLemmas

@@ -2,8 +2,12 @@ pub mod Comparing
 pub mod Counters
 pub mod Counts
 pub mod InMemory
+pub mod Lawful
 pub mod Limits
+pub mod Names
 pub mod Order
+pub mod Precedence
+pub mod Sizes
 pub mod States
 pub mod Transfers
 pub mod Trees
