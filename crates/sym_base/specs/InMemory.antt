@@ -28,7 +28,8 @@ pub record StoreInMemory : Type 0 where
 
 -- The next read of this name fails: its number was set to fail, or there is no such file.
 abbrev pub FailsNext : StoreInMemory → List ℕ → Type 0
-FailsNext store name = Contains store.failing (counted store.reads) ⊎ (file_at store.files name ≡ None)
+FailsNext store name =
+    Contains store.failing (counted store.reads) ⊎ (file_at store.files name ≡ None)
 
 -- The store after a read that didn't fail.
 abbrev pub after_read : StoreInMemory → StoreInMemory

@@ -70,7 +70,8 @@ abbrev pub is_lawful_cell : CellDecl → Bool
 is_lawful_cell (cell.Int lo hi first) = is_number lo && is_number hi && is_number first
 is_lawful_cell (cell.Nums lo hi) = is_number lo && is_number hi
 is_lawful_cell cell.Words = true
-is_lawful_cell (cell.Hold parts) = is_between 1 max_parts (length parts) && list_all is_lawful_part parts
+is_lawful_cell (cell.Hold parts) =
+    is_between 1 max_parts (length parts) && list_all is_lawful_part parts
 is_lawful_cell (cell.Enum of first) = is_lawful_name of && is_lawful_name first
 
 abbrev pub is_lawful_state : StateDecl → Bool

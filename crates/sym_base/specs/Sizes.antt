@@ -48,7 +48,8 @@ abbrev mutual
   stmt_depth (Push name value) = expr_depth value
   stmt_depth (Keep name values) = exprs_depth values
   stmt_depth (KeepFrom name source) = 0
-  stmt_depth (If condition then_list else_list) = max (expr_depth condition) (max (stmts_depth then_list) (stmts_depth else_list)) + 1
+  stmt_depth (If condition then_list else_list) =
+      max (expr_depth condition) (max (stmts_depth then_list) (stmts_depth else_list)) + 1
 
   pub stmts_depth : StmtsTree → ℕ
   stmts_depth Done = 0

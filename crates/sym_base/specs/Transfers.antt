@@ -1,7 +1,7 @@
 -- Bytes that move: read from a named file into a buffer, or appended to a sink.
 use Rattle.std.specs.Prelude.{◌≡◌, ℕ, ◌≤◌, List, ◌++◌, length, take, drop, Option, Some, None, ◌⊎◌}
 
--- A read put count bytes of a file, from a place of it on, into the front of a buffer and left
+-- A read put count bytes of a file, from a place of it on, to the start of a buffer and left
 -- the rest of the buffer. It read nothing only where the buffer is empty or the file has ended.
 pub record ReadsAt (bytes : List ℕ) (place count : ℕ) (before after : List ℕ) : Type 0 where
   pub within : count ≤ length (drop place bytes)

@@ -5,8 +5,8 @@ ghost use Rattle.sym_base.specs.Transfers.{appended};
 ghost use Rattle.sym_base.specs.InMemory.{after_write, after_failed_write, after_short_write};
 
 use crate::edge::mem_store::is_listed;
-use crate::values::memory::NoMemory;
 use crate::edge::sink::{Sink, SinkErr};
+use crate::values::memory::NoMemory;
 use std::alloc::Global;
 use std::marker::Model;
 
@@ -29,7 +29,14 @@ impl Model for MemSink {
 
     ghost Value = { SinkInMemory };
 
-    ghost view = { λ s. record { bytes = s.bytes.items; piece = s.piece; failing = s.failing.items; writes = s.writes; faults = s.faults; short = s.short } };
+    ghost view = { λ s. record {
+      bytes = s.bytes.items;
+      piece = s.piece;
+      failing = s.failing.items;
+      writes = s.writes;
+      faults = s.faults;
+      short = s.short;
+    } };
 
     ghost invariant = { λ s. 1 ≤ s.piece };
 }
@@ -39,7 +46,14 @@ impl MemSink {
     /// bytes. It takes no memory until something is written.
     pub fn new(alloc: Global, piece: usize) -> MemSink
         requires { 1 ≤ piece }
-        ensures { result ≡ record { bytes = []; piece = piece; failing = []; writes = 0; faults = 0; short = 0 } }
+        ensures { result ≡ record {
+          bytes = [];
+          piece = piece;
+          failing = [];
+          writes = 0;
+          faults = 0;
+          short = 0;
+        } }
     {
         MemSink {
             bytes: Vec::new(alloc),
@@ -54,7 +68,8 @@ impl MemSink {
     /// Makes the write of this number fail. Writes are counted from 1. After an `Err` the sink is
     /// as before.
     pub fn fail_at(&mut self, _alloc: Global, call: u64) -> Result<(), NoMemory>
-        ensures ok { OnOk result (self.new ≡ record self.old { failing = self.old.failing ++ call ∷ [] }) }
+        ensures ok { OnOk result
+            (self.new ≡ record self.old { failing = self.old.failing ++ call ∷ [] }) }
         ensures err { OnErr result (self.new ≡ self.old) }
     {
         self.failing.push(call)?;
@@ -80,13 +95,15 @@ impl Sink for MemSink {
     fn write_some(&mut self, bytes: &[u8]) -> Result<usize, SinkErr>
         ensures bound { IfOk result (λ k. k ≤ length bytes.now) }
         ensures some { IfOk result (λ k. k ≡ 0 → length bytes.now ≡ 0) }
-        ensures ok { IfOk result (λ k. Some self.new.bytes ≡ appended (Some self.old.bytes) (take k bytes.now)) }
+        ensures ok { IfOk result (λ k.
+            Some self.new.bytes ≡ appended (Some self.old.bytes) (take k bytes.now)) }
         ensures err { OnErr result (Some self.new.bytes ≡ Some self.old.bytes) }
         ensures later { self.old.faults ≤ self.new.faults }
         ensures later_short { self.old.short ≤ self.new.short }
         ensures failed { IsErrOf result SinkErr.Failed → Rose self.old.faults self.new.faults }
         ensures no_memory { IsErrOf result SinkErr.NoMemory → Rose self.old.short self.new.short }
-        ensures fails { IsErrOf result SinkErr.Failed ↔ Contains self.old.failing (counted self.old.writes) }
+        ensures fails { IsErrOf result SinkErr.Failed ↔
+            Contains self.old.failing (counted self.old.writes) }
         ensures piece { IfOk result (λ k. k ≡ min self.old.piece (length bytes.now)) }
         ensures taken { IfOk result (λ k. self.new ≡ after_write self.old (take k bytes.now)) }
         ensures fault { IsErrOf result SinkErr.Failed → self.new ≡ after_failed_write self.old }

@@ -4,10 +4,10 @@ ghost use Rattle.sym_base.specs.Counts.{Rose};
 ghost use Rattle.sym_base.specs.Transfers.{ReadsAt};
 ghost use Rattle.sym_base.specs.InMemory.{file_at, files_of, FailsNext, after_read, after_fault};
 
-use crate::values::memory::NoMemory;
-use crate::values::sequence::Sequence;
 use crate::edge::store::{Failed, Store};
 use crate::limits::FILE_MAX;
+use crate::values::memory::NoMemory;
+use crate::values::sequence::Sequence;
 use std::alloc::Global;
 use std::collections::BTreeMap;
 use std::marker::Model;
@@ -28,7 +28,12 @@ impl Model for MemStore {
 
     ghost Value = { StoreInMemory };
 
-    ghost view = { λ s. record { files = files_of s.files.entries; failing = s.failing.items; reads = s.reads; faults = s.faults } };
+    ghost view = { λ s. record {
+      files = files_of s.files.entries;
+      failing = s.failing.items;
+      reads = s.reads;
+      faults = s.faults;
+    } };
 }
 
 impl MemStore {
@@ -48,7 +53,8 @@ impl MemStore {
     /// name. After an `Err` the store is as before.
     pub fn add(&mut self, alloc: Global, name: &str, bytes: &[u8]) -> Result<(), NoMemory>
         ensures set { OnOk result (file_at self.new.files name.now ≡ Some bytes.now) }
-        ensures others { OnOk result ((other : List ℕ) → other ≢ name.now → file_at self.new.files other ≡ file_at self.old.files other) }
+        ensures others { OnOk result ((other : List ℕ) → other ≢ name.now →
+            file_at self.new.files other ≡ file_at self.old.files other) }
         ensures counts { OnOk result (self.new ≡ record self.old { files = self.new.files }) }
         ensures err { OnErr result (self.new ≡ self.old) }
     {
@@ -61,7 +67,8 @@ impl MemStore {
     /// Makes the read of this number fail. Reads are counted from 1, over all names. After an
     /// `Err` the store is as before.
     pub fn fail_at(&mut self, _alloc: Global, call: u64) -> Result<(), NoMemory>
-        ensures ok { OnOk result (self.new ≡ record self.old { failing = self.old.failing ++ call ∷ [] }) }
+        ensures ok { OnOk result
+            (self.new ≡ record self.old { failing = self.old.failing ++ call ∷ [] }) }
         ensures err { OnErr result (self.new ≡ self.old) }
     {
         self.failing.push(call)?;
@@ -79,12 +86,14 @@ impl Store for MemStore {
         requires { at ≤ FILE_MAX }
         ensures bound { IfOk result (λ k. k ≤ length into.old) }
         ensures rest { IfOk result (λ k. drop k into.new ≡ drop k into.old) }
-        ensures bytes { IfOk result (λ k. IfSome (file_at self.old.files name.now) (λ bytes. ReadsAt bytes at k into.old into.new)) }
+        ensures bytes { IfOk result (λ k. IfSome (file_at self.old.files name.now) (λ bytes.
+            ReadsAt bytes at k into.old into.new)) }
         ensures same { file_at self.new.files ≡ file_at self.old.files }
         ensures later { (other : List ℕ) → self.old.faults ≤ self.new.faults }
         ensures failed { OnErr result (Rose self.old.faults self.new.faults) }
         ensures fails { IsErr result ↔ FailsNext self.old name.now }
-        ensures most { IfOk result (λ k. IfSome (file_at self.old.files name.now) (λ bytes. k ≡ min (length into.old) (length bytes - at))) }
+        ensures most { IfOk result (λ k. IfSome (file_at self.old.files name.now) (λ bytes.
+            k ≡ min (length into.old) (length bytes - at))) }
         ensures read { OnOk result (self.new ≡ after_read self.old) }
         ensures fault { OnErr result (self.new ≡ after_fault self.old) }
         ensures kept { OnErr result (into.new ≡ into.old) }
@@ -92,7 +101,7 @@ impl Store for MemStore {
         self.reads = self.reads.saturating_add(1);
         if !is_listed(self.failing.as_slice(), self.reads) {
             if let Some(bytes) = find(&self.files, name) {
-                return Ok(copy_front(bytes, at, into));
+                return Ok(copy_from(bytes, at, into));
             }
         }
         self.faults = self.faults.saturating_add(1);
@@ -109,14 +118,15 @@ pub(crate) fn is_listed(failing: &[u64], call: u64) -> bool
 
 // The bytes of the file of this name.
 fn find<'a>(files: &'a BTreeMap<String, Sequence<u8>>, name: &str) -> Option<&'a [u8]>
-    ensures { option_map (λ bytes. bytes.now) result ≡ file_at (files_of files.now.entries) name.now }
+    ensures { option_map (λ bytes. bytes.now) result ≡
+        file_at (files_of files.now.entries) name.now }
 {
     let bytes = files.get(name)?;
     Some(bytes.as_slice())
 }
 
-// Copies the bytes from a place on into the front of a buffer, as many as it has room for.
-fn copy_front(bytes: &[u8], at: u64, into: &mut [u8]) -> usize
+// Copies the bytes from a place on to the start of a buffer, as many as it has room for.
+fn copy_from(bytes: &[u8], at: u64, into: &mut [u8]) -> usize
     requires { at ≤ FILE_MAX }
     ensures most { result ≡ min (length into.old) (length bytes.now - at) }
     ensures reads { ReadsAt bytes.now at result into.old into.new }

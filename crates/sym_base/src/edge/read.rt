@@ -3,9 +3,9 @@ ghost use Rattle.std.specs.Prelude.{◌≡◌, ℕ, ◌≤◌, ◌<◌, List, le
 ghost use Rattle.sym_base.specs.Counts.{Rose};
 ghost use Rattle.sym_base.specs.declared.edge.read.ReadErr.TheVariants as read_error;
 
-use crate::values::memory::NoMemory;
 use crate::edge::store::{Failed, Store};
 use crate::limits::FILE_MAX;
+use crate::values::memory::NoMemory;
 use std::alloc::{AllocError, AllocFailed, Global};
 
 /// Why a file was not read whole.
@@ -53,8 +53,10 @@ pub fn read_all<F: Store>(
     requires { max ≤ FILE_MAX }
     ensures ok { IfOk result (λ v. IfSome (F.holds store.old name.now) (λ bytes. v.items ≡ bytes)) }
     ensures fits { IfOk result (λ v. length v.items ≤ max) }
-    ensures too_large { IsErrOf result ReadErr.TooLarge → IfSome (F.holds store.old name.now) (λ bytes. max < length bytes) }
-    ensures failed { IsErrOf result ReadErr.Failed → Rose (F.faults store.old name.now) (F.faults store.new name.now) }
+    ensures too_large { IsErrOf result ReadErr.TooLarge →
+        IfSome (F.holds store.old name.now) (λ bytes. max < length bytes) }
+    ensures failed { IsErrOf result ReadErr.Failed →
+        Rose (F.faults store.old name.now) (F.faults store.new name.now) }
     ensures same { F.holds store.new ≡ F.holds store.old }
     ensures later { (other : List ℕ) → F.faults store.old other ≤ F.faults store.new other }
 {

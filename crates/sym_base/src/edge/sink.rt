@@ -20,7 +20,7 @@ pub trait Sink {
     // How many writes have failed.
     ghost faults: { Self → ℕ };
 
-    // How many writes were refused for want of the sink's own memory: 0 where it isn't in memory.
+    // How many writes found the sink's own memory full: 0 where the sink isn't in memory.
     ghost short: { Self → ℕ };
 
     /// Appends the first of these bytes and gives their number, which is 0 only where there are
@@ -33,10 +33,12 @@ pub trait Sink {
     fn write_some(&mut self, bytes: &[u8]) -> Result<usize, SinkErr>
         ensures bound { IfOk result (λ k. k ≤ length bytes.now) }
         ensures some { IfOk result (λ k. k ≡ 0 → length bytes.now ≡ 0) }
-        ensures ok { IfOk result (λ k. written self.new ≡ appended (written self.old) (take k bytes.now)) }
+        ensures ok { IfOk result (λ k.
+            written self.new ≡ appended (written self.old) (take k bytes.now)) }
         ensures err { OnErr result (written self.new ≡ written self.old) }
         ensures later { faults self.old ≤ faults self.new }
         ensures later_short { short self.old ≤ short self.new }
         ensures failed { IsErrOf result SinkErr.Failed → Rose (faults self.old) (faults self.new) }
-        ensures no_memory { IsErrOf result SinkErr.NoMemory → Rose (short self.old) (short self.new) };
+        ensures no_memory { IsErrOf result SinkErr.NoMemory →
+            Rose (short self.old) (short self.new) };
 }

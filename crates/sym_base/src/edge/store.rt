@@ -18,7 +18,7 @@ pub trait Store {
     ghost faults: { Self → List ℕ → ℕ };
 
     /// Reads bytes of the file of this name, from the place `at` (counted from 0) on, into the
-    /// front of `into`, and gives their number. It gives 0 only where `into` is empty or the
+    /// first bytes of `into`, and gives their number. It gives 0 only where `into` is empty or the
     /// file ends at `at` or before. No read changes what the store holds.
     ///
     /// # Errors
@@ -28,8 +28,10 @@ pub trait Store {
         requires { at ≤ FILE_MAX }
         ensures bound { IfOk result (λ k. k ≤ length into.old) }
         ensures rest { IfOk result (λ k. drop k into.new ≡ drop k into.old) }
-        ensures bytes { IfOk result (λ k. IfSome (holds self.old name.now) (λ bytes. ReadsAt bytes at k into.old into.new)) }
+        ensures bytes { IfOk result (λ k. IfSome (holds self.old name.now) (λ bytes.
+            ReadsAt bytes at k into.old into.new)) }
         ensures same { holds self.new ≡ holds self.old }
         ensures later { (other : List ℕ) → faults self.old other ≤ faults self.new other }
-        ensures failed { OnErr result (Rose (faults self.old name.now) (faults self.new name.now)) };
+        ensures failed { OnErr result
+            (Rose (faults self.old name.now) (faults self.new name.now)) };
 }

@@ -17,7 +17,8 @@ pub fn write_all<O: Sink>(sink: &mut O, bytes: &[u8]) -> Result<(), SinkErr>
     ensures later { O.faults sink.old ≤ O.faults sink.new }
     ensures later_short { O.short sink.old ≤ O.short sink.new }
     ensures failed { IsErrOf result SinkErr.Failed → Rose (O.faults sink.old) (O.faults sink.new) }
-    ensures no_memory { IsErrOf result SinkErr.NoMemory → Rose (O.short sink.old) (O.short sink.new) }
+    ensures no_memory { IsErrOf result SinkErr.NoMemory →
+        Rose (O.short sink.old) (O.short sink.new) }
 {
     let mut done: usize = 0;
     'pieces: while done < bytes.len() {

@@ -2,11 +2,11 @@
 ghost use Rattle.std.specs.Prelude.{◌≡◌, IfOk, map};
 ghost use Rattle.sym_base.specs.Trees.{test_tree, column_tree};
 
+use crate::tree::expression::Expr;
+use crate::tree::name::{Name, Names};
 use crate::values::memory::NoMemory;
 use crate::values::sequence::{Plain, Sequence};
 use crate::values::text::Text;
-use crate::tree::expression::Expr;
-use crate::tree::name::{Name, Names};
 use std::alloc::Global;
 
 /// An enum and its labels, which are numbered from 0 in this order.

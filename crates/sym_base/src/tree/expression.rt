@@ -3,9 +3,9 @@
 ghost use Rattle.std.specs.Prelude.{◌≡◌, IfOk};
 ghost use Rattle.sym_base.specs.Trees.{expr_tree, exprs_tree};
 
+use crate::tree::name::Name;
 use crate::values::memory::NoMemory;
 use crate::values::text::Text;
-use crate::tree::name::Name;
 use std::alloc::Global;
 
 /// An operator of two operands.

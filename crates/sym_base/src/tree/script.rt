@@ -2,12 +2,10 @@
 ghost use Rattle.std.specs.Prelude.{◌≡◌, IfOk};
 ghost use Rattle.sym_base.specs.Trees.{script_tree};
 
-use crate::values::memory::NoMemory;
-use crate::tree::declaration::{
-    ColumnDecls, EnumDecls, FieldDecls, StateDecls, TestDecls,
-};
+use crate::tree::declaration::{ColumnDecls, EnumDecls, FieldDecls, StateDecls, TestDecls};
 use crate::tree::name::Name;
 use crate::tree::statement::Stmts;
+use crate::values::memory::NoMemory;
 use std::alloc::Global;
 
 /// A script: its declarations in order, its update and its report.

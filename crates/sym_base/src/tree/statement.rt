@@ -2,9 +2,9 @@
 ghost use Rattle.std.specs.Prelude.{◌≡◌, IfOk};
 ghost use Rattle.sym_base.specs.Trees.{stmt_tree, stmts_tree};
 
-use crate::values::memory::NoMemory;
 use crate::tree::expression::{Expr, Exprs};
 use crate::tree::name::Name;
+use crate::values::memory::NoMemory;
 use std::alloc::Global;
 
 /// A statement.
@@ -15,7 +15,7 @@ pub enum Stmt {
     Let(Name, Expr),
     /// Assigns to an integer cell or an enum cell.
     Set(Name, Expr),
-    /// Puts an element behind a list cell's.
+    /// Adds an element to a list cell as its last one.
     Push(Name, Expr),
     /// Gives a hold cell's parts new values.
     Keep(Name, Exprs),

@@ -82,7 +82,8 @@ impl<T> Sequence<T> {
 }
 
 impl<T: Drop> Sequence<T> {
-    /// Puts an item behind the others. After an `Err` the list is as before, and the item is dropped.
+    /// Adds an item as the last one. After an `Err` the list is as before, and the item is
+    /// dropped.
     pub fn push(&mut self, item: T) -> Result<(), NoMemory>
         ensures ok { OnOk result (self.new ≡ self.old ++ item ∷ []) }
         ensures err { OnErr result (self.new ≡ self.old) }
