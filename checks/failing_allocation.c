@@ -1,8 +1,10 @@
 // Preloaded into a program, makes one of its allocations fail: the one whose number, counted from
-// 1, is in the environment variable FAIL_ALLOCATION. At the end of the program the number of all
-// allocations is written to the file that ALLOCATION_COUNT names. Works with the GNU C library.
+// 1 over all threads, is in the environment variable FAIL_ALLOCATION. At the end of the program the
+// number of all allocations is written to the file that ALLOCATION_COUNT names. Works with the GNU
+// C library.
 
 #include <errno.h>
+#include <stdatomic.h>
 #include <stddef.h>
 #include <stdio.h>
 #include <stdlib.h>
@@ -12,7 +14,8 @@ void *__libc_calloc(size_t count, size_t size);
 void *__libc_memalign(size_t alignment, size_t size);
 void *__libc_realloc(void *old, size_t size);
 
-static unsigned long allocations;
+static atomic_ulong allocations;
+// Written before main begins and after it ends.
 static unsigned long failing;
 
 __attribute__((constructor)) static void begin(void) {
@@ -33,8 +36,8 @@ __attribute__((destructor)) static void end(void) {
 }
 
 static int fails(void) {
-    allocations++;
-    if (allocations != failing)
+    unsigned long number = atomic_fetch_add(&allocations, 1) + 1;
+    if (number != failing)
         return 0;
     errno = ENOMEM;
     return 1;
