@@ -1,8 +1,8 @@
 #!/bin/sh
 # Runs the program as its users do, by the launcher, and tests its statuses and what it writes, over
-# the files and streams of the system: one row or more for each status but that of want of memory.
-# Then runs each row once for each of its allocations, with that one refused: the answer has to stay
-# as it was, or be status 8 with nothing written, and at least one run of each row has to end with 8.
+# the files and streams of the system: one row or more for each status but that of no memory. Then
+# runs each row once for each of its allocations, with that one failing: the answer has to stay as it
+# was, or be status 8 with nothing written, and at least one run of each row has to end with 8.
 # Needs a C compiler as cc, and the GNU C library. The last line counts what passed and failed.
 set -u
 
@@ -35,7 +35,7 @@ answered() {
     [ "$status" -eq "$1" ] && printf '%s' "$2" | cmp -s - "$work/out" && [ ! -s "$work/err" ]
 }
 
-# Runs the words with the allocation of this number refused, and counts all allocations.
+# Runs with the allocation of this number failing, and counts all allocations.
 run_short() {
     number=$1
     shift
@@ -44,7 +44,7 @@ run_short() {
     status=$?
 }
 
-# row NAME STATUS TEXT WORDS..: the words give this status and this text.
+# row NAME STATUS TEXT ARGUMENTS..: the arguments give this status and this text.
 row() {
     name=$1
     wanted=$2
@@ -55,27 +55,27 @@ row() {
     status=$?
     answered "$wanted" "$text"
     note $? "$name: status $status in place of $wanted, or another output"
-    refuse_each "$@"
+    fail_each "$@"
 }
 
-# Runs the words of a row with none and then with each of their allocations refused.
-refuse_each() {
+# Runs the arguments of a row with none and then with each of their allocations failing.
+fail_each() {
     rm -f "$work/count"
     run_short 0 "$@"
     answered "$wanted" "$text"
-    note $? "$name, no allocation refused: status $status"
+    note $? "$name, no allocation failing: status $status"
     total=$(cat "$work/count") || total=0
-    refusal=1
+    failing=1
     short=0
-    while [ "$refusal" -le "$total" ]; do
-        run_short "$refusal" "$@"
+    while [ "$failing" -le "$total" ]; do
+        run_short "$failing" "$@"
         answered "$wanted" "$text" || answered "$no_memory" ""
-        note $? "$name, allocation $refusal of $total refused: status $status"
+        note $? "$name, allocation $failing of $total failing: status $status"
         [ "$status" -ne "$no_memory" ] || short=$((short + 1))
-        refusal=$((refusal + 1))
+        failing=$((failing + 1))
     done
     [ "$short" -ge 1 ]
-    note $? "$name: none of $total refused allocations gave status $no_memory"
+    note $? "$name: none of $total failing allocations gave status $no_memory"
 }
 
 cc -O2 -shared -fPIC -o "$work/failing.so" "$here/failing_allocation.c" || exit 1
@@ -83,40 +83,45 @@ cc -O2 -shared -fPIC -o "$work/failing.so" "$here/failing_allocation.c" || exit 
 "$root/symple" run "$examples/counter.symple" "$examples/counter.csv" >/dev/null || exit 1
 
 out=$work/out
-printf 'milliseconds\n1\nx\n' >"$work/words.csv"
-printf 'people\n' >"$work/no_records.csv"
+counter=$examples/counter.symple
+lift=$examples/lift.symple
+printf 'milliseconds\n12\n7\n' >"$work/two.csv"
+printf 'people\n6\n-2\n' >"$work/four.csv"
+printf 'people\n8\n1\n-3\n' >"$work/nine.csv"
+printf 'people\n' >"$work/none.csv"
+printf 'milliseconds\n1\nx\n' >"$work/letters.csv"
 head -c 65537 /dev/zero | tr '\0' ' ' >"$work/large.symple"
 truncate -s 67108865 "$work/large.csv"
 
 row "a counter" 0 'events
-6
+2
 --
-' run "$examples/counter.symple" "$examples/counter.csv"
-row "a sum" 0 'balance
-10226
+' run "$counter" "$work/two.csv"
+row "a sum" 0 'aboard
+4
 --
-' run "$examples/balance.symple" "$examples/balance.csv"
+' run "$lift" "$work/four.csv"
 row "a file without records" 0 'aboard
 --
-' run "$examples/lift.symple" "$work/no_records.csv"
+' run "$lift" "$work/none.csv"
 row "an overflow" 1 'aboard
-fault: aboard overflows at record 4
+fault: aboard overflows at record 2
 --
-' run "$examples/lift.symple" "$examples/lift.csv"
-row "no words" 2 ''
-row "a word too few" 2 '' run "$examples/counter.symple"
-row "a word that isn't UTF-8" 2 '' run "$examples/counter.symple" "$(printf '\377')"
-row "a script that is no counter" 3 '' run "$examples/counter.csv" "$examples/counter.csv"
-row "a file that isn't plain" 4 '' run "$examples/counter.symple" "$work/words.csv"
-row "another heading" 4 '' run "$examples/counter.symple" "$examples/lift.csv"
-row "an absent script" 5 '' run "$work/absent" "$examples/counter.csv"
-row "an absent file" 5 '' run "$examples/counter.symple" "$work/absent"
-row "a folder in place of a file" 5 '' run "$examples/counter.symple" "$work"
-row "a large script" 7 '' run "$work/large.symple" "$examples/counter.csv"
-row "a large file" 7 '' run "$examples/counter.symple" "$work/large.csv"
+' run "$lift" "$work/nine.csv"
+row "no arguments" 2 ''
+row "an argument too few" 2 '' run "$counter"
+row "an argument that isn't UTF-8" 2 '' run "$counter" "$(printf '\377')"
+row "a script that is no counter" 3 '' run "$work/two.csv" "$work/two.csv"
+row "a file that isn't plain" 4 '' run "$counter" "$work/letters.csv"
+row "another first line" 4 '' run "$counter" "$work/four.csv"
+row "an absent script" 5 '' run "$work/absent" "$work/two.csv"
+row "an absent file" 5 '' run "$counter" "$work/absent"
+row "a directory in place of a file" 5 '' run "$counter" "$work"
+row "a large script" 7 '' run "$work/large.symple" "$work/two.csv"
+row "a large file" 7 '' run "$counter" "$work/large.csv"
 # What goes to this device can't be read back: only the status is compared.
 out=/dev/full
-row "a full device" 6 '' run "$examples/counter.symple" "$examples/counter.csv"
+row "a full device" 6 '' run "$counter" "$work/two.csv"
 
-echo "checks: $passed passed, $failed failed"
+echo "checks/program.sh: $passed passed, $failed failed"
 [ "$failed" -eq 0 ]

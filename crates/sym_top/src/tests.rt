@@ -202,6 +202,30 @@ fn a_failed_read_of_either_file_stops_the_run(rt: HostRuntime) -> Result<(), Fai
 }
 
 #[test]
+fn a_script_that_is_not_run_leaves_the_file_unread(rt: HostRuntime) -> Result<(), Fail> {
+    let long = long_script(rt.alloc(), 65_537)?;
+    // A script, the read of it that fails (0 is none), how the run ends, and the next read, which
+    // is set to fail too: it comes at the next run.
+    let runs = [
+        ("", 0, Status::Script, 2),
+        ("field x num;", 0, Status::Script, 3),
+        (long.as_str(), 0, Status::TooLarge, 3),
+        (COUNTER, 1, Status::ReadFault, 2),
+        (COUNTER, 2, Status::ReadFault, 3),
+    ];
+    for (script, failing, status, next) in runs {
+        let mut files = store_of(rt.alloc(), script, "x\n5\n")?;
+        files.fail_at(rt.alloc(), failing)?;
+        files.fail_at(rt.alloc(), next)?;
+        let end = end_of(rt.alloc(), &mut files)?;
+        assert_eq!(rt; end.0, status, "read {failing}, {} bytes", script.len());
+        let again = end_of(rt.alloc(), &mut files)?;
+        assert_eq!(rt; again.0, Status::ReadFault, "read {next}");
+    }
+    Ok(())
+}
+
+#[test]
 fn a_file_that_is_absent_is_a_failed_read(rt: HostRuntime) -> Result<(), Fail> {
     let mut files = MemStore::new(rt.alloc());
     assert_eq!(rt;

@@ -1,0 +1,104 @@
+#!/bin/sh
+# Runs the commands that the documents show, at the top of the repository, and compares what each
+# writes with what the document shows below it, and its status. In an indented block a line that
+# begins with `$ ` is a command; the lines up to the next command or the end of the block are all
+# that it writes. `$ echo $?` shows the status of the command before it; a command that isn't
+# followed by one has to end with 0. The last line counts what passed and failed.
+set -u
+
+here=$(CDPATH='' cd -P "$(dirname "$0")" && pwd)
+root=$(dirname "$here")
+cd "$root" || exit 1
+
+work=$(mktemp -d) || exit 1
+trap 'rm -rf "$work"' EXIT
+trap 'exit 1' HUP INT TERM
+
+passed=0
+failed=0
+
+note() {
+    if [ "$1" -eq 0 ]; then
+        passed=$((passed + 1))
+    else
+        failed=$((failed + 1))
+        echo "checks/examples.sh: $2" >&2
+    fi
+}
+
+# Writes the commands of a document as the files N.place, N.command and N.wanted, N from 1 on.
+split() {
+    awk -v work="$work" '
+        function finish() { if (open) { close(wanted); open = 0 } }
+        /^\$ / {
+            print FILENAME ":" FNR ": a command outside of an indented block" >(work "/faults")
+        }
+        /^    \$ / {
+            finish()
+            count++
+            print FILENAME ":" FNR >(work "/" count ".place")
+            close(work "/" count ".place")
+            print substr($0, 7) >(work "/" count ".command")
+            close(work "/" count ".command")
+            wanted = work "/" count ".wanted"
+            printf "" >wanted
+            open = 1
+            next
+        }
+        /^    / && open { print substr($0, 5) >wanted; next }
+        { finish() }
+    ' "$1"
+}
+
+# Runs the commands of a document one after another.
+run_document() {
+    rm -f "$work"/*
+    split "$1"
+    if [ -s "$work/faults" ]; then
+        note 1 "$(cat "$work/faults")"
+    fi
+    status=0
+    number=1
+    while [ -e "$work/$number.command" ]; do
+        run_command "$work/$number"
+        number=$((number + 1))
+    done
+    [ "$status" -eq 0 ]
+    note $? "$1: the last command ended with $status, which isn't shown"
+    [ "$number" -gt 1 ]
+    note $? "$1 shows no command"
+}
+
+# Runs one command, or shows the status of the one before.
+run_command() {
+    place=$(cat "$1.place")
+    command=$(cat "$1.command")
+    # shellcheck disable=SC2016 # this is what a document shows
+    if [ "$command" = 'echo $?' ]; then
+        echo "$status" >"$work/written"
+        status=0
+    else
+        [ "$status" -eq 0 ]
+        note $? "$place: the command before ended with $status, which isn't shown"
+        sh -c "$command" >"$work/written" 2>&1 </dev/null
+        status=$?
+    fi
+    if ! diff -u "$1.wanted" "$work/written" >"$work/difference"; then
+        cat "$work/difference" >&2
+        note 1 "$place: $command: another output"
+    else
+        note 0
+    fi
+}
+
+# Builds the program where it has to be built, so that no command shows what a build says.
+./symple run examples/counter.symple examples/counter.csv >/dev/null || exit 1
+
+for document in README.md docs/LANGUAGE.md; do
+    if [ -e "$document" ]; then
+        run_document "$document"
+    fi
+done
+
+echo "checks/examples.sh: $passed passed, $failed failed"
+[ "$failed" -eq 0 ]

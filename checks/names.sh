@@ -1,0 +1,128 @@
+#!/bin/sh
+# Whether what the documents name is there:
+# - each path in backticks, from the top of the repository, or in a crate's README from there;
+# - in docs/DEFINITIONS.md, each definition, in the file that the entry gives: `NAME` in `FILE`;
+# - in the README's rows on a crate, each call and its clauses: (`CALL`: `CLAUSE`, `CLAUSE`);
+# - in a crate's README, each single name in backticks, in the sources of some crate.
+# The last line counts what was looked up and what is missing.
+# shellcheck disable=SC2016 # the backticks are those of the documents
+set -u
+
+here=$(CDPATH='' cd -P "$(dirname "$0")" && pwd)
+root=$(dirname "$here")
+cd "$root" || exit 1
+
+work=$(mktemp -d) || exit 1
+trap 'rm -rf "$work"' EXIT
+trap 'exit 1' HUP INT TERM
+
+found=0
+missing=0
+
+note() {
+    if [ "$1" -eq 0 ]; then
+        found=$((found + 1))
+    else
+        missing=$((missing + 1))
+        echo "checks/names.sh: $2" >&2
+    fi
+}
+
+# What stands in backticks in a document, one a line, outside of its indented blocks.
+quoted() {
+    sed '/^    /d' "$1" | tr '\n' ' ' | grep -o '`[^`]*`' | tr -d '`' | sort -u
+}
+
+# The entries of a document, each on one line: what begins with `- ` or `**`, up to the next one.
+entries() {
+    awk '
+        function finish() { if (entry != "") print entry; entry = "" }
+        /^- / || /^\*\*/ { finish(); entry = $0; next }
+        /^ *$/ || /^#/ || /^\|/ { finish(); next }
+        entry != "" { sub(/^ +/, ""); entry = entry " " $0 }
+        END { finish() }
+    ' "$1"
+}
+
+# The paths of a document of the top, or of a crate's README, which may also begin at the crate.
+check_paths() {
+    begins='crates|docs|examples|bench|checks|\.ci'
+    case $1 in
+        crates/*) begins="$begins|src|specs|proofs|must-fail" ;;
+    esac
+    quoted "$1" | grep -E '^[A-Za-z0-9_./-]+$' | grep -E "^($begins)/" |
+        grep -vE '(^|/)(NAME|out)(/|$)' >"$work/paths"
+    while read -r path; do
+        [ -e "$path" ] || [ -e "$(dirname "$1")/$path" ]
+        note $? "$1: there is no $path"
+    done <"$work/paths"
+}
+
+# Whether a source defines the name: an item, or a definition or meaning that contracts use.
+defines() {
+    grep -qE "(^|[^A-Za-z0-9_])(pub|ghost|data|record|fn|struct|enum|trait|const|type) $1(\$|[^A-Za-z0-9_-])" "$2"
+}
+
+check_glossary() {
+    entries "$1" | grep '^- ' >"$work/entries"
+    while read -r entry; do
+        printf "%s\n" "$entry" | grep -oE '(`[A-Za-z0-9_]+`,? )+in `crates/[^`]+`' >"$work/groups"
+        [ -s "$work/groups" ]
+        note $? "$1: no definition and no file: $entry"
+        while read -r group; do
+            file=$(printf "%s\n" "$group" | sed 's/.* in `\(.*\)`/\1/')
+            for name in $(printf "%s\n" "${group% in *}" | tr -d '`,'); do
+                [ -e "$file" ] && defines "$name" "$file"
+                note $? "$1: no definition of $name in $file"
+            done
+        done <"$work/groups"
+    done <"$work/entries"
+}
+
+# A row begins with the crate: - **`CRATE`**, or a link of it.
+check_clauses() {
+    entries "$1" | grep -E '^- \*\*\[?`sym' >"$work/entries"
+    [ -s "$work/entries" ]
+    note $? "$1: no row on a crate"
+    while read -r entry; do
+        crate=$(printf "%s\n" "$entry" | sed 's/^[^`]*`\([a-z_]*\)`.*/\1/')
+        printf "%s\n" "$entry" | grep -oE '\(`[A-Za-z_:]+`(: `[a-z_]+`(, `[a-z_]+`)*)?\)' >"$work/groups"
+        while read -r group; do
+            call=$(printf "%s\n" "$group" | sed 's/^(`\([A-Za-z_:]*\)`.*/\1/')
+            grep -rqE "fn ${call##*:}(\$|[^A-Za-z0-9_])" "crates/$crate/src"
+            note $? "$1: $crate has no call $call"
+            case $group in
+                *': '*) clauses=$(printf "%s\n" "${group#*: }" | tr -d '`,)') ;;
+                *) clauses= ;;
+            esac
+            for clause in $clauses; do
+                grep -rqE "ensures $clause \{" "crates/$crate/src"
+                note $? "$1: $crate has no clause $clause, which $call is said to have"
+            done
+        done <"$work/groups"
+    done <"$work/entries"
+}
+
+# All words of the sources.
+find crates -name out -prune -o -type f \( -name '*.rt' -o -name '*.antt' \) -exec cat {} + |
+    grep -oE '[A-Za-z_][A-Za-z0-9_]*' | sort -u >"$work/words"
+
+check_words() {
+    quoted "$1" | grep -E '^[A-Za-z_][A-Za-z0-9_:]*$' | sed 's/.*:://' | sort -u >"$work/names"
+    while read -r name; do
+        grep -qx "$name" "$work/words" || grep -q "^$name:" crates.txt
+        note $? "$1: no source has $name"
+    done <"$work/names"
+}
+
+for document in README.md CONTRIBUTING.md docs/*.md crates/*/README.md; do
+    check_paths "$document"
+done
+check_glossary docs/DEFINITIONS.md
+check_clauses README.md
+for document in crates/*/README.md; do
+    check_words "$document"
+done
+
+echo "checks/names.sh: $found found, $missing missing"
+[ "$missing" -eq 0 ]
