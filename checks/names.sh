@@ -1,7 +1,8 @@
 #!/bin/sh
 # Whether what the documents name is there:
 # - each path in backticks, from the top of the repository, or in a crate's README from there;
-# - in docs/DEFINITIONS.md, each definition, in the file that the entry gives: `NAME` in `FILE`;
+# - each definition that is named with its file, `NAME` in `FILE`, which each entry of
+#   docs/DEFINITIONS.md is;
 # - in the README's rows on a crate, each call and its clauses: (`CALL`: `CLAUSE`, `CLAUSE`);
 # - in a crate's README, each single name in backticks, in the sources of some crate.
 # The last line counts what was looked up and what is missing.
@@ -33,13 +34,14 @@ quoted() {
     sed '/^    /d' "$1" | tr '\n' ' ' | grep -o '`[^`]*`' | tr -d '`' | sort -u
 }
 
-# The entries of a document, each on one line: what begins with `- ` or `**`, up to the next one.
+# The paragraphs and list entries of a document, each on one line.
 entries() {
     awk '
         function finish() { if (entry != "") print entry; entry = "" }
-        /^- / || /^\*\*/ { finish(); entry = $0; next }
+        /^- / { finish(); entry = $0; next }
         /^ *$/ || /^#/ || /^\|/ { finish(); next }
-        entry != "" { sub(/^ +/, ""); entry = entry " " $0 }
+        entry == "" { if (!/^    /) entry = $0; next }
+        { sub(/^ +/, ""); entry = entry " " $0 }
         END { finish() }
     ' "$1"
 }
@@ -63,19 +65,24 @@ defines() {
     grep -qE "(^|[^A-Za-z0-9_])(pub|ghost|data|record|fn|struct|enum|trait|const|type) $1(\$|[^A-Za-z0-9_-])" "$2"
 }
 
+# Each definition that a document names with its file.
+check_definitions() {
+    entries "$1" | grep -oE '(`[A-Za-z0-9_:]+`(,| and)? )+in `[^`]*/[^`]*`' >"$work/groups"
+    while read -r group; do
+        file=$(printf '%s\n' "$group" | sed 's/.* in `\(.*\)`/\1/')
+        [ -e "$file" ] || file=$(dirname "$1")/$file
+        for name in $(printf '%s\n' "${group% in *}" | grep -o '`[^`]*`' | tr -d '`'); do
+            [ -e "$file" ] && defines "${name##*:}" "$file"
+            note $? "$1: no definition of $name in $file"
+        done
+    done <"$work/groups"
+}
+
+# Each entry of the glossary has a definition with its file.
 check_glossary() {
-    entries "$1" | grep '^- ' >"$work/entries"
+    entries "$1" | grep '^- ' | grep -vE '` in `crates/' >"$work/entries"
     while read -r entry; do
-        printf "%s\n" "$entry" | grep -oE '(`[A-Za-z0-9_]+`,? )+in `crates/[^`]+`' >"$work/groups"
-        [ -s "$work/groups" ]
-        note $? "$1: no definition and no file: $entry"
-        while read -r group; do
-            file=$(printf "%s\n" "$group" | sed 's/.* in `\(.*\)`/\1/')
-            for name in $(printf "%s\n" "${group% in *}" | tr -d '`,'); do
-                [ -e "$file" ] && defines "$name" "$file"
-                note $? "$1: no definition of $name in $file"
-            done
-        done <"$work/groups"
+        note 1 "$1: no definition with its file: $entry"
     done <"$work/entries"
 }
 
@@ -117,6 +124,7 @@ check_words() {
 
 for document in README.md CONTRIBUTING.md docs/*.md crates/*/README.md; do
     check_paths "$document"
+    check_definitions "$document"
 done
 check_glossary docs/DEFINITIONS.md
 check_clauses README.md
