@@ -29,7 +29,7 @@ note() {
 # Writes the commands of a document as the files N.place, N.command and N.wanted, N from 1 on.
 split() {
     awk -v work="$work" '
-        function finish() { if (open) { close(wanted); open = 0 } }
+        function finish() { if (open) { close(wanted); open = 0 }; blank = 0 }
         /^\$ / {
             print FILENAME ":" FNR ": a command outside of an indented block" >(work "/faults")
         }
@@ -45,7 +45,13 @@ split() {
             open = 1
             next
         }
-        /^    / && open { print substr($0, 5) >wanted; next }
+        /^ *$/ { blank++; next }
+        /^    / && open {
+            for (; blank > 0; blank--)
+                print "" >wanted
+            print substr($0, 5) >wanted
+            next
+        }
         { finish() }
     ' "$1"
 }
