@@ -3,7 +3,6 @@ ghost use Rattle.std.specs.Prelude.{◌≡◌, [], ◌∷◌, IfOk, slice_index_
 ghost use Rattle.std.specs.List.{list_any};
 ghost use Rattle.sym_top.specs.Tables.{row_body_of, columns_of, fault_body as fault_body_of, is_bad, is_faulty as is_faulty_of};
 
-
 use std::alloc::Global;
 use sym_base::{Column, Columns, Fault, FaultKind, NoMemory, Outcome, State, Text};
 

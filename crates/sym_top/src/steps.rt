@@ -45,7 +45,12 @@ fn sum_within(number: i64, by: i64, lo: i64, hi: i64) -> Option<i64>
 fn sum_at(plan: &Plan<'_>, state: &State, rec: &Record) -> Option<i64>
     ensures { result ≡ sum_of plan.now state.now rec.now }
 {
-    sum_within(state.number_at(0), added(plan.amount, rec), plan.lo, plan.hi)
+    sum_within(
+        state.number_at(0),
+        added(plan.amount, rec),
+        plan.lo,
+        plan.hi,
+    )
 }
 
 /// How a state stands after a record.
