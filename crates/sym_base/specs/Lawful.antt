@@ -31,11 +31,11 @@ is_lawful_name name = is_name name.text
 unfoldable pub is_lawful_text : List ℕ → Bool
 is_lawful_text text = list_all (λ b. not (b == 10)) text && is_utf8 text
 
--- A number of an expression has no sign of its own.
+-- A number of an expression has no sign of its own, and is at most 10^12.
 unfoldable pub is_unsigned : ℤ → Bool
 is_unsigned n = int_le (pos 0) n && int_le n (pos num_max)
 
--- Any other number of a script.
+-- Any other number of a script is at most 10^12 in size.
 unfoldable pub is_number : ℤ → Bool
 is_number n = int_le (neg_ℤ (pos num_max)) n && int_le n (pos num_max)
 
@@ -135,7 +135,7 @@ abbrev mutual
   are_lawful_stmts Done = true
   are_lawful_stmts (Then first rest) = is_lawful_stmt first && are_lawful_stmts rest
 
--- A script that keeps all of this.
+-- A script that has a text within the limits.
 pub record IsLawful (s : ScriptTree) : Type 0 where
   pub enum_count : length s.enums ≤ max_enums
   pub enums : list_all is_lawful_enum s.enums ≡ true

@@ -204,17 +204,15 @@ fn script(alloc: Global) -> Result<Script, NoMemory> {
     })
 }
 
-// The number of statements, without those in others.
+// The number of statements, at most ten, without those in others.
 fn count(mut stmts: &Stmts) -> u32 {
-    let mut count = 0;
-    for _ in 0..10u32 {
+    'statements: for passed in 0..10u32 {
         match stmts {
             Stmts::More(_, rest) => stmts = rest,
-            Stmts::End => return count,
+            Stmts::End => return passed,
         }
-        count += 1;
     }
-    count
+    10
 }
 
 #[test]
