@@ -1,0 +1,12 @@
+//! The tokens of a script's text.
+#![tactic(auto)]
+
+pub mod error;
+pub mod keyword;
+pub mod symbol;
+pub mod token;
+
+pub use error::{LexErr, LexFault};
+pub use keyword::Keyword;
+pub use symbol::Symbol;
+pub use token::{Token, TokenKind};
