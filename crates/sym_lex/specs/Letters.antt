@@ -6,16 +6,16 @@ use Rattle.std.specs.Char.{is_ascii_alphabetic, is_ascii_digit}
 abbrev pub is_blank : ℕ → Bool
 is_blank b = (b == 32) || (b == 9) || (b == 13) || (b == 10)
 
-abbrev pub is_line_end : ℕ → Bool
-is_line_end b = b == 10
-
 -- `#`, from which a comment runs to the next LF or to the end.
 abbrev pub is_hash : ℕ → Bool
 is_hash b = b == 35
 
--- A byte of a comment: any but LF.
-abbrev pub is_commented : ℕ → Bool
-is_commented b = not (is_line_end b)
+abbrev pub is_line_end : ℕ → Bool
+is_line_end b = b == 10
+
+-- Any byte but LF: those of comments and of texts.
+abbrev pub is_in_line : ℕ → Bool
+is_in_line b = not (is_line_end b)
 
 -- A letter or `_`.
 abbrev pub is_name_start : ℕ → Bool
@@ -29,15 +29,14 @@ is_name_part b = is_ascii_alphabetic b || (b == 95) || is_ascii_digit b
 abbrev pub is_quote : ℕ → Bool
 is_quote b = b == 34
 
--- `\`, which stands before a `"` or a `\` of a text.
 abbrev pub is_backslash : ℕ → Bool
 is_backslash b = b == 92
 
--- A byte that stands in a text only behind a `\`.
+-- `"` and `\`, which a text has only after a `\`.
 abbrev pub is_escaped : ℕ → Bool
 is_escaped b = is_quote b || is_backslash b
 
--- Whether a text begins with such a byte.
+-- Whether there is a first byte, and it passes.
 abbrev pub begins : (ℕ → Bool) → List ℕ → Bool
 begins p [] = false
 begins p (b ∷ rest) = p b

@@ -2,7 +2,9 @@
 #![tactic(auto)]
 
 pub mod error;
+mod found;
 pub mod keyword;
+mod scan;
 pub mod symbol;
 pub mod token;
 
