@@ -9,7 +9,6 @@ use Rattle.sym_lex.specs.declared.error.LexErr.{LexErr}
 use Rattle.sym_lex.specs.declared.error.LexErr.TheVariants.{Fault, NoMemory}
 use Rattle.sym_lex.specs.declared.error.LexFault.{LexFault}
 use Rattle.sym_lex.specs.declared.error.LexFault.TheVariants.{BadByte, BadNumber, LongName, BadText}
-use Rattle.sym_lex.specs.declared.token.Token.{Token}
 use Rattle.sym_lex.specs.declared.found.Found.{Found}
 use Rattle.sym_lex.specs.declared.token.TokenKind.{TokenKind}
 use Rattle.sym_lex.specs.declared.token.TokenKind.TheVariants as kind

@@ -1,14 +1,20 @@
-//! The tokens of a script's text.
+//! The tokens of a script's text, or the first place at which no token can stand.
 #![tactic(auto)]
 
 pub mod error;
+mod find;
 mod found;
 pub mod keyword;
+pub mod laws;
+mod lexer;
 mod scan;
 pub mod symbol;
+#[cfg(test)]
+mod tests;
 pub mod token;
 
 pub use error::{LexErr, LexFault};
 pub use keyword::Keyword;
+pub use lexer::lex;
 pub use symbol::Symbol;
 pub use token::{Token, TokenKind};

@@ -1,0 +1,9 @@
+pub mod Agreement
+pub mod Bodies
+pub mod Bytes
+pub mod Callers
+pub mod Finding
+pub mod Numbers
+pub mod Signs
+pub mod Steps
+pub mod Words
