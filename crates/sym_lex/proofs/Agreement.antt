@@ -8,7 +8,7 @@ use Rattle.std.specs.List.{list_all, prefix_len, starts_with}
 use Rattle.std.specs.Str.{IsUtf8, is_utf8}
 use Rattle.std.specs.Str.Parse.{digits_value}
 use Rattle.std.specs.Char.{is_ascii_digit}
-use Rattle.sym_base.specs.Numbers.{num_max}
+use Rattle.sym_base.specs.Limits.{max_name_bytes, num_max}
 use Rattle.sym_lex.specs.declared.error.LexFault.{LexFault}
 use Rattle.sym_lex.specs.declared.error.LexFault.TheVariants.{BadNumber, LongName, BadText}
 use Rattle.sym_lex.specs.declared.found.Found.{Found}
@@ -17,10 +17,11 @@ use Rattle.sym_lex.specs.declared.token.TokenKind.TheVariants as kind
 use Rattle.sym_lex.specs.declared.keyword.Keyword.{Keyword}
 use Rattle.sym_lex.specs.declared.symbol.Symbol.{Symbol}
 use Rattle.sym_lex.specs.Keywords.{keyword_of}
-use Rattle.sym_lex.specs.Letters.{begins, is_blank, is_hash, is_in_line, is_name_part, is_name_start, is_quote, name_max}
+use Rattle.sym_base.specs.Names.{is_name_part, is_name_start, starts_name}
+use Rattle.sym_lex.specs.Letters.{begins, is_blank, is_hash, is_in_line, is_quote}
 use Rattle.sym_lex.specs.Lexing.{body_of, found_at, gap_size, lexed, lexed_from, name_at, name_kind, number_at, symbol_at, symbol_from, text_from, with_found}
 use Rattle.sym_lex.specs.Quoting.{escaped, quoted}
-use Rattle.sym_lex.specs.Rules.{IsRun, IsWord, IsNumeral, IsSymbol, IsToken, name, word, number, string, sign, IsFault, bad_byte, large_number, joined_number, long_name, open_text, other_escape, not_utf8, Outcome, with_token, Reads, ended, blank, comment, token, fault}
+use Rattle.sym_lex.specs.Rules.{IsRun, IsNameRun, IsNumeral, IsSymbol, IsToken, name, word, number, string, sign, IsFault, bad_byte, large_number, joined_number, long_name, open_text, other_escape, not_utf8, LexResult, with_token, Reads, ended, blank, comment, token, fault}
 use Rattle.sym_lex.specs.Symbols.{symbol_text}
 use Rattle.sym_lex.proofs.Bodies.{closed, left-open, other-refused, text-given, text-refused}
 use Rattle.sym_lex.proofs.Bytes.{by_test, digit-blank, digit-hash, digit-start, hash-blank, le-false, le-true, prefix-ends, prefix-is, prefix-passes, start-blank, start-hash}
@@ -54,18 +55,18 @@ found-symbol at b rest n d q =
     ∙ ap (λ t. cond t (text_from at (body_of false rest)) (symbol_at at (b ∷ rest))) q
 
 -- Names and keywords.
-name-at-is : (at : ℕ) (t text : List ℕ) (o : Option Keyword) → prefix_len is_name_part t ≡ length text → take (length text) t ≡ text → length text ≤ name_max → keyword_of text ≡ o →
+name-at-is : (at : ℕ) (t text : List ℕ) (o : Option Keyword) → prefix_len is_name_part t ≡ length text → take (length text) t ≡ text → length text ≤ max_name_bytes → keyword_of text ≡ o →
     name_at at t ≡ Ok (record { kind = name_kind o; size = length text })
 name-at-is at t text o p k few w =
-    let le : nat_le (length text) name_max ≡ true = le-true (length text) name_max few in
+    let le : nat_le (length text) max_name_bytes ≡ true = le-true (length text) max_name_bytes few in
     rw (p, k, le, w) refl
 
-name-at-long : (at : ℕ) (t text : List ℕ) → prefix_len is_name_part t ≡ length text → name_max < length text → name_at at t ≡ Err (LongName at)
+name-at-long : (at : ℕ) (t text : List ℕ) → prefix_len is_name_part t ≡ length text → max_name_bytes < length text → name_at at t ≡ Err (LongName at)
 name-at-long at t text p many =
-    let le : nat_le (length text) name_max ≡ false = le-false (length text) name_max many in
+    let le : nat_le (length text) max_name_bytes ≡ false = le-false (length text) max_name_bytes many in
     rw (p, le) refl
 
-name-goes : (bytes rest : List ℕ) (o : Option Keyword) → IsWord bytes rest → length bytes ≤ name_max → keyword_of bytes ≡ o → Goes bytes rest (name_kind o)
+name-goes : (bytes rest : List ℕ) (o : Option Keyword) → IsNameRun bytes rest → length bytes ≤ max_name_bytes → keyword_of bytes ≡ o → Goes bytes rest (name_kind o)
 name-goes [] rest o h few w = absurd (let t = h.starts in cc)
 name-goes (b ∷ front) rest o h few w = record {
   some = omega arith;
@@ -75,7 +76,7 @@ name-goes (b ∷ front) rest o h few w = record {
 }
 
 -- Numbers.
-number-at-is : (at : ℕ) (t text : List ℕ) → prefix_len is_ascii_digit t ≡ length text → take (length text) t ≡ text → digits_value 10 text ≤ num_max → begins is_name_start (drop (length text) t) ≡ false →
+number-at-is : (at : ℕ) (t text : List ℕ) → prefix_len is_ascii_digit t ≡ length text → take (length text) t ≡ text → digits_value 10 text ≤ num_max → starts_name (drop (length text) t) ≡ false →
     number_at at t ≡ Ok (record { kind = kind.Number (pos (digits_value 10 text)); size = length text })
 number-at-is at t text p k small apart =
     let le : nat_le (digits_value 10 text) num_max ≡ true = le-true (digits_value 10 text) num_max small in
@@ -90,18 +91,18 @@ neither : (a : Bool) → (a && not true) ≡ false
 neither true = refl
 neither false = refl
 
-number-at-joined : (at : ℕ) (t text : List ℕ) → prefix_len is_ascii_digit t ≡ length text → take (length text) t ≡ text → begins is_name_start (drop (length text) t) ≡ true → number_at at t ≡ Err (BadNumber at)
+number-at-joined : (at : ℕ) (t text : List ℕ) → prefix_len is_ascii_digit t ≡ length text → take (length text) t ≡ text → starts_name (drop (length text) t) ≡ true → number_at at t ≡ Err (BadNumber at)
 number-at-joined at t text p k joined =
     rw (p, k, joined, neither (nat_le (digits_value 10 text) num_max)) refl
 
-number-goes : (bytes rest : List ℕ) → IsNumeral bytes rest → digits_value 10 bytes ≤ num_max → begins is_name_start rest ≡ false → Goes bytes rest (kind.Number (pos (digits_value 10 bytes)))
+number-goes : (bytes rest : List ℕ) → IsNumeral bytes rest → digits_value 10 bytes ≤ num_max → starts_name rest ≡ false → Goes bytes rest (kind.Number (pos (digits_value 10 bytes)))
 number-goes [] rest h small apart = absurd (let t = h.starts in cc)
 number-goes (b ∷ front) rest h small apart = record {
   some = omega arith;
   gap = no-gap b (front ++ rest) (digit-blank b h.starts) (digit-hash b h.starts);
   found = λ at. found-number at b (front ++ rest) h.starts
       ∙ number-at-is at (b ∷ (front ++ rest)) (b ∷ front) (prefix-is is_ascii_digit (b ∷ front) rest h.run.each h.run.ends) (take-append_seam (b ∷ front) rest) small
-      (ap (begins is_name_start) (drop-append_seam (b ∷ front) rest) ∙ apart);
+      (ap (starts_name) (drop-append_seam (b ∷ front) rest) ∙ apart);
 }
 
 -- Texts.
@@ -121,7 +122,7 @@ first-gap : (text : List ℕ) → 0 < length text → begins is_blank text ≡ f
 first-gap [] some g h = absurd (omega arith)
 first-gap (b ∷ rest) some g h = no-gap b rest g h
 
-first-symbol : (at : ℕ) (text : List ℕ) → 0 < length text → begins is_name_start text ≡ false → begins is_ascii_digit text ≡ false → begins is_quote text ≡ false → found_at at text ≡ symbol_at at text
+first-symbol : (at : ℕ) (text : List ℕ) → 0 < length text → starts_name text ≡ false → begins is_ascii_digit text ≡ false → begins is_quote text ≡ false → found_at at text ≡ symbol_at at text
 first-symbol at [] some n d q = absurd (omega arith)
 first-symbol at (b ∷ rest) some n d q = found-symbol at b rest n d q
 
@@ -163,17 +164,17 @@ large-fails at (b ∷ front) rest h large = record {
       ∙ number-at-large at (b ∷ (front ++ rest)) (b ∷ front) (prefix-is is_ascii_digit (b ∷ front) rest h.run.each h.run.ends) (take-append_seam (b ∷ front) rest) large;
 }
 
-joined-fails : (at : ℕ) (digits rest : List ℕ) → IsNumeral digits rest → begins is_name_start rest ≡ true → Fails at (digits ++ rest) (BadNumber at)
+joined-fails : (at : ℕ) (digits rest : List ℕ) → IsNumeral digits rest → starts_name rest ≡ true → Fails at (digits ++ rest) (BadNumber at)
 joined-fails at [] rest h joined = absurd (let t = h.starts in cc)
 joined-fails at (b ∷ front) rest h joined = record {
   some = omega arith;
   gap = no-gap b (front ++ rest) (digit-blank b h.starts) (digit-hash b h.starts);
   found = found-number at b (front ++ rest) h.starts
       ∙ number-at-joined at (b ∷ (front ++ rest)) (b ∷ front) (prefix-is is_ascii_digit (b ∷ front) rest h.run.each h.run.ends) (take-append_seam (b ∷ front) rest)
-      (ap (begins is_name_start) (drop-append_seam (b ∷ front) rest) ∙ joined);
+      (ap (starts_name) (drop-append_seam (b ∷ front) rest) ∙ joined);
 }
 
-long-fails : (at : ℕ) (bytes rest : List ℕ) → IsWord bytes rest → name_max < length bytes → Fails at (bytes ++ rest) (LongName at)
+long-fails : (at : ℕ) (bytes rest : List ℕ) → IsNameRun bytes rest → max_name_bytes < length bytes → Fails at (bytes ++ rest) (LongName at)
 long-fails at [] rest h many = absurd (omega arith)
 long-fails at (b ∷ front) rest h many = record {
   some = omega arith;
@@ -219,7 +220,7 @@ lexed-comment at b rest e =
     let gap : is_blank b ≡ false = hash-blank b e in
     rw (gap, e) refl
 
-pub are-lexed : (at : ℕ) (text : List ℕ) (o : Outcome) → Reads at text o → lexed_from at 0 text ≡ o
+pub are-lexed : (at : ℕ) (text : List ℕ) (o : LexResult) → Reads at text o → lexed_from at 0 text ≡ o
 are-lexed _ _ _ (ended at) = lexed-end at 0
 are-lexed _ _ _ (blank at b rest o e h) = lexed-blank at b rest e ∙ are-lexed (at + 1) rest o h
 are-lexed _ _ _ (comment at b body rest o e run h) =
@@ -236,13 +237,13 @@ are-lexed _ _ _ (token at bytes rest k o is h) =
 are-lexed _ _ _ (fault at text f is) = let g = fault-fails at text f is in lexed-fault at text f g.some g.gap g.found
 
 -- From what is found to the rules.
-found-reads : (at b : ℕ) (rest : List ℕ) (r : Result Found LexFault) (more : ℕ → Outcome) → IsRight at (b ∷ rest) r → ((n : ℕ) → Reads (at + 1 + n) (drop n rest) (more n)) →
+found-reads : (at b : ℕ) (rest : List ℕ) (r : Result Found LexFault) (more : ℕ → LexResult) → IsRight at (b ∷ rest) r → ((n : ℕ) → Reads (at + 1 + n) (drop n rest) (more n)) →
     Reads at (b ∷ rest) (with_found at r (λ size. more (size - 1)))
 found-reads at b rest (Err f) more right later = fault at (b ∷ rest) f right
 found-reads at b rest (Ok found) more right later =
     let f : IsFound (b ∷ rest) found = right in
     let n : ℕ = found.size - 1 in
-    let o : Outcome = more n in
+    let o : LexResult = more n in
     let whole_size : suc n ≡ length f.bytes = omega (arith, f.sized, f.some) in
     let place : at + 1 + n ≡ at + length f.bytes = omega (arith, f.sized, f.some) in
     let behind : drop n rest ≡ f.rest = ap (λ m. drop m (b ∷ rest)) whole_size ∙ ap (drop (length f.bytes)) (sym f.whole) ∙ drop-append_seam f.bytes f.rest in
@@ -251,7 +252,7 @@ found-reads at b rest (Ok found) more right later =
     subst (λ t. Reads at t (with_token (record { kind = found.kind; at = at; end = at + length f.bytes }) o)) f.whole (token at f.bytes f.rest found.kind o f.is after) in
     subst (λ (m : ℕ). Reads at (b ∷ rest) (with_token (record { kind = found.kind; at = at; end = at + m }) o)) (sym f.sized) made
 
-comment-reads : (at b : ℕ) (rest : List ℕ) (o : Outcome) → is_hash b ≡ true → Reads (at + 1 + prefix_len is_in_line rest) (drop (prefix_len is_in_line rest) rest) o → Reads at (b ∷ rest) o
+comment-reads : (at b : ℕ) (rest : List ℕ) (o : LexResult) → is_hash b ≡ true → Reads (at + 1 + prefix_len is_in_line rest) (drop (prefix_len is_in_line rest) rest) o → Reads at (b ∷ rest) o
 comment-reads at b rest o h later =
     let n : ℕ = prefix_len is_in_line rest in
     let size : length (take n rest) ≡ n = omega (arith, length-take {A = ℕ}, prefix_len-le-length is_in_line rest) in
@@ -277,5 +278,5 @@ reads-inner at zero (b ∷ rest) =
 pub reads-lexed : (text : List ℕ) → Reads 0 text (lexed text)
 reads-lexed text = subst (λ m. Reads m text (lexed_from 0 0 text)) (add-zero 0) (reads-inner 0 0 text)
 
-pub reads-once : (text : List ℕ) (o : Outcome) → (Reads 0 text o → lexed text ≡ o) × (lexed text ≡ o → Reads 0 text o)
+pub reads-once : (text : List ℕ) (o : LexResult) → (Reads 0 text o → lexed text ≡ o) × (lexed text ≡ o → Reads 0 text o)
 reads-once text o = (are-lexed 0 text o, λ e. subst (Reads 0 text) e (reads-lexed text))

@@ -9,23 +9,23 @@ use Rattle.sym_lex.specs.declared.token.TokenKind.TheVariants as kind
 use Rattle.sym_lex.specs.Letters.{begins, is_backslash, is_escaped, is_in_line, is_line_end, is_quote}
 use Rattle.sym_lex.specs.Quoting.{escaped}
 use Rattle.sym_lex.proofs.Bytes.{backslash-is, both, by_test, denied, escaped-line, escaped-no, join, line-quote, quote-is, refused, unescaped}
-use Rattle.sym_lex.specs.Lexing.{Body, body_of, text_from, with_backslash, with_byte}
+use Rattle.sym_lex.specs.Lexing.{Decoded, body_of, text_from, with_backslash, with_byte}
 
 -- What was read before, in front of what is read from here on.
-abbrev pub continued : List ℕ → ℕ → Option Body → Option Body
+abbrev pub continued : List ℕ → ℕ → Option Decoded → Option Decoded
 continued text size = option_map (λ body. record { text = text ++ body.text; size = size + body.size })
 
-pub nothing-before : (o : Option Body) → continued [] 0 o ≡ o
+pub nothing-before : (o : Option Decoded) → continued [] 0 o ≡ o
 nothing-before None = refl
 nothing-before (Some body) = ap (λ n. Some (record { text = body.text; size = n })) (omega arith)
 
-byte-joined : (text : List ℕ) (size b : ℕ) (o : Option Body) → continued text size (option_map (with_byte b) o) ≡ continued (text ++ b ∷ []) (size + 1) o
+byte-joined : (text : List ℕ) (size b : ℕ) (o : Option Decoded) → continued text size (option_map (with_byte b) o) ≡ continued (text ++ b ∷ []) (size + 1) o
 byte-joined text size b None = refl
 byte-joined text size b (Some body) =
     let e : size + (1 + body.size) ≡ size + 1 + body.size = omega arith in
     rw (e, append_assoc text (b ∷ []) body.text) refl
 
-backslash-joined : (text : List ℕ) (size : ℕ) (o : Option Body) → continued text size (option_map with_backslash o) ≡ continued text (size + 1) o
+backslash-joined : (text : List ℕ) (size : ℕ) (o : Option Decoded) → continued text size (option_map with_backslash o) ≡ continued text (size + 1) o
 backslash-joined text size None = refl
 backslash-joined text size (Some body) =
     let e : size + (1 + body.size) ≡ size + 1 + body.size = omega arith in
@@ -63,47 +63,47 @@ body-end after = refl
 at-byte : (after : Bool) (i : ℕ) (bytes : List ℕ) → i < length bytes → body_of after (drop i bytes) ≡ body_of after (get_or bytes i 0 ∷ drop (i + 1) bytes)
 at-byte after i bytes h = ap (body_of after) (rw add-one (drop-cons bytes i 0 h))
 
-pub read-escaped : (text : List ℕ) (size i : ℕ) (bytes : List ℕ) (whole : Option Body) → i < length bytes → is_escaped (get_or bytes i 0) ≡ true →
+pub read-escaped : (text : List ℕ) (size i : ℕ) (bytes : List ℕ) (whole : Option Decoded) → i < length bytes → is_escaped (get_or bytes i 0) ≡ true →
     continued text size (body_of true (drop i bytes)) ≡ whole → continued (text ++ get_or bytes i 0 ∷ []) (size + 1) (body_of false (drop (i + 1) bytes)) ≡ whole
 read-escaped text size i bytes whole h e before =
     sym (ap (continued text size) (at-byte true i bytes h ∙ step-escaped (get_or bytes i 0) (drop (i + 1) bytes) e) ∙ byte-joined text size (get_or bytes i 0) (body_of false (drop (i + 1) bytes))) ∙ before
 
-pub read-plain : (text : List ℕ) (size i : ℕ) (bytes : List ℕ) (whole : Option Body) → i < length bytes → is_quote (get_or bytes i 0) ≡ false → is_line_end (get_or bytes i 0) ≡ false → is_backslash (get_or bytes i 0) ≡ false →
+pub read-plain : (text : List ℕ) (size i : ℕ) (bytes : List ℕ) (whole : Option Decoded) → i < length bytes → is_quote (get_or bytes i 0) ≡ false → is_line_end (get_or bytes i 0) ≡ false → is_backslash (get_or bytes i 0) ≡ false →
     continued text size (body_of false (drop i bytes)) ≡ whole → continued (text ++ get_or bytes i 0 ∷ []) (size + 1) (body_of false (drop (i + 1) bytes)) ≡ whole
 read-plain text size i bytes whole h q l s before =
     sym (ap (continued text size) (at-byte false i bytes h ∙ step-plain (get_or bytes i 0) (drop (i + 1) bytes) q l s) ∙ byte-joined text size (get_or bytes i 0) (body_of false (drop (i + 1) bytes))) ∙ before
 
-pub read-backslash : (text : List ℕ) (size i : ℕ) (bytes : List ℕ) (whole : Option Body) → i < length bytes → is_quote (get_or bytes i 0) ≡ false → is_line_end (get_or bytes i 0) ≡ false → is_backslash (get_or bytes i 0) ≡ true →
+pub read-backslash : (text : List ℕ) (size i : ℕ) (bytes : List ℕ) (whole : Option Decoded) → i < length bytes → is_quote (get_or bytes i 0) ≡ false → is_line_end (get_or bytes i 0) ≡ false → is_backslash (get_or bytes i 0) ≡ true →
     continued text size (body_of false (drop i bytes)) ≡ whole → continued text (size + 1) (body_of true (drop (i + 1) bytes)) ≡ whole
 read-backslash text size i bytes whole h q l s before =
     sym (ap (continued text size) (at-byte false i bytes h ∙ step-backslash (get_or bytes i 0) (drop (i + 1) bytes) q l s) ∙ backslash-joined text size (body_of true (drop (i + 1) bytes))) ∙ before
 
-pub read-refused : (text : List ℕ) (size i : ℕ) (bytes : List ℕ) (whole : Option Body) → i < length bytes → is_escaped (get_or bytes i 0) ≡ false →
+pub read-refused : (text : List ℕ) (size i : ℕ) (bytes : List ℕ) (whole : Option Decoded) → i < length bytes → is_escaped (get_or bytes i 0) ≡ false →
     continued text size (body_of true (drop i bytes)) ≡ whole → None ≡ whole
 read-refused text size i bytes whole h e before =
     sym (ap (continued text size) (at-byte true i bytes h ∙ step-refused (get_or bytes i 0) (drop (i + 1) bytes) e)) ∙ before
 
-pub read-line : (text : List ℕ) (size i : ℕ) (bytes : List ℕ) (whole : Option Body) → i < length bytes → is_quote (get_or bytes i 0) ≡ false → is_line_end (get_or bytes i 0) ≡ true →
+pub read-line : (text : List ℕ) (size i : ℕ) (bytes : List ℕ) (whole : Option Decoded) → i < length bytes → is_quote (get_or bytes i 0) ≡ false → is_line_end (get_or bytes i 0) ≡ true →
     continued text size (body_of false (drop i bytes)) ≡ whole → None ≡ whole
 read-line text size i bytes whole h q l before =
     sym (ap (continued text size) (at-byte false i bytes h ∙ step-line (get_or bytes i 0) (drop (i + 1) bytes) q l)) ∙ before
 
-pub read-quote : (text : List ℕ) (size i : ℕ) (bytes : List ℕ) (whole : Option Body) → i < length bytes → is_quote (get_or bytes i 0) ≡ true →
+pub read-quote : (text : List ℕ) (size i : ℕ) (bytes : List ℕ) (whole : Option Decoded) → i < length bytes → is_quote (get_or bytes i 0) ≡ true →
     continued text size (body_of false (drop i bytes)) ≡ whole → Some (record { text = text; size = size + 1 }) ≡ whole
 read-quote text size i bytes whole h q before =
     ap (λ (t : List ℕ). Some (record { text = t; size = size + 1 })) (sym (append-nil text))
     ∙ sym (ap (continued text size) (at-byte false i bytes h ∙ step-quote (get_or bytes i 0) (drop (i + 1) bytes) q)) ∙ before
 
-pub read-end : (text : List ℕ) (size i : ℕ) (after : Bool) (bytes : List ℕ) (whole : Option Body) → length bytes ≤ i →
+pub read-end : (text : List ℕ) (size i : ℕ) (after : Bool) (bytes : List ℕ) (whole : Option Decoded) → length bytes ≤ i →
     continued text size (body_of after (drop i bytes)) ≡ whole → None ≡ whole
 read-end text size i after bytes whole h before =
     sym (ap (λ r. continued text size (body_of after r)) (drop_of_length-le bytes h) ∙ ap (continued text size) (body-end after)) ∙ before
 
-byte-behind : (b : ℕ) (text : List ℕ) (size total : ℕ) (o : Option Body) → total ≡ 1 + size → option_map (with_byte b) (continued text size o) ≡ continued (b ∷ text) total o
+byte-behind : (b : ℕ) (text : List ℕ) (size total : ℕ) (o : Option Decoded) → total ≡ 1 + size → option_map (with_byte b) (continued text size o) ≡ continued (b ∷ text) total o
 byte-behind b text size total None t = refl
 byte-behind b text size total (Some body) t = let e : 1 + (size + body.size) ≡ total + body.size = omega arith in rw e refl
 
-backslash-behind : (b : ℕ) (text : List ℕ) (size total : ℕ) (o : Option Body) → total ≡ 2 + size → option_map with_backslash (option_map (with_byte b) (continued text size o)) ≡ continued (b ∷ text) total o
+backslash-behind : (b : ℕ) (text : List ℕ) (size total : ℕ) (o : Option Decoded) → total ≡ 2 + size → option_map with_backslash (option_map (with_byte b) (continued text size o)) ≡ continued (b ∷ text) total o
 backslash-behind b text size total None t = refl
 backslash-behind b text size total (Some body) t = let e : 1 + (1 + (size + body.size)) ≡ total + body.size = omega arith in rw e refl
 
@@ -157,7 +157,7 @@ other-refused text rest h e =
     body-escaped text (92 ∷ rest) h ∙ ap (continued text (length (escaped text))) (step-backslash 92 rest refl refl refl ∙ ap (option_map with_backslash) (other-ends rest e))
 
 -- What is read is what the bytes write.
-pub record IsBody (bytes : List ℕ) (body : Body) : Type 0 where
+pub record IsBody (bytes : List ℕ) (body : Decoded) : Type 0 where
   pub rest : List ℕ
   pub written : bytes ≡ escaped body.text ++ 34 ∷ rest
   pub sized : body.size ≡ length (escaped body.text) + 1
@@ -167,7 +167,7 @@ pub data IsNoBody : List ℕ → Type 0 where
   unclosed : (text rest : List ℕ) → list_all is_in_line text ≡ true → begins is_in_line rest ≡ false → IsNoBody (escaped text ++ rest)
   other : (text rest : List ℕ) → list_all is_in_line text ≡ true → begins is_escaped rest ≡ false → IsNoBody (escaped text ++ 92 ∷ rest)
 
-abbrev pub ReadsAs : List ℕ → Option Body → Type 0
+abbrev pub ReadsAs : List ℕ → Option Decoded → Type 0
 ReadsAs bytes (Some body) = IsBody bytes body
 ReadsAs bytes None = IsNoBody bytes
 
@@ -175,7 +175,7 @@ ReadsAs bytes None = IsNoBody bytes
 record Writes (b : ℕ) (front : List ℕ) : Type 0 where
   each : (text : List ℕ) → escaped (b ∷ text) ≡ front ++ escaped text
 
-body-before : (b : ℕ) (front bytes : List ℕ) (body made : Body) → Writes b front → is_in_line b ≡ true → made ≡ record { text = b ∷ body.text; size = length front + body.size } → IsBody bytes body → IsBody (front ++ bytes) made
+body-before : (b : ℕ) (front bytes : List ℕ) (body made : Decoded) → Writes b front → is_in_line b ≡ true → made ≡ record { text = b ∷ body.text; size = length front + body.size } → IsBody bytes body → IsBody (front ++ bytes) made
 body-before b front bytes body made w line is h =
     subst (IsBody (front ++ bytes)) (sym is) (record {
       rest = h.rest;
@@ -192,11 +192,11 @@ none-before b front _ w line (other text rest h e) =
     subst IsNoBody (ap (λ (r : List ℕ). r ++ 92 ∷ rest) (w.each text) ∙ append_assoc front (escaped text) (92 ∷ rest))
     (other (b ∷ text) rest (join (is_in_line b) (list_all is_in_line text) line h) e)
 
-plain-before : (b : ℕ) (bytes : List ℕ) (o : Option Body) → is_escaped b ≡ false → is_in_line b ≡ true → ReadsAs bytes o → ReadsAs (b ∷ bytes) (option_map (with_byte b) o)
+plain-before : (b : ℕ) (bytes : List ℕ) (o : Option Decoded) → is_escaped b ≡ false → is_in_line b ≡ true → ReadsAs bytes o → ReadsAs (b ∷ bytes) (option_map (with_byte b) o)
 plain-before b bytes None e line h = none-before b (b ∷ []) bytes (record { each = λ text. rw e refl }) line h
 plain-before b bytes (Some body) e line h = body-before b (b ∷ []) bytes body (with_byte b body) (record { each = λ text. rw e refl }) line refl h
 
-escape-before : (b : ℕ) (bytes : List ℕ) (o : Option Body) → is_escaped b ≡ true → is_in_line b ≡ true → ReadsAs bytes o → ReadsAs (92 ∷ b ∷ bytes) (option_map with_backslash (option_map (with_byte b) o))
+escape-before : (b : ℕ) (bytes : List ℕ) (o : Option Decoded) → is_escaped b ≡ true → is_in_line b ≡ true → ReadsAs bytes o → ReadsAs (92 ∷ b ∷ bytes) (option_map with_backslash (option_map (with_byte b) o))
 escape-before b bytes None e line h = none-before b (92 ∷ b ∷ []) bytes (record { each = λ text. rw e refl }) line h
 escape-before b bytes (Some body) e line h =
     body-before b (92 ∷ b ∷ []) bytes body (with_backslash (with_byte b body)) (record { each = λ text. rw e refl }) line (let n : 1 + (1 + body.size) ≡ 2 + body.size = omega arith in rw n refl) h
@@ -206,7 +206,7 @@ abbrev pub whole : Bool → List ℕ → List ℕ
 whole true bytes = 92 ∷ bytes
 whole false bytes = bytes
 
-abbrev pub whole_body : Bool → Option Body → Option Body
+abbrev pub whole_body : Bool → Option Decoded → Option Decoded
 whole_body true o = option_map with_backslash o
 whole_body false o = o
 
@@ -225,8 +225,8 @@ body-right false (b ∷ bytes) = by_test (is_quote b)
     (λ s. subst (ReadsAs (b ∷ bytes)) (sym (step-plain b bytes q l s)) (plain-before b bytes (body_of false bytes) (unescaped b q s) (rw l refl) (body-right false bytes)))))
 
 -- The token of a text that was read.
-pub text-given : (at : ℕ) (o : Option Body) (body : Body) → o ≡ Some body → is_utf8 body.text ≡ true → text_from at o ≡ Ok (record { kind = kind.Str body.text; size = 1 + body.size })
+pub text-given : (at : ℕ) (o : Option Decoded) (body : Decoded) → o ≡ Some body → is_utf8 body.text ≡ true → text_from at o ≡ Ok (record { kind = kind.Str body.text; size = 1 + body.size })
 text-given at o body e u = ap (text_from at) e ∙ (rw u refl)
 
-pub text-refused : (at : ℕ) (o : Option Body) (body : Body) → o ≡ Some body → is_utf8 body.text ≡ false → text_from at o ≡ Err (BadText at)
+pub text-refused : (at : ℕ) (o : Option Decoded) (body : Decoded) → o ≡ Some body → is_utf8 body.text ≡ false → text_from at o ≡ Err (BadText at)
 text-refused at o body e u = ap (text_from at) e ∙ (rw u refl)

@@ -1,9 +1,10 @@
 -- Tests, and runs of bytes that pass one.
-use Rattle.std.proofs.Common.{◌≡◌, ℕ, zero, suc, ◌+◌, ◌<◌, ◌≤◌, Bool, true, false, not, ◌&&◌, nat_lt, nat_le, List, [], ◌∷◌, ◌++◌, length, take, drop, get_or, refl, arith}
+use Rattle.std.proofs.Common.{◌≡◌, ℕ, zero, suc, ◌+◌, ◌<◌, ◌≤◌, Bool, true, false, not, ◌&&◌, ◌==◌, nat_lt, nat_le, List, [], ◌∷◌, ◌++◌, length, take, drop, get_or, refl, arith}
 use Rattle.std.proofs.lemmas.Bool.Decides.{nat_tests}
 use Rattle.std.specs.List.{list_all, prefix_len}
 use Rattle.std.specs.Char.{is_ascii_digit}
-use Rattle.sym_lex.specs.Letters.{begins, is_backslash, is_blank, is_escaped, is_hash, is_in_line, is_line_end, is_name_part, is_name_start, is_quote}
+use Rattle.sym_base.specs.Names.{is_name_part, is_name_start, starts_name}
+use Rattle.sym_lex.specs.Letters.{begins, is_backslash, is_blank, is_escaped, is_hash, is_in_line, is_line_end, is_quote}
 
 pub by_test : {P : Type 0} (t : Bool) → (t ≡ true → P) → (t ≡ false → P) → P
 by_test true passed failed = passed refl
@@ -70,6 +71,9 @@ prefix-step p b rest e = rw e refl
 pub starts-on : (p : ℕ → Bool) (b n : ℕ) (rest : List ℕ) → p b ≡ true → begins p (take (1 + n) (b ∷ rest)) ≡ true
 starts-on p b n rest e = rw (one-add n) e
 
+pub starts-name-on : (b n : ℕ) (rest : List ℕ) → is_name_start b ≡ true → starts_name (take (1 + n) (b ∷ rest)) ≡ true
+starts-name-on b n rest e = rw (one-add n) e
+
 pub passes : (p : ℕ → Bool) (xs : List ℕ) (i d : ℕ) → i < length xs → list_all p xs ≡ true → p (get_or xs i d) ≡ true
 passes p [] i d h all = absurd (omega arith)
 passes p (x ∷ xs) zero d h all = (both (p x) (list_all p xs) all).0
@@ -132,3 +136,6 @@ line-quote b e = grind (arith, nat_tests)
 
 pub escaped-line : (b : ℕ) → is_escaped b ≡ true → is_in_line b ≡ true
 escaped-line b e = grind (arith, nat_tests)
+
+pub eq-self : (n : ℕ) → (n == n) ≡ true
+eq-self n = grind (arith, nat_tests)

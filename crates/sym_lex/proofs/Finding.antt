@@ -7,7 +7,7 @@ use Rattle.std.specs.List.{prefix_len, starts_with}
 use Rattle.std.specs.Str.{is_utf8}
 use Rattle.std.specs.Str.Parse.{digits_value}
 use Rattle.std.specs.Char.{is_ascii_digit}
-use Rattle.sym_base.specs.Numbers.{num_max}
+use Rattle.sym_base.specs.Limits.{max_name_bytes, num_max}
 use Rattle.sym_lex.specs.declared.error.LexFault.{LexFault}
 use Rattle.sym_lex.specs.declared.error.LexFault.TheVariants.{BadNumber, LongName, BadText}
 use Rattle.sym_lex.specs.declared.found.Found.{Found}
@@ -15,13 +15,14 @@ use Rattle.sym_lex.specs.declared.token.TokenKind.TheVariants as kind
 use Rattle.sym_lex.specs.declared.keyword.Keyword.{Keyword}
 use Rattle.sym_lex.specs.declared.symbol.Symbol.{Symbol}
 use Rattle.sym_lex.specs.Keywords.{keyword_of}
-use Rattle.sym_lex.specs.Letters.{begins, is_blank, is_hash, is_in_line, is_name_part, is_name_start, is_quote, name_max}
-use Rattle.sym_lex.specs.Lexing.{Body, body_of, found_at, gap_size, name_at, name_kind, number_at, symbol_from, text_from}
+use Rattle.sym_base.specs.Names.{is_name_part, is_name_start, starts_name}
+use Rattle.sym_lex.specs.Letters.{begins, is_blank, is_hash, is_in_line, is_quote}
+use Rattle.sym_lex.specs.Lexing.{Decoded, body_of, found_at, gap_size, name_at, name_kind, number_at, symbol_from, text_from}
 use Rattle.sym_lex.specs.Quoting.{escaped, quoted}
-use Rattle.sym_lex.specs.Rules.{IsWord, IsNumeral, IsToken, name, word, number, string, sign, IsFault, bad_byte, large_number, joined_number, long_name, open_text, other_escape, not_utf8}
+use Rattle.sym_lex.specs.Rules.{IsNameRun, IsNumeral, IsToken, name, word, number, string, sign, IsFault, bad_byte, large_number, joined_number, long_name, open_text, other_escape, not_utf8}
 use Rattle.sym_lex.specs.Symbols.{symbol_of, symbol_text}
 use Rattle.sym_lex.proofs.Bodies.{IsBody, IsNoBody, ReadsAs, body-right, other, unclosed}
-use Rattle.sym_lex.proofs.Bytes.{above, at_most, both, by_test, denied, prefix-ends, prefix-passes, prefix-step, quote-is, start-part, starts-on}
+use Rattle.sym_lex.proofs.Bytes.{above, at_most, both, by_test, denied, prefix-ends, prefix-passes, prefix-step, quote-is, start-part, starts-name-on, starts-on}
 use Rattle.sym_lex.proofs.Signs.{begins-with, symbol-found, symbol-long, symbol-longest, symbol-none}
 use Rattle.sym_lex.proofs.Words.{keyword-is, keyword-own}
 
@@ -43,11 +44,11 @@ chosen P true x y a b = a refl
 chosen P false x y a b = b refl
 
 -- Names and keywords.
-is-word : (b : ℕ) (rest : List ℕ) → is_name_start b ≡ true → IsWord (take (prefix_len is_name_part (b ∷ rest)) (b ∷ rest)) (drop (prefix_len is_name_part (b ∷ rest)) (b ∷ rest))
+is-word : (b : ℕ) (rest : List ℕ) → is_name_start b ≡ true → IsNameRun (take (prefix_len is_name_part (b ∷ rest)) (b ∷ rest)) (drop (prefix_len is_name_part (b ∷ rest)) (b ∷ rest))
 is-word b rest e =
     let step : prefix_len is_name_part (b ∷ rest) ≡ 1 + prefix_len is_name_part rest = prefix-step is_name_part b rest (start-part b e) in
     record {
-      starts = ap (λ m. begins is_name_start (take m (b ∷ rest))) step ∙ starts-on is_name_start b (prefix_len is_name_part rest) rest e;
+      starts = ap (λ m. starts_name (take m (b ∷ rest))) step ∙ starts-name-on b (prefix_len is_name_part rest) rest e;
       run = record { each = prefix-passes is_name_part (b ∷ rest); ends = prefix-ends is_name_part (b ∷ rest) };
     }
 
@@ -57,7 +58,7 @@ prefix-some p b rest e = let step : prefix_len p (b ∷ rest) ≡ 1 + prefix_len
 prefix-long : (p : ℕ → Bool) (text : List ℕ) → length (take (prefix_len p text) text) ≡ prefix_len p text
 prefix-long p text = omega (arith, length-take {A = ℕ}, prefix_len-le-length p text)
 
-kind-is : (bytes rest : List ℕ) (o : Option Keyword) → IsWord bytes rest → length bytes ≤ name_max → keyword_of bytes ≡ o → IsToken bytes rest (name_kind o)
+kind-is : (bytes rest : List ℕ) (o : Option Keyword) → IsNameRun bytes rest → length bytes ≤ max_name_bytes → keyword_of bytes ≡ o → IsToken bytes rest (name_kind o)
 kind-is bytes rest None h few w = name h few (λ k same. let own = sym (ap keyword_of same ∙ keyword-own k) ∙ w in cc)
 kind-is bytes rest (Some k) h few w = word k h (keyword-is bytes k w)
 
@@ -65,11 +66,11 @@ name-right : (at b : ℕ) (rest : List ℕ) → is_name_start b ≡ true → IsR
 name-right at b rest e =
     let text : List ℕ = b ∷ rest in
     let n : ℕ = prefix_len is_name_part text in
-    let w : IsWord (take n text) (drop n text) = is-word b rest e in
+    let w : IsNameRun (take n text) (drop n text) = is-word b rest e in
     let long : length (take n text) ≡ n = prefix-long is_name_part text in
     let some : 0 < n = prefix-some is_name_part b rest (start-part b e) in
-    chosen (IsRight at text) (nat_le n name_max) (Ok (record { kind = name_kind (keyword_of (take n text)); size = n })) (Err (LongName at))
-    (λ le. let few : n ≤ name_max = at_most n name_max le in record {
+    chosen (IsRight at text) (nat_le n max_name_bytes) (Ok (record { kind = name_kind (keyword_of (take n text)); size = n })) (Err (LongName at))
+    (λ le. let few : n ≤ max_name_bytes = at_most n max_name_bytes le in record {
       bytes = take n text;
       rest = drop n text;
       whole = take-append-drop n text;
@@ -77,7 +78,7 @@ name-right at b rest e =
       some = omega arith;
       is = kind-is (take n text) (drop n text) (keyword_of (take n text)) w (omega arith) refl;
     })
-    (λ le. let many : name_max < n = above n name_max le in
+    (λ le. let many : max_name_bytes < n = above n max_name_bytes le in
     subst (λ t. IsFault at t (LongName at)) (take-append-drop n text) (long_name (take n text) (drop n text) w (omega arith)))
 
 -- Numbers.
@@ -103,7 +104,7 @@ number-right at b rest e =
     let some : 0 < n = prefix-some is_ascii_digit b rest e in
     let value : ℕ = digits_value 10 (take n text) in
     let small : Bool = nat_le value num_max in
-    let joined : Bool = begins is_name_start (drop n text) in
+    let joined : Bool = starts_name (drop n text) in
     let fault : List ℕ → Type 0 = λ t. IsFault at t (BadNumber at) in
     chosen (IsRight at text) (small && not joined) (Ok (record { kind = kind.Number (pos value); size = n })) (Err (BadNumber at))
     (λ t. let parts = both small (not joined) t in record {
@@ -124,7 +125,7 @@ text-none : (at : ℕ) (rest : List ℕ) → IsNoBody rest → IsFault at (34 �
 text-none at _ (unclosed text rest line e) = open_text text rest line e
 text-none at _ (other text rest line e) = other_escape text rest line e
 
-text-some : (at : ℕ) (rest : List ℕ) (body : Body) → IsBody rest body → IsRight at (34 ∷ rest) (text_from at (Some body))
+text-some : (at : ℕ) (rest : List ℕ) (body : Decoded) → IsBody rest body → IsRight at (34 ∷ rest) (text_from at (Some body))
 text-some at rest body h =
     let whole : quoted body.text ++ h.rest ≡ 34 ∷ rest = ap (λ (r : List ℕ). 34 ∷ r) (append_assoc (escaped body.text) (34 ∷ []) h.rest ∙ sym h.written) in
     chosen (IsRight at (34 ∷ rest)) (is_utf8 body.text) (Ok (record { kind = kind.Str body.text; size = 1 + body.size })) (Err (BadText at))
@@ -138,7 +139,7 @@ text-some at rest body h =
     })
     (λ u. subst (λ t. IsFault at t (BadText at)) whole (not_utf8 body.text h.rest h.line (λ v. let t : is_utf8 body.text ≡ true = is_utf8-from_IsUtf8 body.text v in cc)))
 
-text-by : (at : ℕ) (rest : List ℕ) (o : Option Body) → ReadsAs rest o → IsRight at (34 ∷ rest) (text_from at o)
+text-by : (at : ℕ) (rest : List ℕ) (o : Option Decoded) → ReadsAs rest o → IsRight at (34 ∷ rest) (text_from at o)
 text-by at rest None h = text-none at rest h
 text-by at rest (Some body) h = text-some at rest body h
 

@@ -2,8 +2,10 @@ pub mod Agreement
 pub mod Bodies
 pub mod Bytes
 pub mod Callers
+pub mod Examples
 pub mod Finding
 pub mod Numbers
 pub mod Signs
+pub mod Spelling
 pub mod Steps
 pub mod Words

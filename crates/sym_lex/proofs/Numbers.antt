@@ -4,7 +4,7 @@ use Rattle.std.proofs.lemmas.Bool.Decides.{nat_tests}
 use Rattle.std.specs.Char.{is_ascii_digit, digit_value}
 use Rattle.std.specs.List.{list_all}
 use Rattle.std.specs.Str.Parse.{digits_value, digits_value_after}
-use Rattle.sym_base.specs.Numbers.{num_max}
+use Rattle.sym_base.specs.Limits.{num_max}
 use Rattle.sym_lex.specs.Lexing.{number_of}
 use Rattle.sym_lex.proofs.Bytes.{le-false, passes}
 

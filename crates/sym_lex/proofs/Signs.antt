@@ -1,16 +1,17 @@
 -- Symbols by their texts.
-use Rattle.std.proofs.Common.{◌≡◌, ℕ, ◌<◌, ◌≤◌, true, false, nat_eq, nat_lt, List, [], ◌∷◌, ◌++◌, length, drop, Some, None, refl, sym, ap, ◌∙◌, arith}
+use Rattle.std.proofs.Common.{◌≡◌, ◌==◌, ℕ, ◌<◌, ◌≤◌, Bool, true, false, cond, ◌&&◌, nat_eq, nat_lt, List, [], ◌∷◌, ◌++◌, length, drop, take, get_or, Option, Some, None, refl, sym, ap, ◌∙◌, arith}
 use Rattle.std.proofs.lemmas.Option.{same_Some}
 use Rattle.std.proofs.lemmas.Bool.Decides.{nat_tests, Decides-eqb}
 use Rattle.std.proofs.lemmas.Slice.Eq.{starts_is}
-use Rattle.std.specs.List.{starts_with}
+use Rattle.std.specs.List.{find, starts_with}
 use Rattle.sym_lex.specs.declared.symbol.Symbol.{Symbol}
 use Rattle.sym_lex.specs.declared.symbol.Symbol.TheVariants as symbol
-use Rattle.sym_lex.specs.Letters.{begins, is_blank, is_hash, is_name_start, is_quote}
+use Rattle.sym_base.specs.Names.{starts_name}
+use Rattle.sym_lex.specs.Letters.{begins, is_blank, is_hash, is_quote}
 use Rattle.std.specs.Char.{is_ascii_digit}
-use Rattle.sym_lex.specs.Symbols.{symbol_of, symbol_text, symbols}
-use Rattle.sym_lex.proofs.Bytes.{by_test}
-use Rattle.sym_lex.proofs.Words.{find-none, find-passes}
+use Rattle.sym_lex.specs.Symbols.{symbol_of, symbol_text, symbols, symbols_beginning}
+use Rattle.sym_lex.proofs.Bytes.{both, by_test}
+use Rattle.sym_lex.proofs.Words.{find-filtered, find-none, find-passes}
 
 pub symbol-long : (s : Symbol) → 0 < length (symbol_text s)
 symbol-long s = elim s as (λ s. 0 < length (symbol_text s)) [
@@ -42,7 +43,7 @@ symbol-long s = elim s as (λ s. 0 < length (symbol_text s)) [
 pub record IsSign (s : Symbol) (rest : List ℕ) : Type 0 where
   pub no_blank : begins is_blank (symbol_text s ++ rest) ≡ false
   pub no_hash : begins is_hash (symbol_text s ++ rest) ≡ false
-  pub no_name : begins is_name_start (symbol_text s ++ rest) ≡ false
+  pub no_name : starts_name (symbol_text s ++ rest) ≡ false
   pub no_digit : begins is_ascii_digit (symbol_text s ++ rest) ≡ false
   pub no_quote : begins is_quote (symbol_text s ++ rest) ≡ false
 
@@ -180,3 +181,20 @@ symbol-none text s e = by_test (starts_with nat_eq text (symbol_text s))
 pub symbol-no : (text : List ℕ) → ((s : Symbol) → starts_with nat_eq text (symbol_text s) ≡ false) → symbol_of text ≡ None
 unfolding symbol_of
 symbol-no text h = find-none (λ s. starts_with nat_eq text (symbol_text s)) symbols h
+
+-- Only symbols of the text's first byte can begin the text.
+starts-first : (b : ℕ) (rest t : List ℕ) → 0 < length t → starts_with nat_eq (b ∷ rest) t ≡ true → begins (λ first. first == b) t ≡ true
+starts-first b rest [] h e = absurd (omega arith)
+starts-first b rest (x ∷ t) h e = (both (x == b) (starts_with nat_eq rest t) e).0
+
+pub symbol_by_first : (text : List ℕ) → 0 < length text → find (λ s. starts_with nat_eq text (symbol_text s)) (symbols_beginning (get_or text 0 0)) ≡ symbol_of text
+unfolding symbol_of
+symbol_by_first [] h = absurd (omega arith)
+symbol_by_first (b ∷ rest) h =
+    find-filtered (λ s. starts_with nat_eq (b ∷ rest) (symbol_text s)) (λ s. begins (λ first. first == b) (symbol_text s)) symbols
+    (λ s t. starts-first b rest (symbol_text s) (symbol-long s) t)
+
+pub symbol_by_nothing : (text : List ℕ) → length text ≡ 0 → symbol_of text ≡ None
+unfolding symbol_of symbols
+symbol_by_nothing [] h = refl
+symbol_by_nothing (b ∷ rest) h = absurd (omega arith)

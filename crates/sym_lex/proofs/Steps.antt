@@ -11,7 +11,8 @@ use Rattle.sym_lex.specs.declared.found.Found.{Found}
 use Rattle.sym_lex.specs.declared.token.Token.{Token}
 use Rattle.sym_lex.specs.Letters.{is_blank, is_hash, is_in_line}
 use Rattle.sym_lex.specs.Lexing.{Answers, found_at, gap_size, lexed, lexed_from, with_found}
-use Rattle.sym_lex.specs.Rules.{Outcome, with_token}
+use Rattle.sym_lex.specs.Rules.{LexResult, with_token}
+use Rattle.sym_lex.specs.Spelling.{with_tokens}
 
 -- The bytes of what began before are passed over.
 pub lexed-inside : (at n : ℕ) (text : List ℕ) → n ≤ length text → lexed_from at n text ≡ lexed_from (at + n) 0 (drop n text)
@@ -23,7 +24,7 @@ lexed-inside at (suc n) (b ∷ rest) h =
     let e : at + suc n ≡ at + 1 + n = omega arith in
     rw e (lexed-inside (at + 1) n rest k)
 
-gap-by : (blank hash : Bool) (at n b : ℕ) (rest : List ℕ) (other : Outcome) → n ≤ length rest →
+gap-by : (blank hash : Bool) (at n b : ℕ) (rest : List ℕ) (other : LexResult) → n ≤ length rest →
     0 < cond blank 1 (cond hash (1 + n) 0) →
     cond blank (lexed_from (at + 1) 0 rest) (cond hash (lexed_from (at + 1) n rest) other)
     ≡ lexed_from (at + cond blank 1 (cond hash (1 + n) 0)) 0 (drop (cond blank 1 (cond hash (1 + n) 0)) (b ∷ rest))
@@ -40,7 +41,7 @@ lexed-gap at [] h = absurd (omega arith)
 lexed-gap at (b ∷ rest) h =
     gap-by (is_blank b) (is_hash b) at (prefix_len is_in_line rest) b rest _ (prefix_len-le-length is_in_line rest) h
 
-past-gap : (blank hash : Bool) (n : ℕ) (x y z : Outcome) → cond blank 1 (cond hash (1 + n) 0) ≡ 0 → cond blank x (cond hash y z) ≡ z
+past-gap : (blank hash : Bool) (n : ℕ) (x y z : LexResult) → cond blank 1 (cond hash (1 + n) 0) ≡ 0 → cond blank x (cond hash y z) ≡ z
 past-gap true hash n x y z h = absurd (omega arith)
 past-gap false true n x y z h = absurd (omega arith)
 past-gap false false n x y z h = refl
@@ -65,13 +66,8 @@ lexed-token at (b ∷ rest) found g e low high =
     ∙ ap (with_token (record { kind = found.kind; at = at; end = at + found.size }))
     (lexed-inside (at + 1) (found.size - 1) rest k ∙ ap (λ m. lexed_from m 0 (drop (found.size - 1) rest)) n ∙ ap (λ r. lexed_from (at + found.size) 0 r) (sym d))
 
--- Tokens before what a text reads as.
-abbrev pub with_tokens : List Token → Outcome → Outcome
-with_tokens front (Ok more) = Ok (front ++ more)
-with_tokens front (Err fault) = Err fault
-
 -- The tokens so far, and then those of the bytes from a place on.
-abbrev pub split : List Token → ℕ → List ℕ → Outcome
+abbrev pub split : List Token → ℕ → List ℕ → LexResult
 split front at bytes = with_tokens front (lexed_from at 0 (drop at bytes))
 
 pub split-gap : (front : List Token) (at n : ℕ) (bytes : List ℕ) → n ≡ gap_size (drop at bytes) → 0 < n → split front (at + n) bytes ≡ split front at bytes
@@ -87,7 +83,7 @@ split-fault front at bytes f h g e =
     let k : 0 < length (drop at bytes) = omega (arith, length-drop at bytes) in
     ap (with_tokens front) (lexed-fault at (drop at bytes) f k g e)
 
-regroup : (front : List Token) (t : Token) (o : Outcome) → with_tokens front (with_token t o) ≡ with_tokens (front ++ t ∷ []) o
+regroup : (front : List Token) (t : Token) (o : LexResult) → with_tokens front (with_token t o) ≡ with_tokens (front ++ t ∷ []) o
 regroup front t (Err f) = refl
 regroup front t (Ok ts) = ap Ok (sym (append_assoc front (t ∷ []) ts))
 
@@ -103,7 +99,7 @@ pub split-end : (front : List Token) (at : ℕ) (bytes : List ℕ) → length by
 unfolding lexed_from
 split-end front at bytes h = rw (drop_of_length-le bytes h) (ap Ok (append-nil front))
 
-pub nothing-before : (o : Outcome) → with_tokens [] o ≡ o
+pub nothing-before : (o : LexResult) → with_tokens [] o ≡ o
 nothing-before (Ok ts) = refl
 nothing-before (Err f) = refl
 

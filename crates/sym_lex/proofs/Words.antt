@@ -1,14 +1,15 @@
 -- Keywords by their texts.
-use Rattle.std.proofs.Common.{◌≡◌, ◌≢◌, ℕ, Bool, true, false, cond, List, [], ◌∷◌, length, ◌≤◌, arith, Some, None, refl, sym, subst}
+use Rattle.std.proofs.Common.{◌≡◌, ◌≢◌, ◌==◌, ℕ, ◌≤◌, Bool, true, false, cond, List, [], ◌∷◌, length, map, Option, Some, None, is_some, refl, sym, ap, subst, ◌∙◌, arith}
 use Rattle.std.proofs.lemmas.Option.{same_Some}
 use Rattle.std.proofs.lemmas.Slice.Eq.{bytes_eq-Decides}
-use Rattle.std.specs.List.{find}
+use Rattle.std.specs.List.{filter, find, list_any}
 use Rattle.std.specs.Str.{bytes_eq}
 use Rattle.sym_lex.specs.declared.keyword.Keyword.{Keyword}
 use Rattle.sym_lex.specs.declared.keyword.Keyword.TheVariants as keyword
-use Rattle.sym_lex.specs.Keywords.{keyword_of, keyword_text, keywords}
-use Rattle.sym_lex.specs.Letters.{name_max}
-use Rattle.sym_lex.proofs.Bytes.{by_test}
+use Rattle.sym_lex.specs.Keywords.{keyword_of, keyword_text, keywords, keywords_of_length}
+use Rattle.sym_base.specs.Limits.{max_name_bytes}
+use Rattle.sym_base.specs.Names.{is_keyword, keyword_texts}
+use Rattle.sym_lex.proofs.Bytes.{by_test, eq-self}
 
 pub find-passes : {X : Type 0} (p : X → Bool) (xs : List X) (x : X) → find p xs ≡ Some x → p x ≡ true
 find-passes {X} p [] x e = cc
@@ -59,7 +60,7 @@ unfolding keyword_of keywords
 keyword-is text k e = sym ((bytes_eq-Decides (keyword_text k) text).0 (find-passes (λ k. bytes_eq (keyword_text k) text) keywords k e))
 
 -- No keyword is longer than a name may be.
-pub keyword-short : (k : Keyword) → length (keyword_text k) ≤ name_max
+pub keyword-short : (k : Keyword) → length (keyword_text k) ≤ max_name_bytes
 keyword-short keyword.Enum = omega arith
 keyword-short keyword.Field = omega arith
 keyword-short keyword.From = omega arith
@@ -84,3 +85,33 @@ keyword-short keyword.Or = omega arith
 keyword-short keyword.Not = omega arith
 keyword-short keyword.Is = omega arith
 keyword-short keyword.Clamp = omega arith
+
+-- Only keywords of the text's length can be the text.
+pub find-filtered : {X : Type 0} (p q : X → Bool) (xs : List X) → ((x : X) → p x ≡ true → q x ≡ true) → find p (filter q xs) ≡ find p xs
+find-filtered p q [] h = refl
+find-filtered p q (x ∷ xs) h = by_test (p x)
+    (λ t. rw (h x t, t) refl)
+    (λ t. by_test (q x) (λ u. rw (u, t) (find-filtered p q xs h)) (λ u. rw (u, t) (find-filtered p q xs h)))
+
+pub keyword_by_length : (text : List ℕ) → find (λ k. bytes_eq (keyword_text k) text) (keywords_of_length (length text)) ≡ keyword_of text
+unfolding keyword_of
+keyword_by_length text =
+    find-filtered (λ k. bytes_eq (keyword_text k) text) (λ k. length (keyword_text k) == length text) keywords
+    (λ k t. let same : keyword_text k ≡ text = (bytes_eq-Decides (keyword_text k) text).0 t in
+    subst (λ (w : List ℕ). (length (keyword_text k) == length w) ≡ true) same (eq-self (length (keyword_text k))))
+
+-- The keywords are those of lawful scripts.
+any-find : (p : List ℕ → Bool) (ks : List Keyword) → list_any p (map keyword_text ks) ≡ is_some (find (λ k. p (keyword_text k)) ks)
+any-find p [] = refl
+any-find p (k ∷ ks) = by_test (p (keyword_text k)) (λ t. rw t refl) (λ t. rw t (any-find p ks))
+
+pub keyword-test : (text : List ℕ) → is_keyword text ≡ is_some (keyword_of text)
+unfolding keyword_of keywords is_keyword keyword_texts
+keyword-test text = any-find (λ word. bytes_eq word text) keywords
+
+pub no-keyword : (text : List ℕ) → is_keyword text ≡ false → (k : Keyword) → text ≢ keyword_text k
+no-keyword text h k same =
+    let own : keyword_of text ≡ Some k = ap keyword_of same ∙ keyword-own k in
+    let some : is_keyword text ≡ true = keyword-test text ∙ ap is_some own in
+    let never : true ≡ false = sym some ∙ h in
+    cc

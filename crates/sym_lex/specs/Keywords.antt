@@ -1,6 +1,6 @@
 -- The words that can't be names. The list is this project's profile.
-use Rattle.std.specs.Prelude.{ℕ, List, [], ◌∷◌, Option, codes}
-use Rattle.std.specs.List.{find}
+use Rattle.std.specs.Prelude.{ℕ, ◌==◌, List, [], ◌∷◌, length, Option, codes}
+use Rattle.std.specs.List.{filter, find}
 use Rattle.std.specs.Str.{bytes_eq}
 use Rattle.sym_lex.specs.declared.keyword.Keyword.{Keyword}
 use Rattle.sym_lex.specs.declared.keyword.Keyword.TheVariants as keyword
@@ -38,6 +38,10 @@ keywords =
     ∷ keyword.Group ∷ keyword.State ∷ keyword.Int ∷ keyword.Nums ∷ keyword.Words ∷ keyword.Hold
     ∷ keyword.Test ∷ keyword.Update ∷ keyword.Report ∷ keyword.Let ∷ keyword.Push ∷ keyword.Keep
     ∷ keyword.If ∷ keyword.And ∷ keyword.Or ∷ keyword.Not ∷ keyword.Is ∷ keyword.Clamp ∷ []
+
+-- The keywords of this many bytes.
+abbrev pub keywords_of_length : ℕ → List Keyword
+keywords_of_length n = filter (λ k. length (keyword_text k) == n) keywords
 
 -- The keyword that is written so, if there is one.
 unfoldable pub keyword_of : List ℕ → Option Keyword

@@ -1,6 +1,5 @@
--- The bytes of a script's text. The rules are this project's profile.
+-- The bytes of a script's text, those of names aside. The rules are this project's profile.
 use Rattle.std.specs.Prelude.{ℕ, Bool, false, not, ◌==◌, ◌||◌, List, [], ◌∷◌}
-use Rattle.std.specs.Char.{is_ascii_alphabetic, is_ascii_digit}
 
 -- Space, tab, CR and LF separate tokens.
 abbrev pub is_blank : ℕ → Bool
@@ -17,14 +16,6 @@ is_line_end b = b == 10
 abbrev pub is_in_line : ℕ → Bool
 is_in_line b = not (is_line_end b)
 
--- A letter or `_`.
-abbrev pub is_name_start : ℕ → Bool
-is_name_start b = is_ascii_alphabetic b || (b == 95)
-
--- A letter, a digit or `_`.
-abbrev pub is_name_part : ℕ → Bool
-is_name_part b = is_ascii_alphabetic b || (b == 95) || is_ascii_digit b
-
 -- `"`, which stands before and after a text.
 abbrev pub is_quote : ℕ → Bool
 is_quote b = b == 34
@@ -32,7 +23,7 @@ is_quote b = b == 34
 abbrev pub is_backslash : ℕ → Bool
 is_backslash b = b == 92
 
--- `"` and `\`, which a text has only after a `\`.
+-- `"` and `\`, which are written only after a `\` between quotes.
 abbrev pub is_escaped : ℕ → Bool
 is_escaped b = is_quote b || is_backslash b
 
@@ -40,7 +31,3 @@ is_escaped b = is_quote b || is_backslash b
 abbrev pub begins : (ℕ → Bool) → List ℕ → Bool
 begins p [] = false
 begins p (b ∷ rest) = p b
-
--- The most bytes of a name.
-abbrev pub name_max : ℕ
-name_max = 64

@@ -4,7 +4,8 @@ use Rattle.std.specs.List.{prefix_len, take_while}
 use Rattle.std.specs.Str.{is_utf8}
 use Rattle.std.specs.Str.Parse.{digits_value}
 use Rattle.std.specs.Char.{is_ascii_digit}
-use Rattle.sym_base.specs.Numbers.{num_max}
+use Rattle.sym_base.specs.Limits.{max_name_bytes, num_max}
+use Rattle.sym_base.specs.Names.{is_name_part, is_name_start, starts_name}
 use Rattle.sym_lex.specs.declared.error.LexErr.{LexErr}
 use Rattle.sym_lex.specs.declared.error.LexErr.TheVariants.{Fault, NoMemory}
 use Rattle.sym_lex.specs.declared.error.LexFault.{LexFault}
@@ -15,8 +16,8 @@ use Rattle.sym_lex.specs.declared.token.TokenKind.TheVariants as kind
 use Rattle.sym_lex.specs.declared.keyword.Keyword.{Keyword}
 use Rattle.sym_lex.specs.declared.symbol.Symbol.{Symbol}
 use Rattle.sym_lex.specs.Keywords.{keyword_of}
-use Rattle.sym_lex.specs.Letters.{begins, is_backslash, is_blank, is_escaped, is_hash, is_in_line, is_line_end, is_name_part, is_name_start, is_quote, name_max}
-use Rattle.sym_lex.specs.Rules.{Outcome, with_token}
+use Rattle.sym_lex.specs.Letters.{is_backslash, is_blank, is_escaped, is_hash, is_in_line, is_line_end, is_quote}
+use Rattle.sym_lex.specs.Rules.{LexResult, with_token}
 use Rattle.sym_lex.specs.Symbols.{symbol_of, symbol_text}
 
 -- The bytes of the blank or of the comment with which a text begins.
@@ -33,37 +34,40 @@ name_kind (Some k) = kind.Word k
 -- All the name's bytes, unless they are too many.
 abbrev pub name_at : ℕ → List ℕ → Result Found LexFault
 name_at at text =
-    cond (nat_le (prefix_len is_name_part text) name_max)
-    (Ok (record { kind = name_kind (keyword_of (take_while is_name_part text)); size = prefix_len is_name_part text }))
-    (Err (LongName at))
+    let size = prefix_len is_name_part text in
+    let kind = name_kind (keyword_of (take_while is_name_part text)) in
+    cond (nat_le size max_name_bytes) (Ok (record { kind = kind; size = size })) (Err (LongName at))
 
 -- The number that the digits write, unless it is larger than a script's numbers.
 abbrev pub number_of : List ℕ → Option ℤ
-number_of digits = cond (nat_le (digits_value 10 digits) num_max) (Some (pos (digits_value 10 digits))) None
+number_of digits =
+    let value = digits_value 10 digits in cond (nat_le value num_max) (Some (pos value)) None
 
 -- All the digits, if their value isn't too large and no name follows them at once.
 abbrev pub number_at : ℕ → List ℕ → Result Found LexFault
 number_at at text =
-    cond (nat_le (digits_value 10 (take_while is_ascii_digit text)) num_max && not (begins is_name_start (drop (prefix_len is_ascii_digit text) text)))
-    (Ok (record { kind = kind.Number (pos (digits_value 10 (take_while is_ascii_digit text))); size = prefix_len is_ascii_digit text }))
+    let size = prefix_len is_ascii_digit text in
+    let value = digits_value 10 (take_while is_ascii_digit text) in
+    cond (nat_le value num_max && not (starts_name (drop size text)))
+    (Ok (record { kind = kind.Number (pos value); size = size }))
     (Err (BadNumber at))
 
--- What was read behind an opening quote: the decoded text, and how many bytes it takes with its
+-- What was read after an opening quote: the decoded text, and how many bytes it takes with its
 -- closing quote.
-pub record Body : Type 0 where
+pub record Decoded : Type 0 where
   pub text : List ℕ
   pub size : ℕ
 
--- One byte more at the front of what is read: a byte of the text, or a `\` before one.
-abbrev pub with_byte : ℕ → Body → Body
+-- One byte more before what is read: a byte of the text, or a `\`.
+abbrev pub with_byte : ℕ → Decoded → Decoded
 with_byte b body = record { text = b ∷ body.text; size = 1 + body.size }
 
-abbrev pub with_backslash : Body → Body
+abbrev pub with_backslash : Decoded → Decoded
 with_backslash body = record { text = body.text; size = 1 + body.size }
 
 -- The bytes up to the closing quote, decoded, if they lie in a line and have no other escapes. The
 -- first argument says whether a `\` stands before them.
-unfoldable pub body_of : Bool → List ℕ → Option Body
+unfoldable pub body_of : Bool → List ℕ → Option Decoded
 body_of after_backslash [] = None
 body_of true (b ∷ rest) = cond (is_escaped b) (option_map (with_byte b) (body_of false rest)) None
 body_of false (b ∷ rest) =
@@ -72,7 +76,7 @@ body_of false (b ∷ rest) =
     (cond (is_backslash b) (option_map with_backslash (body_of true rest))
     (option_map (with_byte b) (body_of false rest))))
 
-abbrev pub text_from : ℕ → Option Body → Result Found LexFault
+abbrev pub text_from : ℕ → Option Decoded → Result Found LexFault
 text_from at None = Err (BadText at)
 text_from at (Some body) =
     cond (is_utf8 body.text)
@@ -95,14 +99,14 @@ found_at at (b ∷ rest) =
     (cond (is_quote b) (text_from at (body_of false rest)) (symbol_at at (b ∷ rest))))
 
 -- This token at the place, and then those that follow it.
-abbrev pub with_found : ℕ → Result Found LexFault → (ℕ → Outcome) → Outcome
+abbrev pub with_found : ℕ → Result Found LexFault → (ℕ → LexResult) → LexResult
 with_found at (Ok found) more =
     with_token (record { kind = found.kind; at = at; end = at + found.size }) (more found.size)
 with_found at (Err fault) more = Err fault
 
 -- The tokens of the text that stands from the place on, `inside` bytes of which belong to what
 -- began before it, or the first fault.
-unfoldable pub lexed_from : ℕ → ℕ → List ℕ → Outcome
+unfoldable pub lexed_from : ℕ → ℕ → List ℕ → LexResult
 lexed_from at inside [] = Ok []
 lexed_from at (suc inside) (b ∷ rest) = lexed_from (at + 1) inside rest
 lexed_from at zero (b ∷ rest) =
@@ -111,14 +115,14 @@ lexed_from at zero (b ∷ rest) =
     (with_found at (found_at at (b ∷ rest)) (λ size. lexed_from (at + 1) (size - 1) rest)))
 
 -- The tokens of a text, or the first fault in it.
-abbrev pub lexed : List ℕ → Outcome
+abbrev pub lexed : List ℕ → LexResult
 lexed text = lexed_from 0 0 text
 
 -- An answer of the lexer gives what was found, as far as there is memory.
 abbrev pub Answers : {A B : Type 0} → (A → B) → Result A LexErr → Result B LexFault → Type 0
-Answers view (Ok a) o = o ≡ Ok (view a)
-Answers view (Err (Fault f)) o = o ≡ Err f
-Answers view (Err NoMemory) o = Unit {0}
+Answers view (Ok a) r = r ≡ Ok (view a)
+Answers view (Err (Fault f)) r = r ≡ Err f
+Answers view (Err NoMemory) r = Unit {0}
 
 -- What holds of a fault, where the answer is one.
 abbrev pub IfFault : LexErr → (LexFault → Type 0) → Type 0

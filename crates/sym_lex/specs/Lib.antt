@@ -3,6 +3,7 @@ pub mod Letters
 pub mod Lexing
 pub mod Quoting
 pub mod Rules
+pub mod Spelling
 pub mod Symbols
 pub mod Terminals
 pub mod Views

@@ -5,7 +5,8 @@ use Rattle.std.specs.List.{list_all, starts_with}
 use Rattle.std.specs.Str.{IsUtf8}
 use Rattle.std.specs.Str.Parse.{digits_value}
 use Rattle.std.specs.Char.{is_ascii_digit}
-use Rattle.sym_base.specs.Numbers.{num_max}
+use Rattle.sym_base.specs.Limits.{max_name_bytes, num_max}
+use Rattle.sym_base.specs.Names.{is_name_part, is_name_start, starts_name}
 use Rattle.sym_lex.specs.declared.error.LexFault.{LexFault}
 use Rattle.sym_lex.specs.declared.error.LexFault.TheVariants.{BadByte, BadNumber, LongName, BadText}
 use Rattle.sym_lex.specs.declared.token.Token.{Token}
@@ -14,7 +15,7 @@ use Rattle.sym_lex.specs.declared.token.TokenKind.TheVariants as kind
 use Rattle.sym_lex.specs.declared.keyword.Keyword.{Keyword}
 use Rattle.sym_lex.specs.declared.symbol.Symbol.{Symbol}
 use Rattle.sym_lex.specs.Keywords.{keyword_text}
-use Rattle.sym_lex.specs.Letters.{begins, is_blank, is_escaped, is_hash, is_in_line, is_name_part, is_name_start, is_quote, name_max}
+use Rattle.sym_lex.specs.Letters.{begins, is_blank, is_escaped, is_hash, is_in_line, is_quote}
 use Rattle.sym_lex.specs.Quoting.{escaped, quoted}
 use Rattle.sym_lex.specs.Symbols.{symbol_text}
 
@@ -24,8 +25,8 @@ pub record IsRun (p : ℕ → Bool) (run rest : List ℕ) : Type 0 where
   pub ends : begins p rest ≡ false
 
 -- A letter or `_`, and all letters, digits and `_` after it.
-pub record IsWord (word rest : List ℕ) : Type 0 where
-  pub starts : begins is_name_start word ≡ true
+pub record IsNameRun (word rest : List ℕ) : Type 0 where
+  pub starts : starts_name word ≡ true
   pub run : IsRun is_name_part word rest
 
 -- One digit or more: all that stand there.
@@ -34,22 +35,22 @@ pub record IsNumeral (digits rest : List ℕ) : Type 0 where
   pub run : IsRun is_ascii_digit digits rest
 
 -- A symbol, where no longer one begins at its place.
-pub record IsSymbol (s : Symbol) (text rest : List ℕ) : Type 0 where
-  pub spelled : text ≡ symbol_text s
-  pub longest : (other : Symbol) → starts_with nat_eq (text ++ rest) (symbol_text other) ≡ true
-      → length (symbol_text other) ≤ length text
+pub record IsSymbol (s : Symbol) (bytes rest : List ℕ) : Type 0 where
+  pub spelled : bytes ≡ symbol_text s
+  pub longest : (other : Symbol) → starts_with nat_eq (bytes ++ rest) (symbol_text other) ≡ true
+      → length (symbol_text other) ≤ length bytes
 
 -- The token of these bytes, before the bytes that stand after it. A name that is a keyword is that
 -- keyword. A text is decoded: its token holds the bytes that are written between the quotes.
 pub data IsToken (bytes rest : List ℕ) : TokenKind → Type 0 where
-  name : IsWord bytes rest → length bytes ≤ name_max → ((k : Keyword) → bytes ≢ keyword_text k)
-      → IsToken bytes rest kind.Name
-  word : (k : Keyword) → IsWord bytes rest → bytes ≡ keyword_text k
+  name : IsNameRun bytes rest → length bytes ≤ max_name_bytes
+      → ((k : Keyword) → bytes ≢ keyword_text k) → IsToken bytes rest kind.Name
+  word : (k : Keyword) → IsNameRun bytes rest → bytes ≡ keyword_text k
       → IsToken bytes rest (kind.Word k)
-  number : IsNumeral bytes rest → digits_value 10 bytes ≤ num_max → begins is_name_start rest ≡ false
+  number : IsNumeral bytes rest → digits_value 10 bytes ≤ num_max → starts_name rest ≡ false
       → IsToken bytes rest (kind.Number (pos (digits_value 10 bytes)))
-  string : (text : List ℕ) → bytes ≡ quoted text → list_all is_in_line text ≡ true → IsUtf8 text
-      → IsToken bytes rest (kind.Str text)
+  string : (text : List ℕ) → bytes ≡ quoted text → list_all is_in_line text ≡ true
+      → IsUtf8 text → IsToken bytes rest (kind.Str text)
   sign : (s : Symbol) → IsSymbol s bytes rest → IsToken bytes rest (kind.Sign s)
 
 -- A first byte that belongs to no blank, comment, name, number, text or symbol.
@@ -66,40 +67,45 @@ pub record BeginsNothing (b : ℕ) (rest : List ℕ) : Type 0 where
 pub data IsFault (at : ℕ) : List ℕ → LexFault → Type 0 where
   bad_byte : (b : ℕ) (rest : List ℕ) → BeginsNothing b rest → IsFault at (b ∷ rest) (BadByte at)
   -- a number that is too large
-  large_number : (digits rest : List ℕ) → IsNumeral digits rest → num_max < digits_value 10 digits
-      → IsFault at (digits ++ rest) (BadNumber at)
+  large_number : (digits rest : List ℕ) → IsNumeral digits rest
+      → num_max < digits_value 10 digits → IsFault at (digits ++ rest) (BadNumber at)
   -- a number that a letter or `_` follows at once
-  joined_number : (digits rest : List ℕ) → IsNumeral digits rest → begins is_name_start rest ≡ true
+  joined_number : (digits rest : List ℕ) → IsNumeral digits rest → starts_name rest ≡ true
       → IsFault at (digits ++ rest) (BadNumber at)
-  long_name : (word rest : List ℕ) → IsWord word rest → name_max < length word
+  long_name : (word rest : List ℕ) → IsNameRun word rest → max_name_bytes < length word
       → IsFault at (word ++ rest) (LongName at)
   -- no closing quote before LF or the end
-  open_text : (text rest : List ℕ) → list_all is_in_line text ≡ true → begins is_in_line rest ≡ false
-      → IsFault at (34 ∷ (escaped text ++ rest)) (BadText at)
+  open_text : (text rest : List ℕ) → list_all is_in_line text ≡ true
+      → begins is_in_line rest ≡ false → IsFault at (34 ∷ (escaped text ++ rest)) (BadText at)
   -- a `\` before anything but `"` and `\`
-  other_escape : (text rest : List ℕ) → list_all is_in_line text ≡ true → begins is_escaped rest ≡ false
+  other_escape : (text rest : List ℕ) → list_all is_in_line text ≡ true
+      → begins is_escaped rest ≡ false
       → IsFault at (34 ∷ (escaped text ++ 92 ∷ rest)) (BadText at)
   not_utf8 : (text rest : List ℕ) → list_all is_in_line text ≡ true → ¬ (IsUtf8 text)
       → IsFault at (quoted text ++ rest) (BadText at)
 
 -- The tokens of a text, or the first fault in it.
-abbrev pub Outcome : Type 0
-Outcome = Result (List Token) LexFault
+abbrev pub LexResult : Type 0
+LexResult = Result (List Token) LexFault
 
 -- The token before those that follow it, unless a fault follows.
-abbrev pub with_token : Token → Outcome → Outcome
+abbrev pub with_token : Token → LexResult → LexResult
 with_token token (Ok tokens) = Ok (token ∷ tokens)
 with_token token (Err fault) = Err fault
 
+-- The token of these bytes, which stand at this place.
+abbrev pub placed : TokenKind → ℕ → List ℕ → Token
+placed k at bytes = record { kind = k; at = at; end = at + length bytes }
+
 -- What a text that stands at this place reads as: blanks, comments and tokens one after another, up
 -- to the end or to the first fault.
-pub data Reads : ℕ → List ℕ → Outcome → Type 0 where
+pub data Reads : ℕ → List ℕ → LexResult → Type 0 where
   ended : (at : ℕ) → Reads at [] (Ok [])
-  blank : (at b : ℕ) (rest : List ℕ) (o : Outcome) → is_blank b ≡ true → Reads (at + 1) rest o
-      → Reads at (b ∷ rest) o
-  comment : (at b : ℕ) (body rest : List ℕ) (o : Outcome) → is_hash b ≡ true → IsRun is_in_line body rest
-      → Reads (at + 1 + length body) rest o → Reads at (b ∷ (body ++ rest)) o
-  token : (at : ℕ) (bytes rest : List ℕ) (k : TokenKind) (o : Outcome) → IsToken bytes rest k
-      → Reads (at + length bytes) rest o
-      → Reads at (bytes ++ rest) (with_token (record { kind = k; at = at; end = at + length bytes }) o)
+  blank : (at b : ℕ) (rest : List ℕ) (r : LexResult) → is_blank b ≡ true
+      → Reads (at + 1) rest r → Reads at (b ∷ rest) r
+  comment : (at b : ℕ) (body rest : List ℕ) (r : LexResult) → is_hash b ≡ true
+      → IsRun is_in_line body rest → Reads (at + 1 + length body) rest r
+      → Reads at (b ∷ (body ++ rest)) r
+  token : (at : ℕ) (bytes rest : List ℕ) (k : TokenKind) (r : LexResult) → IsToken bytes rest k
+      → Reads (at + length bytes) rest r → Reads at (bytes ++ rest) (with_token (placed k at bytes) r)
   fault : (at : ℕ) (text : List ℕ) (f : LexFault) → IsFault at text f → Reads at text (Err f)

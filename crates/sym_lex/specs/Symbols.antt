@@ -1,8 +1,9 @@
 -- The tokens of one or two bytes. The list is this project's profile.
-use Rattle.std.specs.Prelude.{ℕ, nat_eq, List, [], ◌∷◌, Option, codes}
-use Rattle.std.specs.List.{find, starts_with}
+use Rattle.std.specs.Prelude.{ℕ, ◌==◌, nat_eq, List, [], ◌∷◌, Option, codes}
+use Rattle.std.specs.List.{filter, find, starts_with}
 use Rattle.sym_lex.specs.declared.symbol.Symbol.{Symbol}
 use Rattle.sym_lex.specs.declared.symbol.Symbol.TheVariants as symbol
+use Rattle.sym_lex.specs.Letters.{begins}
 
 -- A symbol as it is written.
 abbrev pub symbol_text : Symbol → List ℕ
@@ -37,6 +38,10 @@ symbols =
     ∷ symbol.OpenBracket ∷ symbol.CloseBracket ∷ symbol.Comma ∷ symbol.Colon ∷ symbol.Semicolon
     ∷ symbol.Assign ∷ symbol.Less ∷ symbol.Greater ∷ symbol.Plus ∷ symbol.Minus ∷ symbol.Star
     ∷ symbol.Slash ∷ symbol.Percent ∷ []
+
+-- The symbols that begin with this byte, those of two bytes before those of one.
+abbrev pub symbols_beginning : ℕ → List Symbol
+symbols_beginning b = filter (λ s. begins (λ first. first == b) (symbol_text s)) symbols
 
 -- The longest symbol with which the text begins.
 unfoldable pub symbol_of : List ℕ → Option Symbol

@@ -9,7 +9,8 @@ use thiserror::Error;
 pub enum LexFault {
     /// A byte that begins no token.
     BadByte { at: u32 },
-    /// The first digit of a number that is more than 10^12, or that a letter or `_` follows at once.
+    /// The first digit of a number that is more than 10^12, or that a letter or `_` follows at
+    /// once.
     BadNumber { at: u32 },
     /// The first byte of a name or keyword of more than 64 bytes.
     LongName { at: u32 },

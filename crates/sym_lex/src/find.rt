@@ -12,9 +12,7 @@ use crate::scan::{digits_size, is_escaped, is_name_start, name_size, starts_name
 use crate::symbol::Symbol;
 use crate::token::TokenKind;
 use std::alloc::Global;
-use sym_base::{NUM_MAX, NoMemory, Text};
-
-const NAME_MAX: usize = 64;
+use sym_base::{NAME_MAX, NUM_MAX, NoMemory, Text};
 
 const NUMBER_MAX: u64 = NUM_MAX as u64;
 
@@ -76,8 +74,9 @@ fn find_symbol(text: &[u8], at: u32) -> Result<Found, LexFault>
     }
 }
 
-/// Reads behind an opening quote up to the closing one, and decodes what stands between them. `None`
-/// where the line or the text ends before the closing quote, or where there is another escape.
+/// Reads from after an opening quote to the closing one, and decodes what stands between them.
+/// `None` where the line or the text ends before the closing quote, or where there is another
+/// escape.
 fn read_body(alloc: Global, bytes: &[u8]) -> Result<Option<Body>, NoMemory>
     ensures read { IfOk result (λ o. option_map body_view o ≡ body_of false bytes.now) }
     ensures within { IfOk result (λ o. IfSome o (λ b. b.size ≤ length bytes.now)) }

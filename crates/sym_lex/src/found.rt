@@ -1,4 +1,4 @@
-//! What is found at the front of a text.
+//! What is found at the start of a text.
 
 use crate::token::TokenKind;
 

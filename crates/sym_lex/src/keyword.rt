@@ -2,7 +2,7 @@
 ghost use Rattle.std.specs.Prelude.{◌≡◌};
 ghost use Rattle.std.specs.List.{find};
 ghost use Rattle.std.specs.Str.{bytes_eq};
-ghost use Rattle.sym_lex.specs.Keywords.{keyword_of, keyword_text};
+ghost use Rattle.sym_lex.specs.Keywords.{keyword_of, keyword_text, keywords_of_length};
 
 /// A word that can't be a name.
 #[derive(Clone, Copy, PartialEq, Eq)]
@@ -44,32 +44,42 @@ fn first_written(keywords: &[Keyword], word: &[u8]) -> Option<Keyword>
 }
 
 impl Keyword {
-    const ALL: [Keyword; 24] = [
-        Keyword::Enum,
-        Keyword::Field,
-        Keyword::From,
-        Keyword::Num,
-        Keyword::Word,
-        Keyword::Else,
-        Keyword::Group,
-        Keyword::State,
-        Keyword::Int,
-        Keyword::Nums,
-        Keyword::Words,
-        Keyword::Hold,
-        Keyword::Test,
-        Keyword::Update,
-        Keyword::Report,
-        Keyword::Let,
-        Keyword::Push,
-        Keyword::Keep,
-        Keyword::If,
-        Keyword::And,
-        Keyword::Or,
-        Keyword::Not,
-        Keyword::Is,
-        Keyword::Clamp,
-    ];
+    /// The keywords of this many bytes.
+    #[tactic(auto, unfolding(crate::specs::Keywords::keywords))]
+    fn of_length(length: usize) -> &'static [Keyword]
+        ensures { result.now ≡ keywords_of_length length }
+    {
+        match length {
+            2 => &[Keyword::If, Keyword::Or, Keyword::Is],
+            3 => &[
+                Keyword::Num,
+                Keyword::Int,
+                Keyword::Let,
+                Keyword::And,
+                Keyword::Not,
+            ],
+            4 => &[
+                Keyword::Enum,
+                Keyword::From,
+                Keyword::Word,
+                Keyword::Else,
+                Keyword::Nums,
+                Keyword::Hold,
+                Keyword::Test,
+                Keyword::Push,
+                Keyword::Keep,
+            ],
+            5 => &[
+                Keyword::Field,
+                Keyword::Group,
+                Keyword::State,
+                Keyword::Words,
+                Keyword::Clamp,
+            ],
+            6 => &[Keyword::Update, Keyword::Report],
+            _ => &[],
+        }
+    }
 
     /// The keyword as it is written.
     pub fn text(self) -> &'static str
@@ -104,10 +114,9 @@ impl Keyword {
     }
 
     /// The keyword that is written as `word`, if there is one.
-    #[tactic(auto, unfolding(crate::specs::Keywords::keyword_of, crate::specs::Keywords::keywords))]
-    pub fn of(word: &[u8]) -> Option<Keyword>
+    pub(crate) fn of(word: &[u8]) -> Option<Keyword>
         ensures { result ≡ keyword_of word.now }
     {
-        first_written(&Keyword::ALL, word)
+        first_written(Keyword::of_length(word.len()), word)
     }
 }

@@ -1,7 +1,7 @@
 //! The tokens of a text.
 ghost use Rattle.std.specs.Prelude.{◌≡◌, ◌<◌, ◌^◌, length, true, Ok, Err, IfOk, IfErr};
 ghost use Rattle.sym_lex.specs.Lexing.{lexed, Answers, IfFault};
-ghost use Rattle.sym_lex.specs.Rules.{Outcome, Reads};
+ghost use Rattle.sym_lex.specs.Rules.{LexResult, Reads};
 ghost use Rattle.sym_lex.specs.Terminals.{are_in_order, are_sound};
 
 use crate::error::LexErr;
@@ -45,12 +45,12 @@ fn all_tokens(alloc: Global, bytes: &[u8]) -> Result<Vec<Token>, LexErr>
 ///
 /// # Errors
 ///
-/// `Fault` with the kind and the place of the first fault; `NoMemory` where an allocation was refused.
+/// `Fault` with the kind and the place of the first fault; `NoMemory` where an allocation failed.
 pub fn lex(alloc: Global, bytes: &[u8]) -> Result<Vec<Token>, LexErr>
     requires { length bytes.now < 2 ^ 32 }
     ensures tokens { IfOk result (λ v. Reads 0 bytes.now (Ok v.items)) }
     ensures fault { IfErr result (λ e. IfFault e (λ f. Reads 0 bytes.now (Err f))) }
-    ensures only { (o : Outcome) → Reads 0 bytes.now o → Answers (λ v. v.items) result o }
+    ensures only { (r : LexResult) → Reads 0 bytes.now r → Answers (λ v. v.items) result r }
     ensures exact { Answers (λ v. v.items) result (lexed bytes.now) }
     ensures sound { IfOk result (λ v. are_sound bytes.now v.items ≡ true) }
     ensures in_order { IfOk result (λ v. are_in_order v.items ≡ true) }

@@ -2,7 +2,8 @@
 ghost use Rattle.std.specs.Prelude.{◌≡◌, ◌≤◌, length};
 ghost use Rattle.std.specs.List.{prefix_len};
 ghost use Rattle.std.specs.Char.{is_ascii_digit};
-ghost use Rattle.sym_lex.specs.Letters.{begins, is_blank, is_escaped, is_in_line, is_name_part, is_name_start};
+ghost use Rattle.sym_base.specs.Names.{is_name_part, is_name_start, starts_name};
+ghost use Rattle.sym_lex.specs.Letters.{is_blank, is_escaped, is_in_line};
 ghost use Rattle.sym_lex.specs.Lexing.{gap_size};
 
 fn is_blank(byte: u8) -> bool
@@ -23,7 +24,7 @@ fn is_name_part(byte: u8) -> bool
     byte.is_ascii_alphabetic() || byte == b'_' || byte.is_ascii_digit()
 }
 
-/// Whether a text has this byte only after a `\`.
+/// Whether this byte is written only after a `\` between quotes.
 pub fn is_escaped(byte: u8) -> bool
     ensures { result ≡ is_escaped byte }
 {
@@ -31,7 +32,7 @@ pub fn is_escaped(byte: u8) -> bool
 }
 
 pub fn starts_name(text: &[u8]) -> bool
-    ensures { result ≡ begins is_name_start text.now }
+    ensures { result ≡ starts_name text.now }
 {
     match text {
         [] => false,

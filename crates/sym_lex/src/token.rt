@@ -19,7 +19,7 @@ pub enum TokenKind {
     Sign(Symbol),
 }
 
-/// A token: its kind, the place of its first byte, and the place behind its last one. Places count
+/// A token: its kind, the place of its first byte, and the place after its last one. Places count
 /// bytes from 0, and those of a text take its quotes in.
 #[derive(PartialEq, Eq, Drop)]
 pub struct Token {

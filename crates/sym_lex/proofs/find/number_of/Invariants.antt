@@ -1,7 +1,7 @@
 -- The digits so far write the number, which isn't too large.
 use Rattle.std.proofs.Common.{◌≡◌, ◌≤◌, drop}
 use Rattle.std.specs.Str.Parse.{digits_value, digits_value_after}
-use Rattle.sym_base.specs.Numbers.{num_max}
+use Rattle.sym_base.specs.Limits.{num_max}
 use Rattle.sym_lex.proofs.find.number_of.Given as goal
 
 abbrev pub invariant-digits : goal.invariant-digits
