@@ -30,7 +30,7 @@ use Rattle.sym_lex.proofs.Signs.{IsLongest, sign-first, symbol-long, symbol-no, 
 use Rattle.sym_lex.proofs.Steps.{lexed-fault, lexed-inside, lexed-token}
 use Rattle.sym_lex.proofs.Words.{keyword-none, keyword-own, keyword-short}
 
--- A token that stands at the front of a text is found there.
+-- A token that stands at the start of a text is found there.
 pub record Goes (bytes rest : List ℕ) (k : TokenKind) : Type 0 where
   pub some : 0 < length bytes
   pub gap : gap_size (bytes ++ rest) ≡ 0
@@ -149,7 +149,7 @@ token-goes bytes rest _ (number h small apart) = number-goes bytes rest h small 
 token-goes bytes rest _ (string text same line utf8) = subst (λ b. Goes b rest (kind.Str text)) (sym same) (text-goes text rest line utf8)
 token-goes bytes rest _ (sign s h) = symbol-goes s bytes rest h
 
--- A fault that stands at the front of a text is found there.
+-- A fault that stands at the start of a text is found there.
 pub record Fails (at : ℕ) (text : List ℕ) (f : LexFault) : Type 0 where
   pub some : 0 < length text
   pub gap : gap_size text ≡ 0

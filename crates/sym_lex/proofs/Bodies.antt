@@ -11,7 +11,7 @@ use Rattle.sym_lex.specs.Quoting.{escaped}
 use Rattle.sym_lex.proofs.Bytes.{backslash-is, both, by_test, denied, escaped-line, escaped-no, join, line-quote, quote-is, refused, unescaped}
 use Rattle.sym_lex.specs.Lexing.{Decoded, body_of, text_from, with_backslash, with_byte}
 
--- What was read before, in front of what is read from here on.
+-- What was read so far, before what is read from here on.
 abbrev pub continued : List ℕ → ℕ → Option Decoded → Option Decoded
 continued text size = option_map (λ body. record { text = text ++ body.text; size = size + body.size })
 

@@ -44,7 +44,7 @@ lt-true n m h = grind (arith, nat_tests)
 pub one-add : (n : ℕ) → 1 + n ≡ suc n
 one-add n = omega arith
 
--- The bytes that pass from the front on are those before the first that doesn't.
+-- The prefix that passes is what stands before the first byte that doesn't.
 pub prefix-is : (p : ℕ → Bool) (front rest : List ℕ) → list_all p front ≡ true → begins p rest ≡ false → prefix_len p (front ++ rest) ≡ length front
 prefix-is p [] [] a e = refl
 prefix-is p [] (b ∷ rest) a e = rw e refl

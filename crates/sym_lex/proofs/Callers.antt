@@ -1,5 +1,5 @@
 -- What callers may know of the tokens of a text.
-use Rattle.std.proofs.Common.{◌≡◌, ◌≢◌, ℕ, pos, ◌+◌, ◌-◌, ◌<◌, ◌≤◌, true, false, ◌&&◌, nat_lt, nat_le, int_le, is_some, List, [], ◌∷◌, ◌++◌, length, take, drop, Result, Ok, Err, IfOk, IfErr, refl, sym, ap, subst, ◌∙◌, arith, append_assoc, length-append}
+use Rattle.std.proofs.Common.{◌≡◌, ◌≢◌, ℕ, pos, ◌+◌, ◌-◌, ◌<◌, ◌≤◌, true, false, ◌&&◌, nat_lt, nat_le, is_some, List, [], ◌∷◌, ◌++◌, length, take, drop, Result, Ok, Err, IfOk, IfErr, refl, sym, ap, subst, ◌∙◌, arith, append_assoc, length-append}
 use Rattle.std.proofs.lemmas.Bool.Decides.{nat_tests}
 use Rattle.std.proofs.lemmas.Int.{ints}
 use Rattle.std.proofs.lemmas.Str.{is_utf8-from_IsUtf8}
@@ -15,7 +15,7 @@ use Rattle.sym_lex.specs.declared.error.LexErr.TheVariants.{Fault, NoMemory}
 use Rattle.sym_lex.specs.declared.token.Token.{Token}
 use Rattle.sym_lex.specs.declared.token.TokenKind.{TokenKind}
 use Rattle.sym_lex.specs.declared.keyword.Keyword.{Keyword}
-use Rattle.sym_lex.specs.Keywords.{keyword_of, keyword_text}
+use Rattle.sym_lex.specs.Keywords.{keyword_text}
 use Rattle.sym_lex.specs.Letters.{is_in_line}
 use Rattle.sym_lex.specs.Lexing.{Answers, IfFault, lexed}
 use Rattle.sym_lex.specs.Rules.{IsToken, name, word, number, string, sign, IsNameRun, LexResult, with_token, Reads, ended, blank, comment, token, fault}

@@ -1,5 +1,5 @@
 -- How texts that are put together of tokens read.
-use Rattle.std.proofs.Common.{◌≡◌, ◌≢◌, ◌==◌, ℕ, pos, ◌+◌, ◌-◌, ◌<◌, ◌≤◌, Bool, true, false, not, ◌&&◌, cond, nat_eq, nat_le, List, [], ◌∷◌, ◌++◌, length, map, take, drop, Some, None, Ok, Err, refl, sym, ap, subst, ◌∙◌, arith, append_assoc, length-append}
+use Rattle.std.proofs.Common.{◌≡◌, ◌==◌, ℕ, pos, ◌+◌, ◌≤◌, Bool, true, false, not, ◌&&◌, nat_eq, nat_le, List, [], ◌∷◌, ◌++◌, length, map, Some, Ok, Err, refl, sym, ap, subst, ◌∙◌, arith, append_assoc, length-append}
 use Rattle.std.proofs.lemmas.List.{append-nil}
 use Rattle.std.proofs.lemmas.Str.{IsUtf8-from_is_utf8}
 use Rattle.std.specs.List.{list_all, starts_with}
@@ -8,7 +8,7 @@ use Rattle.std.specs.Str.Parse.{digits_value}
 use Rattle.std.specs.Char.{is_ascii_digit}
 use Rattle.sym_base.specs.Lawful.{is_lawful_text}
 use Rattle.sym_base.specs.Limits.{max_name_bytes, num_max}
-use Rattle.sym_base.specs.Names.{is_keyword, is_name, is_name_part, is_name_start, starts_name}
+use Rattle.sym_base.specs.Names.{is_keyword, is_name, is_name_part, starts_name}
 use Rattle.sym_lex.specs.declared.token.Token.{Token}
 use Rattle.sym_lex.specs.declared.token.TokenKind.{TokenKind}
 use Rattle.sym_lex.specs.declared.token.TokenKind.TheVariants as kind
@@ -19,14 +19,14 @@ use Rattle.sym_lex.specs.declared.symbol.Symbol.TheVariants as symbol
 use Rattle.sym_lex.specs.Keywords.{keyword_text}
 use Rattle.sym_lex.specs.Letters.{begins, is_blank, is_in_line}
 use Rattle.sym_lex.specs.Quoting.{quoted}
-use Rattle.sym_lex.specs.Rules.{IsRun, IsNameRun, IsNumeral, IsSymbol, IsToken, name, word, number, string, sign, LexResult, placed, with_token, Reads, ended, blank, token}
+use Rattle.sym_lex.specs.Rules.{IsToken, name, word, number, string, sign, LexResult, placed, with_token, Reads, ended, blank, token}
 use Rattle.sym_lex.specs.Spelling.{Spells, SpellsBetween, with_tokens}
 use Rattle.sym_lex.specs.Symbols.{symbol_of, symbol_text, symbols}
 use Rattle.sym_lex.specs.Terminals.{Terminal, Name, Number, Str, Word, Sign, terminal, terminal_of, terminals}
 use Rattle.std.proofs.lemmas.Bool.Decides.{nat_tests}
 use Rattle.sym_lex.proofs.Bytes.{at_most, both, denied}
 use Rattle.sym_lex.proofs.Callers.{bytes-between}
-use Rattle.sym_lex.proofs.Signs.{symbol-long, symbol-longest, symbol-own}
+use Rattle.sym_lex.proofs.Signs.{symbol-longest}
 use Rattle.sym_lex.proofs.Words.{no-keyword}
 
 -- Bytes after which anything may stand.

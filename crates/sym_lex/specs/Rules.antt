@@ -107,5 +107,6 @@ pub data Reads : ℕ → List ℕ → LexResult → Type 0 where
       → IsRun is_in_line body rest → Reads (at + 1 + length body) rest r
       → Reads at (b ∷ (body ++ rest)) r
   token : (at : ℕ) (bytes rest : List ℕ) (k : TokenKind) (r : LexResult) → IsToken bytes rest k
-      → Reads (at + length bytes) rest r → Reads at (bytes ++ rest) (with_token (placed k at bytes) r)
+      → Reads (at + length bytes) rest r
+      → Reads at (bytes ++ rest) (with_token (placed k at bytes) r)
   fault : (at : ℕ) (text : List ℕ) (f : LexFault) → IsFault at text f → Reads at text (Err f)

@@ -11,7 +11,8 @@ with_tokens before (Ok tokens) = Ok (before ++ tokens)
 with_tokens before (Err fault) = Err fault
 
 -- Between these other bytes, the bytes read as tokens that are these terminals.
-pub record SpellsBetween (before bytes rest : List ℕ) (ts : List Terminal) (r : LexResult) : Type 0 where
+pub record SpellsBetween (before bytes rest : List ℕ) (ts : List Terminal) (r : LexResult)
+    : Type 0 where
   pub tokens : List Token
   pub same : terminals (before ++ (bytes ++ rest)) tokens ≡ ts
   pub reads : Reads (length before) (bytes ++ rest) (with_tokens tokens r)
