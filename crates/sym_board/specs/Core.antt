@@ -1,12 +1,12 @@
 -- The invariant by which the code is proved: each node is in one of four phases, and the words, the slots and the views follow from the phases. It implies that the state is lawful.
-use Rattle.std.specs.Prelude.{◌≡◌, ◌≢◌, ℕ, ◌+◌, ◌*◌, ◌<◌, ◌≤◌, ◌⊎◌, true, false, length, slice_index, List, Option, Some, None}
+use Rattle.std.specs.Prelude.{◌≡◌, ◌≢◌, ℕ, ◌+◌, ◌*◌, ◌<◌, ◌≤◌, ◌⊎◌, true, false, length, slice_index, List, Option, Some, None, sum_by}
 use mathlib.Core.Option.{Option as Maybe, some, none}
 use lib.ListN.{get_elem?}
 use Rattle.atomic_table.specs.Table.{State}
 use Rattle.sym_board.specs.Tree.{leaf, inner, nodes, root, place, side}
-use Rattle.sym_board.specs.State.{total}
 use Rattle.sym_board.specs.Lawful.{IsActive, IsEmpty}
 use Rattle.sym_board.specs.declared.view.View.{View}
+use Rattle.sym_board.specs.declared.limits.TheConstants.{LEAVES_MAX, SEATS_MAX}
 
 -- not begun; in the hand of the seat of that number; its piece rests at home; its piece was taken by the node above
 pub data Phase : Type 0 where
@@ -60,15 +60,15 @@ module _ {I : Type 0} where
     pub each_view : (j : ℕ) (v : View I) → get_elem? views j ≡ some v → IsActive input n seats v ⊎ IsEmpty v
     pub hand_held : (j : ℕ) (v : View I) (k : ℕ) → get_elem? views j ≡ some v → v.hand ≡ Some k → phase k ≡ held j
     pub held_hand : (k j : ℕ) → k < nodes n → phase k ≡ held j → (v : View I) × (get_elem? views j ≡ some v) × (v.hand ≡ Some k)
-    pub passes_sum : total (λ (v : View I). v.passes) views ≡ seats
-    pub claims_sum : total (λ (v : View I). v.claimed) views + total (λ (v : View I). v.ended) views ≡ next
-    pub leaves_sum : total (λ (v : View I). v.claimed) views ≤ n
-    pub ended_late : 0 < total (λ (v : View I). v.ended) views → total (λ (v : View I). v.claimed) views ≡ n
+    pub passes_sum : sum_by (λ (v : View I). v.passes) views ≡ seats
+    pub claims_sum : sum_by (λ (v : View I). v.claimed) views + sum_by (λ (v : View I). v.ended) views ≡ next
+    pub leaves_sum : sum_by (λ (v : View I). v.claimed) views ≤ n
+    pub ended_late : 0 < sum_by (λ (v : View I). v.ended) views → sum_by (λ (v : View I). v.claimed) views ≡ n
 
 pub record Orderly {P I : Type 0} (stands : I → ℕ → ℕ → P → Type 0) (input : I) (n seats : ℕ) (s : State (Option P) (View I)) : Type 0 where
   pub some_leaf : 0 < n
-  pub few : n ≤ 64
-  pub few_seats : seats ≤ 64
+  pub few : n ≤ LEAVES_MAX
+  pub few_seats : seats ≤ SEATS_MAX
   pub phase : ℕ → Phase
   pub grown : Grown stands input n phase s.words s.homes
   pub seated : Seated input n seats phase (slice_index s.words 0) s.views

@@ -1,19 +1,20 @@
 -- When the state of a board is lawful. It reads the words, the slots at home and the views alone.
-use Rattle.std.specs.Prelude.{◌≡◌, ◌≢◌, ℕ, ◌+◌, ◌<◌, ◌≤◌, ◌⊎◌, min, length, slice_index, Option, Some, None}
+use Rattle.std.specs.Prelude.{◌≡◌, ◌≢◌, ℕ, ◌+◌, ◌<◌, ◌≤◌, ◌⊎◌, min, length, slice_index, Option, Some, None, sum_by}
 use mathlib.Core.Option.{some, none}
 use lib.ListN.{get_elem?}
 use Rattle.atomic_table.specs.Table.{State}
 use Rattle.sym_board.specs.Tree.{nodes, root, place}
-use Rattle.sym_board.specs.State.{total, arrivals, sibling, HasBegun, IsSpent, IsInHand}
+use Rattle.sym_board.specs.State.{arrivals, sibling, HasBegun, IsSpent, IsInHand}
 use Rattle.sym_board.specs.declared.view.View.{View}
 
--- a view of the board over n leaves with so many passes, which counts at least one pass, and no more ended ones than passes
+-- A view of the board over n leaves with so many passes, which counts at least one pass, and no more ended ones than passes. Where it counts an ended one, a claim of it found n or more.
 pub record IsActive {I : Type 0} (input : I) (n seats : ℕ) (v : View I) : Type 0 where
   pub input_is : v.input ≡ Some input
   pub leaves_is : v.leaves ≡ n
   pub seats_is : v.seats ≡ seats
   pub some_pass : 0 < v.passes
   pub few_ended : v.ended ≤ v.passes
+  pub ended_found : 0 < v.ended → n ≤ v.claim_found
   pub hand_near : (k : ℕ) → v.hand ≡ Some k → k < nodes n
 
 -- a view with nothing left
@@ -61,13 +62,13 @@ module _ {P I : Type 0} where
     pub one_bit : slice_index s.words n < 2
     -- all views that aren't spent are of one board, and a spent one counts nothing and has an empty hand
     pub each_view : (j : ℕ) (v : View I) → get_elem? s.views j ≡ some v → IsActive input n seats v ⊎ IsEmpty v
-    pub passes_sum : total (λ (v : View I). v.passes) s.views ≡ seats
+    pub passes_sum : sum_by (λ (v : View I). v.passes) s.views ≡ seats
     -- the claim number is at most n plus the ended passes, and n or more where some pass has ended
-    pub claims_few : slice_index s.words 0 ≤ n + total (λ (v : View I). v.ended) s.views
+    pub claims_few : slice_index s.words 0 ≤ n + sum_by (λ (v : View I). v.ended) s.views
     pub ended_late : (j : ℕ) (v : View I) → get_elem? s.views j ≡ some v → 0 < v.ended → n ≤ slice_index s.words 0
     -- each claim gave a leaf or ended a pass, and as many leaves were given as there are below the claim number
-    pub claims_sum : total (λ (v : View I). v.claimed) s.views + total (λ (v : View I). v.ended) s.views ≡ slice_index s.words 0
-    pub leaves_sum : total (λ (v : View I). v.claimed) s.views ≡ min n (slice_index s.words 0)
+    pub claims_sum : sum_by (λ (v : View I). v.claimed) s.views + sum_by (λ (v : View I). v.ended) s.views ≡ slice_index s.words 0
+    pub leaves_sum : sum_by (λ (v : View I). v.claimed) s.views ≡ min n (slice_index s.words 0)
     -- where the nodes and the pieces are
     pub fresh : (k : ℕ) → k < nodes n → ¬ HasBegun n s.words k → IsFresh n s k
     pub begun : (k : ℕ) → k < nodes n → HasBegun n s.words k → IsHeld n s k ⊎ HasArrived n s k

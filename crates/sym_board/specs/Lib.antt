@@ -1,4 +1,5 @@
 pub mod Tree
+pub mod Nodes
 pub mod State
 pub mod Lawful
 pub mod Steps
@@ -7,5 +8,5 @@ pub mod Plays
 pub mod Rule
 pub mod Passes
 pub mod Arrived
+pub mod Hands
 pub mod Laws
-pub mod Nodes

@@ -9,4 +9,15 @@ abbrev pub Keeps : {P I : Type 0} → (I → ℕ → ℕ → P → Type 0) → A
 Keeps stands about = Orderly stands about.input.value about.leaves about.seats
 
 abbrev pub first_view : {I : Type 0} → About I → View I
-first_view about = record { input = Some about.input.value; leaves = about.leaves; seats = about.seats; hand = None; claimed = 0; ended = 0; passes = about.seats }
+first_view about = record {
+  input = Some about.input.value;
+  leaves = about.leaves;
+  seats = about.seats;
+  hand = None;
+  claim_found = 0;
+  delivered = None;
+  arrival_found = 0;
+  claimed = 0;
+  ended = 0;
+  passes = about.seats;
+}

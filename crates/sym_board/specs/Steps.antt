@@ -1,5 +1,5 @@
 -- The steps of a board, one kind for each event: a claim, a first and a second arrival at an inner node, the crowning of the root, the splitting and the joining of passes, and the end of the table.
-use Rattle.std.specs.Prelude.{◌≡◌, ◌≢◌, ℕ, ◌+◌, ◌-◌, ◌<◌, ◌≤◌, ◌⊎◌, Bool, true, false, not, List, [], ◌∷◌, ◌++◌, length, slice_index, slice_set, Option, Some, None}
+use Rattle.std.specs.Prelude.{◌≡◌, ◌≢◌, ℕ, ◌+◌, ◌-◌, ◌<◌, ◌≤◌, ◌⊎◌, Bool, true, false, not, List, [], ◌∷◌, ◌++◌, length, slice_index, slice_set, max, Option, Some, None}
 use mathlib.Core.Option.{Option as Maybe, some, none}
 use lib.ListN.{get_elem?}
 use Rattle.atomic_table.specs.Table.{State}
@@ -7,7 +7,7 @@ use Rattle.sym_board.specs.Tree.{leaf, inner, root, place, side}
 use Rattle.sym_board.specs.State.{arrivals}
 use Rattle.sym_board.specs.declared.view.View.{View}
 
--- what a child's arrival adds to its parent's word
+-- what the arrival of a left or a right child adds to its parent's word
 abbrev pub bit : Bool → ℕ
 bit true = 1
 bit false = 2
@@ -17,28 +17,31 @@ abbrev pub IsBelow : ℕ → ℕ → ℕ → Type 0
 IsBelow n j k = (m : ℕ) × (b : Bool) × (0 < m) × (m < n) × (k ≡ inner m) × (j ≡ side n m b)
 
 module _ {I : Type 0} where
+  -- after a claim that found i, below n
   abbrev pub with_leaf : View I → ℕ → View I
-  with_leaf v i = record v { hand = Some (leaf i); claimed = v.claimed + 1 }
+  with_leaf v i = record v { hand = Some (leaf i); claim_found = i; claimed = v.claimed + 1 }
 
-  abbrev pub with_end : View I → View I
-  with_end v = record v { ended = v.ended + 1 }
+  -- after a claim that found i, n or more
+  abbrev pub with_end : View I → ℕ → View I
+  with_end v i = record v { claim_found = i; ended = v.ended + 1 }
 
-  abbrev pub with_hand : View I → Option ℕ → View I
-  with_hand v h = record v { hand = h }
+  -- after the node in the hand arrived at a word in which this step found w: the hand is then h
+  abbrev pub with_hand : View I → Option ℕ → ℕ → View I
+  with_hand v h w = record v { hand = h; delivered = v.hand; arrival_found = w }
 
   -- a view that counts one pass less, and the pass that it gave
   abbrev pub less_one : View I → View I
   less_one v = record v { passes = v.passes - 1 }
 
   abbrev pub one_pass : View I → View I
-  one_pass v = record v { hand = None; claimed = 0; ended = 0; passes = 1 }
+  one_pass v = record v { hand = None; claim_found = 0; delivered = None; arrival_found = 0; claimed = 0; ended = 0; passes = 1 }
 
-  -- a view that took in the counts of another one
+  -- A view that took in the counts of another one. Of what their last claims found it keeps the larger.
   abbrev pub with_counts : View I → View I → View I
-  with_counts v w = record v { claimed = v.claimed + w.claimed; ended = v.ended + w.ended; passes = v.passes + w.passes }
+  with_counts v w = record v { claim_found = max v.claim_found w.claim_found; claimed = v.claimed + w.claimed; ended = v.ended + w.ended; passes = v.passes + w.passes }
 
   abbrev pub spent : View I
-  spent = record { input = None; leaves = 0; seats = 0; hand = None; claimed = 0; ended = 0; passes = 0 }
+  spent = record { input = None; leaves = 0; seats = 0; hand = None; claim_found = 0; delivered = None; arrival_found = 0; claimed = 0; ended = 0; passes = 0 }
 
 module _ {P : Type 0} where
   -- The slot of k goes home with the piece x. The empty slots of k's children, which the pass may still hold, go home with it.
@@ -65,7 +68,7 @@ module _ {P I : Type 0} where
   pub record ClaimsNone (n : ℕ) (s t : State (Option P) (View I)) (id : ℕ) (v : View I) : Type 0 where
     pub past : n ≤ slice_index s.words 0
     pub homes_are : t.homes ≡ s.homes
-    pub views_are : t.views ≡ slice_set s.views id (with_end v)
+    pub views_are : t.views ≡ slice_set s.views id (with_end v (slice_index s.words 0))
 
   pub record Claims (n : ℕ) (s t : State (Option P) (View I)) (id : ℕ) (v : View I) : Type 0 where
     pub no_hand : v.hand ≡ None
@@ -85,7 +88,7 @@ module _ {P I : Type 0} where
     pub piece_stands : stands input (place n (side n parent is_left)).lo (place n (side n parent is_left)).hi piece
     pub words_are : t.words ≡ slice_set s.words parent (slice_index s.words parent + bit is_left)
     pub homes_are : GoesHome n (side n parent is_left) piece s.homes t.homes
-    pub views_are : t.views ≡ slice_set s.views id (with_hand v None)
+    pub views_are : t.views ≡ slice_set s.views id (with_hand v None (slice_index s.words parent))
 
   -- a child of the inner node at m arrives, and its sibling has
   pub record ArrivesSecond (n : ℕ) (s t : State (Option P) (View I)) (id : ℕ) (v : View I) : Type 0 where
@@ -97,15 +100,16 @@ module _ {P I : Type 0} where
     pub met : arrivals n s.words (side n parent (not is_left)) ≡ 1
     pub words_are : t.words ≡ slice_set s.words parent (slice_index s.words parent + bit is_left)
     pub homes_are : TakesUp n parent (side n parent is_left) s.homes t.homes
-    pub views_are : t.views ≡ slice_set s.views id (with_hand v (Some (inner parent)))
+    pub views_are : t.views ≡ slice_set s.views id (with_hand v (Some (inner parent)) (slice_index s.words parent))
 
+  -- the root arrives at the crown word
   pub record Crowns (stands : I → ℕ → ℕ → P → Type 0) (input : I) (n : ℕ) (s t : State (Option P) (View I)) (id : ℕ) (v : View I) : Type 0 where
     pub piece : P
     pub hand_is : v.hand ≡ Some (root n)
     pub piece_stands : stands input (place n (root n)).lo (place n (root n)).hi piece
     pub words_are : t.words ≡ slice_set s.words n 1
     pub homes_are : GoesHome n (root n) piece s.homes t.homes
-    pub views_are : t.views ≡ slice_set s.views id (with_hand v None)
+    pub views_are : t.views ≡ slice_set s.views id (with_hand v None (slice_index s.words n))
 
   -- a view that counts two passes or more, and no ended one, gives one of them
   pub record Splits (s t : State (Option P) (View I)) (id : ℕ) (v : View I) : Type 0 where
@@ -126,17 +130,17 @@ module _ {P I : Type 0} where
     pub homes_are : t.homes ≡ s.homes
     pub views_are : t.views ≡ slice_set (slice_set s.views id (with_counts v gone)) other spent
 
-  -- the view counts every pass, and the table ends as it is
-  pub record Closes (seats : ℕ) (s t : State (Option P) (View I)) (v : View I) : Type 0 where
-    pub all_passes : v.passes ≡ seats
+  -- the table ends as it is, however many passes the view counts
+  pub record Closes (s t : State (Option P) (View I)) (id : ℕ) (v : View I) : Type 0 where
+    pub there : get_elem? s.views id ≡ some v
     pub same : t ≡ s
 
   -- a step from s to t by the seat id, whose view is v
-  pub data Step (stands : I → ℕ → ℕ → P → Type 0) (input : I) (n seats : ℕ) (s t : State (Option P) (View I)) (id : ℕ) (v : View I) : Type 0 where
-    claim : Claims n s t id v → Step stands input n seats s t id v
-    arrive_first : ArrivesFirst stands input n s t id v → Step stands input n seats s t id v
-    arrive_second : ArrivesSecond n s t id v → Step stands input n seats s t id v
-    crown : Crowns stands input n s t id v → Step stands input n seats s t id v
-    split : Splits s t id v → Step stands input n seats s t id v
-    join : Joins s t id v → Step stands input n seats s t id v
-    close : Closes seats s t v → Step stands input n seats s t id v
+  pub data Step (stands : I → ℕ → ℕ → P → Type 0) (input : I) (n : ℕ) (s t : State (Option P) (View I)) (id : ℕ) (v : View I) : Type 0 where
+    claim : Claims n s t id v → Step stands input n s t id v
+    arrive_first : ArrivesFirst stands input n s t id v → Step stands input n s t id v
+    arrive_second : ArrivesSecond n s t id v → Step stands input n s t id v
+    crown : Crowns stands input n s t id v → Step stands input n s t id v
+    split : Splits s t id v → Step stands input n s t id v
+    join : Joins s t id v → Step stands input n s t id v
+    close : Closes s t id v → Step stands input n s t id v

@@ -47,7 +47,7 @@ unfoldable pub seek : ℕ → Place → ℕ → Place
 seek zero p k = p
 seek (suc f) p k = elim (eqb (number p.lo p.hi) k) [ true ↦ p | false ↦ elim (ltb k (number p.lo p.hi)) [ true ↦ seek f (left_of p) k | false ↦ seek f (right_of p) k ] ]
 
--- where the node k of the tree over n leaves is, for n up to 64, whose tree has seven levels
+-- where the node k of the tree over n leaves is, for n up to LEAVES_MAX, with which the tree has seven levels
 unfoldable pub place : ℕ → ℕ → Place
 unfolding seek
 place n k = seek 8 (top n) k

@@ -1,15 +1,16 @@
 //! How pieces meet: a delivery, and the way up the tree.
-ghost use Rattle.std.specs.Prelude.{◌≡◌, ◌≢◌, ℕ, ◌+◌, ◌-◌, ◌*◌, ◌<◌, ◌≤◌, ◌++◌, [], ◌∷◌, true, false, None, Some, Ok, OnOk, OnErr, IfSome, MatchOption};
+ghost use Rattle.std.specs.Prelude.{◌≡◌, ◌≢◌, ℕ, ◌+◌, ◌-◌, ◌*◌, ◌<◌, ◌≤◌, ◌++◌, [], ◌∷◌, true, false, None, Some, Ok, OnOk, OnErr, IfOk, IfSome, MatchOption};
 ghost use Rattle.atomic_table.specs.Table.{rest};
-ghost use Rattle.sym_board.specs.Tree.{inner, nodes, root, place, spot};
+ghost use Rattle.sym_board.specs.Tree.{inner, root};
 ghost use Rattle.sym_board.specs.Steps.{bit, with_hand};
-ghost use Rattle.sym_board.specs.Plays.{hand_slots, slots_of, Paired};
+ghost use Rattle.sym_board.specs.Plays.{Paired};
+ghost use Rattle.sym_board.specs.Hands.{IsChildAt, HoldsNode, HoldsPiece, TakesBoth};
 
 use crate::board::Board;
 use crate::law::{Arrive, Crown};
 use crate::pass::Pass;
 use crate::piece::Piece;
-use crate::tree::{Interval, Spot, find, number_of};
+use crate::tree::{Spot, find, number_of};
 use crate::view::View;
 use atomic_table::Seat;
 use std::alloc::Global;
@@ -18,7 +19,7 @@ use sym_base::NoMemory;
 /// What became of a delivered piece.
 #[derive(Drop)]
 pub enum Arrived<P> {
-    /// The sibling's piece hasn't arrived yet. This one waits for it on the board.
+    /// The sibling's piece hadn't arrived. This one waits for it on the board.
     Left,
     /// The pieces of the left and the right child of the node that is now in the hand.
     Pair(P, P),
@@ -29,7 +30,7 @@ pub enum Arrived<P> {
 /// Where the way of a piece up the tree ended.
 #[derive(Clone, Copy, Debug, PartialEq, Eq)]
 pub enum Carried {
-    /// At a node whose sibling's piece hasn't arrived yet.
+    /// At a node whose sibling's piece hadn't arrived.
     Left,
     /// At the root.
     Crowned,
@@ -43,8 +44,8 @@ fn bit_of(is_left: bool) -> u64
 }
 
 impl<P: Piece> Board<P> {
-    ghost use Rattle.sym_board.specs.Passes.{hand, has_ended, claims, board_leaves, board_input, IsPassOf, interval};
-    ghost use Rattle.sym_board.specs.Arrived.{MatchArrived, Meets, IsAbove};
+    ghost use Rattle.sym_board.specs.Passes.{hand, board_leaves, board_input, IsPassOf, StandsForHand, KeepsClaims, delivered};
+    ghost use Rattle.sym_board.specs.Arrived.{MatchArrived, LeavesAlone, FindsSibling, CrownsRoot};
 
     // What lies in the slot that the seat took last, which goes behind the others with nothing in it.
     fn take(&self, seat: &mut Seat<Option<P>, View<P::Input>>, slot: u64) -> Option<P>
@@ -59,22 +60,22 @@ impl<P: Piece> Board<P> {
         value
     }
 
-    // The node arrives at its parent's word. Says whether its sibling has arrived.
-    fn meets(&self, seat: &mut Seat<Option<P>, View<P::Input>>, node: u64, at: Spot) -> bool
+    // The node arrives at its parent's word. Returns what this step found there: 0 where the sibling hasn't arrived.
+    fn set_bit(&self, seat: &mut Seat<Option<P>, View<P::Input>>, node: u64, at: Spot) -> u64
         requires table { seat.old.table_id ≡ self.now.table.shared.table_id }
-        requires node { (node < nodes self.now.leaves) × (node ≢ root self.now.leaves) × (spot at.lo at.hi at.above at.is_left ≡ place self.now.leaves node) }
-        requires view { (seat.old.me.0.hand ≡ Some node) × (0 < seat.old.me.0.passes) × (seat.old.me.0.leaves ≡ self.now.leaves) }
-        requires piece { (x : _) × (seat.old.me.1 ≡ hand_slots self.now.leaves node (Some x)) × P.stands_for (board_input self.now) at.lo at.hi x }
+        requires node { IsChildAt self.now.leaves node at }
+        requires view { HoldsNode (board_input self.now) self.now.leaves node seat.old.me.0 }
+        requires piece { HoldsPiece P.stands_for (board_input self.now)
+            self.now.leaves node at.lo at.hi seat.old.me.1 }
         ensures seat { (seat.new.table_id ≡ seat.old.table_id) × (seat.new.id ≡ seat.old.id) }
         ensures parent { (0 < at.above) × (at.above < self.now.leaves) }
-        ensures alone { result ≡ false → seat.new.me ≡ (with_hand seat.old.me.0 None, []) }
-        ensures met { result ≡ true → Paired P.stands_for self.now.leaves at.above seat.old.me.0 seat.new.me }
+        ensures alone { result ≡ 0 → seat.new.me ≡ (with_hand seat.old.me.0 None 0, []) }
+        ensures met { result ≢ 0 → Paired P.stands_for
+            self.now.leaves at.above at.is_left seat.old.me.0 result seat.new.me }
     {
-        let found = self
-            .table
+        self.table
             .shared
-            .fetch_or::<Arrive>(seat, at.above as usize, bit_of(at.is_left));
-        found != 0
+            .fetch_or::<Arrive>(seat, at.above as usize, bit_of(at.is_left))
     }
 
     // The node arrives, and the two pieces of its parent come back where its sibling has arrived.
@@ -85,14 +86,19 @@ impl<P: Piece> Board<P> {
         at: Spot,
     ) -> Option<(P, P)>
         requires table { seat.old.table_id ≡ self.now.table.shared.table_id }
-        requires node { (node < nodes self.now.leaves) × (node ≢ root self.now.leaves) × (spot at.lo at.hi at.above at.is_left ≡ place self.now.leaves node) }
-        requires view { (seat.old.me.0.hand ≡ Some node) × (0 < seat.old.me.0.passes) × (seat.old.me.0.leaves ≡ self.now.leaves) × (seat.old.me.0.input ≡ Some (board_input self.now)) }
-        requires piece { (x : _) × (seat.old.me.1 ≡ hand_slots self.now.leaves node (Some x)) × P.stands_for (board_input self.now) at.lo at.hi x }
+        requires node { IsChildAt self.now.leaves node at }
+        requires view { HoldsNode (board_input self.now) self.now.leaves node seat.old.me.0 }
+        requires piece { HoldsPiece P.stands_for (board_input self.now)
+            self.now.leaves node at.lo at.hi seat.old.me.1 }
         ensures seat { (seat.new.table_id ≡ seat.old.table_id) × (seat.new.id ≡ seat.old.id) }
         ensures parent { (0 < at.above) × (at.above < self.now.leaves) }
-        ensures met { MatchOption result (seat.new.me ≡ (with_hand seat.old.me.0 None, [])) (λ p. (seat.new.me ≡ (with_hand seat.old.me.0 (Some (inner at.above)), slots_of self.now.leaves (Some (inner at.above)))) × P.stands_for (board_input self.now) (place self.now.leaves (inner at.above)).lo at.above p.0 × P.stands_for (board_input self.now) at.above (place self.now.leaves (inner at.above)).hi p.1) }
+        ensures met { MatchOption result
+            (seat.new.me ≡ (with_hand seat.old.me.0 None 0, []))
+            (λ p. TakesBoth P.stands_for (board_input self.now) self.now.leaves at.above at.is_left
+            seat.old.me.0 seat.new.me p.0 p.1) }
     {
-        if !self.meets(seat, node, at) {
+        let found = self.set_bit(seat, node, at);
+        if found == 0 {
             return None;
         }
         let parent = find(self.leaves, 2 * at.above - 1);
@@ -108,9 +114,12 @@ impl<P: Piece> Board<P> {
     fn crown(&self, seat: &mut Seat<Option<P>, View<P::Input>>, node: u64)
         requires table { seat.old.table_id ≡ self.now.table.shared.table_id }
         requires node { node ≡ root self.now.leaves }
-        requires view { (seat.old.me.0.hand ≡ Some node) × (0 < seat.old.me.0.passes) }
-        requires piece { (x : _) × (seat.old.me.1 ≡ hand_slots self.now.leaves node (Some x)) × P.stands_for (board_input self.now) 0 self.now.leaves x }
-        ensures { (seat.new.table_id ≡ seat.old.table_id) × (seat.new.id ≡ seat.old.id) × (seat.new.me ≡ (with_hand seat.old.me.0 None, [])) }
+        requires view { HoldsNode (board_input self.now) self.now.leaves node seat.old.me.0 }
+        requires piece { HoldsPiece P.stands_for (board_input self.now)
+            self.now.leaves node 0 self.now.leaves seat.old.me.1 }
+        ensures seat { (seat.new.table_id ≡ seat.old.table_id) × (seat.new.id ≡ seat.old.id) }
+        ensures emptied { seat.new.me
+            ≡ (with_hand seat.old.me.0 None seat.new.me.0.arrival_found, []) }
     {
         self.table
             .shared
@@ -119,14 +128,22 @@ impl<P: Piece> Board<P> {
 
     /// Brings the piece of the node in the hand to the board, by one atomic step.
     ///
-    /// `Left` comes only where the sibling's piece hasn't arrived at this call's step, and `Crowned` exactly where the
-    /// hand was the root: the hand is then empty. With `Pair` the hand is the parent, whose children's pieces come back.
+    /// Conditions: the pass is of this board, its hand isn't empty, and the piece stands for the hand's interval of the
+    /// board's input.
+    ///
+    /// `Crowned` is returned exactly when the hand was the root. Otherwise it is `Left` exactly when the parent's word
+    /// lacked the sibling's arrival at this step, and `Pair` exactly when it had it. With `Pair` the hand is the
+    /// parent, whose children's pieces come back, and else it is empty.
     pub fn deliver(&self, pass: &mut Pass<P>, piece: P) -> Arrived<P>
         requires of { IsPassOf self.now pass.old }
-        requires held { (i : Interval) × (hand pass.old ≡ Some i) × P.stands_for (board_input self.now) i.lo i.hi piece }
+        requires held { StandsForHand P.stands_for self.now pass.old piece }
         ensures of { IsPassOf self.now pass.new }
-        ensures counts { (has_ended pass.new ≡ has_ended pass.old) × (claims pass.new ≡ claims pass.old) }
-        ensures arrived { MatchArrived result ((hand pass.old ≢ Some (interval 0 (board_leaves self.now))) × (hand pass.new ≡ None)) (λ x y. (hand pass.old ≢ Some (interval 0 (board_leaves self.now))) × Meets P.stands_for (board_input self.now) (board_leaves self.now) (hand pass.old) (hand pass.new) x y) ((hand pass.old ≡ Some (interval 0 (board_leaves self.now))) × (hand pass.new ≡ None)) }
+        ensures claims { KeepsClaims pass.old pass.new }
+        ensures delivered { delivered pass.new ≡ hand pass.old }
+        ensures arrived { MatchArrived result
+            (LeavesAlone self.now pass.old pass.new)
+            (FindsSibling P.stands_for self.now pass.old pass.new)
+            (CrownsRoot self.now pass.old pass.new) }
     {
         let Some(node) = pass.hand else {
             unreachable!()
@@ -155,11 +172,16 @@ impl<P: Piece> Board<P> {
 }
 
 impl<P: Piece> Board<P> {
-    ghost use Rattle.sym_board.specs.Passes.{hand, has_ended, claims, board_leaves, board_input, IsPassOf, interval};
-    ghost use Rattle.sym_board.specs.Arrived.{MatchArrived, Meets, IsAbove};
+    ghost use Rattle.sym_board.specs.Passes.{hand, whole, board_input, IsPassOf, StandsForHand, KeepsClaims};
+    ghost use Rattle.sym_board.specs.Arrived.{MatchCarried, EndsAlone, EndsAtRoot, IsAbove};
 
     /// Delivers the piece of the node in the hand and joins what it meets, up to `Left` or `Crowned`: the hand is then
-    /// empty. `Err` is want of memory alone. The hand then holds a node further up, whose piece is lost.
+    /// empty.
+    ///
+    /// Conditions: those of [`Board::deliver`], and `input` is the board's. `Crowned` is returned exactly when the node
+    /// that was delivered last was the root, and `Left` exactly when it wasn't and its parent's word lacked the
+    /// sibling's arrival at that step. `Err` says that an allocation failed, and nothing else. The hand then holds a
+    /// node further up, whose piece is lost.
     pub fn carry(
         &self,
         alloc: Global,
@@ -169,11 +191,14 @@ impl<P: Piece> Board<P> {
     ) -> Result<Carried, NoMemory>
         requires of { IsPassOf self.now pass.old }
         requires input { input.now ≡ board_input self.now }
-        requires held { (i : Interval) × (hand pass.old ≡ Some i) × P.stands_for (board_input self.now) i.lo i.hi piece }
+        requires held { StandsForHand P.stands_for self.now pass.old piece }
         ensures of { IsPassOf self.now pass.new }
-        ensures counts { (has_ended pass.new ≡ has_ended pass.old) × (claims pass.new ≡ claims pass.old) }
-        ensures ok { OnOk result (hand pass.new ≡ None) }
-        ensures root { hand pass.old ≡ Some (interval 0 (board_leaves self.now)) → result ≡ Ok Carried.Crowned }
+        ensures claims { KeepsClaims pass.old pass.new }
+        ensures emptied { OnOk result (hand pass.new ≡ None) }
+        ensures end { IfOk result (λ r. MatchCarried r
+            (EndsAlone self.now pass.new)
+            (EndsAtRoot self.now pass.new)) }
+        ensures root { hand pass.old ≡ Some (whole self.now) → result ≡ Ok Carried.Crowned }
         ensures err { OnErr result (IsAbove (hand pass.old) (hand pass.new)) }
     {
         let mut piece = piece;

@@ -7,6 +7,7 @@ ghost use Rattle.sym_board.specs.Tree.{nodes, root};
 
 use crate::board::Board;
 use crate::law::Merge;
+use crate::limits::LEAVES_MAX;
 use crate::pass::Pass;
 use crate::piece::Piece;
 use crate::tree::number_of;
@@ -36,9 +37,14 @@ fn collect<T: Drop>(mut closed: Closed<Option<T>, Global>, kept: usize) -> Optio
 // The root's piece, where the root was crowned.
 fn settle<T: Drop>(closed: Closed<Option<T>, Global>, leaves: u64) -> Option<T>
     requires full { IsFull closed.words × IsFull closed.slots }
-    requires sizes { (0 < leaves) × (leaves ≤ 64) × (slots_len closed.words ≡ leaves + 1) × (slots_len closed.slots ≡ nodes leaves) }
-    ensures some { IfSome result (λ x. (get_elem? (slots_items closed.words) leaves ≡ some 1) × (get_elem? (slots_items closed.slots) (root leaves) ≡ some (Some x))) }
-    ensures none { IfNone result (((w : ℕ) × (get_elem? (slots_items closed.words) leaves ≡ some w) × (w ≢ 1)) ⊎ (get_elem? (slots_items closed.slots) (root leaves) ≡ some None)) }
+    requires leaves { (0 < leaves) × (leaves ≤ LEAVES_MAX) }
+    requires words { slots_len closed.words ≡ leaves + 1 }
+    requires slots { slots_len closed.slots ≡ nodes leaves }
+    ensures some { IfSome result (λ x. (get_elem? (slots_items closed.words) leaves ≡ some 1)
+        × (get_elem? (slots_items closed.slots) (root leaves) ≡ some (Some x))) }
+    ensures none { IfNone result (
+        ((w : ℕ) × (get_elem? (slots_items closed.words) leaves ≡ some w) × (w ≢ 1))
+        ⊎ (get_elem? (slots_items closed.slots) (root leaves) ≡ some None)) }
 {
     let crowned = closed.word(leaves as usize) == 1;
     let piece = collect(closed, number_of(0, leaves) as usize);
@@ -52,7 +58,10 @@ impl<P: Piece> Board<P> {
     fn gather(&self, mut passes: Vec<Pass<P>>) -> Option<Seat<Option<P>, View<P::Input>>>
         requires { All (λ p. IsPassOf self.now p) passes.items }
         ensures table { IfSome result (λ s. s.table_id ≡ self.now.table.shared.table_id) }
-        ensures whole { All (λ p. hand p ≡ None) passes.items → MatchOption result (vec_len passes ≡ 0) (λ s. (s.me.0.hand ≡ None) × (s.me.0.passes ≡ vec_len passes) × (s.me.0.claimed ≡ sum_by claims passes.items) × (s.me.0.ended ≡ 0 → All (λ p. has_ended p ≡ false) passes.items)) }
+        ensures counts { All (λ p. hand p ≡ None) passes.items
+            → MatchOption result (vec_len passes ≡ 0) (λ s. (s.me.0.hand ≡ None)
+            × (s.me.0.passes ≡ vec_len passes) × (s.me.0.claimed ≡ sum_by claims passes.items)
+            × (s.me.0.ended ≡ 0 → All (λ p. has_ended p ≡ false) passes.items)) }
     {
         let Some(first) = passes.pop() else {
             return None;
@@ -79,12 +88,17 @@ impl<P: Piece> Board<P> {
 
     /// Ends the board. `Some` is a piece that stands for the board's whole input.
     ///
-    /// `None` comes only where a pass that was handed in has a node in its hand, a pass is missing, or a leaf is
-    /// unclaimed. No leaf is unclaimed where a pass that was handed in has ended.
+    /// Condition: the passes are of this board. `None` is returned only when a pass that was handed in has a node in
+    /// its hand, a pass is missing, or a leaf is unclaimed. No leaf is unclaimed where a pass that was handed in has
+    /// ended.
     pub fn close(self, passes: Vec<Pass<P>>) -> Option<P>
         requires { All (λ p. IsPassOf self p) passes.items }
-        ensures some { IfSome result (λ x. P.stands_for (board_input self) 0 (board_leaves self) x) }
-        ensures none { IfNone result (All (λ p. hand p ≡ None) passes.items → vec_len passes ≡ board_seats self → (sum_by claims passes.items < board_leaves self) × All (λ p. has_ended p ≡ false) passes.items) }
+        ensures some { IfSome result (λ x.
+            P.stands_for (board_input self) 0 (board_leaves self) x) }
+        ensures none { IfNone result (
+            All (λ p. hand p ≡ None) passes.items → vec_len passes ≡ board_seats self
+            → (sum_by claims passes.items < board_leaves self)
+            × All (λ p. has_ended p ≡ false) passes.items) }
     {
         let seat = self.gather(passes);
         let Board {

@@ -1,6 +1,6 @@
 //! What holds of every board, whatever its callers' threads do. Each function does nothing: its clause is the law.
 ghost use Rattle.sym_board.specs.Nodes.{NodesAreNumbered};
-ghost use Rattle.sym_board.specs.Laws.{RuleIsLawful, LawfulIsRule, StepsKeepLawful, ChunksLieOnce};
+ghost use Rattle.sym_board.specs.Laws.{RuleIsLawful, LawfulIsRule, StepsKeepLawful, ChunksLieOnce, AddingClaims, SettingArrivesFirst, SettingArrivesSecond, SettingCrowns, CuttingSplits, MergingJoins, EndingCloses};
 
 use crate::piece::Piece;
 
@@ -28,4 +28,39 @@ pub fn steps_keep_lawful<P: Piece>()
 /// In a lawful state each claimed chunk lies in exactly one hand or one piece at home.
 pub fn chunks_lie_once<P: Piece>()
     ensures { ChunksLieOnce P.stands_for }
+{}
+
+/// The atomic step of `claim` is a claim.
+pub fn claim_is_a_step<P: Piece>()
+    ensures { AddingClaims P.stands_for }
+{}
+
+/// The atomic step of `deliver` is a first arrival where the parent's word lacks the sibling's.
+pub fn arrival_alone_is_a_step<P: Piece>()
+    ensures { SettingArrivesFirst P.stands_for }
+{}
+
+/// The atomic step of `deliver` is a second arrival where the parent's word has the sibling's.
+pub fn arrival_after_the_sibling_is_a_step<P: Piece>()
+    ensures { SettingArrivesSecond P.stands_for }
+{}
+
+/// The atomic step of `deliver` is the crowning where the root is in the hand.
+pub fn crowning_is_a_step<P: Piece>()
+    ensures { SettingCrowns P.stands_for }
+{}
+
+/// Each pass that `new` cuts off comes by a split.
+pub fn cutting_is_a_step<P: Piece>()
+    ensures { CuttingSplits P.stands_for }
+{}
+
+/// Each pass that `close` merges goes by a join.
+pub fn merging_is_a_step<P: Piece>()
+    ensures { MergingJoins P.stands_for }
+{}
+
+/// A table ends by a close, with however many passes.
+pub fn closing_is_a_step<P: Piece>()
+    ensures { EndingCloses P.stands_for }
 {}

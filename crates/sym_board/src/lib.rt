@@ -4,10 +4,8 @@
 //! joins the two and goes on with the parent's, and else it leaves its piece for the sibling's worker. The root's piece
 //! stands for the whole input, and [`Board::close`] gives it.
 //!
-//! Each claim and each arrival is one atomic step on one word. No call waits or tries again, and after [`Board::new`]
-//! only `join` takes memory. A round of n leaves makes n claims that give a leaf, one more for each pass that ends, and
-//! 2n - 1 arrivals, one for each node of the tree: 64 and 127 for 64 leaves. Making a board with p passes loads the
-//! claim word p - 1 times, and closing it with all of them as often.
+//! Each claim and each arrival is one atomic step on one word. No call waits, and none tries anything again. After
+//! [`Board::new`] only `join` takes memory.
 #![tactic(auto)]
 
 mod arrive;
@@ -15,6 +13,7 @@ mod board;
 mod close;
 mod law;
 pub mod laws;
+mod limits;
 mod pass;
 mod piece;
 mod tree;
@@ -22,6 +21,7 @@ mod view;
 
 pub use arrive::{Arrived, Carried};
 pub use board::{Board, Made};
+pub use limits::{LEAVES_MAX, SEATS_MAX};
 pub use pass::Pass;
 pub use piece::Piece;
 pub use tree::Interval;

@@ -2,6 +2,7 @@
 ghost use Rattle.std.specs.Prelude.{◌≡◌, ℕ, ◌<◌, ◌≤◌, Some, None, true, if◌then◌else◌};
 ghost use Rattle.sym_board.specs.Tree.{nodes};
 ghost use Rattle.sym_board.specs.Plays.{slots_of};
+ghost use Rattle.sym_board.specs.declared.limits.TheConstants.{LEAVES_MAX};
 
 use crate::piece::Piece;
 use crate::tree::{Interval, find};
@@ -15,7 +16,7 @@ pub struct Pass<P: Piece> {
     pub(crate) leaves: u64,
     pub(crate) hand: Option<u64>,
     pub(crate) over: bool,
-    ghost few_leaves: { (0 < leaves) × (leaves ≤ 64) },
+    ghost few_leaves: { (0 < leaves) × (leaves ≤ LEAVES_MAX) },
     ghost leaves_is: { seat.me.0.leaves ≡ leaves },
     ghost hand_is: { seat.me.0.hand ≡ hand },
     ghost over_is: { seat.me.0.ended ≡ (if over then 1 else 0) },

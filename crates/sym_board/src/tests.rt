@@ -1,65 +1,37 @@
-ghost use Rattle.std.specs.Prelude.{◌≡◌, ℕ, ◌+◌, ◌-◌, ◌*◌, ◌<◌, ◌≤◌, true, false, None, Some, All, IfOk, IfSome, vec_len, slice_index};
-ghost use Rattle.sym_board.specs.Arrived.{Meets};
-ghost use Rattle.sym_board.specs.Passes.{hand, has_ended, claims, board_leaves, board_input, IsPassOf, IsFree, interval};
+ghost use Rattle.std.specs.Prelude.{◌≡◌, ℕ, ◌+◌, ◌-◌, ◌<◌, true, false, None, Some, All, IfOk, IfSome, vec_len, slice_index};
+ghost use Rattle.sym_board.specs.Arrived.{LeavesAlone, FindsSibling};
+ghost use Rattle.sym_board.specs.Passes.{IsPassOf, IsFree, IsNewPassOf, StandsForHand, KeepsClaims};
 
-use crate::{Arrived, Board, Interval, Made, Pass, Piece};
+use crate::{Arrived, Board, Interval, LEAVES_MAX, Made, Pass, Piece};
 use std::alloc::Global;
 use std::test::Fail;
-use std::thread;
-use std::thread::Threads;
 use sym_base::NoMemory;
 
-// The list of a row of leaves, and the atomic steps that went into it: a claim for each leaf, and an arrival for each
-// node of its tree.
+// The list of a row of leaves.
 #[derive(Drop)]
-struct Row {
-    items: Vec<u32>,
-    steps: u64,
-}
+struct Row(Vec<u32>);
 
 impl Piece for Row {
     type Input = ();
 
-    ghost stands_for = { λ _ lo hi p. (lo < hi) × (hi ≤ 64) × (vec_len p.items + lo ≡ hi) × (p.steps + 1 + 3 * lo ≡ 3 * hi) × ((k : ℕ) → k < vec_len p.items → slice_index p.items.items k ≡ lo + k) };
+    ghost stands_for = { λ _ lo hi p. (vec_len p.0 + lo ≡ hi)
+        × ((k : ℕ) → k < vec_len p.0 → slice_index p.0.items k ≡ lo + k) };
 
     fn join(self, _alloc: Global, _input: &(), right: Row) -> Result<Row, NoMemory> {
-        let Row { mut items, steps } = self;
-        let Row {
-            items: more,
-            steps: more_steps,
-        } = right;
-        items.extend_from_slice(more.as_slice())?;
-        Ok(Row {
-            items,
-            steps: steps + more_steps + 1,
-        })
+        let Row(mut items) = self;
+        items.extend_from_slice(right.0.as_slice())?;
+        Ok(Row(items))
     }
 }
 
-// Leaf i, which was claimed and will arrive.
+// The piece of leaf i.
 fn leaf(alloc: Global, i: u32) -> Result<Row, NoMemory>
-    requires { i < 64 }
+    requires { i < LEAVES_MAX }
     ensures { IfOk result (λ p. ⟦<Row as Piece>⟧.stands_for tt i (i + 1) p) }
 {
     let mut items = Vec::new(alloc);
     items.push(i)?;
-    Ok(Row { items, steps: 2 })
-}
-
-// A worker: it claims and carries until every leaf is claimed, or memory is refused.
-fn work(alloc: Global, board: &Board<Row>, mut pass: Pass<Row>) -> Pass<Row>
-    requires { IsPassOf board.now pass × IsFree pass }
-    ensures { IsPassOf board.now result }
-{
-    'leaves: while let Some(i) = board.claim(&mut pass) {
-        let Ok(piece) = leaf(alloc, i) else {
-            return pass;
-        };
-        if board.carry(alloc, &(), &mut pass, piece).is_err() {
-            return pass;
-        }
-    }
-    pass
+    Ok(Row(items))
 }
 
 // Claims and carries so many leaves. Says whether there were as many.
@@ -84,8 +56,8 @@ fn carry_leaves(
 
 // The last pass of a row of passes.
 fn next_pass(board: &Board<Row>, passes: &mut Vec<Pass<Row>>) -> Option<Pass<Row>>
-    requires { All (λ p. IsPassOf board.now p × IsFree p × (claims p ≡ 0)) passes.old.items }
-    ensures rest { All (λ p. IsPassOf board.now p × IsFree p × (claims p ≡ 0)) passes.new.items }
+    requires { All (λ p. IsNewPassOf board.now p) passes.old.items }
+    ensures rest { All (λ p. IsNewPassOf board.now p) passes.new.items }
     ensures pass { IfSome result (λ p. IsPassOf board.now p × IsFree p) }
 {
     passes.pop()
@@ -93,8 +65,8 @@ fn next_pass(board: &Board<Row>, passes: &mut Vec<Pass<Row>>) -> Option<Pass<Row
 
 // Whether the row is that of the leaves from `lo` up to `hi`.
 fn is_row(row: &Row, lo: u32, hi: u32) -> bool {
-    let mut same = row.items.len() == hi.saturating_sub(lo) as usize;
-    for (number, i) in row.items.iter().zip(lo..hi) {
+    let mut same = row.0.len() == hi.saturating_sub(lo) as usize;
+    for (number, i) in row.0.iter().zip(lo..hi) {
         same = same && *number == i;
     }
     same
@@ -119,7 +91,7 @@ fn one_leaf_is_the_root(rt: HostRuntime) -> Result<(), Fail> {
     let Some(row) = board.close(all) else {
         panic!(rt; "not closed")
     };
-    assert!(rt; is_row(&row, 0, 1) && row.steps == 2);
+    assert!(rt; is_row(&row, 0, 1));
     Ok(())
 }
 
@@ -132,11 +104,12 @@ fn meet(
     second_piece: Row,
 ) -> Option<(Row, Row)>
     requires passes { IsPassOf board.now first.old × IsPassOf board.now second.old }
-    requires first { (i : Interval) × (hand first.old ≡ Some i) × ⟦<Row as Piece>⟧.stands_for (board_input board.now) i.lo i.hi first_piece }
-    requires second { (i : Interval) × (hand second.old ≡ Some i) × ⟦<Row as Piece>⟧.stands_for (board_input board.now) i.lo i.hi second_piece }
+    requires first { StandsForHand ⟦<Row as Piece>⟧.stands_for board.now first.old first_piece }
+    requires second { StandsForHand ⟦<Row as Piece>⟧.stands_for board.now second.old second_piece }
     ensures passes { IsPassOf board.now first.new × IsPassOf board.now second.new }
-    ensures flags { (has_ended first.new ≡ has_ended first.old) × (has_ended second.new ≡ has_ended second.old) }
-    ensures met { IfSome result (λ p. (hand first.new ≡ None) × Meets ⟦<Row as Piece>⟧.stands_for (board_input board.now) (board_leaves board.now) (hand second.old) (hand second.new) p.0 p.1) }
+    ensures claims { KeepsClaims first.old first.new × KeepsClaims second.old second.new }
+    ensures met { IfSome result (λ p. LeavesAlone board.now first.old first.new
+        × FindsSibling ⟦<Row as Piece>⟧.stands_for board.now second.old second.new p.0 p.1) }
 {
     let Arrived::Left = board.deliver(first, first_piece) else {
         return None;
@@ -157,9 +130,10 @@ fn finish_five(
     second_piece: Row,
     mut third: Pass<Row>,
 ) -> Result<Option<Row>, NoMemory>
-    requires passes { IsPassOf board first × IsPassOf board second × IsPassOf board third × IsFree third }
-    requires first { (i : Interval) × (hand first ≡ Some i) × ⟦<Row as Piece>⟧.stands_for (board_input board) i.lo i.hi first_piece }
-    requires second { (i : Interval) × (hand second ≡ Some i) × ⟦<Row as Piece>⟧.stands_for (board_input board) i.lo i.hi second_piece }
+    requires passes { IsPassOf board first × IsPassOf board second }
+    requires third { IsPassOf board third × IsFree third }
+    requires first { StandsForHand ⟦<Row as Piece>⟧.stands_for board first first_piece }
+    requires second { StandsForHand ⟦<Row as Piece>⟧.stands_for board second second_piece }
 {
     let Some((left, right)) = meet(&board, &mut first, first_piece, &mut second, second_piece)
     else {
@@ -244,39 +218,6 @@ fn three_leaves_have_five_nodes(rt: HostRuntime) -> Result<(), Fail> {
     };
     assert!(rt; is_row(&left, 0, 2) && is_row(&right, 2, 3));
     assert!(rt; b.hand() == Some(Interval { lo: 0, hi: 3 }));
-    Ok(())
-}
-
-// A round of workers, each in a call of its own.
-fn round<R: Threads + Sync>(
-    rt: &R,
-    alloc: Global,
-    n: u32,
-    seats: u32,
-) -> Result<Option<Row>, NoMemory>
-    requires { (1 ≤ n) × (n ≤ 64) × (1 ≤ seats) × (seats ≤ 64) }
-    ensures { IfOk result (λ row. IfSome row (λ p. ⟦<Row as Piece>⟧.stands_for tt 0 n p)) }
-{
-    let Made { board, passes } = Board::new(alloc, &(), n, seats)?;
-    let done = thread::map_vec(
-        rt,
-        passes,
-        &|pass: Pass<Row>| -> Pass<Row>
-            requires { IsPassOf board pass × IsFree pass }
-            ensures { IsPassOf board result }
-        { work(alloc, &board, pass) },
-    )?;
-    Ok(board.close(done))
-}
-
-#[test]
-fn eight_threads_meet(rt: HostRuntime) -> Result<(), Fail> {
-    let Some(row) = round(&rt, rt.alloc(), 64, 8)? else {
-        panic!(rt; "not closed")
-    };
-    assert!(rt; is_row(&row, 0, 64));
-    // 64 claims that gave a leaf, and the arrivals of 127 nodes.
-    assert!(rt; row.steps == 64 + 127);
     Ok(())
 }
 

@@ -4,6 +4,8 @@
 ghost use Rattle.std.specs.Prelude.{◌≡◌, ℕ, ◌*◌, ◌<◌, ◌≤◌};
 ghost use Rattle.sym_board.specs.Tree.{number, spot, place};
 
+use crate::limits::LEAVES_MAX;
+
 /// The chunks from `lo` up to but without `hi`.
 #[derive(Clone, Copy, Debug, PartialEq, Eq)]
 pub struct Interval {
@@ -23,7 +25,7 @@ pub(crate) struct Spot {
 
 /// The number of the node from `lo` to `hi`.
 pub(crate) fn number_of(lo: u64, hi: u64) -> u64
-    requires { (lo ≤ hi) × (0 < hi) × (hi ≤ 64) }
+    requires { (lo ≤ hi) × (0 < hi) × (hi ≤ LEAVES_MAX) }
     ensures { result ≡ number lo hi }
 {
     if hi == lo + 1 {
@@ -35,8 +37,8 @@ pub(crate) fn number_of(lo: u64, hi: u64) -> u64
 
 /// Where the node of that number is in the tree over so many leaves.
 pub(crate) fn find(leaves: u64, node: u64) -> Spot
-    requires { (0 < leaves) × (leaves ≤ 64) }
-    ensures small { (result.lo ≤ 64) × (result.hi ≤ 64) }
+    requires { (0 < leaves) × (leaves ≤ LEAVES_MAX) }
+    ensures small { (result.lo ≤ LEAVES_MAX) × (result.hi ≤ LEAVES_MAX) }
     ensures found { spot result.lo result.hi result.above result.is_left ≡ place leaves node }
 {
     let mut at = Spot {

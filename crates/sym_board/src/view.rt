@@ -10,6 +10,12 @@ pub struct View<I> {
     pub seats: u64,
     /// The number of the node in the hand.
     pub hand: Option<u64>,
+    /// What the claim word held at the last claim, as that step found it.
+    pub claim_found: u64,
+    /// The number of the node that was delivered last.
+    pub delivered: Option<u64>,
+    /// What the word at which that node arrived held, as that step found it.
+    pub arrival_found: u64,
     /// How many leaves it has claimed.
     pub claimed: u64,
     /// How many of its passes have ended.

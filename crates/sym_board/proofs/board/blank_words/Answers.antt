@@ -1,4 +1,4 @@
-use Rattle.sym_board.proofs.Opening.{zero_words}
+use Rattle.sym_board.proofs.State.Opening.{zero_words}
 use Rattle.sym_board.proofs.board.blank_words.Goals as goal
 
 pub returns-clause-blank : goal.returns-clause-blank

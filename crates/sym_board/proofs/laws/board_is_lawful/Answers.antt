@@ -1,4 +1,4 @@
-use Rattle.sym_board.proofs.Lawful.{lawful}
+use Rattle.sym_board.proofs.State.Lawful.{lawful}
 use Rattle.sym_board.proofs.laws.board_is_lawful.Goals as goal
 
 pub returns : goal.returns

@@ -1,4 +1,4 @@
-use Rattle.sym_board.proofs.Chunks.{carried}
+use Rattle.sym_board.proofs.State.Chunks.{carried}
 use Rattle.sym_board.proofs.laws.chunks_lie_once.Goals as goal
 
 pub returns : goal.returns

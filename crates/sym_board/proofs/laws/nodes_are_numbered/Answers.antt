@@ -1,4 +1,4 @@
-use Rattle.sym_board.proofs.Numbered.{nodes_are_numbered}
+use Rattle.sym_board.proofs.Nodes.Numbered.{nodes_are_numbered}
 use Rattle.sym_board.proofs.laws.nodes_are_numbered.Goals as goal
 
 pub returns : goal.returns

@@ -1,4 +1,4 @@
-use Rattle.sym_board.proofs.Agreeing.{orderly}
+use Rattle.sym_board.proofs.State.Agreeing.{orderly}
 use Rattle.sym_board.proofs.laws.rule_asks_no_more.Goals as goal
 
 pub returns : goal.returns

@@ -1,7 +1,7 @@
 use Rattle.std.proofs.Common.{◌≡◌, ◌≢◌, ◌<◌, ◌≤◌, ◌-◌, ◌+◌, sym, ◌∙◌, subst, arith}
 use Rattle.sym_board.specs.Tree.{number, seek, place, spot, Place}
 use Rattle.sym_board.specs.declared.tree.Spot.{Spot}
-use Rattle.sym_board.proofs.Seeking.{seek_found, seek_top, level_left, level_right, level_last}
+use Rattle.sym_board.proofs.Nodes.Seeking.{seek_found, seek_top, level_left, level_right, level_last}
 use Rattle.sym_board.proofs.tree.find.Goals.{then-node-here, else-node-here}
 use Rattle.sym_board.proofs.tree.find.Goals as goal
 

@@ -2,9 +2,9 @@ use Rattle.std.proofs.Common.{◌≡◌, ◌<◌, ◌+◌, None, Some, false, no
 use Rattle.std.proofs.lemmas.List.Elements.{All-pop}
 use Rattle.sym_board.specs.Plays.{slots_of}
 use Rattle.sym_board.specs.Passes.{hand, has_ended, claims, IsPassOf}
-use Rattle.sym_board.proofs.Allowed.{join_allows}
-use Rattle.sym_board.proofs.Gathering.{counted_first, counted_more, popped_empty, not_over, none_of, some_of, Counted}
-use Rattle.sym_board.proofs.Spans.{no_span}
+use Rattle.sym_board.proofs.Steps.Allowed.{join_allows}
+use Rattle.sym_board.proofs.Calls.Gathering.{counted_first, counted_more, popped_empty, not_over, none_of, some_of, Counted}
+use Rattle.sym_board.proofs.Nodes.Spans.{no_span}
 use Rattle.sym_board.proofs.board.Board.gather.Goals as goal
 
 pub passes-init : goal.passes-init

@@ -1,6 +1,6 @@
 use Rattle.std.proofs.Common.{◌≡◌, ◌<◌, All, None, false, length}
 use Rattle.sym_board.specs.Passes.{hand, has_ended, claims, IsPassOf}
-use Rattle.sym_board.proofs.Gathering.{Counted}
+use Rattle.sym_board.proofs.Calls.Gathering.{Counted}
 use Rattle.sym_board.proofs.board.Board.gather.Given as goal
 
 abbrev pub invariant-passes : goal.invariant-passes

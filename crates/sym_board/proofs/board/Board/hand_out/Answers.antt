@@ -1,5 +1,5 @@
 use Rattle.std.proofs.Common.{arith}
-use Rattle.sym_board.proofs.Allowed.{split_allows}
+use Rattle.sym_board.proofs.Steps.Allowed.{split_allows}
 use Rattle.sym_board.proofs.board.Board.hand_out.Goals as goal
 
 pub split_seat-next-requires : goal.split_seat-next-requires

@@ -1,5 +1,5 @@
 use Rattle.std.proofs.Common.{◌≡◌, ◌+◌, All, vec_len, Some, None, []}
-use Rattle.sym_board.specs.Passes.{claims, IsPassOf, IsFree}
+use Rattle.sym_board.specs.Passes.{IsNewPassOf}
 use Rattle.sym_board.proofs.board.Board.hand_out.Given as goal
 
 abbrev pub invariant-passes : goal.invariant-passes
@@ -14,5 +14,5 @@ invariant-passes g l = record {
   no_end : l.seat.me.0.ended ≡ 0;
   count : l.seat.me.0.passes + l._pass ≡ l.self.seats + 1;
   made : vec_len l.passes + 1 ≡ l._pass;
-  each : All (λ p. IsPassOf l.self p × IsFree p × (claims p ≡ 0)) l.passes.items;
+  each : All (λ p. IsNewPassOf l.self p) l.passes.items;
 }
