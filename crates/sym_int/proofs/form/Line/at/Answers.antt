@@ -1,7 +1,7 @@
 use Rattle.std.proofs.Common.{arith, lit<, ◌≤◌, ◌+◌, ◌*◌, ◌^◌, to_z-of_z, unsigned_abs}
 use Rattle.std.proofs.lemmas.Int.{ints}
 use Rattle.sym_int.proofs.Products.{shown_line}
-use Rattle.sym_int.proofs.line.Line.at.Goals as goal
+use Rattle.sym_int.proofs.form.Line.at.Goals as goal
 
 pub returns : goal.returns
 returns c =

@@ -2,7 +2,7 @@ use Rattle.std.proofs.Common.{arith, ◌≡◌, pos, ◌∙◌, sym}
 use Rattle.std.proofs.lemmas.Int.{ints}
 use Rattle.sym_int.proofs.Products.{zero_times}
 use Rattle.sym_int.specs.Lines.{form_on, form_value}
-use Rattle.sym_int.proofs.line.IntForm.scaled.Goals as goal
+use Rattle.sym_int.proofs.form.IntForm.scaled.Goals as goal
 
 pub returns-then-a-eq0-clause-value : goal.returns-then-a-eq0-clause-value
 returns-then-a-eq0-clause-value c = λ state.

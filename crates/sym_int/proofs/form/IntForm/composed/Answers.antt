@@ -1,7 +1,7 @@
 use Rattle.std.proofs.Common.{arith, lit<, refl, ◌+◌, ◌*◌, ◌^◌, ℤ}
 use Rattle.sym_base.specs.States.{number_at}
 use Rattle.sym_int.proofs.Products.{fits, shown, shown_64, shown_product, shown_line, product_size, line_size, product_apart, line_of_line}
-use Rattle.sym_int.proofs.form.composed.Goals as goal
+use Rattle.sym_int.proofs.form.IntForm.composed.Goals as goal
 
 pub returns-in-Const-clause-value : goal.returns-in-Const-clause-value
 returns-in-Const-clause-value c = λ state.

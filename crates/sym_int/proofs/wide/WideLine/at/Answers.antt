@@ -1,6 +1,6 @@
 use Rattle.std.proofs.Common.{refl, lit<, ◌*◌, ◌^◌}
 use Rattle.sym_int.proofs.Products.{shown_64, shown_line}
-use Rattle.sym_int.proofs.line.WideLine.at.Goals as goal
+use Rattle.sym_int.proofs.wide.WideLine.at.Goals as goal
 
 pub returns : goal.returns
 returns c =
