@@ -1,11 +1,10 @@
 -- Two lists of literals in order, walked side by side.
-use Rattle.std.specs.Prelude.{◌≡◌, ◌≢◌, ℕ, ◌<◌, Bool, true, false, not, if◌then◌else◌, List, [], ◌∷◌, length, Option, Some, None, slice_index_or, slice_set}
+use Rattle.std.proofs.Common.{Bool, true, false, not, List, [], ◌∷◌, Option, Some, None}
 use Rattle.std.specs.declared.cmp.Ordering.{Ordering}
 use Rattle.std.specs.declared.cmp.Ordering.TheVariants.{Less, Equal, Greater}
 use Rattle.std.specs.Option.{option_map}
+use Rattle.std.specs.Prelude.{if◌then◌else◌}
 use Rattle.sym_pred.specs.declared.literal.Literal.{Literal}
-use Rattle.sym_pred.specs.declared.facts.Difference.{Difference}
-use Rattle.sym_pred.specs.declared.facts.Difference.TheVariants.{Nothing, One, Many}
 use Rattle.sym_pred.specs.Facts.{atom_cmp}
 use Rattle.sym_pred.specs.Literals.{atom_of}
 
@@ -27,13 +26,3 @@ merged_with later x xs (y ∷ ys) = merge_step (atom_cmp (atom_of x) (atom_of y)
 abbrev pub merged : List Literal → List Literal → Option (List Literal)
 merged [] ys = Some ys
 merged (x ∷ xs) ys = merged_with (merged xs) x xs ys
-
--- The literal with the other outcome.
-abbrev pub turned : Literal → Literal
-turned literal = record literal { outcome = not literal.outcome }
-
--- How two lists of literals differ: not at all, in the outcome at one place, or in more.
-abbrev pub IsDifference : List Literal → List Literal → Difference → Type 0
-IsDifference left right Nothing = right ≡ left
-IsDifference left right (One index) = (index < length left) × ((d : Literal) → right ≡ slice_set left index (turned (slice_index_or left index d)))
-IsDifference left right Many = (right ≢ left) × ((index : ℕ) (d : Literal) → index < length left → right ≢ slice_set left index (turned (slice_index_or left index d)))
