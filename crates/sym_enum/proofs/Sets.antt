@@ -13,7 +13,7 @@ below_prop n = hlevel props
 of_number : ((n : ℕ) × (n < 2 ^ 32)) → LabelSet
 of_number p = record { bits = p.0; below_32 = p.1 }
 
-same_number : (a b : LabelSet) → a.bits ≡ b.bits → a ≡ b
+pub same_number : (a b : LabelSet) → a.bits ≡ b.bits → a ≡ b
 unfolding of_number
 same_number a b e =
     let x : (n : ℕ) × (n < 2 ^ 32) = (a.bits, a.below_32) in

@@ -28,13 +28,22 @@ IsConst (Const label) = Unit {0}
 IsConst (Copy cell) = ⊥
 
 -- A state is among those that were pulled.
-abbrev pub Admits : PulledLabels → State → Type 0
-Admits All state = Unit {0}
-Admits Never state = ⊥
-Admits (In cell set) state = IsTrue (has_label set (label_at state cell))
+abbrev pub Pulls : PulledLabels → State → Type 0
+Pulls All state = Unit {0}
+Pulls Never state = ⊥
+Pulls (In cell set) state = IsTrue (has_label set (label_at state cell))
 
--- All states or none, with no look at a cell.
-abbrev pub IsDecided : PulledLabels → Type 0
-IsDecided All = Unit {0}
-IsDecided Never = Unit {0}
-IsDecided (In cell set) = ⊥
+-- What a set and a form pull: a constant all states or none, and a copy the same set of the cell
+-- that it copies.
+abbrev pub IsPulledBy : LabelSet → EnumForm → PulledLabels → Type 0
+IsPulledBy set (Const label) All = Unit {0}
+IsPulledBy set (Const label) Never = Unit {0}
+IsPulledBy set (Const label) (In cell pulled) = ⊥
+IsPulledBy set (Copy own) All = ⊥
+IsPulledBy set (Copy own) Never = ⊥
+IsPulledBy set (Copy own) (In cell pulled) = (cell ≡ own) × (pulled ≡ set)
+
+-- The cell that the form copies holds, in the second state, the label of `inner` at the first.
+abbrev pub Leads : EnumForm → EnumForm → State → State → Type 0
+Leads (Const label) inner first second = Unit {0}
+Leads (Copy cell) inner first second = label_at second cell ≡ label_value inner first

@@ -1,13 +1,13 @@
 //! What an enum cell holds, as a form over an unknown state.
 ghost use Rattle.std.specs.Prelude.{◌≡◌, ◌↔◌, IsTrue};
 ghost use Rattle.sym_base.specs.declared.values.state.State.{State as OneState};
-ghost use Rattle.sym_enum.specs.Labels.{has_label, label_value, IsConst, IsDecided, Admits};
+ghost use Rattle.sym_enum.specs.Labels.{has_label, label_value, IsConst, IsPulledBy, Pulls, Leads};
 
 use crate::label_set::LabelSet;
-use sym_base::{Cell, State};
+use sym_base::State;
 
 /// The label of an enum cell after some records, over the state before them.
-#[derive(Clone, Copy, Debug, PartialEq, Eq)]
+#[derive(Clone, Copy, PartialEq, Eq)]
 pub enum EnumForm {
     /// This label.
     Const(u8),
@@ -16,7 +16,7 @@ pub enum EnumForm {
 }
 
 /// The states at which a form's label is in a set.
-#[derive(Clone, Copy, Debug, PartialEq, Eq)]
+#[derive(Clone, Copy, PartialEq, Eq)]
 pub enum PulledLabels {
     /// All states.
     All,
@@ -33,10 +33,7 @@ impl EnumForm {
     {
         match self {
             EnumForm::Const(label) => *label,
-            EnumForm::Copy(cell) => match state.cells.get(*cell as usize) {
-                Some(Cell::Enum(label)) => *label,
-                _ => 0,
-            },
+            EnumForm::Copy(cell) => state.label_at(*cell),
         }
     }
 
@@ -45,6 +42,11 @@ impl EnumForm {
     pub fn through(&self, inner: &EnumForm) -> EnumForm
         ensures constant { IsConst self.now → result ≡ self.now }
         ensures copied { (IsConst self.now → ⊥) → result ≡ inner.now }
+
+        // Its label at a state is that of this form at any state in which the copied cell holds the
+        // label of `inner` there.
+        ensures label { (first second : OneState) → Leads self.now inner.now first second →
+            label_value result first ≡ label_value self.now second }
     {
         match self {
             EnumForm::Const(_) => *self,
@@ -53,10 +55,11 @@ impl EnumForm {
     }
 
     /// The states at which the form's label is in `set`. A constant gives `All` or `Never`, and
-    /// a copy neither.
+    /// a copy the same set of the cell that it copies.
     pub fn pull(set: &LabelSet, form: &EnumForm) -> PulledLabels
-        ensures exact { (state : OneState) → Admits result state ↔ IsTrue (has_label set.now (label_value form.now state)) }
-        ensures shape { IsDecided result ↔ IsConst form.now }
+        ensures exact { (state : OneState) →
+            Pulls result state ↔ IsTrue (has_label set.now (label_value form.now state)) }
+        ensures shape { IsPulledBy set.now form.now result }
     {
         match form {
             EnumForm::Const(label) if set.has(*label) => PulledLabels::All,
@@ -73,28 +76,7 @@ impl EnumForm {
 mod tests {
     use super::*;
     use std::test::Fail;
-    use sym_base::Cells;
-
-    #[test]
-    fn sets_of_labels_by_their_members(rt: HostRuntime) {
-        for count in 1..=32u8 {
-            let all = LabelSet::full(count);
-            assert_eq!(rt; all.only().is_some(), count == 1);
-            assert!(rt; !all.is_empty());
-            for label in 0..40u8 {
-                let (only, rest) = all.split(label);
-                assert_eq!(rt; all.has(label), label < count);
-                assert_eq!(rt; only.has(label), label < count);
-                assert!(rt; !rest.has(label));
-                assert!(rt; only.unite(&rest) == all);
-                assert!(rt; only.meet(&rest).is_empty());
-                assert_eq!(rt; only.only(), if label < count { Some(label) } else { None });
-            }
-        }
-        for label in 0..32u8 {
-            assert_eq!(rt; LabelSet::one(label).only(), Some(label));
-        }
-    }
+    use sym_base::{Cell, Cells};
 
     #[test]
     fn forms_at_a_state_and_through_an_earlier_form(rt: HostRuntime) -> Result<(), Fail> {
@@ -102,34 +84,19 @@ mod tests {
         cells.push(Cell::Int(7))?;
         cells.push(Cell::Enum(3))?;
         let state = State { cells };
-        assert_eq!(rt; EnumForm::Const(2).value(&state), 2);
-        assert_eq!(rt; EnumForm::Copy(1).value(&state), 3);
-        assert_eq!(rt; EnumForm::Copy(0).value(&state), 0);
-        assert_eq!(rt;
-            EnumForm::Copy(4).through(&EnumForm::Copy(1)),
-            EnumForm::Copy(1)
-        );
-        assert_eq!(rt;
-            EnumForm::Const(2).through(&EnumForm::Copy(1)),
-            EnumForm::Const(2)
-        );
+        let (two, copy) = (EnumForm::Const(2), EnumForm::Copy(1));
+        assert!(rt; two.value(&state) == 2 && copy.value(&state) == 3);
+        assert!(rt; EnumForm::Copy(0).value(&state) == 0);
+        assert!(rt; EnumForm::Copy(4).through(&copy) == copy && two.through(&copy) == two);
         Ok(())
     }
 
     #[test]
     fn a_constant_pulls_all_or_none_and_a_copy_its_cell(rt: HostRuntime) {
         let set = LabelSet::one(2);
-        assert_eq!(rt;
-            EnumForm::pull(&set, &EnumForm::Const(2)),
-            PulledLabels::All
-        );
-        assert_eq!(rt;
-            EnumForm::pull(&set, &EnumForm::Const(3)),
-            PulledLabels::Never
-        );
-        assert_eq!(rt;
-            EnumForm::pull(&set, &EnumForm::Copy(5)),
-            PulledLabels::In { cell: 5, set }
-        );
+        assert!(rt; EnumForm::pull(&set, &EnumForm::Const(2)) == PulledLabels::All);
+        assert!(rt; EnumForm::pull(&set, &EnumForm::Const(3)) == PulledLabels::Never);
+        let copied = EnumForm::pull(&set, &EnumForm::Copy(5));
+        assert!(rt; copied == PulledLabels::In { cell: 5, set });
     }
 }

@@ -2,7 +2,7 @@
 ghost use Rattle.std.specs.Prelude.{◌≡◌, ◌≢◌, ℕ, ◌^◌, ◌<◌, ◌≤◌, ◌↔◌, ◌&&◌, ◌||◌, false, IsTrue, MatchOption};
 
 /// A set of labels, which are numbers below 32.
-#[derive(Clone, Copy, Debug, PartialEq, Eq)]
+#[derive(Clone, Copy, PartialEq, Eq)]
 pub struct LabelSet {
     bits: u32,
     pub ghost below_32: { bits < 2 ^ 32 },
@@ -40,8 +40,10 @@ impl LabelSet {
 
     /// The part of the set with only this label, and the part without it.
     pub fn split(&self, label: u8) -> (LabelSet, LabelSet)
-        ensures only { (other : ℕ) → IsTrue (has_label result.0 other) ↔ (IsTrue (has_label self.now other) × (other ≡ label)) }
-        ensures rest { (other : ℕ) → IsTrue (has_label result.1 other) ↔ (IsTrue (has_label self.now other) × (other ≢ label)) }
+        ensures only { (other : ℕ) → IsTrue (has_label result.0 other) ↔
+            (IsTrue (has_label self.now other) × (other ≡ label)) }
+        ensures rest { (other : ℕ) → IsTrue (has_label result.1 other) ↔
+            (IsTrue (has_label self.now other) × (other ≢ label)) }
     {
         if label >= 32 {
             return (LabelSet { bits: 0 }, *self);
@@ -53,7 +55,8 @@ impl LabelSet {
 
     /// The labels in both sets.
     pub fn meet(&self, other: &LabelSet) -> LabelSet
-        ensures { (label : ℕ) → has_label result label ≡ (has_label self.now label && has_label other.now label) }
+        ensures { (label : ℕ) →
+            has_label result label ≡ (has_label self.now label && has_label other.now label) }
     {
         LabelSet {
             bits: self.bits & other.bits,
@@ -62,7 +65,8 @@ impl LabelSet {
 
     /// The labels in one set or both.
     pub fn unite(&self, other: &LabelSet) -> LabelSet
-        ensures { (label : ℕ) → has_label result label ≡ (has_label self.now label || has_label other.now label) }
+        ensures { (label : ℕ) →
+            has_label result label ≡ (has_label self.now label || has_label other.now label) }
     {
         LabelSet {
             bits: self.bits | other.bits,
@@ -78,7 +82,8 @@ impl LabelSet {
 
     /// The only label of the set; `None` where it has none or more than one.
     pub fn only(&self) -> Option<u8>
-        ensures { MatchOption result ((label : ℕ) → IsOnlyLabel self.now label → ⊥) (λ label. IsOnlyLabel self.now label) }
+        ensures { MatchOption result ((label : ℕ) → IsOnlyLabel self.now label → ⊥)
+            (λ label. IsOnlyLabel self.now label) }
     {
         let lowest = self.bits.trailing_zeros();
         if lowest < 32 && self.bits == 1 << lowest {
@@ -86,5 +91,22 @@ impl LabelSet {
         } else {
             None
         }
+    }
+}
+
+#[cfg(test)]
+mod tests {
+    use super::*;
+
+    #[test]
+    fn sets_of_labels_by_their_members(rt: HostRuntime) {
+        let all = LabelSet::full(3);
+        let (one, rest) = all.split(1);
+        assert!(rt; all.has(0) && all.has(2) && !all.has(3) && !all.has(40));
+        assert!(rt; one == LabelSet::one(1) && one.only() == Some(1));
+        assert!(rt; !rest.has(1) && rest.only().is_none());
+        assert!(rt; one.unite(&rest) == all && one.meet(&rest).is_empty());
+        assert!(rt; all.split(40).1 == all && all.split(40).0.is_empty());
+        assert!(rt; LabelSet::full(32).has(31) && LabelSet::one(31).only() == Some(31));
     }
 }

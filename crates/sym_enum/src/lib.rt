@@ -2,8 +2,8 @@
 //! state before them.
 #![tactic(auto)]
 
-pub mod form;
-pub mod label_set;
+mod form;
+mod label_set;
 
 pub use form::{EnumForm, PulledLabels};
 pub use label_set::LabelSet;

@@ -1,34 +1,38 @@
 -- A form on its cell's span, and the numbers of the state that a context makes.
-use Rattle.std.proofs.Common.{◌≡◌, ℕ, zero, suc, ℤ, pos, ◌+ℤ◌, ◌*ℤ◌, ◌≤ℤ◌, ◌⊎◌, inl, inr, Some, None, List, [], ◌∷◌, slice_get, refl, sym, ap, ◌∙◌, arith}
+use Rattle.std.proofs.Common.{◌≡◌, ℕ, zero, suc, ℤ, pos, ◌+ℤ◌, ◌*ℤ◌, ◌≤ℤ◌, ◌⊎◌, inl, inr, Option, Some, None, List, [], ◌∷◌, slice_get, refl, sym, ap, subst, ◌∙◌, arith}
 use Rattle.std.proofs.lemmas.Int.{ints, by_lt_z}
 use Rattle.sym_base.specs.States.{HoldsInt, number_at, number_in}
 use Rattle.sym_base.specs.declared.values.state.Cell.{Cell}
 use Rattle.sym_base.specs.declared.values.state.Cell.TheVariants.{Enum, Int, Hold, Nums, Words}
 use Rattle.sym_base.specs.declared.values.state.State.{State}
-use Rattle.sym_int.specs.Elements.{IsZero, led_cell, led_cells}
+use Rattle.sym_int.specs.Elements.{IsOnSpans, IsZero, led_cell, led_cells}
 use Rattle.sym_int.specs.Lines.{form_value}
-use Rattle.sym_int.specs.Parts.{IsTaken}
 use Rattle.sym_int.specs.Points.{HasPoint}
-use Rattle.sym_int.specs.declared.line.IntForm.{IntForm}
-use Rattle.sym_int.specs.declared.line.IntForm.TheVariants as form
-use Rattle.sym_int.specs.declared.line.Wide.TheVariants as wide
-use Rattle.sym_int.specs.declared.line.WideLine.{WideLine}
+use Rattle.sym_int.specs.Taken.{IsTaken}
+use Rattle.sym_int.specs.declared.form.IntForm.{IntForm}
+use Rattle.sym_int.specs.declared.form.IntForm.TheVariants as form
 use Rattle.sym_int.specs.declared.span.Span.{Span}
 
--- A form taken on a span has the wide line's number at each state whose cell lies in the span.
-pub taken_value : (taken : IntForm) (line : WideLine) (span : Span) (state : State) → IsTaken taken (wide.Line line) span → HasPoint span (number_at state line.cell) → form_value taken state ≡ line.a *ℤ number_at state line.cell +ℤ line.b
-taken_value (form.Const number) line span state t p = t.same (number_at state line.cell) p
-taken_value (form.Line own) line span state t p =
+-- A form taken on a span has its number at each state whose cell lies in the span.
+pub taken_value : (number : ℤ → ℤ) (cell : ℕ) (span : Span) (taken : IntForm) (state : State) → IsTaken number (Some cell) span taken → HasPoint span (number_at state cell) → form_value taken state ≡ number (number_at state cell)
+taken_value number cell span (form.Const own) state t p = t.same (number_at state cell) p
+taken_value number cell span (form.Line own) state t p =
     by_lt_z span.lo span.hi
     (λ q.
-    let named : Some own.cell ≡ Some line.cell = t.more q in
-    let e : own.cell ≡ line.cell = cc in
-    ap (λ (k : ℕ). own.a *ℤ number_at state k +ℤ own.b) e ∙ t.same (number_at state line.cell) p)
+    let named : Some own.cell ≡ Some cell = t.more q in
+    let e : own.cell ≡ cell = cc in
+    ap (λ (k : ℕ). own.a *ℤ number_at state k +ℤ own.b) e ∙ t.same (number_at state cell) p)
     (λ q.
     let o : span.lo ≤ℤ span.hi = span.ordered in
     let e : span.lo ≡ span.hi = omega (arith, ints) in
     let named : Some own.cell ≡ None = t.one e in
     cc)
+
+-- A form on the span of its cell by another name of its number and of its cell.
+pub on_spans : (f g : ℤ → ℤ) (own other : Option ℕ) (spans : List Span) (after : IntForm) → ((x : ℤ) → f x ≡ g x) → own ≡ other → IsOnSpans f own spans after → IsOnSpans g other spans after
+on_spans f g own other spans after same e h =
+    let number : f ≡ g = λ i x. same x i in
+    subst (λ (cell : Option ℕ). IsOnSpans g cell spans after) e (subst (λ (number : ℤ → ℤ). IsOnSpans number own spans after) number h)
 
 zero_value : (form : IntForm) (state : State) → IsZero form → pos 0 ≡ form_value form state
 zero_value (form.Const number) state z = sym z

@@ -1,3 +1,4 @@
+pub mod CallersLemmas
 pub mod Led
 pub mod Parted
 pub mod Products

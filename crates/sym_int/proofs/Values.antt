@@ -1,15 +1,15 @@
 -- A form's number at a state by the number of its cell, and spans with the same points.
-use Rattle.std.proofs.Common.{◌≡◌, ℕ, ℤ, ◌≤ℤ◌, ◌↔◌, Some, None, Option, refl, ap, arith}
+use Rattle.std.proofs.Common.{◌≡◌, ℕ, ℤ, ◌≤ℤ◌, ◌↔◌, Some, None, refl, ap, arith}
 use Rattle.std.proofs.lemmas.Int.{ints}
 use Rattle.sym_base.specs.Limits.{IsNumber}
 use Rattle.sym_base.specs.States.{number_at}
 use Rattle.sym_base.specs.declared.values.state.State.{State}
 use Rattle.sym_int.specs.Lines.{form_on, form_cell, form_value, wide_on, wide_cell, wide_value}
 use Rattle.sym_int.specs.Points.{HasPoint}
-use Rattle.sym_int.specs.declared.line.IntForm.{IntForm}
-use Rattle.sym_int.specs.declared.line.IntForm.TheVariants as form
-use Rattle.sym_int.specs.declared.line.Wide.{Wide}
-use Rattle.sym_int.specs.declared.line.Wide.TheVariants as wide
+use Rattle.sym_int.specs.declared.form.IntForm.{IntForm}
+use Rattle.sym_int.specs.declared.form.IntForm.TheVariants as form
+use Rattle.sym_int.specs.declared.wide.Wide.{Wide}
+use Rattle.sym_int.specs.declared.wide.Wide.TheVariants as wide
 use Rattle.sym_int.specs.declared.span.Span.{Span}
 use denote.Struct.Props.{props}
 use mathlib.Core.HLevel.{Σ_prop_path}
@@ -42,7 +42,7 @@ of_ends e = record { lo = e.0.0; hi = e.0.1; lo_in = e.1.0; ordered = e.1.1; hi_
 kept_prop : (p : ℤ × ℤ) → IsProp (IsNumber p.0 × (p.0 ≤ℤ p.1) × IsNumber p.1)
 kept_prop p = hlevel props
 
-same_ends : (a b : Span) → a.lo ≡ b.lo → a.hi ≡ b.hi → a ≡ b
+pub same_ends : (a b : Span) → a.lo ≡ b.lo → a.hi ≡ b.hi → a ≡ b
 same_ends a b e f =
     let x : Ends = ((a.lo, a.hi), (a.lo_in, a.ordered, a.hi_in)) in
     let y : Ends = ((b.lo, b.hi), (b.lo_in, b.ordered, b.hi_in)) in

@@ -1,5 +1,5 @@
 -- Integer forms as elements of list forms, over an earlier path's forms and spans.
-use Rattle.std.specs.Prelude.{◌≡◌, ℕ, ℤ, pos, ◌+ℤ◌, ◌*ℤ◌, ◌⊎◌, Option, Some, None, List, [], ◌∷◌, slice_get}
+use Rattle.std.specs.Prelude.{◌≡◌, ◌≢◌, ℕ, ℤ, pos, ◌+ℤ◌, ◌*ℤ◌, ◌⊎◌, Option, Some, None, List, [], ◌∷◌, slice_get}
 use Rattle.sym_base.specs.Limits.{IsNumber}
 use Rattle.sym_base.specs.States.{HoldsInt, number_at}
 use Rattle.sym_base.specs.declared.values.state.Cell.{Cell}
@@ -7,9 +7,10 @@ use Rattle.sym_base.specs.declared.values.state.Cell.TheVariants.{Int}
 use Rattle.sym_base.specs.declared.values.state.State.{State}
 use Rattle.sym_int.specs.Lines.{form_on, form_cell, form_value}
 use Rattle.sym_int.specs.Points.{HasPoint}
+use Rattle.sym_int.specs.Taken.{IsTaken}
 use Rattle.sym_int.specs.declared.element.IntForms.{IntForms}
-use Rattle.sym_int.specs.declared.line.IntForm.{IntForm}
-use Rattle.sym_int.specs.declared.line.IntForm.TheVariants as form
+use Rattle.sym_int.specs.declared.form.IntForm.{IntForm}
+use Rattle.sym_int.specs.declared.form.IntForm.TheVariants as form
 use Rattle.sym_int.specs.declared.span.Span.{Span}
 
 -- The form is the constant 0.
@@ -61,7 +62,38 @@ abbrev pub CanGoThrough : IntForm → IntForms → Type 0
 CanGoThrough (form.Const number) context = Unit {0}
 CanGoThrough (form.Line line) context = Composes (form.Line line) (slice_get context.forms line.cell) context.spans
 
+-- The form is this number at every state.
+abbrev pub IsConstant : ℤ → IntForm → Type 0
+IsConstant x (form.Const number) = number.value ≡ x
+IsConstant x (form.Line line) = ⊥
+
+-- A form that is a number, which depends on a cell, on the span of that cell.
+abbrev pub IsOnSpan : (ℤ → ℤ) → ℕ → Option Span → IntForm → Type 0
+IsOnSpan number cell None after = ⊥
+IsOnSpan number cell (Some span) after = IsTaken number (Some cell) span after
+
+abbrev pub IsOnSpans : (ℤ → ℤ) → Option ℕ → List Span → IntForm → Type 0
+IsOnSpans number None spans after = IsConstant (number (pos 0)) after
+IsOnSpans number (Some cell) spans after = IsOnSpan number cell (slice_get spans cell) after
+
+-- The line over the form of its cell, on the span of the cell that this one names.
+abbrev pub IsComposed : IntForm → Option IntForm → List Span → IntForm → Type 0
+IsComposed outer None spans after = ⊥
+IsComposed outer (Some inner) spans after = IsOnSpans (λ x. form_on outer (form_on inner x)) (form_cell inner) spans after
+
+-- What a form becomes through a context: a constant stays, and a line becomes the line over the
+-- form of its cell, on the span of the cell that it then names.
+abbrev pub GoesThroughTo : IntForm → IntForms → IntForm → Type 0
+GoesThroughTo (form.Const number) context after = after ≡ form.Const number
+GoesThroughTo (form.Line line) context after = IsComposed (form.Line line) (slice_get context.forms line.cell) context.spans after
+
 -- The condition under which a cell's number may be put into a form.
 abbrev pub CanFix : IntForm → ℕ → ℤ → Type 0
 CanFix (form.Const number) cell x = Unit {0}
 CanFix (form.Line line) cell x = line.cell ≡ cell → IsNumber (line.a *ℤ x +ℤ line.b)
+
+-- What a form becomes where a cell holds x: its number there, if it is over the cell, and else
+-- itself.
+pub record IsFixedTo (own : IntForm) (cell : ℕ) (x : ℤ) (after : IntForm) : Type 0 where
+  pub named : form_cell own ≡ Some cell → IsConstant (form_on own x) after
+  pub other : form_cell own ≢ Some cell → after ≡ own

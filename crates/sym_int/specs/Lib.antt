@@ -1,4 +1,9 @@
+pub mod Bounds
+pub mod Cuts
 pub mod Elements
+pub mod Fits
 pub mod Lines
 pub mod Parts
 pub mod Points
+pub mod Pulls
+pub mod Taken

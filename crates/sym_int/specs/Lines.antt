@@ -2,10 +2,10 @@
 use Rattle.std.specs.Prelude.{ℕ, ℤ, ◌+ℤ◌, ◌*ℤ◌, Option, Some, None}
 use Rattle.sym_base.specs.States.{number_at}
 use Rattle.sym_base.specs.declared.values.state.State.{State}
-use Rattle.sym_int.specs.declared.line.IntForm.{IntForm}
-use Rattle.sym_int.specs.declared.line.IntForm.TheVariants as form
-use Rattle.sym_int.specs.declared.line.Wide.{Wide}
-use Rattle.sym_int.specs.declared.line.Wide.TheVariants as wide
+use Rattle.sym_int.specs.declared.form.IntForm.{IntForm}
+use Rattle.sym_int.specs.declared.form.IntForm.TheVariants as form
+use Rattle.sym_int.specs.declared.wide.Wide.{Wide}
+use Rattle.sym_int.specs.declared.wide.Wide.TheVariants as wide
 
 -- A form's number where the cell that it names holds x.
 abbrev pub form_on : IntForm → ℤ → ℤ

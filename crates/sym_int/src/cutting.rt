@@ -1,14 +1,14 @@
 //! A span cut where the truth of a comparison changes.
-ghost use Rattle.std.specs.Prelude.{◌≡◌, ℤ, ◌<ℤ◌, ◌≤ℤ◌, ◌+ℤ◌, ◌-ℤ◌, ◌↔◌, None, pos, IfSome, MatchOption};
+ghost use Rattle.std.specs.Prelude.{◌≡◌, ◌≤◌, ℤ, ◌<ℤ◌, ◌≤ℤ◌, ◌+ℤ◌, ◌-ℤ◌, ◌↔◌, None, pos, IfSome, MatchOption, true, false};
 ghost use Rattle.sym_base.specs.Limits.{IsNumber};
-ghost use Rattle.sym_int.specs.Lines.{wide_cell};
-ghost use Rattle.sym_int.specs.Parts.{Between, HasTruth, InPieces, InOrder, TellsPart, TellsTruth};
+ghost use Rattle.sym_int.specs.Cuts.{HasTruth, IsAfter, IsCut, InPieces, InOrder, IsOrder, TellsPart, count_with};
+ghost use Rattle.sym_int.specs.Parts.{Between, IsAtAnEnd};
 ghost use Rattle.sym_int.specs.Points.{HasPoint, IsPart};
 
-use crate::line::Wide;
 use crate::pieces::{Cut, Pieces};
 use crate::side::sides;
 use crate::span::Span;
+use crate::wide::Wide;
 use sym_base::Compare;
 
 /// The points at which the form is from `lo` to `hi`.
@@ -26,7 +26,10 @@ pub(crate) fn between(span: &Span, wide: &Wide, lo: i64, hi: i64) -> Option<Span
 /// The points at which the comparison has one truth, and that truth.
 fn chosen(span: &Span, wide: &Wide, compare: Compare, bound: i64) -> (Option<Span>, bool)
     requires { IsNumber bound }
-    ensures { IsPart (HasTruth span.now wide.now compare bound result.1) result.0 }
+    ensures part { IsPart (HasTruth span.now wide.now compare bound result.1) result.0 }
+    ensures order { IsOrder compare → IsAtAnEnd span.now result.0 }
+    ensures equal { compare ≡ Compare.Eq → result.1 ≡ true }
+    ensures unequal { compare ≡ Compare.Ne → result.1 ≡ false }
 {
     match compare {
         Compare::Eq => (between(span, wide, bound, bound), true),
@@ -52,10 +55,10 @@ fn before(span: &Span, part: &Span, truth: bool) -> Cut
     Cut { span, truth }
 }
 
-/// The points of the span behind the part, with this truth.
-fn behind(span: &Span, part: &Span, truth: bool) -> Option<Cut>
+/// The points of the span after the part, with this truth.
+fn after(span: &Span, part: &Span, truth: bool) -> Option<Cut>
     requires { part.now.hi ≤ℤ span.now.hi }
-    ensures { MatchOption result (part.now.hi ≡ span.now.hi) (λ cut. (cut.span.lo ≡ part.now.hi +ℤ pos 1) × (cut.span.hi ≡ span.now.hi) × (cut.truth ≡ truth)) }
+    ensures { IsAfter span.now part.now truth result }
 {
     if part.hi < span.hi {
         let span = Span {
@@ -76,6 +79,8 @@ fn around(span: &Span, part: Option<Span>, truth: bool) -> Pieces
     ensures second { IfSome result.second (TellsPart part truth) }
     ensures third { IfSome result.third (TellsPart part truth) }
     ensures order { InOrder result.first result.second result.third }
+    ensures one { count_with truth result ≤ 1 }
+    ensures end { IsAtAnEnd span.now part → result.third ≡ None }
 {
     let Some(part) = part else {
         let first = Cut {
@@ -89,11 +94,11 @@ fn around(span: &Span, part: Option<Span>, truth: bool) -> Pieces
         };
     };
     let inside = Cut { span: part, truth };
-    let behind = behind(span, &part, !truth);
+    let after = after(span, &part, !truth);
     if part.lo <= span.lo {
         return Pieces {
             first: inside,
-            second: behind,
+            second: after,
             third: None,
         };
     }
@@ -101,20 +106,17 @@ fn around(span: &Span, part: Option<Span>, truth: bool) -> Pieces
     Pieces {
         first,
         second: Some(inside),
-        third: behind,
+        third: after,
     }
 }
 
 /// Cuts the span into the fewest pieces at all of whose points the comparison of the form with
-/// `bound`, which is at most 10^12 in size, has one truth. A constant gives one piece.
+/// `bound`, which is at most 10^12 in size, has one truth. A constant gives one piece. An order
+/// gives at most one piece with each truth, `==` at most one that is true and two that are false,
+/// and `!=` the other way round.
 pub fn cut(span: &Span, wide: &Wide, compare: Compare, bound: i64) -> Pieces
     requires { IsNumber bound }
-    ensures cover { (x : ℤ) → HasPoint span.now x ↔ InPieces result x }
-    ensures first { TellsTruth wide.now compare bound result.first }
-    ensures second { IfSome result.second (TellsTruth wide.now compare bound) }
-    ensures third { IfSome result.third (TellsTruth wide.now compare bound) }
-    ensures order { InOrder result.first result.second result.third }
-    ensures constant { wide_cell wide.now ≡ None → result.second ≡ None }
+    ensures { IsCut span.now wide.now compare bound result }
 {
     let (part, truth) = chosen(span, wide, compare, bound);
     around(span, part, truth)

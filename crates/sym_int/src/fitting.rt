@@ -1,21 +1,23 @@
 //! A span parted by whether a form stays in a range.
 ghost use Rattle.std.specs.Prelude.{◌≡◌, IfSome};
-ghost use Rattle.sym_int.specs.Parts.{Below, Within, Above, IsTaken, IsWithin, inside_span};
-ghost use Rattle.sym_int.specs.Points.{IsPart};
+ghost use Rattle.sym_base.specs.declared.values.state.State.{State as OneState};
+ghost use Rattle.sym_int.specs.Fits.{IsFitted, IsInside, inside_span};
+ghost use Rattle.sym_int.specs.Parts.{IsWithin};
 
-use crate::line::{IntForm, Wide};
+use crate::form::IntForm;
 use crate::side::sides;
 use crate::span::Span;
+use crate::wide::Wide;
 
 /// The points at which a form is in the range, and the form on them.
-#[derive(Clone, Copy, Debug, PartialEq, Eq)]
+#[derive(Clone, Copy, PartialEq, Eq)]
 pub struct Inside {
     pub span: Span,
     pub form: IntForm,
 }
 
 /// The points at which a form is below, in and above a range; each `None` where there is none.
-#[derive(Clone, Copy, Debug, PartialEq, Eq)]
+#[derive(Clone, Copy, PartialEq, Eq)]
 pub struct Fitted {
     pub below: Option<Span>,
     pub inside: Option<Inside>,
@@ -26,7 +28,7 @@ pub struct Fitted {
 fn taken_inside(part: Option<Span>, wide: &Wide, range: &Span) -> Option<Inside>
     requires { IfSome part (IsWithin wide.now range.now) }
     ensures span { inside_span result ≡ part }
-    ensures form { IfSome result (λ inside. IsTaken inside.form wide.now inside.span) }
+    ensures form { IfSome result (IsInside wide.now) }
 {
     match part {
         None => None,
@@ -40,10 +42,7 @@ fn taken_inside(part: Option<Span>, wide: &Wide, range: &Span) -> Option<Inside>
 /// The points of the span at which the form is below, in and above the range. The form on the
 /// points in the range is a constant where there is one such point.
 pub fn fit(span: &Span, wide: &Wide, range: &Span) -> Fitted
-    ensures below { IsPart (Below span.now wide.now range.now.lo) result.below }
-    ensures inside { IsPart (Within span.now wide.now range.now) (inside_span result.inside) }
-    ensures above { IsPart (Above span.now wide.now range.now.hi) result.above }
-    ensures form { IfSome result.inside (λ inside. IsTaken inside.form wide.now inside.span) }
+    ensures { IsFitted span.now wide.now range.now result }
 {
     let (below, rest) = sides(span, wide, range.lo - 1);
     let Some(rest) = rest else {

@@ -1,24 +1,76 @@
-//! The forms of integer cells at a state, and over one another.
-ghost use Rattle.std.specs.Prelude.{◌≡◌, ◌≢◌, ◌≤◌, ◌*◌, ◌+◌, ◌^◌, ◌+ℤ◌, ◌*ℤ◌, None, ℤ, pos, unsigned_abs};
+//! What an integer cell holds, as a form over an unknown state: a constant, or a line over the
+//! number that a cell held.
+ghost use Rattle.std.specs.Prelude.{◌≡◌, ◌≢◌, ◌≤◌, ◌+◌, ◌*◌, ◌^◌, pos, unsigned_abs};
 ghost use Rattle.sym_base.specs.Limits.{IsNumber};
-ghost use Rattle.sym_base.specs.States.{number_at};
-ghost use Rattle.sym_base.specs.declared.values.state.State.{State as OneState};
-ghost use Rattle.sym_int.specs.Lines.{form_on, form_value, form_cell, wide_on, wide_value, wide_cell};
 
-use crate::line::{IntForm, Line, Wide, WideLine, WideNumber};
-use sym_base::{Cell, State};
+use crate::wide::{Wide, WideLine, WideNumber};
+use sym_base::{NUM_MAX, State};
 
-/// The number of the integer cell with this number; 0 of any other cell, and of none.
-fn number_of(state: &State, cell: u16) -> i64
-    ensures { result ≡ number_at state.now cell }
-{
-    match state.cells.get(cell as usize) {
-        Some(Cell::Int(x)) => *x,
-        _ => 0,
+/// The largest slope of a line in size, 2 * 10^12.
+const SLOPE_MAX: i128 = 2_000_000_000_000;
+
+/// The largest offset of a line in size, 2 * 10^24 + 10^12.
+const OFFSET_MAX: i128 = 2_000_000_000_001_000_000_000_000;
+
+/// A constant number, of at most 10^12 in size.
+#[derive(Clone, Copy, PartialEq, Eq)]
+pub struct Number {
+    pub value: i64,
+    pub ghost value_in: { IsNumber value },
+}
+
+/// `a * x + b` for the number x of the cell with this number. `a` isn't 0 and is at most
+/// 2 * 10^12 in size, and `b` at most 2 * 10^24 + 10^12.
+#[derive(Clone, Copy, PartialEq, Eq)]
+pub struct Line {
+    pub cell: u16,
+    pub a: i128,
+    pub b: i128,
+    pub ghost rises_or_falls: { a ≢ pos 0 },
+    pub ghost a_in: { unsigned_abs a ≤ 2 * 10 ^ 12 },
+    pub ghost b_in: { unsigned_abs b ≤ 2 * 10 ^ 24 + 10 ^ 12 },
+}
+
+/// What an integer cell holds after some records, over the state before them.
+#[derive(Clone, Copy, PartialEq, Eq)]
+pub enum IntForm {
+    Const(Number),
+    Line(Line),
+}
+
+impl Number {
+    ghost use Rattle.std.specs.Prelude.{MatchOption};
+
+    /// The constant; `None` exactly where `value` is more than 10^12 in size.
+    pub fn new(value: i64) -> Option<Number>
+        ensures { MatchOption result (IsNumber value → ⊥) (λ number. number.value ≡ value) }
+    {
+        if -NUM_MAX <= value && value <= NUM_MAX {
+            Some(Number { value })
+        } else {
+            None
+        }
     }
 }
 
 impl Line {
+    ghost use Rattle.std.specs.Prelude.{MatchOption, ◌+ℤ◌, ◌*ℤ◌};
+    ghost use Rattle.sym_int.specs.Bounds.{AreOfLine};
+    ghost use Rattle.sym_int.specs.declared.form.Line.{Line as OneLine};
+
+    /// The line over this cell; `None` exactly where `a` is 0, or `a` or `b` is too large.
+    pub fn new(cell: u16, a: i128, b: i128) -> Option<Line>
+        ensures { MatchOption result (AreOfLine a b → ⊥)
+            (λ line. (line.cell ≡ cell) × (line.a ≡ a) × (line.b ≡ b)) }
+    {
+        let slope = a != 0 && -SLOPE_MAX <= a && a <= SLOPE_MAX;
+        if slope && -OFFSET_MAX <= b && b <= OFFSET_MAX {
+            Some(Line { cell, a, b })
+        } else {
+            None
+        }
+    }
+
     /// The line's number where its cell holds `x`.
     pub fn at(&self, x: i64) -> i128
         ensures { result ≡ self.now.a *ℤ x +ℤ self.now.b }
@@ -27,28 +79,11 @@ impl Line {
     }
 }
 
-/// `a * inner + b`.
-fn composed(a: i128, b: i128, inner: &IntForm) -> Wide
-    requires rises_or_falls { a ≢ pos 0 }
-    requires a_in { unsigned_abs a ≤ 2 * 10 ^ 12 }
-    requires b_in { unsigned_abs b ≤ 2 * 10 ^ 24 + 10 ^ 12 }
-    ensures points { (x : ℤ) → wide_on result x ≡ a *ℤ form_on inner.now x +ℤ b }
-    ensures value { (state : OneState) → wide_value result state ≡ a *ℤ form_value inner.now state +ℤ b }
-    ensures cell { wide_cell result ≡ form_cell inner.now }
-{
-    match inner {
-        IntForm::Const(number) => Wide::Const(WideNumber {
-            value: a * number.value as i128 + b,
-        }),
-        IntForm::Line(line) => Wide::Line(WideLine {
-            cell: line.cell,
-            a: a * line.a,
-            b: a * line.b + b,
-        }),
-    }
-}
-
 impl IntForm {
+    ghost use Rattle.std.specs.Prelude.{◌+ℤ◌, ◌*ℤ◌, None, ℤ};
+    ghost use Rattle.sym_base.specs.declared.values.state.State.{State as OneState};
+    ghost use Rattle.sym_int.specs.Lines.{form_on, form_value, form_cell, wide_on, wide_value, wide_cell};
+
     /// The form's number at a state, at which it is at most 10^12 in size.
     pub fn value(&self, state: &State) -> i64
         requires { IsNumber (form_value self.now state.now) }
@@ -56,7 +91,7 @@ impl IntForm {
     {
         match self {
             IntForm::Const(number) => number.value,
-            IntForm::Line(line) => line.at(number_of(state, line.cell)) as i64,
+            IntForm::Line(line) => line.at(state.number_at(line.cell)) as i64,
         }
     }
 
@@ -65,20 +100,22 @@ impl IntForm {
         requires a_in { IsNumber a }
         requires b_in { IsNumber b }
         ensures points { (x : ℤ) → wide_on result x ≡ a *ℤ form_on self.now x +ℤ b }
-        ensures value { (state : OneState) → wide_value result state ≡ a *ℤ form_value self.now state +ℤ b }
+        ensures value { (state : OneState) →
+            wide_value result state ≡ a *ℤ form_value self.now state +ℤ b }
         ensures constant { a ≡ pos 0 → wide_cell result ≡ None }
         ensures cell { a ≢ pos 0 → wide_cell result ≡ form_cell self.now }
     {
         if a == 0 {
             return Wide::Const(WideNumber { value: b as i128 });
         }
-        composed(a as i128, b as i128, self)
+        self.composed(a as i128, b as i128)
     }
 
     /// This form with the number of the cell that it names replaced by `inner`.
     pub fn through(&self, inner: &IntForm) -> Wide
         ensures points { (x : ℤ) → wide_on result x ≡ form_on self.now (form_on inner.now x) }
-        ensures value { (state : OneState) → wide_value result state ≡ form_on self.now (form_value inner.now state) }
+        ensures value { (state : OneState) →
+            wide_value result state ≡ form_on self.now (form_value inner.now state) }
         ensures constant { form_cell self.now ≡ None → wide_cell result ≡ None }
         ensures cell { form_cell self.now ≢ None → wide_cell result ≡ form_cell inner.now }
     {
@@ -86,7 +123,29 @@ impl IntForm {
             IntForm::Const(number) => Wide::Const(WideNumber {
                 value: number.value as i128,
             }),
-            IntForm::Line(line) => composed(line.a, line.b, inner),
+            IntForm::Line(line) => inner.composed(line.a, line.b),
+        }
+    }
+
+    /// `a * self + b`, for the slope and the offset of a line.
+    fn composed(&self, a: i128, b: i128) -> Wide
+        requires rises_or_falls { a ≢ pos 0 }
+        requires a_in { unsigned_abs a ≤ 2 * 10 ^ 12 }
+        requires b_in { unsigned_abs b ≤ 2 * 10 ^ 24 + 10 ^ 12 }
+        ensures points { (x : ℤ) → wide_on result x ≡ a *ℤ form_on self.now x +ℤ b }
+        ensures value { (state : OneState) →
+            wide_value result state ≡ a *ℤ form_value self.now state +ℤ b }
+        ensures cell { wide_cell result ≡ form_cell self.now }
+    {
+        match self {
+            IntForm::Const(number) => Wide::Const(WideNumber {
+                value: a * number.value as i128 + b,
+            }),
+            IntForm::Line(line) => Wide::Line(WideLine {
+                cell: line.cell,
+                a: a * line.a,
+                b: a * line.b + b,
+            }),
         }
     }
 }

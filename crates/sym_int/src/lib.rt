@@ -4,25 +4,25 @@
 //! A number is a whole number of at most `NUM_MAX`, 10^12, in size.
 #![tactic(auto)]
 
-pub mod cutting;
-pub mod element;
-pub mod fitting;
-pub mod form;
-pub mod line;
-pub mod pieces;
-pub mod pulling;
+mod cutting;
+mod element;
+mod fitting;
+mod form;
+mod pieces;
+mod pulling;
 mod quotient;
 mod side;
-pub mod span;
-pub mod wide;
+mod span;
+mod wide;
 
 pub use cutting::cut;
 pub use element::{FormList, IntForms, Spans};
 pub use fitting::{Fitted, Inside, fit};
-pub use line::{IntForm, Line, Number, Wide, WideLine, WideNumber};
+pub use form::{IntForm, Line, Number};
 pub use pieces::{Cut, Pieces};
 pub use pulling::{Pulled, pull};
 pub use span::Span;
+pub use wide::{Wide, WideLine, WideNumber};
 
 #[cfg(test)]
 mod tests;

@@ -2,16 +2,17 @@
 ghost use Rattle.std.specs.Prelude.{◌≡◌, ℤ, ◌+ℤ◌, ◌*ℤ◌, ◌↔◌};
 ghost use Rattle.sym_base.specs.Limits.{IsNumber};
 ghost use Rattle.sym_int.specs.Lines.{form_on, form_cell, wide_on};
-ghost use Rattle.sym_int.specs.Parts.{IsPulledOver, Pulls};
+ghost use Rattle.sym_int.specs.Pulls.{IsPulledOver, Pulls};
 ghost use Rattle.sym_int.specs.Points.{HasPoint};
 
 use crate::cutting::between;
-use crate::line::{IntForm, Line, Wide, WideLine};
+use crate::form::{IntForm, Line};
 use crate::span::Span;
+use crate::wide::{Wide, WideLine};
 use sym_base::NUM_MAX;
 
 /// The numbers at which a form is in a span.
-#[derive(Clone, Copy, Debug, PartialEq, Eq)]
+#[derive(Clone, Copy, PartialEq, Eq)]
 pub enum Pulled {
     /// All numbers.
     All,
@@ -37,7 +38,8 @@ impl Line {
 /// The numbers of at most 10^12 in size at which the form is in the span. A constant gives `All`
 /// or `Never`, and a line `Never` exactly where there is no such number.
 pub fn pull(span: &Span, form: &IntForm) -> Pulled
-    ensures exact { (x : ℤ) → IsNumber x → (Pulls result x ↔ HasPoint span.now (form_on form.now x)) }
+    ensures exact { (x : ℤ) → IsNumber x →
+        (Pulls result x ↔ HasPoint span.now (form_on form.now x)) }
     ensures cell { IsPulledOver (form_cell form.now) result }
 {
     match form {

@@ -1,17 +1,19 @@
 //! The two sides of a span: the points at which a form is at most a limit, and the others.
 ghost use Rattle.std.specs.Prelude.{◌≤◌, ◌+◌, ◌*◌, ◌^◌, ◌≤ℤ◌, ◌<ℤ◌, unsigned_abs};
 ghost use Rattle.sym_int.specs.Points.{HasPoint, IsPart};
-ghost use Rattle.sym_int.specs.Parts.{AtMost, Above};
-ghost use Rattle.sym_int.specs.declared.line.Wide.TheVariants as wide_form;
+ghost use Rattle.sym_int.specs.Parts.{AtMost, Above, IsAtAnEnd};
+ghost use Rattle.sym_int.specs.declared.wide.Wide.TheVariants as wide_form;
 
-use crate::line::{Wide, WideLine};
 use crate::quotient::floor_quotient;
 use crate::span::Span;
+use crate::wide::{Wide, WideLine};
 
-/// The points of the span up to `last`, and those behind it.
+/// The points of the span up to `last`, and those after it.
 fn split_at(span: &Span, last: i128) -> (Option<Span>, Option<Span>)
     ensures before { IsPart (λ x. HasPoint span.now x × (x ≤ℤ last)) result.0 }
-    ensures behind { IsPart (λ x. HasPoint span.now x × (last <ℤ x)) result.1 }
+    ensures after { IsPart (λ x. HasPoint span.now x × (last <ℤ x)) result.1 }
+    ensures begins { IsAtAnEnd span.now result.0 }
+    ensures ends { IsAtAnEnd span.now result.1 }
 {
     if last < span.lo as i128 {
         return (None, Some(*span));
@@ -24,11 +26,11 @@ fn split_at(span: &Span, last: i128) -> (Option<Span>, Option<Span>)
         lo: span.lo,
         hi: last,
     };
-    let behind = Span {
+    let after = Span {
         lo: last + 1,
         hi: span.hi,
     };
-    (Some(before), Some(behind))
+    (Some(before), Some(after))
 }
 
 /// The points at which the line is at most `limit`, and those at which it is above.
@@ -36,6 +38,7 @@ fn line_sides(span: &Span, line: &WideLine, limit: i64) -> (Option<Span>, Option
     requires { unsigned_abs limit ≤ 10 ^ 12 + 1 }
     ensures at_most { IsPart (AtMost span.now (wide_form.Line line.now) limit) result.0 }
     ensures above { IsPart (Above span.now (wide_form.Line line.now) limit) result.1 }
+    ensures end { IsAtAnEnd span.now result.0 }
 {
     let room = limit as i128 - line.b;
     if line.a > 0 {
@@ -53,6 +56,7 @@ pub(crate) fn sides(span: &Span, wide: &Wide, limit: i64) -> (Option<Span>, Opti
     requires { unsigned_abs limit ≤ 10 ^ 12 + 1 }
     ensures at_most { IsPart (AtMost span.now wide.now limit) result.0 }
     ensures above { IsPart (Above span.now wide.now limit) result.1 }
+    ensures end { IsAtAnEnd span.now result.0 }
 {
     match wide {
         Wide::Const(number) if number.value <= limit as i128 => (Some(*span), None),

@@ -5,7 +5,7 @@ ghost use Rattle.sym_base.specs.Limits.{IsNumber};
 use sym_base::NUM_MAX;
 
 /// The numbers from `lo` to `hi`, both among them.
-#[derive(Clone, Copy, Debug, PartialEq, Eq)]
+#[derive(Clone, Copy, PartialEq, Eq)]
 pub struct Span {
     pub lo: i64,
     pub hi: i64,
@@ -21,7 +21,8 @@ impl Span {
 
     /// The span from `lo` to `hi`; `None` where `lo` is above `hi` or an end is no number.
     pub fn new(lo: i64, hi: i64) -> Option<Span>
-        ensures { MatchOption result (AreEnds lo hi → ⊥) (λ span. (span.lo ≡ lo) × (span.hi ≡ hi)) }
+        ensures { MatchOption result (AreEnds lo hi → ⊥)
+            (λ span. (span.lo ≡ lo) × (span.hi ≡ hi)) }
     {
         if -NUM_MAX <= lo && lo <= hi && hi <= NUM_MAX {
             Some(Span { lo, hi })
@@ -53,7 +54,8 @@ impl Span {
     /// The span of the numbers in either; `None` where these are no span, as a number between
     /// the two is in neither.
     pub fn unite(&self, other: &Span) -> Option<Span>
-        ensures { MatchOption result ((union : OneSpan) → IsUnion union self.now other.now → ⊥) (λ union. IsUnion union self.now other.now) }
+        ensures { MatchOption result ((union : OneSpan) → IsUnion union self.now other.now → ⊥)
+            (λ union. IsUnion union self.now other.now) }
     {
         if self.hi + 1 < other.lo || other.hi + 1 < self.lo {
             return None;
@@ -65,7 +67,8 @@ impl Span {
 
     /// The only number of the span; `None` where it has more.
     pub fn only(&self) -> Option<i64>
-        ensures { MatchOption result (self.now.lo <ℤ self.now.hi) (λ x. (self.now.lo ≡ x) × (self.now.hi ≡ x)) }
+        ensures { MatchOption result (self.now.lo <ℤ self.now.hi)
+            (λ x. (self.now.lo ≡ x) × (self.now.hi ≡ x)) }
     {
         if self.lo < self.hi {
             None

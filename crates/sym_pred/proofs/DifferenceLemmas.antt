@@ -14,7 +14,7 @@ use Rattle.sym_pred.specs.Facts.{Atom, atom_cmp, FactMap}
 use Rattle.sym_pred.specs.Literals.{atom_of, entry_of, literal_of, literals}
 use Rattle.sym_pred.specs.Places.{IsInOrder}
 use Rattle.sym_pred.specs.Meaning.{Stands, DifferInOne, Unite}
-use Rattle.sym_pred.specs.Merged.{turned, IsDifference}
+use Rattle.sym_pred.specs.Differences.{turned, IsDifference}
 use Rattle.sym_pred.proofs.EntriesLemmas.{find-at, find-place, put-at}
 use Rattle.sym_pred.proofs.FactsLemmas.{atom_cmp-total, atom_cmp-IsAntisymmetric, literals_of_view, get_or-entries, literal_of-entries}
 use Rattle.sym_pred.proofs.MeaningLemmas.{not_both, insert-DifferInOne, DifferInOne-insert}

@@ -33,6 +33,11 @@ is_Equal Less p = cc
 is_Equal Equal p = refl
 is_Equal Greater p = cc
 
+pub lt_is_Less : (r : Ordering) → is_lt r ≡ true → r ≡ Less
+lt_is_Less Less p = refl
+lt_is_Less Equal p = cc
+lt_is_Less Greater p = cc
+
 pub lt_Less : {r : Ordering} → r ≡ Less → T (is_lt r)
 lt_Less e = subst (λ r. T (is_lt r)) (sym e) tt
 
@@ -68,6 +73,15 @@ module _ {K X : Type 0} {R : K → K → Ordering} (o : IsTotalOrder R) where
   sorted-at (e ∷ es) i zero d h p q = absurd (omega arith)
   sorted-at (e ∷ es) zero (suc j) d h p q = below-at e.0 es j d (T_first _ _ h) (omega arith)
   sorted-at (e ∷ es) (suc i) (suc j) d h p q = sorted-at es i j d (T_second _ _ h) (omega arith) (omega arith)
+
+  -- Keys that rise from each place to the next are in order.
+  pub sorted_from_adjacent : (es : List (K × X)) → ((k : ℕ) (d : K × X) → suc k < length es → R (get_or es k d).0 (get_or es (suc k) d).0 ≡ Less) → T (is_sorted R es)
+  sorted_from_adjacent [] rises = tt
+  sorted_from_adjacent (e ∷ []) rises = tt
+  sorted_from_adjacent (e ∷ f ∷ es) rises =
+      let rest = sorted_from_adjacent (f ∷ es) (λ k d p. rises (suc k) d (omega arith)) in
+      let less = rises 0 e (omega arith) in
+      T_both _ _ (T_both _ _ (lt_Less less) (below_less e.0 f.0 es less (T_first _ _ rest))) rest
 
   -- so that a binary search may be made
   pub sorted-IsSortedBy : (es : List (K × X)) → T (is_sorted R es) → IsSortedBy (λ x y. is_lt (R x.0 y.0)) es

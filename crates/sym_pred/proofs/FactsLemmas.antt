@@ -10,7 +10,7 @@ use Rattle.std.specs.FinMap.Entries.{is_sorted-put}
 use Rattle.std.specs.List.{insert, remove}
 use Rattle.std.specs.List.Sorted.{IsSortedBy, IsNonDecreasingBy, IsBinarySearchResult, IsSearchInRange}
 use Rattle.std.proofs.lemmas.List.Sorted.{searchable_from_sorted}
-use Rattle.std.proofs.lemmas.List.{length-map}
+use Rattle.std.proofs.lemmas.List.{get_or_default, length-map}
 use Rattle.std.proofs.Math.ListN.{get_or-map}
 use Rattle.sym_base.specs.Order.{values_cmp}
 use Rattle.sym_base.proofs.ValueLemmas.{values_cmp-total, values_cmp-IsAntisymmetric}
@@ -18,7 +18,7 @@ use Rattle.sym_pred.specs.declared.literal.Literal.{Literal}
 use Rattle.sym_pred.specs.Facts.{Atom, atom_cmp, FactMap}
 use Rattle.sym_pred.specs.Literals.{atom_of, entry_of, literal_of, literals}
 use Rattle.sym_pred.specs.Places.{IsInOrder, IsPlace}
-use Rattle.sym_pred.proofs.EntriesLemmas.{flipped, sorted-at, find-at, find-between, put-between, sorted-remove, find-remove}
+use Rattle.sym_pred.proofs.EntriesLemmas.{flipped, sorted_from_adjacent, sorted-at, find-at, find-between, put-between, sorted-remove, find-remove}
 
 pub atom_cmp-total : IsTotalOrder atom_cmp
 atom_cmp-total =
@@ -76,6 +76,24 @@ searched xs atom h (Err i) range parted =
       find-between atom_cmp-total (map entry_of xs) i atom below above,
       λ outcome. put-between atom_cmp-total (map entry_of xs) i atom outcome (rw (length-map xs entry_of) range) below above,
     )
+
+-- ---- literals in order
+
+pub in_order_from_adjacent : (xs : List Literal) → ((k : ℕ) (d : Literal) → k + 1 < length xs → atom_cmp (atom_of (get_or xs k d)) (atom_of (get_or xs (k + 1) d)) ≡ Less) → IsInOrder xs
+in_order_from_adjacent xs rises =
+    sorted_from_adjacent atom_cmp-total (map entry_of xs) (λ k d p.
+    let next : k + 1 ≡ suc k = omega arith in
+    let inside : suc k < length xs = rw (length-map xs entry_of) at p in
+    let less = rises k (literal_of d) (omega arith) in
+    rw (get_or-entries xs k d, get_or-entries xs (suc k) d)
+    (subst (λ (j : ℕ). atom_cmp (atom_of (get_or xs k (literal_of d))) (atom_of (get_or xs j (literal_of d))) ≡ Less) next less))
+
+-- Of two literals in order the atom of the earlier one is less.
+pub rising_at : (xs : List Literal) (i j : ℕ) (x y : Literal) → IsInOrder xs → i < j → j < length xs → x ≡ get_or xs i x → y ≡ get_or xs j y → atom_cmp (atom_of x) (atom_of y) ≡ Less
+rising_at xs i j x y h p q one other =
+    let up = sorted-at atom_cmp-total (map entry_of xs) i j (entry_of x) h p (rw (length-map xs entry_of) q) in
+    let less = rw (get_or-entries xs i (entry_of x), get_or-entries xs j (entry_of x)) at up in
+    (λ k. atom_cmp (atom_of (one k)) (atom_of ((other ∙ sym (get_or_default xs j x y q)) k))) ∙ less
 
 -- ---- edits at a place
 

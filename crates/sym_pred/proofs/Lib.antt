@@ -1,6 +1,7 @@
+pub mod CallersLemmas
+pub mod DifferenceLemmas
 pub mod EntriesLemmas
 pub mod FactsLemmas
 pub mod MeaningLemmas
-pub mod DifferenceLemmas
+pub mod Merged
 pub mod MergedLemmas
-pub mod CallersLemmas

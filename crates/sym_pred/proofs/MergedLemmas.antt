@@ -1,11 +1,11 @@
 -- The merge of two lists in order has the literals of both, and fails exactly at a clash.
-use Rattle.std.proofs.Common.{◌≡◌, ◌↔◌, ◌⊎◌, ℕ, ◌≤◌, ◌-◌, ◌++◌, length, take, drop, arith, append_assoc, Bool, true, false, not, cond, List, [], ◌∷◌, map, Option, Some, None, refl, sym, ap, subst, ◌∙◌, inl, inr}
+use Rattle.std.proofs.Common.{◌≡◌, ◌↔◌, ◌⊎◌, ℕ, ◌≤◌, ◌-◌, ◌++◌, length, take, drop, arith, append_assoc, Bool, true, false, not, cond, List, [], ◌∷◌, map, Option, Some, None, refl, sym, ap, ◌∙◌, inl, inr}
 use Rattle.std.specs.Prelude.{T}
 use Rattle.std.specs.declared.cmp.Ordering.TheVariants.{Less, Equal, Greater}
 use Rattle.std.specs.Ordering.{eq_by_cmp, is_eq}
 use Rattle.std.specs.Cmp.{tied_itself}
 use Rattle.std.specs.Option.{option_map, MatchOption}
-use Rattle.std.specs.FinMap.{find, from_sorted}
+use Rattle.std.specs.FinMap.{from_sorted}
 use Rattle.std.specs.FinMap.Entries.{below_all}
 use Rattle.std.proofs.lemmas.List.{append-nil, drop_all, take_all, length-drop}
 use Rattle.std.proofs.lemmas.Option.{same_Some}
@@ -14,30 +14,11 @@ use Rattle.sym_pred.specs.Facts.{Atom, atom_cmp, FactMap}
 use Rattle.sym_pred.specs.Literals.{atom_of, entry_of}
 use Rattle.sym_pred.specs.Places.{IsInOrder}
 use Rattle.sym_pred.specs.Meaning.{Stands, Clash}
-use Rattle.sym_pred.specs.Merged.{merged, merged_with, merge_step, same_outcome}
+use Rattle.sym_pred.specs.Merges.{outcome_in, first_of, ClashIn, IsMerged}
+use Rattle.sym_pred.proofs.Merged.{merged, merged_with, merge_step, same_outcome}
 use Rattle.sym_pred.proofs.EntriesLemmas.{T_both, T_first, T_second, lt_Less, is_Equal, flipped_back, below_less, below_tied, find_below}
 use Rattle.sym_pred.proofs.FactsLemmas.{atom_cmp-total, atom_cmp-IsAntisymmetric, get_of_view}
 use Rattle.sym_pred.proofs.MeaningLemmas.{not_both}
-
--- The outcome of an atom among literals.
-abbrev pub outcome_in : List Literal → Atom → Option Bool
-outcome_in xs atom = find atom_cmp atom (map entry_of xs)
-
-abbrev pub first_of : Option Bool → Option Bool → Option Bool
-first_of (Some a) other = Some a
-first_of None other = other
-
-pub record Clashes (xs ys : List Literal) : Type 0 where
-  pub atom : Atom
-  pub outcome : Bool
-  pub one : outcome_in xs atom ≡ Some outcome
-  pub other : outcome_in ys atom ≡ Some (not outcome)
-
-pub record IsMerged (xs ys zs : List Literal) : Type 0 where
-  pub in_order : IsInOrder zs
-  pub below : (a : Atom) → T (below_all atom_cmp a (map entry_of xs)) → T (below_all atom_cmp a (map entry_of ys)) → T (below_all atom_cmp a (map entry_of zs))
-  pub finds : (q : Atom) → outcome_in zs q ≡ first_of (outcome_in xs q) (outcome_in ys q)
-  pub agree : (q : Atom) (a b : Bool) → outcome_in xs q ≡ Some a → outcome_in ys q ≡ Some b → a ≡ b
 
 same_outcome-true : (a b : Bool) → same_outcome a b ≡ true → a ≡ b
 same_outcome-true true b e = sym e
@@ -67,7 +48,7 @@ first : (x : Literal) (xs : List Literal) → outcome_in (x ∷ xs) (atom_of x) 
 first x xs = ap (λ r. cond (is_eq r) (Some x.outcome) (outcome_in xs (atom_of x))) (tied_itself atom_cmp-total (atom_of x))
 
 module _ (x y : Literal) (xs ys : List Literal) (h : IsInOrder (x ∷ xs)) (g : IsInOrder (y ∷ ys)) where
-  step-Less : (less : atom_cmp (atom_of x) (atom_of y) ≡ Less) (r : Option (List Literal)) → MatchOption r (Clashes xs (y ∷ ys)) (IsMerged xs (y ∷ ys)) → MatchOption (option_map (λ rest. x ∷ rest) r) (Clashes (x ∷ xs) (y ∷ ys)) (IsMerged (x ∷ xs) (y ∷ ys))
+  step-Less : (less : atom_cmp (atom_of x) (atom_of y) ≡ Less) (r : Option (List Literal)) → MatchOption r (ClashIn xs (y ∷ ys)) (IsMerged xs (y ∷ ys)) → MatchOption (option_map (λ rest. x ∷ rest) r) (ClashIn (x ∷ xs) (y ∷ ys)) (IsMerged (x ∷ xs) (y ∷ ys))
   step-Less less None clash = record { atom = clash.atom; outcome = clash.outcome; one = later x xs clash.atom clash.outcome (T_first _ _ h) clash.one; other = clash.other }
   step-Less less (Some zs) is =
       let above : T (below_all atom_cmp (atom_of x) (map entry_of (y ∷ ys))) = T_both _ _ (lt_Less less) (below_less atom_cmp-total (atom_of x) (atom_of y) (map entry_of ys) less (T_first _ _ g)) in
@@ -81,7 +62,7 @@ module _ (x y : Literal) (xs ys : List Literal) (h : IsInOrder (x ∷ xs)) (g : 
         ] refl;
       }
 
-  step-Greater : (greater : atom_cmp (atom_of x) (atom_of y) ≡ Greater) (r : Option (List Literal)) → MatchOption r (Clashes (x ∷ xs) ys) (IsMerged (x ∷ xs) ys) → MatchOption (option_map (λ rest. y ∷ rest) r) (Clashes (x ∷ xs) (y ∷ ys)) (IsMerged (x ∷ xs) (y ∷ ys))
+  step-Greater : (greater : atom_cmp (atom_of x) (atom_of y) ≡ Greater) (r : Option (List Literal)) → MatchOption r (ClashIn (x ∷ xs) ys) (IsMerged (x ∷ xs) ys) → MatchOption (option_map (λ rest. y ∷ rest) r) (ClashIn (x ∷ xs) (y ∷ ys)) (IsMerged (x ∷ xs) (y ∷ ys))
   step-Greater greater None clash = record { atom = clash.atom; outcome = clash.outcome; one = clash.one; other = later y ys clash.atom (not clash.outcome) (T_first _ _ g) clash.other }
   step-Greater greater (Some zs) is =
       let less = flipped_back atom_cmp-total (atom_of x) (atom_of y) greater in
@@ -99,7 +80,7 @@ module _ (x y : Literal) (xs ys : List Literal) (h : IsInOrder (x ∷ xs)) (g : 
         ] refl;
       }
 
-  step-Equal : (equal : atom_cmp (atom_of x) (atom_of y) ≡ Equal) (outcomes : x.outcome ≡ y.outcome) (r : Option (List Literal)) → MatchOption r (Clashes xs ys) (IsMerged xs ys) → MatchOption (option_map (λ rest. x ∷ rest) r) (Clashes (x ∷ xs) (y ∷ ys)) (IsMerged (x ∷ xs) (y ∷ ys))
+  step-Equal : (equal : atom_cmp (atom_of x) (atom_of y) ≡ Equal) (outcomes : x.outcome ≡ y.outcome) (r : Option (List Literal)) → MatchOption r (ClashIn xs ys) (IsMerged xs ys) → MatchOption (option_map (λ rest. x ∷ rest) r) (ClashIn (x ∷ xs) (y ∷ ys)) (IsMerged (x ∷ xs) (y ∷ ys))
   step-Equal equal outcomes None clash = record { atom = clash.atom; outcome = clash.outcome; one = later x xs clash.atom clash.outcome (T_first _ _ h) clash.one; other = later y ys clash.atom (not clash.outcome) (T_first _ _ g) clash.other }
   step-Equal equal outcomes (Some zs) is =
       let above : T (below_all atom_cmp (atom_of x) (map entry_of ys)) = below_tied atom_cmp-total (atom_of x) (atom_of y) (map entry_of ys) equal (T_first _ _ g) in
@@ -116,7 +97,7 @@ module _ (x y : Literal) (xs ys : List Literal) (h : IsInOrder (x ∷ xs)) (g : 
         ] one (sym (as_x q) ∙ other);
       }
 
-  step-clash : (equal : atom_cmp (atom_of x) (atom_of y) ≡ Equal) → y.outcome ≡ not x.outcome → Clashes (x ∷ xs) (y ∷ ys)
+  step-clash : (equal : atom_cmp (atom_of x) (atom_of y) ≡ Equal) → y.outcome ≡ not x.outcome → ClashIn (x ∷ xs) (y ∷ ys)
   step-clash equal outcomes = record {
     atom = atom_of x;
     outcome = x.outcome;
@@ -124,7 +105,7 @@ module _ (x y : Literal) (xs ys : List Literal) (h : IsInOrder (x ∷ xs)) (g : 
     other = ap (λ (a : Atom). outcome_in (y ∷ ys) a) (atom_cmp-IsAntisymmetric (atom_of x) (atom_of y) equal) ∙ first y ys ∙ ap Some outcomes;
   }
 
-merged_with-is : (rest : List Literal → Option (List Literal)) (x : Literal) (xs : List Literal) → IsInOrder (x ∷ xs) → ((ys : List Literal) → IsInOrder ys → MatchOption (rest ys) (Clashes xs ys) (IsMerged xs ys)) → (ys : List Literal) → IsInOrder ys → MatchOption (merged_with rest x xs ys) (Clashes (x ∷ xs) ys) (IsMerged (x ∷ xs) ys)
+merged_with-is : (rest : List Literal → Option (List Literal)) (x : Literal) (xs : List Literal) → IsInOrder (x ∷ xs) → ((ys : List Literal) → IsInOrder ys → MatchOption (rest ys) (ClashIn xs ys) (IsMerged xs ys)) → (ys : List Literal) → IsInOrder ys → MatchOption (merged_with rest x xs ys) (ClashIn (x ∷ xs) ys) (IsMerged (x ∷ xs) ys)
 merged_with-is rest x xs h is [] g = record {
   in_order = h;
   below = λ a p q. p;
@@ -132,16 +113,16 @@ merged_with-is rest x xs h is [] g = record {
   agree = λ q a b one other. None-Some refl other;
 }
 merged_with-is rest x xs h is (y ∷ ys) g =
-    elim (atom_cmp (atom_of x) (atom_of y)) as (λ r. atom_cmp (atom_of x) (atom_of y) ≡ r → MatchOption (merge_step r (same_outcome x.outcome y.outcome) x y (rest (y ∷ ys)) (rest ys) (merged_with rest x xs ys)) (Clashes (x ∷ xs) (y ∷ ys)) (IsMerged (x ∷ xs) (y ∷ ys))) [
+    elim (atom_cmp (atom_of x) (atom_of y)) as (λ r. atom_cmp (atom_of x) (atom_of y) ≡ r → MatchOption (merge_step r (same_outcome x.outcome y.outcome) x y (rest (y ∷ ys)) (rest ys) (merged_with rest x xs ys)) (ClashIn (x ∷ xs) (y ∷ ys)) (IsMerged (x ∷ xs) (y ∷ ys))) [
       | Less ↦ λ less. step-Less x y xs ys h g less (rest (y ∷ ys)) (is (y ∷ ys) g)
-      | Equal ↦ λ equal. elim (same_outcome x.outcome y.outcome) as (λ t. same_outcome x.outcome y.outcome ≡ t → MatchOption (merge_step Equal t x y (rest (y ∷ ys)) (rest ys) (merged_with rest x xs ys)) (Clashes (x ∷ xs) (y ∷ ys)) (IsMerged (x ∷ xs) (y ∷ ys))) [
+      | Equal ↦ λ equal. elim (same_outcome x.outcome y.outcome) as (λ t. same_outcome x.outcome y.outcome ≡ t → MatchOption (merge_step Equal t x y (rest (y ∷ ys)) (rest ys) (merged_with rest x xs ys)) (ClashIn (x ∷ xs) (y ∷ ys)) (IsMerged (x ∷ xs) (y ∷ ys))) [
         | true ↦ λ t. step-Equal x y xs ys h g equal (same_outcome-true _ _ t) (rest ys) (is ys (T_second _ _ g))
         | false ↦ λ t. step-clash x y xs ys h g equal (same_outcome-false _ _ t)
       ] refl
       | Greater ↦ λ greater. step-Greater x y xs ys h g greater (merged_with rest x xs ys) (merged_with-is rest x xs h is ys (T_second _ _ g))
     ] refl
 
-pub merged-is : (xs ys : List Literal) → IsInOrder xs → IsInOrder ys → MatchOption (merged xs ys) (Clashes xs ys) (IsMerged xs ys)
+pub merged-is : (xs ys : List Literal) → IsInOrder xs → IsInOrder ys → MatchOption (merged xs ys) (ClashIn xs ys) (IsMerged xs ys)
 merged-is [] ys h g = record { in_order = g; below = λ a p q. q; finds = λ q. refl; agree = λ q a b one other. None-Some refl one }
 merged-is (x ∷ xs) ys h g = merged_with-is (merged xs) x xs h (λ zs k. merged-is xs zs (T_second _ _ h) k) ys g
 
@@ -168,9 +149,8 @@ merged-end left right all done gone (inr end) is =
 -- ---- what the merge says of facts
 
 module _ (left right : FactMap) (xs ys : List Literal) (h : IsInOrder xs) (g : IsInOrder ys) (is_left : from_sorted {R = atom_cmp} (map entry_of xs) ≡ left) (is_right : from_sorted {R = atom_cmp} (map entry_of ys) ≡ right) where
-  pub Clash-merged : merged xs ys ≡ None → Clash left right
-  Clash-merged is =
-      let clash : Clashes xs ys = subst (λ o. MatchOption o (Clashes xs ys) (IsMerged xs ys)) is (merged-is xs ys h g) in
+  pub Clash-merged : ClashIn xs ys → Clash left right
+  Clash-merged clash =
       record {
         atom = clash.atom;
         outcome = clash.outcome;
@@ -178,12 +158,8 @@ module _ (left right : FactMap) (xs ys : List Literal) (h : IsInOrder xs) (g : I
         other = get_of_view right ys g is_right clash.atom ∙ clash.other;
       }
 
-  pub in_order-merged : (zs : List Literal) → merged xs ys ≡ Some zs → IsInOrder zs
-  in_order-merged zs is = (subst (λ o. MatchOption o (Clashes xs ys) (IsMerged xs ys)) is (merged-is xs ys h g)).in_order
-
-  pub not_Clash-merged : (zs : List Literal) → merged xs ys ≡ Some zs → Clash left right → ⊥
-  not_Clash-merged zs is clash =
-      let all : IsMerged xs ys zs = subst (λ o. MatchOption o (Clashes xs ys) (IsMerged xs ys)) is (merged-is xs ys h g) in
+  pub not_Clash-merged : (zs : List Literal) → IsMerged xs ys zs → Clash left right → ⊥
+  not_Clash-merged zs all clash =
       not_both clash.outcome (all.agree clash.atom clash.outcome (not clash.outcome) (sym (get_of_view left xs h is_left clash.atom) ∙ clash.one) (sym (get_of_view right ys g is_right clash.atom) ∙ clash.other))
 
   either : (o p : Option Bool) (a : Bool) → first_of o p ≡ Some a → (o ≡ Some a) ⊎ (p ≡ Some a)
@@ -195,9 +171,8 @@ module _ (left right : FactMap) (xs ys : List Literal) (h : IsInOrder xs) (g : I
   joined None p a agree (inr e) = e
   joined (Some b) p a agree (inr e) = ap Some (agree b a refl e)
 
-  pub Stands-merged : (zs : List Literal) (both : FactMap) → from_sorted {R = atom_cmp} (map entry_of zs) ≡ both → merged xs ys ≡ Some zs → (atom : Atom) (outcome : Bool) → Stands both atom outcome ↔ (Stands left atom outcome ⊎ Stands right atom outcome)
-  Stands-merged zs both is_both is atom outcome =
-      let all : IsMerged xs ys zs = subst (λ o. MatchOption o (Clashes xs ys) (IsMerged xs ys)) is (merged-is xs ys h g) in
+  pub Stands-merged : (zs : List Literal) (both : FactMap) → from_sorted {R = atom_cmp} (map entry_of zs) ≡ both → IsMerged xs ys zs → (atom : Atom) (outcome : Bool) → Stands both atom outcome ↔ (Stands left atom outcome ⊎ Stands right atom outcome)
+  Stands-merged zs both is_both all atom outcome =
       let one = get_of_view left xs h is_left atom in
       let other = get_of_view right ys g is_right atom in
       let whole = get_of_view both zs all.in_order is_both atom in (

@@ -1,7 +1,8 @@
+pub mod Answers
+pub mod Differences
 pub mod Facts
+pub mod HoldForms
 pub mod Literals
 pub mod Meaning
-pub mod Answers
+pub mod Merges
 pub mod Places
-pub mod Merged
-pub mod HoldForms

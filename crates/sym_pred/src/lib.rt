@@ -1,10 +1,13 @@
 //! Hold cells: what is known of the tests on one of them, and what a path makes of it.
 #![tactic(auto)]
 
-pub mod facts;
-pub mod form;
-pub mod literal;
+mod facts;
+mod form;
+mod literal;
 
 pub use facts::{Added, Facts};
 pub use form::HoldForm;
 pub use literal::Literal;
+
+#[cfg(test)]
+mod tests;

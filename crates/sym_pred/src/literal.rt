@@ -7,7 +7,7 @@ use std::cmp::Ordering;
 use sym_base::{NoMemory, Plain, Values};
 
 /// A test on a hold cell, with arguments, and the outcome that it has.
-#[derive(Debug, PartialEq, Eq, Drop)]
+#[derive(PartialEq, Eq, Drop)]
 pub struct Literal {
     /// The number of the test, counted from 0 in order of declaration.
     pub test: u16,

@@ -1,1 +1,3 @@
+pub mod CallersLemmas
+pub mod Changes
 pub mod ListsLemmas

@@ -1,7 +1,7 @@
 -- What is merged so far, with what the rest of the two lists comes to behind it, is the whole.
 use Rattle.std.proofs.Common.{◌≡◌, ◌≤◌, ◌+◌, ◌-◌, ◌++◌, drop, length}
 use Rattle.std.specs.Option.{option_map}
-use Rattle.sym_pred.specs.Merged.{merged}
+use Rattle.sym_pred.proofs.Merged.{merged}
 use Rattle.sym_pred.proofs.facts.merge.Given as goal
 
 abbrev pub invariant-literals : goal.invariant-literals

@@ -3,4 +3,4 @@ use Rattle.std.proofs.Common.{◌≡◌, take}
 use Rattle.sym_vector.proofs.ListForm.copy.Given as goal
 
 abbrev pub invariant-elements : goal.invariant-elements
-invariant-elements g l = l.added ≡ take l.element-index l.element-items
+invariant-elements g l = l.added.items ≡ take l.element-index l.element-items

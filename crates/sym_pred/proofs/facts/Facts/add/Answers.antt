@@ -1,9 +1,9 @@
 use Rattle.std.proofs.Common.{◌≡◌, ℕ, get_or, List, map, Err, Some, sym, ap, subst, ◌∙◌}
-use Rattle.std.specs.FinMap.{find}
+use Rattle.std.specs.FinMap.{find, insert}
 use Rattle.sym_pred.specs.declared.literal.Literal.{Literal}
 use Rattle.sym_pred.specs.declared.facts.Added.TheVariants.{Same, Longer, Against}
-use Rattle.sym_pred.specs.Facts.{atom_cmp}
-use Rattle.sym_pred.specs.Literals.{atom_of, entry_of}
+use Rattle.sym_pred.specs.Facts.{FactMap, atom_cmp}
+use Rattle.sym_pred.specs.Literals.{atom_of, entry_of, literals}
 use Rattle.sym_pred.specs.Places.{IsPlace}
 use Rattle.sym_pred.proofs.FactsLemmas.{get_of_view, literals_of_view}
 use Rattle.sym_pred.proofs.MeaningLemmas.{beq-true, beq-false, AdmitsAdded-from_IsAdded}
@@ -24,7 +24,7 @@ returns-then-as_slice-index-clause-admits c = AdmitsAdded-from_IsAdded c.args.se
 
 pub longer-requires : goal.longer-requires
 longer-requires c =
-    subst (λ xs. IsPlace xs (atom_of c.args.literal) (Err c.in-Err.index)) (c.as_slice.ensures ∙ sym (literals_of_view _ _ c.self.invariant c.self.view_is)) c.in-Err.ensures
+    subst (λ xs. IsPlace xs (atom_of c.args.literal) (Err c.in-Err.index)) (c.as_slice.ensures ∙ sym (literals_of_view _ _ c.self.invariant c.self.view_is) ∙ ap (λ (m : FactMap). literals m) (sym c.in_ok-copy-in-Err.ensures)) c.in-Err.ensures
 
 pub returns-else-as_slice-index-clause-added : goal.returns-else-as_slice-index-clause-added
 returns-else-as_slice-index-clause-added c =
@@ -41,7 +41,7 @@ returns-in_ok-longer-in-Err-clause-added c = (
   get_of_view _ _ c.self.invariant c.self.view_is (atom_of c.args.literal)
       ∙ ap (λ (xs : List Literal). find atom_cmp (atom_of c.args.literal) (map entry_of xs)) (sym c.as_slice.ensures)
       ∙ c.in-Err.ensures.1,
-  c.in_ok-longer-in-Err.ensures,
+  c.in_ok-longer-in-Err.ensures ∙ ap (λ (m : FactMap). insert m (atom_of c.args.literal) c.args.literal.outcome) c.in_ok-copy-in-Err.ensures,
 )
 
 pub returns-in_ok-longer-in-Err-clause-admits : goal.returns-in_ok-longer-in-Err-clause-admits

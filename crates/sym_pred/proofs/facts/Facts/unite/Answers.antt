@@ -3,7 +3,7 @@ use Rattle.std.specs.FinMap.{remove}
 use Rattle.sym_pred.specs.declared.facts.Difference.TheVariants.{One, Many}
 use Rattle.sym_pred.specs.Facts.{Atom}
 use Rattle.sym_pred.specs.Literals.{atom_of}
-use Rattle.sym_pred.specs.Merged.{IsDifference}
+use Rattle.sym_pred.specs.Differences.{IsDifference}
 use Rattle.sym_pred.proofs.FactsLemmas.{literals_of_view}
 use Rattle.sym_pred.proofs.MeaningLemmas.{Stands-union, Admits-union}
 use Rattle.sym_pred.proofs.DifferenceLemmas.{some_literal, DifferInOne-One, DifferInOne-One-atom, not_Unite-Many}

@@ -1,6 +1,6 @@
 use Rattle.std.proofs.Common.{refl, subst, inr}
 use Rattle.sym_pred.specs.declared.facts.Difference.TheVariants.{One, Many}
-use Rattle.sym_pred.specs.Merged.{IsDifference}
+use Rattle.sym_pred.specs.Differences.{IsDifference}
 use Rattle.sym_pred.proofs.DifferenceLemmas.{some_literal, DifferInOne-One, not_Unite-Many}
 use Rattle.sym_pred.proofs.facts.Facts.unites.Goals as goal
 
