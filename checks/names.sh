@@ -110,14 +110,15 @@ check_clauses() {
     done <"$work/entries"
 }
 
-# All words of the sources.
+# All words of the sources, the crates' names and the handles.
 find crates -name out -prune -o -type f \( -name '*.rt' -o -name '*.antt' \) -exec cat {} + |
+    cat - crates.txt HANDLES |
     grep -oE '[A-Za-z_][A-Za-z0-9_]*' | sort -u >"$work/words"
 
 check_words() {
     quoted "$1" | grep -E '^[A-Za-z_][A-Za-z0-9_:]*$' | sed 's/.*:://' | sort -u >"$work/names"
     while read -r name; do
-        grep -qx "$name" "$work/words" || grep -q "^$name:" crates.txt
+        grep -qx "$name" "$work/words"
         note $? "$1: no source has $name"
     done <"$work/names"
 }
