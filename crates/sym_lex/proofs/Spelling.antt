@@ -57,13 +57,8 @@ nothing-spells before rest r f h = record {
   reads = let place : length before + 0 ≡ length before = omega arith in subst (Reads (length before) rest) (sym (nothing-more r)) (subst (λ n. Reads n rest r) place h);
 }
 
--- Bytes after bytes spell the tokens of both.
-pub spells-both : (P Q : List ℕ → Type 0) (a b : List ℕ) (ts us : List Terminal) → Spells P a ts → Spells Q b us → ((rest : List ℕ) → Q rest → P (b ++ rest)) → Spells Q (a ++ b) (ts ++ us)
-spells-both P Q a b ts us p q follows before rest r f h =
-    let place : length before + length (a ++ b) ≡ length (before ++ a) + length b = omega (arith, length-append a b, length-append before a) in
-    let second : SpellsBetween (before ++ a) b rest us r = q (before ++ a) rest r f (subst (λ n. Reads n rest r) place h) in
-    let middle : Reads (length before + length a) (b ++ rest) (with_tokens second.tokens r) = subst (λ n. Reads n (b ++ rest) (with_tokens second.tokens r)) (length-append before a) second.reads in
-    let first : SpellsBetween before a (b ++ rest) ts (with_tokens second.tokens r) = p before (b ++ rest) (with_tokens second.tokens r) (follows rest f) middle in
+joined-between : (before a b rest : List ℕ) (ts us : List Terminal) (r : LexResult) (second : SpellsBetween (before ++ a) b rest us r) → SpellsBetween before a (b ++ rest) ts (with_tokens second.tokens r) → SpellsBetween before (a ++ b) rest (ts ++ us) r
+joined-between before a b rest ts us r second first =
     let whole : before ++ ((a ++ b) ++ rest) ≡ before ++ (a ++ (b ++ rest)) = ap (λ (t : List ℕ). before ++ t) (append_assoc a b rest) in
     record {
       tokens = first.tokens ++ second.tokens;
@@ -76,6 +71,17 @@ spells-both P Q a b ts us p q follows before rest r f h =
           subst (λ t. Reads (length before) t (with_tokens (first.tokens ++ second.tokens) r)) (sym (append_assoc a b rest))
           (subst (Reads (length before) (a ++ (b ++ rest))) (sym (both-more first.tokens second.tokens r)) first.reads);
     }
+
+placed-between : (P : List ℕ → Type 0) (before a b rest : List ℕ) (ts us : List Terminal) (r : LexResult) → Spells P a ts → P (b ++ rest) → SpellsBetween (before ++ a) b rest us r → SpellsBetween before (a ++ b) rest (ts ++ us) r
+placed-between P before a b rest ts us r p follows second =
+    joined-between before a b rest ts us r second
+    (p before (b ++ rest) (with_tokens second.tokens r) follows (subst (λ n. Reads n (b ++ rest) (with_tokens second.tokens r)) (length-append before a) second.reads))
+
+-- Bytes after bytes spell the tokens of both.
+pub spells-both : (P Q : List ℕ → Type 0) (a b : List ℕ) (ts us : List Terminal) → Spells P a ts → Spells Q b us → ((rest : List ℕ) → Q rest → P (b ++ rest)) → Spells Q (a ++ b) (ts ++ us)
+spells-both P Q a b ts us p q follows before rest r f h =
+    let place : length before + length (a ++ b) ≡ length (before ++ a) + length b = omega (arith, length-append a b, length-append before a) in
+    placed-between P before a b rest ts us r p (follows rest f) (q (before ++ a) rest r f (subst (λ n. Reads n rest r) place h))
 
 -- Where fewer bytes may follow.
 pub spells-before : (P Q : List ℕ → Type 0) (bytes : List ℕ) (ts : List Terminal) → ((rest : List ℕ) → Q rest → P rest) → Spells P bytes ts → Spells Q bytes ts
