@@ -1,1 +1,2 @@
+pub mod ListForms
 pub mod Rounds

@@ -2,8 +2,6 @@
 #![tactic(auto)]
 
 mod disk;
-#[cfg(test)]
-mod list_forms;
 mod stream;
 
 use crate::disk::DiskStore;
