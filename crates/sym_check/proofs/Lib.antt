@@ -1,2 +1,3 @@
 pub mod CounterTrees
 pub mod Steps
+mod Examples
