@@ -1,3 +1,6 @@
 pub mod CounterTrees
 pub mod Steps
 mod Examples
+mod ZippedLists
+mod ValidSteps
+mod TestAnswers

@@ -1,5 +1,5 @@
 -- What conditions stand for: true, false, or failed arithmetic.
-use Rattle.std.specs.Prelude.{ℕ, Bool, false, not, if◌then◌else◌, nat_eq, ◌==◌, List, [], ◌++◌, Option, Some, None, slice_get, Result, Ok, Err}
+use Rattle.std.specs.Prelude.{ℕ, Bool, true, false, not, ◌&&◌, if◌then◌else◌, nat_eq, ◌==◌, List, [], ◌++◌, Option, Some, None, slice_get, Result, Ok, Err}
 use Rattle.std.specs.Cmp.Lexicographic.{pointwise}
 use Rattle.sym_base.specs.declared.values.value.Value.{Value}
 use Rattle.sym_base.specs.declared.values.state.State.{State}
@@ -9,6 +9,7 @@ use Rattle.sym_check.specs.declared.evaluate.arithmetic.Arith.{Arith}
 use Rattle.sym_check.specs.Arithmetic.{◌>>=◌, and_then}
 use Rattle.sym_check.specs.FixedValues.{Known, number, word_of, label_of, fixed_values}
 use Rattle.sym_check.specs.LineValues.{term_number}
+use Rattle.sym_check.specs.LinePlans.{TermPlan, OfNum, OfLine}
 use Rattle.sym_check.specs.CondPlans.{CondPlan, Compared, Words, CellIs, LabelIs, Test, Not, And, Or}
 use Rattle.sym_check.specs.ScriptPlans.{TestOf}
 
@@ -42,7 +43,25 @@ truth tests k (Or c d) s = do
   x ← truth tests k c s
   if x then Ok x else truth tests k d s
 
--- The body of a test calls no test and names no cell.
+abbrev pub is_fixed_term : TermPlan → Bool
+is_fixed_term (OfNum n) = true
+is_fixed_term (OfLine l) = false
+
+-- A fixed condition names no cell, and calls no test, since a call names its hold cell.
+abbrev pub is_fixed : CondPlan → Bool
+is_fixed (Compared compare t n) = is_fixed_term t
+is_fixed (Words v w) = true
+is_fixed (CellIs c l) = false
+is_fixed (LabelIs l m) = true
+is_fixed (Test test c args) = false
+is_fixed (Not c) = is_fixed c
+is_fixed (And c d) = is_fixed c && is_fixed d
+is_fixed (Or c d) = is_fixed c && is_fixed d
+
+abbrev pub has_fixed_body : TestOf → Bool
+has_fixed_body test = is_fixed test.body
+
+-- No test is called in the body of a test.
 abbrev pub no_test : Truth
 no_test test args parts = false
 

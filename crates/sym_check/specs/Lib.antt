@@ -17,3 +17,4 @@ pub mod Validity
 pub mod Fitting
 pub mod WellFormed
 pub mod PathBounds
+pub mod KnownValues

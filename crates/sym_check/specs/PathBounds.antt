@@ -6,6 +6,7 @@ use Rattle.sym_base.specs.declared.tree.compare.Compare.TheVariants as compare
 use Rattle.sym_base.specs.declared.limits.TheConstants as limit
 use Rattle.sym_check.specs.LinePlans.{TermPlan, OfNum, OfLine}
 use Rattle.sym_check.specs.CondPlans.{CondPlan, Compared, Words, CellIs, LabelIs, Test, Not, And, Or}
+use Rattle.sym_check.specs.Conditions.{is_fixed}
 use Rattle.sym_check.specs.DoPlans.{DoPlan, Let, SetInt, SetEnum, CopyEnum, Keep, KeepFrom, PushNum, PushWord, If, DosPlan, End, Then}
 
 abbrev pub plus : ℕ → ℕ → ℕ
@@ -47,21 +48,6 @@ pieces (Test t c es) = record { holds = 1; fails = 1 }
 pieces (Not c) = record { holds = (pieces c).fails; fails = (pieces c).holds }
 pieces (And c d) = and_pieces (pieces c) (pieces d)
 pieces (Or c d) = or_pieces (pieces c) (pieces d)
-
-abbrev pub is_fixed_term : TermPlan → Bool
-is_fixed_term (OfNum n) = true
-is_fixed_term (OfLine l) = false
-
--- A fixed condition names no cell.
-abbrev pub is_fixed : CondPlan → Bool
-is_fixed (Compared c t n) = is_fixed_term t
-is_fixed (Words v w) = true
-is_fixed (CellIs c l) = false
-is_fixed (LabelIs l m) = true
-is_fixed (Test t c es) = false
-is_fixed (Not c) = is_fixed c
-is_fixed (And c d) = is_fixed c && is_fixed d
-is_fixed (Or c d) = is_fixed c && is_fixed d
 
 -- How many paths statements make of one that goes on: those that go on, and those that end.
 pub record Ways : Type 0 where
