@@ -1,13 +1,9 @@
 -- The definitions on plans, tried on examples.
-use Rattle.std.specs.Prelude.{◌≡◌, refl, ℕ, zero, suc, ℤ, pos, negsuc, Bool, true, false, List, [], ◌∷◌, Option, Some, None, Result, Ok, Err}
-use Rattle.sym_base.specs.declared.values.value.Value.{Value}
+use Rattle.std.specs.Prelude.{◌≡◌, refl, ℕ, zero, suc, ℤ, pos, negsuc, true, false, List, [], ◌∷◌, Some, None, Ok}
 use Rattle.sym_base.specs.declared.values.value.Value.TheVariants as value
-use Rattle.sym_base.specs.declared.values.value.Key.{Key}
-use Rattle.sym_base.specs.declared.values.value.Key.TheVariants.{Whole, One}
+use Rattle.sym_base.specs.declared.values.value.Key.TheVariants.{One}
 use Rattle.sym_base.specs.declared.values.record.Record.{Record}
-use Rattle.sym_base.specs.declared.values.state.Cell.{Cell}
 use Rattle.sym_base.specs.declared.values.state.Cell.TheVariants as cell
-use Rattle.sym_base.specs.declared.values.state.State.{State}
 use Rattle.sym_base.specs.declared.values.state.FaultKind.TheVariants as fault
 use Rattle.sym_base.specs.declared.values.state.Outcome.{Outcome}
 use Rattle.sym_base.specs.declared.values.state.Outcome.TheVariants.{Going, Ended}
@@ -15,17 +11,13 @@ use Rattle.sym_base.specs.declared.tree.compare.Compare.TheVariants as compare
 use Rattle.sym_check.specs.declared.plan.expression.ArithOp.TheVariants as op
 use Rattle.sym_check.specs.declared.plan.expression.LabelOf.TheVariants as label
 use Rattle.sym_check.specs.declared.plan.script.FieldPlan.{FieldPlan}
-use Rattle.sym_check.specs.declared.plan.script.KindPlan.{KindPlan}
 use Rattle.sym_check.specs.declared.plan.script.KindPlan.TheVariants as kind
-use Rattle.sym_check.specs.declared.plan.script.CellPlan.{CellPlan}
 use Rattle.sym_check.specs.declared.plan.script.CellPlan.TheVariants as plan
-use Rattle.sym_check.specs.declared.evaluate.arithmetic.Arith.{Arith}
-use Rattle.sym_check.specs.declared.evaluate.pairs.Pair.{Pair}
 use Rattle.sym_check.specs.FixedPlans as fixed
 use Rattle.sym_check.specs.LinePlans as line
-use Rattle.sym_check.specs.CondPlans.{CondPlan, Compared, CellIs, LabelIs, Test, Not, And, Or}
-use Rattle.sym_check.specs.DoPlans.{DoPlan, Let, SetInt, SetEnum, Keep, PushNum, If, DosPlan, End, Then}
-use Rattle.sym_check.specs.ScriptPlans.{ScriptPlan, TestOf}
+use Rattle.sym_check.specs.CondPlans.{CondPlan, Compared, CellIs, LabelIs, Test, And, Or}
+use Rattle.sym_check.specs.DoPlans.{Let, SetInt, SetEnum, Keep, PushNum, If, DosPlan, End, Then}
+use Rattle.sym_check.specs.ScriptPlans.{ScriptPlan}
 use Rattle.sym_check.specs.Arithmetic.{failed, calculated}
 use Rattle.sym_check.specs.FixedValues.{Known, number}
 use Rattle.sym_check.specs.LineValues.{pair}

@@ -4,3 +4,4 @@ mod Examples
 mod ZippedLists
 mod ValidSteps
 mod TestAnswers
+mod PlanLaws

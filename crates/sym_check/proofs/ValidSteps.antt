@@ -1,6 +1,6 @@
 -- A well-formed plan keeps states valid.
-use Rattle.std.proofs.Common.{◌≡◌, refl, sym, ◌∙◌, ap, subst, ℕ, zero, suc, ◌+◌, ◌-◌, ◌<◌, ◌≤◌, ℤ, pos, neg_ℤ, Bool, true, false, ◌&&◌, List, [], ◌∷◌, ◌++◌, map, replicate, length, Option, Some, None, Result, Ok, Err, arith, slice_index_or}
-use Rattle.std.specs.Prelude.{◌+ℤ◌, ◌-ℤ◌, ◌*ℤ◌, int_div, int_rem, slice_get, slice_set, unsigned_abs, nat_le, int_le, ◌≤ℤ◌, IsTrue, if◌then◌else◌}
+use Rattle.std.proofs.Common.{◌≡◌, refl, subst, ℕ, suc, ◌-◌, ◌<◌, ℤ, pos, neg_ℤ, Bool, true, false, ◌&&◌, List, [], ◌∷◌, ◌++◌, map, length, Some, Result, Ok, Err, arith}
+use Rattle.std.specs.Prelude.{◌+ℤ◌, ◌-ℤ◌, ◌*ℤ◌, int_div, int_rem, slice_get, unsigned_abs, nat_le, int_le, if◌then◌else◌}
 use Rattle.std.specs.List.{All, AllZip}
 use Rattle.std.specs.Ordering.{int_eq}
 use Rattle.std.proofs.lemmas.Int.{ints}
@@ -20,7 +20,6 @@ use Rattle.sym_base.specs.States.{label_at, label_in, parts_at, parts_in}
 use Rattle.sym_check.specs.declared.evaluate.arithmetic.Arith.{Arith}
 use Rattle.sym_check.specs.declared.plan.expression.ArithOp.{ArithOp}
 use Rattle.sym_check.specs.declared.plan.expression.ArithOp.TheVariants as op
-use Rattle.sym_check.specs.declared.plan.expression.WordOf.{WordOf}
 use Rattle.sym_check.specs.declared.plan.expression.LabelOf.{LabelOf}
 use Rattle.sym_check.specs.declared.plan.expression.LabelOf.TheVariants as label
 use Rattle.sym_check.specs.declared.plan.script.EnumPlan.{EnumPlan}
@@ -30,15 +29,13 @@ use Rattle.sym_check.specs.declared.plan.script.CellPlan.{CellPlan}
 use Rattle.sym_check.specs.declared.plan.script.CellPlan.TheVariants as plan
 use Rattle.sym_check.specs.FixedPlans.{NumPlan, FixedPlan, OfNum, OfWord, OfLabel}
 use Rattle.sym_check.specs.FixedPlans as fixed
-use Rattle.sym_check.specs.LinePlans.{TermPlan}
-use Rattle.sym_check.specs.CondPlans.{CondPlan}
-use Rattle.sym_check.specs.DoPlans.{DoPlan, Let, SetInt, SetEnum, CopyEnum, Keep, KeepFrom, PushNum, PushWord, If, DosPlan, End, Then}
+use Rattle.sym_check.specs.DoPlans.{DoPlan, DosPlan}
 use Rattle.sym_check.specs.ScriptPlans.{ScriptPlan}
 use Rattle.sym_check.specs.Arithmetic.{and_then, within, divided, calculated, failed}
 use Rattle.sym_check.specs.FixedValues.{Known, value_number, value_label, number, label_of, word_of, fixed_value, fixed_values}
 use Rattle.sym_check.specs.LineValues.{term_number}
 use Rattle.sym_check.specs.Conditions.{truth, test_truth}
-use Rattle.sym_check.specs.Updates.{first_cell, initial, nums_at, nums_in, words_at, with_cell, in_range, calculating, stored, on_going, known_at, with_local, with_result, locals_after, do_step, dos_step, step}
+use Rattle.sym_check.specs.Updates.{first_cell, initial, nums_at, nums_in, words_at, with_cell, in_range, calculating, stored, on_going, known_at, with_local, locals_after, do_step, dos_step, step}
 use Rattle.sym_check.specs.Validity.{label_count, IsOfKind, AreOfKinds, field_kinds, IsRecord, InRange, IsValidCell, IsValid, IsValidOutcome}
 use Rattle.sym_check.specs.Validity as valid
 use Rattle.sym_check.specs.WellFormed.{Kinds, IsNum, IsLabel, IsFixed, IsKept, with_kind, IsDo, IsDos, IsCell, IsWellFormed, known_kinds}
@@ -102,8 +99,8 @@ number_is enums k v h (fixed.Param i) x t e = let same : value_number (slice_get
 number_is enums k v h (fixed.Neg n) x t e = then_is IsNumber (λ (y : ℤ). within (neg_ℤ y)) (number v n) x (λ y p q. within_is (neg_ℤ y) x q) e
 number_is enums k v h (fixed.Bin o l r) x t e =
     then_is IsNumber (λ (y : ℤ). and_then (λ (z : ℤ). calculated o y z) (number v r)) (number v l) x
-      (λ y p q. then_is IsNumber (λ (z : ℤ). calculated o y z) (number v r) x (λ z p' q'. calculated_is o y z x q') q)
-      e
+    (λ y p q. then_is IsNumber (λ (z : ℤ). calculated o y z) (number v r) x (λ z p' q'. calculated_is o y z x q') q)
+    e
 
 label_is : (enums : List EnumPlan) (k : Kinds) (v : Known) (enum : ℕ) → IsKnown enums k v → (l : LabelOf) → IsLabel enums k enum l → label_of v l < label_count enums enum
 label_is enums k v enum h (label.Lit l) t = t
@@ -115,8 +112,8 @@ label_is enums k v enum h (label.Param i) t = label_in_is enums k.params v.param
 fixed_is : (enums : List EnumPlan) (k : Kinds) (v : Known) → IsKnown enums k v → (wanted : KindPlan) (e : FixedPlan) (x : Value) → IsFixed enums k wanted e → fixed_value v e ≡ Ok x → IsOfKind enums wanted x
 fixed_is enums k v h _ _ x (well.of_num n t) e =
     then_is (IsOfKind enums kind.Num) (λ (y : ℤ). Ok (value.Num y)) (number v n) x
-      (λ y p q. let P : Value → Type 0 = IsOfKind enums kind.Num in let same : value.Num y ≡ x = cc in subst P same (number_is enums k v h n y t p))
-      e
+    (λ y p q. let P : Value → Type 0 = IsOfKind enums kind.Num in let same : value.Num y ≡ x = cc in subst P same (number_is enums k v h n y t p))
+    e
 fixed_is enums k v h _ _ x (well.of_word w t) e = let P : Value → Type 0 = IsOfKind enums kind.Word in let same : value.Word (word_of v w) ≡ x = cc in subst P same tt
 fixed_is enums k v h _ _ x (well.of_label enum l t) e = let P : Value → Type 0 = IsOfKind enums (kind.Label enum) in let same : value.Label (label_of v l) ≡ x = cc in subst P same (label_is enums k v enum h l t)
 
@@ -128,10 +125,10 @@ all_fixed_are enums k v h (a ∷ kinds) (x ∷ es) xs t e =
     let P : List Value → Type 0 = AreOfKinds enums (a ∷ kinds) in
     let rest : (ys : List Value) → fixed_values v es ≡ Ok ys → AreOfKinds enums kinds ys = λ ys. all_fixed_are enums k v h kinds es ys t.1 in
     then_is P (λ (y : Value). and_then (λ (ys : List Value). Ok (y ∷ ys)) (fixed_values v es)) (fixed_value v x) xs
-      (λ y p q. then_is P (λ (ys : List Value). Ok (y ∷ ys)) (fixed_values v es) xs
-        (λ ys p' q'. let same : (y ∷ ys) ≡ xs = cc in subst P same (fixed_is enums k v h a x y t.0 p, rest ys p'))
-        q)
-      e
+    (λ y p q. then_is P (λ (ys : List Value). Ok (y ∷ ys)) (fixed_values v es) xs
+    (λ ys p' q'. let same : (y ∷ ys) ≡ xs = cc in subst P same (fixed_is enums k v h a x y t.0 p, rest ys p'))
+    q)
+    e
 
 -- One local more is of its kind.
 more_known : (enums : List EnumPlan) (k : Kinds) (rec : Record) (locals : List Value) (n : ℕ) (last : KindPlan) (x : Value) → IsKnown enums k (known_at rec locals) → IsOfKind enums last x → IsKnown enums (with_kind k n last) (known_at rec (with_local locals n x))
@@ -141,7 +138,7 @@ more_known enums k rec locals n last x h t =
     record {
       fields = h.fields;
       locals = zip_append (IsOfKind enums) k.locals _ locals _ h.locals
-        (rw long (zip_append (IsOfKind enums) _ _ _ _ (zip_replicate (IsOfKind enums) (n - length k.locals) kind.Num (value.Num (pos 0)) zero_is) (t, tt)));
+          (rw long (zip_append (IsOfKind enums) _ _ _ _ (zip_replicate (IsOfKind enums) (n - length k.locals) kind.Num (value.Num (pos 0)) zero_is) (t, tt)));
       params = h.params;
     }
 
@@ -176,6 +173,7 @@ label_held p s c enum h w = go (zip_get (IsValidCell p.enums) p.cells s.cells c 
   where
     found : (content : Cell) → IsValidCell p.enums (plan.Enum enum w.first) content → slice_get s.cells c ≡ Some content → label_in (slice_get s.cells c) < label_count p.enums enum
     found _ (valid.enum of first l t) e = rw e t
+
     go : (content : Cell) × (slice_get s.cells c ≡ Some content) × IsValidCell p.enums (plan.Enum enum w.first) content → label_at s c < label_count p.enums enum
     go (content, e, t) = found content t e
 
@@ -184,6 +182,7 @@ parts_held p s c kinds h w = go (zip_get (IsValidCell p.enums) p.cells s.cells c
   where
     found : (content : Cell) → IsValidCell p.enums (plan.Hold kinds w.first) content → slice_get s.cells c ≡ Some content → AreOfKinds p.enums kinds (parts_in (slice_get s.cells c))
     found _ (valid.hold ks first parts t) e = rw e t
+
     go : (content : Cell) × (slice_get s.cells c ≡ Some content) × IsValidCell p.enums (plan.Hold kinds w.first) content → AreOfKinds p.enums kinds (parts_at s c)
     go (content, e, t) = found content t e
 
@@ -196,6 +195,7 @@ nums_held p s c x h w t = go (zip_get (IsValidCell p.enums) p.cells s.cells c (p
   where
     found : (content : Cell) → IsValidCell p.enums (plan.Nums w.lo w.hi) content → slice_get s.cells c ≡ Some content → All (InRange w.lo w.hi) (nums_in (slice_get s.cells c))
     found _ (valid.nums lo hi xs t) e = rw e t
+
     go : (content : Cell) × (slice_get s.cells c ≡ Some content) × IsValidCell p.enums (plan.Nums w.lo w.hi) content → IsValidCell p.enums (plan.Nums w.lo w.hi) (cell.Nums (nums_at s c ++ x ∷ []))
     go (content, e, i) = valid.nums w.lo w.hi _ (all_more w.lo w.hi x (nums_at s c) (found content i e) t)
 
@@ -207,44 +207,44 @@ mutual
   do_valid : (p : ScriptPlan) (rec : Record) (k later : Kinds) (d : DoPlan) → IsDo p k d later → (locals : List Value) (s : State) (next : State → Outcome) → IsKnown p.enums k (known_at rec locals) → IsValid p s → ((s' : State) → IsKnown p.enums later (known_at rec (locals_after rec locals d)) → IsValid p s' → IsValidOutcome p (next s')) → IsValidOutcome p (on_going next (do_step p rec locals d s))
   do_valid p rec _ _ _ (well.let_value k n last e free t) locals s next h v after =
       calculated_valid p rec next (λ (x : Value). Going s) (fixed_value (known_at rec locals) e)
-        (λ x is. after s (rw is (more_known p.enums k rec locals n last x h (fixed_is p.enums k (known_at rec locals) h last e x t is))) v)
+      (λ x is. after s (rw is (more_known p.enums k rec locals n last x h (fixed_is p.enums k (known_at rec locals) h last e x t is))) v)
   do_valid p rec _ _ _ (well.set_int k c t w u) locals s next h v after =
       calculated_valid p rec next (λ (x : ℤ). stored p rec s c (cell.Int x) x) (term_number (known_at rec locals) t s)
-        (λ x is. stored_valid p rec next s c (cell.Int x) x
-          (λ fits. after (with_cell s c (cell.Int x)) h
-            (put_is p s c (plan.Int w.lo w.hi w.first) (cell.Int x) v w.is
-              (valid.int w.lo w.hi w.first x (in_range_is w.lo w.hi x (rw w.is at fits))))))
+      (λ x is. stored_valid p rec next s c (cell.Int x) x
+      (λ fits. after (with_cell s c (cell.Int x)) h
+      (put_is p s c (plan.Int w.lo w.hi w.first) (cell.Int x) v w.is
+      (valid.int w.lo w.hi w.first x (in_range_is w.lo w.hi x (rw w.is at fits))))))
   do_valid p rec _ _ _ (well.set_enum k c l w) locals s next h v after =
       after (with_cell s c (cell.Enum (label_of (known_at rec locals) l))) h
-        (put_is p s c (plan.Enum w.enum w.of_cell.first) (cell.Enum (label_of (known_at rec locals) l)) v w.of_cell.is
-          (valid.enum w.enum w.of_cell.first (label_of (known_at rec locals) l) (label_is p.enums k (known_at rec locals) w.enum h l w.is_label)))
+      (put_is p s c (plan.Enum w.enum w.of_cell.first) (cell.Enum (label_of (known_at rec locals) l)) v w.of_cell.is
+      (valid.enum w.enum w.of_cell.first (label_of (known_at rec locals) l) (label_is p.enums k (known_at rec locals) w.enum h l w.is_label)))
   do_valid p rec _ _ _ (well.copy_enum k c d w) locals s next h v after =
       after (with_cell s c (cell.Enum (label_at s d))) h
-        (put_is p s c (plan.Enum w.enum w.to.first) (cell.Enum (label_at s d)) v w.to.is
-          (valid.enum w.enum w.to.first (label_at s d) (label_held p s d w.enum v w.from)))
+      (put_is p s c (plan.Enum w.enum w.to.first) (cell.Enum (label_at s d)) v w.to.is
+      (valid.enum w.enum w.to.first (label_at s d) (label_held p s d w.enum v w.from)))
   do_valid p rec _ _ _ (well.keep k c es w) locals s next h v after =
       calculated_valid p rec next (λ (xs : List Value). Going (with_cell s c (cell.Hold xs))) (fixed_values (known_at rec locals) es)
-        (λ xs is. after (with_cell s c (cell.Hold xs)) h
-          (put_is p s c (plan.Hold w.parts w.is_hold.first) (cell.Hold xs) v w.is_hold.is
-            (valid.hold w.parts w.is_hold.first xs (all_fixed_are p.enums k (known_at rec locals) h w.parts es xs w.kept is))))
+      (λ xs is. after (with_cell s c (cell.Hold xs)) h
+      (put_is p s c (plan.Hold w.parts w.is_hold.first) (cell.Hold xs) v w.is_hold.is
+      (valid.hold w.parts w.is_hold.first xs (all_fixed_are p.enums k (known_at rec locals) h w.parts es xs w.kept is))))
   do_valid p rec _ _ _ (well.keep_from k c d w) locals s next h v after =
       after (with_cell s c (cell.Hold (parts_at s d))) h
-        (put_is p s c (plan.Hold w.parts w.to.first) (cell.Hold (parts_at s d)) v w.to.is
-          (valid.hold w.parts w.to.first (parts_at s d) (parts_held p s d w.parts v w.from)))
+      (put_is p s c (plan.Hold w.parts w.to.first) (cell.Hold (parts_at s d)) v w.to.is
+      (valid.hold w.parts w.to.first (parts_at s d) (parts_held p s d w.parts v w.from)))
   do_valid p rec _ _ _ (well.push_num k c t w u) locals s next h v after =
       calculated_valid p rec next (λ (x : ℤ). stored p rec s c (cell.Nums (nums_at s c ++ x ∷ [])) x) (term_number (known_at rec locals) t s)
-        (λ x is. stored_valid p rec next s c (cell.Nums (nums_at s c ++ x ∷ [])) x
-          (λ fits. after (with_cell s c (cell.Nums (nums_at s c ++ x ∷ []))) h
-            (put_is p s c (plan.Nums w.lo w.hi) (cell.Nums (nums_at s c ++ x ∷ [])) v w.is
-              (nums_held p s c x v w (in_range_is w.lo w.hi x (rw w.is at fits))))))
+      (λ x is. stored_valid p rec next s c (cell.Nums (nums_at s c ++ x ∷ [])) x
+      (λ fits. after (with_cell s c (cell.Nums (nums_at s c ++ x ∷ []))) h
+      (put_is p s c (plan.Nums w.lo w.hi) (cell.Nums (nums_at s c ++ x ∷ [])) v w.is
+      (nums_held p s c x v w (in_range_is w.lo w.hi x (rw w.is at fits))))))
   do_valid p rec _ _ _ (well.push_word k c w i t) locals s next h v after =
       after (with_cell s c (cell.Words (words_at s c ++ word_of (known_at rec locals) w ∷ []))) h
-        (put_is p s c plan.Words (cell.Words (words_at s c ++ word_of (known_at rec locals) w ∷ [])) v i.is (valid.words _))
+      (put_is p s c plan.Words (cell.Words (words_at s c ++ word_of (known_at rec locals) w ∷ [])) v i.is (valid.words _))
   do_valid p rec _ _ _ (well.branch k c a b t ta tb) locals s next h v after =
       let left : IsValidOutcome p (on_going next (dos_step p rec locals a s)) = then_valid p next (dos_step p rec locals a s) (λ s'. after s' h) (dos_valid p rec k a ta locals s h v) in
       let right : IsValidOutcome p (on_going next (dos_step p rec locals b s)) = then_valid p next (dos_step p rec locals b s) (λ s'. after s' h) (dos_valid p rec k b tb locals s h v) in
       calculated_valid p rec next (λ (x : Bool). if x then dos_step p rec locals a s else dos_step p rec locals b s) (truth (test_truth p.tests) (known_at rec locals) c s)
-        (λ x is. either p next (dos_step p rec locals a s) (dos_step p rec locals b s) x left right)
+      (λ x is. either p next (dos_step p rec locals a s) (dos_step p rec locals b s) x left right)
 
   dos_valid : (p : ScriptPlan) (rec : Record) (k : Kinds) (ds : DosPlan) → IsDos p k ds → (locals : List Value) (s : State) → IsKnown p.enums k (known_at rec locals) → IsValid p s → IsValidOutcome p (dos_step p rec locals ds s)
   dos_valid p rec _ _ (well.finished k) locals s h v = v

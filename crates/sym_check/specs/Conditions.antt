@@ -6,7 +6,7 @@ use Rattle.sym_base.specs.declared.values.state.State.{State}
 use Rattle.sym_base.specs.States.{label_at, parts_at}
 use Rattle.sym_base.specs.Comparing.{compares}
 use Rattle.sym_check.specs.declared.evaluate.arithmetic.Arith.{Arith}
-use Rattle.sym_check.specs.Arithmetic.{◌>>=◌, and_then}
+use Rattle.sym_check.specs.Arithmetic.{◌>>=◌}
 use Rattle.sym_check.specs.FixedValues.{Known, number, word_of, label_of, fixed_values}
 use Rattle.sym_check.specs.LineValues.{term_number}
 use Rattle.sym_check.specs.LinePlans.{TermPlan, OfNum, OfLine}

@@ -1,5 +1,5 @@
 -- What fixed expressions stand for: a number, a word or a label, or failed arithmetic.
-use Rattle.std.specs.Prelude.{ℕ, ℤ, pos, neg_ℤ, List, [], ◌∷◌, Option, Some, None, Result, Ok, Err, slice_get}
+use Rattle.std.specs.Prelude.{ℕ, ℤ, pos, neg_ℤ, List, [], ◌∷◌, Option, Some, None, Result, Ok, slice_get}
 use Rattle.sym_base.specs.declared.values.value.Value.{Value}
 use Rattle.sym_base.specs.declared.values.value.Value.TheVariants as value
 use Rattle.sym_check.specs.declared.evaluate.arithmetic.Arith.{Arith}
@@ -7,7 +7,7 @@ use Rattle.sym_check.specs.declared.plan.expression.WordOf.{WordOf}
 use Rattle.sym_check.specs.declared.plan.expression.WordOf.TheVariants as word
 use Rattle.sym_check.specs.declared.plan.expression.LabelOf.{LabelOf}
 use Rattle.sym_check.specs.declared.plan.expression.LabelOf.TheVariants as label
-use Rattle.sym_check.specs.Arithmetic.{◌>>=◌, and_then, within, calculated}
+use Rattle.sym_check.specs.Arithmetic.{◌>>=◌, within, calculated}
 use Rattle.sym_check.specs.FixedPlans.{NumPlan, Lit, Field, Local, Param, Neg, Bin, FixedPlan, OfNum, OfWord, OfLabel}
 
 -- What the names of an expression stand for, by their numbers: the fields of a record, the locals

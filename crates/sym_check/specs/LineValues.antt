@@ -1,10 +1,10 @@
 -- What lines stand for: a pair (a, b) over a cell, whose number where the cell holds x is a * x + b.
-use Rattle.std.specs.Prelude.{ℕ, ℤ, pos, neg_ℤ, ◌+ℤ◌, ◌*ℤ◌, Result, Ok, Err}
+use Rattle.std.specs.Prelude.{ℕ, ℤ, pos, neg_ℤ, ◌+ℤ◌, ◌*ℤ◌, Result, Ok}
 use Rattle.sym_base.specs.declared.values.state.State.{State}
 use Rattle.sym_base.specs.States.{number_at}
 use Rattle.sym_check.specs.declared.evaluate.arithmetic.Arith.{Arith}
 use Rattle.sym_check.specs.declared.evaluate.pairs.Pair.{Pair}
-use Rattle.sym_check.specs.Arithmetic.{◌>>=◌, and_then, within}
+use Rattle.sym_check.specs.Arithmetic.{◌>>=◌, within}
 use Rattle.sym_check.specs.FixedValues.{Known, number}
 use Rattle.sym_check.specs.LinePlans.{LinePlan, Cell, Neg, Add, Scale, TermPlan, OfNum, OfLine}
 

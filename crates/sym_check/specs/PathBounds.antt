@@ -1,6 +1,6 @@
 -- The path bound: how many paths the symbolic execution of one record can have at most. Sums and
 -- products stop at a million.
-use Rattle.std.specs.Prelude.{ℕ, ◌+◌, ◌*◌, min, max, Bool, true, false, ◌&&◌, if◌then◌else◌}
+use Rattle.std.specs.Prelude.{ℕ, ◌+◌, ◌*◌, min, max, if◌then◌else◌}
 use Rattle.sym_base.specs.declared.tree.compare.Compare.{Compare}
 use Rattle.sym_base.specs.declared.tree.compare.Compare.TheVariants as compare
 use Rattle.sym_base.specs.declared.limits.TheConstants as limit

@@ -15,7 +15,6 @@ use Rattle.sym_base.specs.States.{label_at, parts_at}
 use Rattle.sym_check.specs.declared.evaluate.arithmetic.Arith.{Arith}
 use Rattle.sym_check.specs.declared.plan.script.CellPlan.{CellPlan}
 use Rattle.sym_check.specs.declared.plan.script.CellPlan.TheVariants as plan
-use Rattle.sym_check.specs.FixedPlans.{FixedPlan}
 use Rattle.sym_check.specs.FixedValues.{Known, word_of, label_of, fixed_value, fixed_values}
 use Rattle.sym_check.specs.LineValues.{term_number}
 use Rattle.sym_check.specs.Conditions.{truth, test_truth}

@@ -1,6 +1,6 @@
 -- Plans whose numbers name what their places need: each field, local, parameter, cell, part, label
 -- and test is there and of the kind wanted, and the numbers that stand in them are those of a script.
-use Rattle.std.specs.Prelude.{◌≡◌, ℕ, ℤ, ◌+◌, ◌-◌, ◌<◌, ◌≤◌, ◌≤ℤ◌, List, [], ◌∷◌, ◌++◌, replicate, length, Option, Some, None, slice_get, IfSome}
+use Rattle.std.specs.Prelude.{◌≡◌, ℕ, ℤ, ◌-◌, ◌<◌, ◌≤◌, ◌≤ℤ◌, List, [], ◌∷◌, ◌++◌, replicate, length, Some, slice_get, IfSome}
 use Rattle.std.specs.List.{All, AllZip}
 use Rattle.sym_base.specs.declared.values.value.Value.{Value}
 use Rattle.sym_base.specs.Limits.{IsNumber}

@@ -9,6 +9,7 @@ pub mod rules;
 
 pub use checked::{CheckErr, Checked};
 pub use evaluate::arithmetic::Arith;
+pub use evaluate::calls::{fixed, number, pair};
 pub use evaluate::fixed_value::FixedValue;
 pub use evaluate::pairs::Pair;
 pub use plan::condition::Cond;
