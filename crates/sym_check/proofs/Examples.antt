@@ -19,14 +19,14 @@ use Rattle.sym_check.specs.CondPlans.{CondPlan, Compared, CellIs, LabelIs, Test,
 use Rattle.sym_check.specs.DoPlans.{Let, SetInt, SetEnum, Keep, PushNum, If, DosPlan, End, Then}
 use Rattle.sym_check.specs.ScriptPlans.{ScriptPlan}
 use Rattle.sym_check.specs.Arithmetic.{failed, calculated}
-use Rattle.sym_check.specs.FixedValues.{Known, number}
+use Rattle.sym_check.specs.FixedValues.{Environment, number}
 use Rattle.sym_check.specs.LineValues.{pair}
 use Rattle.sym_check.specs.Conditions.{truth, no_test, no_cells, test_truth}
 use Rattle.sym_check.specs.Updates.{initial, step, after}
 use Rattle.sym_check.specs.Groups.{pass}
 use Rattle.sym_check.specs.PathBounds.{path_bound}
 
-abbrev nothing : Known
+abbrev nothing : Environment
 nothing = record { fields = []; locals = []; params = [] }
 
 -- Quotients are rounded towards zero, remainders have the sign of the left operand.

@@ -1,6 +1,6 @@
 -- A well-formed plan keeps states valid.
 use Rattle.std.proofs.Common.{◌≡◌, refl, subst, ℕ, suc, ◌-◌, ◌<◌, ℤ, pos, neg_ℤ, Bool, true, false, ◌&&◌, List, [], ◌∷◌, ◌++◌, map, length, Some, Result, Ok, Err, arith}
-use Rattle.std.specs.Prelude.{◌+ℤ◌, ◌-ℤ◌, ◌*ℤ◌, int_div, int_rem, slice_get, unsigned_abs, nat_le, int_le, if◌then◌else◌}
+use Rattle.std.specs.Prelude.{◌+ℤ◌, ◌-ℤ◌, ◌*ℤ◌, int_div, int_rem, slice_get, unsigned_abs, nat_le, int_le, if◌then◌else◌, IfOk}
 use Rattle.std.specs.List.{All, AllZip}
 use Rattle.std.specs.Ordering.{int_eq}
 use Rattle.std.proofs.lemmas.Int.{ints}
@@ -12,6 +12,7 @@ use Rattle.sym_base.specs.declared.values.record.Record.{Record}
 use Rattle.sym_base.specs.declared.values.state.Cell.{Cell}
 use Rattle.sym_base.specs.declared.values.state.Cell.TheVariants as cell
 use Rattle.sym_base.specs.declared.values.state.State.{State}
+use Rattle.sym_base.specs.declared.values.state.FaultKind.{FaultKind}
 use Rattle.sym_base.specs.declared.values.state.FaultKind.TheVariants as fault
 use Rattle.sym_base.specs.declared.values.state.Outcome.{Outcome}
 use Rattle.sym_base.specs.declared.values.state.Outcome.TheVariants.{Going, Ended}
@@ -32,18 +33,19 @@ use Rattle.sym_check.specs.FixedPlans as fixed
 use Rattle.sym_check.specs.DoPlans.{DoPlan, DosPlan}
 use Rattle.sym_check.specs.ScriptPlans.{ScriptPlan}
 use Rattle.sym_check.specs.Arithmetic.{and_then, within, divided, calculated, failed}
-use Rattle.sym_check.specs.FixedValues.{Known, value_number, value_label, number, label_of, word_of, fixed_value, fixed_values}
+use Rattle.sym_check.specs.FixedValues.{Environment, value_number, value_label, number, label_of, word_of, fixed_value, fixed_values}
 use Rattle.sym_check.specs.LineValues.{term_number}
 use Rattle.sym_check.specs.Conditions.{truth, test_truth}
-use Rattle.sym_check.specs.Updates.{first_cell, initial, nums_at, nums_in, words_at, with_cell, in_range, calculating, stored, on_going, known_at, with_local, locals_after, do_step, dos_step, step}
+use Rattle.sym_check.specs.Updates.{first_cell, initial, nums_at, nums_in, words_at, with_cell, in_range, checked, stored, environment, with_local, with_result, environment_after, do_step, dos_step, at_record, step}
 use Rattle.sym_check.specs.Validity.{label_count, IsOfKind, AreOfKinds, field_kinds, IsRecord, InRange, IsValidCell, IsValid, IsValidOutcome}
 use Rattle.sym_check.specs.Validity as valid
 use Rattle.sym_check.specs.WellFormed.{Kinds, IsNum, IsLabel, IsFixed, IsKept, with_kind, IsDo, IsDos, IsCell, IsWellFormed, known_kinds}
+use Rattle.sym_check.specs.CellKinds as kinds_of
 use Rattle.sym_check.specs.WellFormed as well
 use Rattle.sym_check.proofs.ZippedLists.{zip_get, zip_set, zip_append, zip_replicate}
 
 -- What is known is of these kinds.
-pub record IsKnown (enums : List EnumPlan) (k : Kinds) (v : Known) : Type 0 where
+pub record IsKnown (enums : List EnumPlan) (k : Kinds) (v : Environment) : Type 0 where
   pub fields : AreOfKinds enums k.fields v.fields
   pub locals : AreOfKinds enums k.locals v.locals
   pub params : AreOfKinds enums k.params v.params
@@ -91,7 +93,7 @@ label_in_is enums kinds values enum i h e = go (zip_get (IsOfKind enums) kinds v
     go (value.Word t, is, h) = absurd h
     go (value.Label l, is, h) = rw is h
 
-number_is : (enums : List EnumPlan) (k : Kinds) (v : Known) → IsKnown enums k v → (n : NumPlan) (x : ℤ) → IsNum k n → number v n ≡ Ok x → IsNumber x
+number_is : (enums : List EnumPlan) (k : Kinds) (v : Environment) → IsKnown enums k v → (n : NumPlan) (x : ℤ) → IsNum k n → number v n ≡ Ok x → IsNumber x
 number_is enums k v h (fixed.Lit n) x t e = let same : n ≡ x = cc in subst IsNumber same t
 number_is enums k v h (fixed.Field i) x t e = let same : value_number (slice_get v.fields i) ≡ x = cc in subst IsNumber same (number_in_is enums k.fields v.fields i h.fields t)
 number_is enums k v h (fixed.Local i) x t e = let same : value_number (slice_get v.locals i) ≡ x = cc in subst IsNumber same (number_in_is enums k.locals v.locals i h.locals t)
@@ -102,14 +104,14 @@ number_is enums k v h (fixed.Bin o l r) x t e =
     (λ y p q. then_is IsNumber (λ (z : ℤ). calculated o y z) (number v r) x (λ z p' q'. calculated_is o y z x q') q)
     e
 
-label_is : (enums : List EnumPlan) (k : Kinds) (v : Known) (enum : ℕ) → IsKnown enums k v → (l : LabelOf) → IsLabel enums k enum l → label_of v l < label_count enums enum
+label_is : (enums : List EnumPlan) (k : Kinds) (v : Environment) (enum : ℕ) → IsKnown enums k v → (l : LabelOf) → IsLabel enums k enum l → label_of v l < label_count enums enum
 label_is enums k v enum h (label.Lit l) t = t
 label_is enums k v enum h (label.Field i) t = label_in_is enums k.fields v.fields enum i h.fields t
 label_is enums k v enum h (label.Local i) t = label_in_is enums k.locals v.locals enum i h.locals t
 label_is enums k v enum h (label.Param i) t = label_in_is enums k.params v.params enum i h.params t
 
 -- A value is of the kind of its expression.
-fixed_is : (enums : List EnumPlan) (k : Kinds) (v : Known) → IsKnown enums k v → (wanted : KindPlan) (e : FixedPlan) (x : Value) → IsFixed enums k wanted e → fixed_value v e ≡ Ok x → IsOfKind enums wanted x
+fixed_is : (enums : List EnumPlan) (k : Kinds) (v : Environment) → IsKnown enums k v → (wanted : KindPlan) (e : FixedPlan) (x : Value) → IsFixed enums k wanted e → fixed_value v e ≡ Ok x → IsOfKind enums wanted x
 fixed_is enums k v h _ _ x (well.of_num n t) e =
     then_is (IsOfKind enums kind.Num) (λ (y : ℤ). Ok (value.Num y)) (number v n) x
     (λ y p q. let P : Value → Type 0 = IsOfKind enums kind.Num in let same : value.Num y ≡ x = cc in subst P same (number_is enums k v h n y t p))
@@ -117,7 +119,7 @@ fixed_is enums k v h _ _ x (well.of_num n t) e =
 fixed_is enums k v h _ _ x (well.of_word w t) e = let P : Value → Type 0 = IsOfKind enums kind.Word in let same : value.Word (word_of v w) ≡ x = cc in subst P same tt
 fixed_is enums k v h _ _ x (well.of_label enum l t) e = let P : Value → Type 0 = IsOfKind enums (kind.Label enum) in let same : value.Label (label_of v l) ≡ x = cc in subst P same (label_is enums k v enum h l t)
 
-all_fixed_are : (enums : List EnumPlan) (k : Kinds) (v : Known) → IsKnown enums k v → (kinds : List KindPlan) (es : List FixedPlan) (xs : List Value) → AllZip (IsFixed enums k) kinds es → fixed_values v es ≡ Ok xs → AreOfKinds enums kinds xs
+all_fixed_are : (enums : List EnumPlan) (k : Kinds) (v : Environment) → IsKnown enums k v → (kinds : List KindPlan) (es : List FixedPlan) (xs : List Value) → AllZip (IsFixed enums k) kinds es → fixed_values v es ≡ Ok xs → AreOfKinds enums kinds xs
 all_fixed_are enums k v h [] [] xs t e = let P : List Value → Type 0 = AreOfKinds enums [] in let same : [] ≡ xs = cc in subst P same tt
 all_fixed_are enums k v h [] (x ∷ es) xs t e = absurd t
 all_fixed_are enums k v h (a ∷ kinds) [] xs t e = absurd t
@@ -131,13 +133,14 @@ all_fixed_are enums k v h (a ∷ kinds) (x ∷ es) xs t e =
     e
 
 -- One local more is of its kind.
-more_known : (enums : List EnumPlan) (k : Kinds) (rec : Record) (locals : List Value) (n : ℕ) (last : KindPlan) (x : Value) → IsKnown enums k (known_at rec locals) → IsOfKind enums last x → IsKnown enums (with_kind k n last) (known_at rec (with_local locals n x))
-more_known enums k rec locals n last x h t =
-    let long : length locals ≡ length k.locals = AllZip-long (IsOfKind enums) k.locals locals h.locals in
+more_known : (enums : List EnumPlan) (k : Kinds) (v : Environment) (n : ℕ) (last : KindPlan) (x : Value) → IsKnown enums k v → IsOfKind enums last x → IsKnown enums (with_kind k n last) (with_local v n x)
+more_known enums k v n last x h t =
+    let long : length v.locals ≡ length k.locals = AllZip-long (IsOfKind enums) k.locals v.locals h.locals in
     let zero_is : IsOfKind enums kind.Num (value.Num (pos 0)) = omega arith in
     record {
       fields = h.fields;
-      locals = zip_append (IsOfKind enums) k.locals _ locals _ h.locals
+      locals =
+        zip_append (IsOfKind enums) k.locals _ v.locals _ h.locals
           (rw long (zip_append (IsOfKind enums) _ _ _ _ (zip_replicate (IsOfKind enums) (n - length k.locals) kind.Num (value.Num (pos 0)) zero_is) (t, tt)));
       params = h.params;
     }
@@ -149,26 +152,26 @@ put_is p s c wanted content h e t = zip_set (IsValidCell p.enums) p.cells s.cell
 in_range_is : (lo hi x : ℤ) → (int_le lo x && int_le x hi) ≡ true → InRange lo hi x
 in_range_is lo hi x e = grind (arith, ints, e)
 
--- An outcome that may be followed by statements.
-then_valid : (p : ScriptPlan) (next : State → Outcome) (o : Outcome) → ((s : State) → IsValid p s → IsValidOutcome p (next s)) → IsValidOutcome p o → IsValidOutcome p (on_going next o)
-then_valid p next (Going s) later h = later s h
-then_valid p next (Ended end) later h = tt
-
 -- What is done with a value, where there is one.
-calculated_valid : {A : Type 0} (p : ScriptPlan) (rec : Record) (next : State → Outcome) (f : A → Outcome) (r : Result A Arith) → ((x : A) → r ≡ Ok x → IsValidOutcome p (on_going next (f x))) → IsValidOutcome p (on_going next (calculating rec f r))
-calculated_valid p rec next f (Ok x) step = step x refl
-calculated_valid p rec next f (Err e) step = tt
+calculated_valid : {A : Type 0} (P : State → Type 0) (f : A → Result State FaultKind) (r : Result A Arith) → ((x : A) → r ≡ Ok x → IfOk (f x) P) → IfOk (and_then f (checked r)) P
+calculated_valid P f (Ok x) goes = goes x refl
+calculated_valid P f (Err e) goes = tt
+
+-- What is done after a statement.
+followed_valid : (P Q : State → Type 0) (f : State → Result State FaultKind) (r : Result State FaultKind) → IfOk r Q → ((s : State) → Q s → IfOk (f s) P) → IfOk (and_then f r) P
+followed_valid P Q f (Ok s) h goes = goes s h
+followed_valid P Q f (Err e) h goes = tt
 
 -- A number is stored only in its range.
-stored_valid : (p : ScriptPlan) (rec : Record) (next : State → Outcome) (s : State) (c : ℕ) (content : Cell) (x : ℤ) → (in_range (slice_get p.cells c) x ≡ true → IsValidOutcome p (next (with_cell s c content))) → IsValidOutcome p (on_going next (stored p rec s c content x))
-stored_valid p rec next s c content x step = go (in_range (slice_get p.cells c) x) refl
+stored_valid : (p : ScriptPlan) (P : State → Type 0) (s : State) (c : ℕ) (content : Cell) (x : ℤ) → (in_range (slice_get p.cells c) x ≡ true → P (with_cell s c content)) → IfOk (stored p c content x s) P
+stored_valid p P s c content x step = go (in_range (slice_get p.cells c) x) refl
   where
-    go : (b : Bool) → in_range (slice_get p.cells c) x ≡ b → IsValidOutcome p (on_going next (if b then Going (with_cell s c content) else Ended (record { kind = fault.Over c; no = rec.no })))
+    go : (b : Bool) → in_range (slice_get p.cells c) x ≡ b → IfOk (if b then Ok (with_cell s c content) else Err (fault.Over c)) P
     go true e = step e
     go false e = tt
 
 -- The cell of a state that is valid beside an integer cell of the plan, and so on.
-label_held : (p : ScriptPlan) (s : State) (c enum : ℕ) → IsValid p s → well.IsEnumCell p.cells c enum → label_at s c < label_count p.enums enum
+label_held : (p : ScriptPlan) (s : State) (c enum : ℕ) → IsValid p s → kinds_of.IsEnumCell p.cells c enum → label_at s c < label_count p.enums enum
 label_held p s c enum h w = go (zip_get (IsValidCell p.enums) p.cells s.cells c (plan.Enum enum w.first) h w.is)
   where
     found : (content : Cell) → IsValidCell p.enums (plan.Enum enum w.first) content → slice_get s.cells c ≡ Some content → label_in (slice_get s.cells c) < label_count p.enums enum
@@ -177,7 +180,7 @@ label_held p s c enum h w = go (zip_get (IsValidCell p.enums) p.cells s.cells c 
     go : (content : Cell) × (slice_get s.cells c ≡ Some content) × IsValidCell p.enums (plan.Enum enum w.first) content → label_at s c < label_count p.enums enum
     go (content, e, t) = found content t e
 
-parts_held : (p : ScriptPlan) (s : State) (c : ℕ) (kinds : List KindPlan) → IsValid p s → well.IsHoldCell p.cells c kinds → AreOfKinds p.enums kinds (parts_at s c)
+parts_held : (p : ScriptPlan) (s : State) (c : ℕ) (kinds : List KindPlan) → IsValid p s → kinds_of.IsHoldCell p.cells c kinds → AreOfKinds p.enums kinds (parts_at s c)
 parts_held p s c kinds h w = go (zip_get (IsValidCell p.enums) p.cells s.cells c (plan.Hold kinds w.first) h w.is)
   where
     found : (content : Cell) → IsValidCell p.enums (plan.Hold kinds w.first) content → slice_get s.cells c ≡ Some content → AreOfKinds p.enums kinds (parts_in (slice_get s.cells c))
@@ -190,7 +193,7 @@ parts_held p s c kinds h w = go (zip_get (IsValidCell p.enums) p.cells s.cells c
 all_more : (lo hi x : ℤ) (xs : List ℤ) → All (InRange lo hi) xs → InRange lo hi x → All (InRange lo hi) (xs ++ x ∷ [])
 all_more lo hi x xs h t = All-append (InRange lo hi) xs (x ∷ []) h (All-cons (InRange lo hi) x [] t (All-nil (InRange lo hi)))
 
-nums_held : (p : ScriptPlan) (s : State) (c : ℕ) (x : ℤ) → IsValid p s → (w : well.IsNumsCell p.cells c) → InRange w.lo w.hi x → IsValidCell p.enums (plan.Nums w.lo w.hi) (cell.Nums (nums_at s c ++ x ∷ []))
+nums_held : (p : ScriptPlan) (s : State) (c : ℕ) (x : ℤ) → IsValid p s → (w : kinds_of.IsNumsCell p.cells c) → InRange w.lo w.hi x → IsValidCell p.enums (plan.Nums w.lo w.hi) (cell.Nums (nums_at s c ++ x ∷ []))
 nums_held p s c x h w t = go (zip_get (IsValidCell p.enums) p.cells s.cells c (plan.Nums w.lo w.hi) h w.is)
   where
     found : (content : Cell) → IsValidCell p.enums (plan.Nums w.lo w.hi) content → slice_get s.cells c ≡ Some content → All (InRange w.lo w.hi) (nums_in (slice_get s.cells c))
@@ -199,62 +202,81 @@ nums_held p s c x h w t = go (zip_get (IsValidCell p.enums) p.cells s.cells c (p
     go : (content : Cell) × (slice_get s.cells c ≡ Some content) × IsValidCell p.enums (plan.Nums w.lo w.hi) content → IsValidCell p.enums (plan.Nums w.lo w.hi) (cell.Nums (nums_at s c ++ x ∷ []))
     go (content, e, i) = valid.nums w.lo w.hi _ (all_more w.lo w.hi x (nums_at s c) (found content i e) t)
 
-either : (p : ScriptPlan) (next : State → Outcome) (l r : Outcome) (x : Bool) → IsValidOutcome p (on_going next l) → IsValidOutcome p (on_going next r) → IsValidOutcome p (on_going next (if x then l else r))
-either p next l r true h k = h
-either p next l r false h k = k
+either : (P : State → Type 0) (l r : Result State FaultKind) (x : Bool) → IfOk l P → IfOk r P → IfOk (if x then l else r) P
+either P l r true h k = h
+either P l r false h k = k
+
+-- A valid state, and an environment of these kinds.
+pub record Goes (p : ScriptPlan) (k : Kinds) (v : Environment) (s : State) : Type 0 where
+  pub state : IsValid p s
+  pub known : IsKnown p.enums k v
+
+ends_known : (p : ScriptPlan) (k : Kinds) (v : Environment) → IsKnown p.enums k v → (r : Result State FaultKind) → IfOk r (IsValid p) → IfOk r (Goes p k v)
+ends_known p k v h (Ok s) i = record { state = i; known = h }
+ends_known p k v h (Err e) i = tt
 
 mutual
-  do_valid : (p : ScriptPlan) (rec : Record) (k later : Kinds) (d : DoPlan) → IsDo p k d later → (locals : List Value) (s : State) (next : State → Outcome) → IsKnown p.enums k (known_at rec locals) → IsValid p s → ((s' : State) → IsKnown p.enums later (known_at rec (locals_after rec locals d)) → IsValid p s' → IsValidOutcome p (next s')) → IsValidOutcome p (on_going next (do_step p rec locals d s))
-  do_valid p rec _ _ _ (well.let_value k n last e free t) locals s next h v after =
-      calculated_valid p rec next (λ (x : Value). Going s) (fixed_value (known_at rec locals) e)
-      (λ x is. after s (rw is (more_known p.enums k rec locals n last x h (fixed_is p.enums k (known_at rec locals) h last e x t is))) v)
-  do_valid p rec _ _ _ (well.set_int k c t w u) locals s next h v after =
-      calculated_valid p rec next (λ (x : ℤ). stored p rec s c (cell.Int x) x) (term_number (known_at rec locals) t s)
-      (λ x is. stored_valid p rec next s c (cell.Int x) x
-      (λ fits. after (with_cell s c (cell.Int x)) h
-      (put_is p s c (plan.Int w.lo w.hi w.first) (cell.Int x) v w.is
-      (valid.int w.lo w.hi w.first x (in_range_is w.lo w.hi x (rw w.is at fits))))))
-  do_valid p rec _ _ _ (well.set_enum k c l w) locals s next h v after =
-      after (with_cell s c (cell.Enum (label_of (known_at rec locals) l))) h
-      (put_is p s c (plan.Enum w.enum w.of_cell.first) (cell.Enum (label_of (known_at rec locals) l)) v w.of_cell.is
-      (valid.enum w.enum w.of_cell.first (label_of (known_at rec locals) l) (label_is p.enums k (known_at rec locals) w.enum h l w.is_label)))
-  do_valid p rec _ _ _ (well.copy_enum k c d w) locals s next h v after =
-      after (with_cell s c (cell.Enum (label_at s d))) h
-      (put_is p s c (plan.Enum w.enum w.to.first) (cell.Enum (label_at s d)) v w.to.is
-      (valid.enum w.enum w.to.first (label_at s d) (label_held p s d w.enum v w.from)))
-  do_valid p rec _ _ _ (well.keep k c es w) locals s next h v after =
-      calculated_valid p rec next (λ (xs : List Value). Going (with_cell s c (cell.Hold xs))) (fixed_values (known_at rec locals) es)
-      (λ xs is. after (with_cell s c (cell.Hold xs)) h
-      (put_is p s c (plan.Hold w.parts w.is_hold.first) (cell.Hold xs) v w.is_hold.is
-      (valid.hold w.parts w.is_hold.first xs (all_fixed_are p.enums k (known_at rec locals) h w.parts es xs w.kept is))))
-  do_valid p rec _ _ _ (well.keep_from k c d w) locals s next h v after =
-      after (with_cell s c (cell.Hold (parts_at s d))) h
-      (put_is p s c (plan.Hold w.parts w.to.first) (cell.Hold (parts_at s d)) v w.to.is
-      (valid.hold w.parts w.to.first (parts_at s d) (parts_held p s d w.parts v w.from)))
-  do_valid p rec _ _ _ (well.push_num k c t w u) locals s next h v after =
-      calculated_valid p rec next (λ (x : ℤ). stored p rec s c (cell.Nums (nums_at s c ++ x ∷ [])) x) (term_number (known_at rec locals) t s)
-      (λ x is. stored_valid p rec next s c (cell.Nums (nums_at s c ++ x ∷ [])) x
-      (λ fits. after (with_cell s c (cell.Nums (nums_at s c ++ x ∷ []))) h
-      (put_is p s c (plan.Nums w.lo w.hi) (cell.Nums (nums_at s c ++ x ∷ [])) v w.is
-      (nums_held p s c x v w (in_range_is w.lo w.hi x (rw w.is at fits))))))
-  do_valid p rec _ _ _ (well.push_word k c w i t) locals s next h v after =
-      after (with_cell s c (cell.Words (words_at s c ++ word_of (known_at rec locals) w ∷ []))) h
-      (put_is p s c plan.Words (cell.Words (words_at s c ++ word_of (known_at rec locals) w ∷ [])) v i.is (valid.words _))
-  do_valid p rec _ _ _ (well.branch k c a b t ta tb) locals s next h v after =
-      let left : IsValidOutcome p (on_going next (dos_step p rec locals a s)) = then_valid p next (dos_step p rec locals a s) (λ s'. after s' h) (dos_valid p rec k a ta locals s h v) in
-      let right : IsValidOutcome p (on_going next (dos_step p rec locals b s)) = then_valid p next (dos_step p rec locals b s) (λ s'. after s' h) (dos_valid p rec k b tb locals s h v) in
-      calculated_valid p rec next (λ (x : Bool). if x then dos_step p rec locals a s else dos_step p rec locals b s) (truth (test_truth p.tests) (known_at rec locals) c s)
-      (λ x is. either p next (dos_step p rec locals a s) (dos_step p rec locals b s) x left right)
+  do_valid : (p : ScriptPlan) (k later : Kinds) (d : DoPlan) → IsDo p k d later → (v : Environment) (s : State) → IsKnown p.enums k v → IsValid p s → IfOk (do_step p v d s) (Goes p later (environment_after v d))
+  do_valid p _ _ _ (well.let_value k n last e free t) v s h i =
+      calculated_valid (Goes p (with_kind k n last) (with_result v n (fixed_value v e))) (λ (x : Value). Ok s) (fixed_value v e)
+        (λ x is. record { state = i; known = rw is (more_known p.enums k v n last x h (fixed_is p.enums k v h last e x t is)) })
+  do_valid p _ _ _ (well.set_int k c t w u) v s h i =
+      calculated_valid (Goes p k v) (λ (x : ℤ). stored p c (cell.Int x) x s) (term_number v t s)
+        (λ x is. stored_valid p (Goes p k v) s c (cell.Int x) x
+          (λ fits. record {
+            state = put_is p s c (plan.Int w.lo w.hi w.first) (cell.Int x) i w.is (valid.int w.lo w.hi w.first x (in_range_is w.lo w.hi x (rw w.is at fits)));
+            known = h;
+          }))
+  do_valid p _ _ _ (well.set_enum k c l w) v s h i = record {
+    state = put_is p s c (plan.Enum w.enum w.of_cell.first) (cell.Enum (label_of v l)) i w.of_cell.is (valid.enum w.enum w.of_cell.first (label_of v l) (label_is p.enums k v w.enum h l w.is_label));
+    known = h;
+  }
+  do_valid p _ _ _ (well.copy_enum k c d w) v s h i = record {
+    state = put_is p s c (plan.Enum w.enum w.to.first) (cell.Enum (label_at s d)) i w.to.is (valid.enum w.enum w.to.first (label_at s d) (label_held p s d w.enum i w.from));
+    known = h;
+  }
+  do_valid p _ _ _ (well.keep k c es w) v s h i =
+      calculated_valid (Goes p k v) (λ (xs : List Value). Ok (with_cell s c (cell.Hold xs))) (fixed_values v es)
+        (λ xs is. record {
+          state = put_is p s c (plan.Hold w.parts w.is_hold.first) (cell.Hold xs) i w.is_hold.is (valid.hold w.parts w.is_hold.first xs (all_fixed_are p.enums k v h w.parts es xs w.kept is));
+          known = h;
+        })
+  do_valid p _ _ _ (well.keep_from k c d w) v s h i = record {
+    state = put_is p s c (plan.Hold w.parts w.to.first) (cell.Hold (parts_at s d)) i w.to.is (valid.hold w.parts w.to.first (parts_at s d) (parts_held p s d w.parts i w.from));
+    known = h;
+  }
+  do_valid p _ _ _ (well.push_num k c t w u) v s h i =
+      calculated_valid (Goes p k v) (λ (x : ℤ). stored p c (cell.Nums (nums_at s c ++ x ∷ [])) x s) (term_number v t s)
+        (λ x is. stored_valid p (Goes p k v) s c (cell.Nums (nums_at s c ++ x ∷ [])) x
+          (λ fits. record {
+            state = put_is p s c (plan.Nums w.lo w.hi) (cell.Nums (nums_at s c ++ x ∷ [])) i w.is (nums_held p s c x i w (in_range_is w.lo w.hi x (rw w.is at fits)));
+            known = h;
+          }))
+  do_valid p _ _ _ (well.push_word k c w u t) v s h i = record {
+    state = put_is p s c plan.Words (cell.Words (words_at s c ++ word_of v w ∷ [])) i u.is (valid.words _);
+    known = h;
+  }
+  do_valid p _ _ _ (well.branch k c a b t ta tb) v s h i =
+      let left : IfOk (dos_step p v a s) (Goes p k v) = ends_known p k v h (dos_step p v a s) (dos_valid p k a ta v s h i) in
+      let right : IfOk (dos_step p v b s) (Goes p k v) = ends_known p k v h (dos_step p v b s) (dos_valid p k b tb v s h i) in
+      calculated_valid (Goes p k v) (λ (x : Bool). if x then dos_step p v a s else dos_step p v b s) (truth (test_truth p.tests) v c s)
+        (λ x is. either (Goes p k v) (dos_step p v a s) (dos_step p v b s) x left right)
 
-  dos_valid : (p : ScriptPlan) (rec : Record) (k : Kinds) (ds : DosPlan) → IsDos p k ds → (locals : List Value) (s : State) → IsKnown p.enums k (known_at rec locals) → IsValid p s → IsValidOutcome p (dos_step p rec locals ds s)
-  dos_valid p rec _ _ (well.finished k) locals s h v = v
-  dos_valid p rec _ _ (well.followed k later d rest t r) locals s h v =
-      do_valid p rec k later d t locals s (dos_step p rec (locals_after rec locals d) rest) h v (λ s' h' v'. dos_valid p rec later rest r (locals_after rec locals d) s' h' v')
+  dos_valid : (p : ScriptPlan) (k : Kinds) (ds : DosPlan) → IsDos p k ds → (v : Environment) (s : State) → IsKnown p.enums k v → IsValid p s → IfOk (dos_step p v ds s) (IsValid p)
+  dos_valid p _ _ (well.finished k) v s h i = i
+  dos_valid p _ _ (well.followed k later d rest t r) v s h i =
+      followed_valid (IsValid p) (Goes p later (environment_after v d)) (λ (s' : State). dos_step p (environment_after v d) rest s') (do_step p v d s)
+        (do_valid p k later d t v s h i)
+        (λ s' g. dos_valid p later rest r (environment_after v d) s' g.known g.state)
+
+recorded_valid : (p : ScriptPlan) (n : ℕ) (r : Result State FaultKind) → IfOk r (IsValid p) → IsValidOutcome p (at_record n r)
+recorded_valid p n (Ok s) h = h
+recorded_valid p n (Err e) h = tt
 
 -- One record keeps a group's state valid.
 pub step_valid : (p : ScriptPlan) (o : Outcome) (rec : Record) → IsWellFormed p → IsRecord p rec → IsValidOutcome p o → IsValidOutcome p (step p o rec)
-step_valid p (Going s) rec w r v = dos_valid p rec (known_kinds p) p.update w.update [] s (record { fields = r; locals = tt; params = tt }) v
-step_valid p (Ended end) rec w r v = tt
+step_valid p (Going s) rec w r i = recorded_valid p rec.no (dos_step p (environment rec []) p.update s) (dos_valid p (known_kinds p) p.update w.update (environment rec []) s (record { fields = r; locals = tt; params = tt }) i)
+step_valid p (Ended end) rec w r i = tt
 
 first_valid : (enums : List EnumPlan) (c : CellPlan) → IsCell enums c → IsValidCell enums c (first_cell c)
 first_valid enums (plan.Int lo hi first) h = valid.int lo hi first first h.2

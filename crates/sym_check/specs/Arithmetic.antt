@@ -7,13 +7,13 @@ use Rattle.sym_check.specs.declared.evaluate.arithmetic.Arith.{Arith}
 use Rattle.sym_check.specs.declared.plan.expression.ArithOp.{ArithOp}
 use Rattle.sym_check.specs.declared.plan.expression.ArithOp.TheVariants as op
 
--- Goes on with a value; failed arithmetic stays as it is.
-abbrev pub and_then : {A B : Type 0} → (A → Result B Arith) → Result A Arith → Result B Arith
+-- Goes on with a value; what has failed stays so.
+abbrev pub and_then : {A B E : Type 0} → (A → Result B E) → Result A E → Result B E
 and_then f (Ok x) = f x
 and_then f (Err e) = Err e
 
 infixl 10 ◌>>=◌
-abbrev pub ◌>>=◌ : {A B : Type 0} → Result A Arith → (A → Result B Arith) → Result B Arith
+abbrev pub ◌>>=◌ : {A B E : Type 0} → Result A E → (A → Result B E) → Result B E
 r >>= f = and_then f r
 
 abbrev pub failed : {A : Type 0} → Result A Arith

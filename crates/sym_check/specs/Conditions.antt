@@ -7,7 +7,7 @@ use Rattle.sym_base.specs.States.{label_at, parts_at}
 use Rattle.sym_base.specs.Comparing.{compares}
 use Rattle.sym_check.specs.declared.evaluate.arithmetic.Arith.{Arith}
 use Rattle.sym_check.specs.Arithmetic.{◌>>=◌}
-use Rattle.sym_check.specs.FixedValues.{Known, number, word_of, label_of, fixed_values}
+use Rattle.sym_check.specs.FixedValues.{Environment, number, word_of, label_of, fixed_values}
 use Rattle.sym_check.specs.LineValues.{term_number}
 use Rattle.sym_check.specs.LinePlans.{TermPlan, OfNum, OfLine}
 use Rattle.sym_check.specs.CondPlans.{CondPlan, Compared, Words, CellIs, LabelIs, Test, Not, And, Or}
@@ -22,7 +22,7 @@ same_word = pointwise nat_eq
 
 -- The truth of a condition at a state. `And` and `Or` look at the right side only where the left
 -- one doesn't decide.
-abbrev pub truth : Truth → Known → CondPlan → State → Result Bool Arith
+abbrev pub truth : Truth → Environment → CondPlan → State → Result Bool Arith
 truth tests k (Compared compare t n) s = do
   x ← term_number k t s
   y ← number k n
@@ -69,7 +69,7 @@ abbrev pub no_cells : State
 no_cells = record { cells = [] }
 
 -- A test's parameters are the parts of its hold cell and then the arguments.
-abbrev pub parameters : List Value → List Value → Known
+abbrev pub parameters : List Value → List Value → Environment
 parameters args parts = record { fields = []; locals = []; params = parts ++ args }
 
 abbrev pub is_true : Result Bool Arith → Bool

@@ -10,9 +10,9 @@ use Rattle.sym_check.specs.declared.plan.expression.LabelOf.TheVariants as label
 use Rattle.sym_check.specs.Arithmetic.{◌>>=◌, within, calculated}
 use Rattle.sym_check.specs.FixedPlans.{NumPlan, Lit, Field, Local, Param, Neg, Bin, FixedPlan, OfNum, OfWord, OfLabel}
 
--- What the names of an expression stand for, by their numbers: the fields of a record, the locals
--- so far, and in the body of a test its parameters.
-pub record Known : Type 0 where
+-- The environment of an expression, what its names stand for by their numbers: the fields of a
+-- record, the locals so far, and in the body of a test its parameters.
+pub record Environment : Type 0 where
   pub fields : List Value
   pub locals : List Value
   pub params : List Value
@@ -39,7 +39,7 @@ value_label (Some (value.Word t)) = 0
 value_label (Some (value.Label l)) = l
 
 -- The number of a fixed expression.
-abbrev pub number : Known → NumPlan → Result ℤ Arith
+abbrev pub number : Environment → NumPlan → Result ℤ Arith
 number k (Lit n) = Ok n
 number k (Field i) = Ok (value_number (slice_get k.fields i))
 number k (Local i) = Ok (value_number (slice_get k.locals i))
@@ -52,20 +52,20 @@ number k (Bin op l r) = do
   y ← number k r
   calculated op x y
 
-abbrev pub word_of : Known → WordOf → List ℕ
+abbrev pub word_of : Environment → WordOf → List ℕ
 word_of k (word.Lit t) = t
 word_of k (word.Field i) = value_word (slice_get k.fields i)
 word_of k (word.Local i) = value_word (slice_get k.locals i)
 word_of k (word.Param i) = value_word (slice_get k.params i)
 
-abbrev pub label_of : Known → LabelOf → ℕ
+abbrev pub label_of : Environment → LabelOf → ℕ
 label_of k (label.Lit l) = l
 label_of k (label.Field i) = value_label (slice_get k.fields i)
 label_of k (label.Local i) = value_label (slice_get k.locals i)
 label_of k (label.Param i) = value_label (slice_get k.params i)
 
 -- The value of a fixed expression.
-abbrev pub fixed_value : Known → FixedPlan → Result Value Arith
+abbrev pub fixed_value : Environment → FixedPlan → Result Value Arith
 fixed_value k (OfNum n) = do
   x ← number k n
   Ok (value.Num x)
@@ -73,7 +73,7 @@ fixed_value k (OfWord w) = Ok (value.Word (word_of k w))
 fixed_value k (OfLabel l) = Ok (value.Label (label_of k l))
 
 -- The values of several; failed arithmetic in one is that of all.
-abbrev pub fixed_values : Known → List FixedPlan → Result (List Value) Arith
+abbrev pub fixed_values : Environment → List FixedPlan → Result (List Value) Arith
 fixed_values k [] = Ok []
 fixed_values k (e ∷ rest) = do
   v ← fixed_value k e

@@ -15,6 +15,8 @@ pub mod Updates
 pub mod Groups
 pub mod Validity
 pub mod Fitting
+pub mod CellKinds
+pub mod Columns
 pub mod WellFormed
 pub mod PathBounds
 pub mod KnownValues

@@ -5,7 +5,7 @@ use Rattle.sym_base.specs.States.{number_at}
 use Rattle.sym_check.specs.declared.evaluate.arithmetic.Arith.{Arith}
 use Rattle.sym_check.specs.declared.evaluate.pairs.Pair.{Pair}
 use Rattle.sym_check.specs.Arithmetic.{◌>>=◌, within}
-use Rattle.sym_check.specs.FixedValues.{Known, number}
+use Rattle.sym_check.specs.FixedValues.{Environment, number}
 use Rattle.sym_check.specs.LinePlans.{LinePlan, Cell, Neg, Add, Scale, TermPlan, OfNum, OfLine}
 
 -- The pair, where both of its numbers are numbers of a script.
@@ -15,7 +15,7 @@ pair_within cell a b = do
   height ← within b
   Ok (record { cell = cell; a = slope; b = height })
 
-abbrev pub pair : Known → LinePlan → Result Pair Arith
+abbrev pub pair : Environment → LinePlan → Result Pair Arith
 pair k (Cell c) = Ok (record { cell = c; a = pos 1; b = pos 0 })
 pair k (Neg l) = do
   p ← pair k l
@@ -34,7 +34,7 @@ abbrev pub pair_at : Pair → ℤ → ℤ
 pair_at p x = p.a *ℤ x +ℤ p.b
 
 -- The number of a term at a state.
-abbrev pub term_number : Known → TermPlan → State → Result ℤ Arith
+abbrev pub term_number : Environment → TermPlan → State → Result ℤ Arith
 term_number k (OfNum n) s = number k n
 term_number k (OfLine l) s = do
   p ← pair k l

@@ -15,39 +15,46 @@ plus a b = min (a + b) limit.PATHS_COUNTED
 abbrev pub times : ℕ → ℕ → ℕ
 times a b = min (a * b) limit.PATHS_COUNTED
 
--- How many pieces a condition cuts a path into: where it is true, and where it is false.
-pub record Pieces : Type 0 where
-  pub holds : ℕ
-  pub fails : ℕ
+-- How many paths a condition makes of one: where it is true, and where it is false.
+pub record Counts : Type 0 where
+  pub true_paths : ℕ
+  pub false_paths : ℕ
 
 -- A line equals a number at one value of its cell, and differs from it below and above that.
-abbrev pub compare_pieces : Compare → Pieces
-compare_pieces compare.Eq = record { holds = 1; fails = 2 }
-compare_pieces compare.Ne = record { holds = 2; fails = 1 }
-compare_pieces compare.Lt = record { holds = 1; fails = 1 }
-compare_pieces compare.Le = record { holds = 1; fails = 1 }
-compare_pieces compare.Gt = record { holds = 1; fails = 1 }
-compare_pieces compare.Ge = record { holds = 1; fails = 1 }
+abbrev pub compare_counts : Compare → Counts
+compare_counts compare.Eq = record { true_paths = 1; false_paths = 2 }
+compare_counts compare.Ne = record { true_paths = 2; false_paths = 1 }
+compare_counts compare.Lt = record { true_paths = 1; false_paths = 1 }
+compare_counts compare.Le = record { true_paths = 1; false_paths = 1 }
+compare_counts compare.Gt = record { true_paths = 1; false_paths = 1 }
+compare_counts compare.Ge = record { true_paths = 1; false_paths = 1 }
 
-abbrev pub term_pieces : Compare → TermPlan → Pieces
-term_pieces c (OfNum n) = record { holds = 1; fails = 1 }
-term_pieces c (OfLine l) = compare_pieces c
+abbrev pub term_counts : Compare → TermPlan → Counts
+term_counts c (OfNum n) = record { true_paths = 1; false_paths = 1 }
+term_counts c (OfLine l) = compare_counts c
 
-abbrev pub and_pieces : Pieces → Pieces → Pieces
-and_pieces l r = record { holds = times l.holds r.holds; fails = plus l.fails (times l.holds r.fails) }
+-- The right side counts on each path where the left one doesn't decide.
+abbrev pub and_counts : Counts → Counts → Counts
+and_counts l r = record {
+  true_paths = times l.true_paths r.true_paths;
+  false_paths = plus l.false_paths (times l.true_paths r.false_paths);
+}
 
-abbrev pub or_pieces : Pieces → Pieces → Pieces
-or_pieces l r = record { holds = plus l.holds (times l.fails r.holds); fails = times l.fails r.fails }
+abbrev pub or_counts : Counts → Counts → Counts
+or_counts l r = record {
+  true_paths = plus l.true_paths (times l.false_paths r.true_paths);
+  false_paths = times l.false_paths r.false_paths;
+}
 
-abbrev pub pieces : CondPlan → Pieces
-pieces (Compared c t n) = term_pieces c t
-pieces (Words v w) = record { holds = 1; fails = 1 }
-pieces (CellIs c l) = record { holds = 1; fails = 1 }
-pieces (LabelIs l m) = record { holds = 1; fails = 1 }
-pieces (Test t c es) = record { holds = 1; fails = 1 }
-pieces (Not c) = record { holds = (pieces c).fails; fails = (pieces c).holds }
-pieces (And c d) = and_pieces (pieces c) (pieces d)
-pieces (Or c d) = or_pieces (pieces c) (pieces d)
+abbrev pub counts : CondPlan → Counts
+counts (Compared c t n) = term_counts c t
+counts (Words v w) = record { true_paths = 1; false_paths = 1 }
+counts (CellIs c l) = record { true_paths = 1; false_paths = 1 }
+counts (LabelIs l m) = record { true_paths = 1; false_paths = 1 }
+counts (Test t c es) = record { true_paths = 1; false_paths = 1 }
+counts (Not c) = record { true_paths = (counts c).false_paths; false_paths = (counts c).true_paths }
+counts (And c d) = and_counts (counts c) (counts d)
+counts (Or c d) = or_counts (counts c) (counts d)
 
 -- How many paths statements make of one that goes on: those that go on, and those that end.
 pub record Ways : Type 0 where
@@ -60,8 +67,8 @@ if_ways c a b =
     if is_fixed c
     then record { going = max a.going b.going; ended = max a.ended b.ended }
     else record {
-      going = plus (times (pieces c).holds a.going) (times (pieces c).fails b.going);
-      ended = plus (times (pieces c).holds a.ended) (times (pieces c).fails b.ended);
+      going = plus (times (counts c).true_paths a.going) (times (counts c).false_paths b.going);
+      ended = plus (times (counts c).true_paths a.ended) (times (counts c).false_paths b.ended);
     }
 
 abbrev mutual

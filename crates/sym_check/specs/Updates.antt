@@ -8,6 +8,7 @@ use Rattle.sym_base.specs.declared.values.record.Record.{Record}
 use Rattle.sym_base.specs.declared.values.state.Cell.{Cell}
 use Rattle.sym_base.specs.declared.values.state.Cell.TheVariants as cell
 use Rattle.sym_base.specs.declared.values.state.State.{State}
+use Rattle.sym_base.specs.declared.values.state.FaultKind.{FaultKind}
 use Rattle.sym_base.specs.declared.values.state.FaultKind.TheVariants as fault
 use Rattle.sym_base.specs.declared.values.state.Outcome.{Outcome}
 use Rattle.sym_base.specs.declared.values.state.Outcome.TheVariants.{Going, Ended}
@@ -15,7 +16,8 @@ use Rattle.sym_base.specs.States.{label_at, parts_at}
 use Rattle.sym_check.specs.declared.evaluate.arithmetic.Arith.{Arith}
 use Rattle.sym_check.specs.declared.plan.script.CellPlan.{CellPlan}
 use Rattle.sym_check.specs.declared.plan.script.CellPlan.TheVariants as plan
-use Rattle.sym_check.specs.FixedValues.{Known, word_of, label_of, fixed_value, fixed_values}
+use Rattle.sym_check.specs.Arithmetic.{◌>>=◌, and_then}
+use Rattle.sym_check.specs.FixedValues.{Environment, word_of, label_of, fixed_value, fixed_values}
 use Rattle.sym_check.specs.LineValues.{term_number}
 use Rattle.sym_check.specs.Conditions.{truth, test_truth}
 use Rattle.sym_check.specs.DoPlans.{DoPlan, Let, SetInt, SetEnum, CopyEnum, Keep, KeepFrom, PushNum, PushWord, If, DosPlan, End, Then}
@@ -69,72 +71,82 @@ in_range (Some plan.Words) x = false
 in_range (Some (plan.Hold kinds first)) x = false
 in_range (Some (plan.Enum enum first)) x = false
 
--- Goes on with a value; failed arithmetic ends the group at the record.
-abbrev pub calculating : {A : Type 0} → Record → (A → Outcome) → Result A Arith → Outcome
-calculating rec next (Ok x) = next x
-calculating rec next (Err e) = Ended (record { kind = fault.Arith; no = rec.no })
+-- Arithmetic that fails ends the group.
+abbrev pub checked : {A : Type 0} → Result A Arith → Result A FaultKind
+checked (Ok x) = Ok x
+checked (Err e) = Err fault.Arith
 
 -- The cell becomes `content` for a number in its range; any other number ends the group.
-abbrev pub stored : ScriptPlan → Record → State → ℕ → Cell → ℤ → Outcome
-stored p rec s c content x =
-    if in_range (slice_get p.cells c) x
-    then Going (with_cell s c content)
-    else Ended (record { kind = fault.Over c; no = rec.no })
+abbrev pub stored : ScriptPlan → ℕ → Cell → ℤ → State → Result State FaultKind
+stored p c content x s =
+    if in_range (slice_get p.cells c) x then Ok (with_cell s c content) else Err (fault.Over c)
 
--- A group that has ended stays as it is.
-abbrev pub on_going : (State → Outcome) → Outcome → Outcome
-on_going next (Going s) = next s
-on_going next (Ended fault) = Ended fault
+-- The environment in an update: the record's fields and the locals so far.
+abbrev pub environment : Record → List Value → Environment
+environment rec locals = record { fields = rec.fields; locals = locals; params = [] }
 
--- What is known in an update: the record's fields and the locals so far.
-abbrev pub known_at : Record → List Value → Known
-known_at rec locals = record { fields = rec.fields; locals = locals; params = [] }
+-- One local more, of this number. Locals are numbered in the order of the text, and those of an
+-- earlier block are gone after it: they leave gaps, which hold 0.
+abbrev pub with_local : Environment → ℕ → Value → Environment
+with_local k n v = record k {
+  locals = k.locals ++ (replicate (n - length k.locals) (value.Num (pos 0)) ++ v ∷ []);
+}
 
--- The locals with one more, of this number. Locals are numbered in the order of the text, so those
--- of a block that isn't entered leave gaps, which hold 0.
-abbrev pub with_local : List Value → ℕ → Value → List Value
-with_local locals n v = locals ++ (replicate (n - length locals) (value.Num (pos 0)) ++ v ∷ [])
+abbrev pub with_result : Environment → ℕ → Result Value Arith → Environment
+with_result k n (Ok v) = with_local k n v
+with_result k n (Err e) = k
 
-abbrev pub with_result : List Value → ℕ → Result Value Arith → List Value
-with_result locals n (Ok v) = with_local locals n v
-with_result locals n (Err e) = locals
-
--- The locals after a statement, to the end of its block.
-abbrev pub locals_after : Record → List Value → DoPlan → List Value
-locals_after rec locals (Let n e) = with_result locals n (fixed_value (known_at rec locals) e)
-locals_after rec locals (SetInt c t) = locals
-locals_after rec locals (SetEnum c l) = locals
-locals_after rec locals (CopyEnum c d) = locals
-locals_after rec locals (Keep c es) = locals
-locals_after rec locals (KeepFrom c d) = locals
-locals_after rec locals (PushNum c t) = locals
-locals_after rec locals (PushWord c w) = locals
-locals_after rec locals (If c a b) = locals
+-- The environment after a statement, to the end of its block.
+abbrev pub environment_after : Environment → DoPlan → Environment
+environment_after k (Let n e) = with_result k n (fixed_value k e)
+environment_after k (SetInt c t) = k
+environment_after k (SetEnum c l) = k
+environment_after k (CopyEnum c d) = k
+environment_after k (Keep c es) = k
+environment_after k (KeepFrom c d) = k
+environment_after k (PushNum c t) = k
+environment_after k (PushWord c w) = k
+environment_after k (If c a b) = k
 
 abbrev mutual
-  -- One statement.
-  pub do_step : ScriptPlan → Record → List Value → DoPlan → State → Outcome
-  do_step p rec locals (Let n e) s = calculating rec (λ (v : Value). Going s) (fixed_value (known_at rec locals) e)
-  do_step p rec locals (SetInt c t) s = calculating rec (λ (x : ℤ). stored p rec s c (cell.Int x) x) (term_number (known_at rec locals) t s)
-  do_step p rec locals (SetEnum c l) s = Going (with_cell s c (cell.Enum (label_of (known_at rec locals) l)))
-  do_step p rec locals (CopyEnum c d) s = Going (with_cell s c (cell.Enum (label_at s d)))
-  do_step p rec locals (Keep c es) s = calculating rec (λ (vs : List Value). Going (with_cell s c (cell.Hold vs))) (fixed_values (known_at rec locals) es)
-  do_step p rec locals (KeepFrom c d) s = Going (with_cell s c (cell.Hold (parts_at s d)))
-  do_step p rec locals (PushNum c t) s = calculating rec (λ (x : ℤ). stored p rec s c (cell.Nums (nums_at s c ++ x ∷ [])) x) (term_number (known_at rec locals) t s)
-  do_step p rec locals (PushWord c w) s = Going (with_cell s c (cell.Words (words_at s c ++ word_of (known_at rec locals) w ∷ [])))
-  do_step p rec locals (If c a b) s =
-      calculating rec
-      (λ (x : Bool). if x then dos_step p rec locals a s else dos_step p rec locals b s)
-      (truth (test_truth p.tests) (known_at rec locals) c s)
+  -- A statement gives the state after it, or the kind of fault that ends the group.
+  pub do_step : ScriptPlan → Environment → DoPlan → State → Result State FaultKind
+  do_step p k (Let n e) s = do
+    v ← checked (fixed_value k e)
+    Ok s
+  do_step p k (SetInt c t) s = do
+    x ← checked (term_number k t s)
+    stored p c (cell.Int x) x s
+  do_step p k (SetEnum c l) s = Ok (with_cell s c (cell.Enum (label_of k l)))
+  do_step p k (CopyEnum c d) s = Ok (with_cell s c (cell.Enum (label_at s d)))
+  do_step p k (Keep c es) s = do
+    parts ← checked (fixed_values k es)
+    Ok (with_cell s c (cell.Hold parts))
+  do_step p k (KeepFrom c d) s = Ok (with_cell s c (cell.Hold (parts_at s d)))
+  do_step p k (PushNum c t) s = do
+    x ← checked (term_number k t s)
+    stored p c (cell.Nums (nums_at s c ++ x ∷ [])) x s
+  do_step p k (PushWord c w) s = Ok (with_cell s c (cell.Words (words_at s c ++ word_of k w ∷ [])))
+  do_step p k (If c a b) s = do
+    x ← checked (truth (test_truth p.tests) k c s)
+    if x then dos_step p k a s else dos_step p k b s
 
   -- Statements in order, each of which sees the changes before it.
-  pub dos_step : ScriptPlan → Record → List Value → DosPlan → State → Outcome
-  dos_step p rec locals End s = Going s
-  dos_step p rec locals (Then d rest) s = on_going (dos_step p rec (locals_after rec locals d) rest) (do_step p rec locals d s)
+  pub dos_step : ScriptPlan → Environment → DosPlan → State → Result State FaultKind
+  dos_step p k End s = Ok s
+  dos_step p k (Then d rest) s = do
+    later ← do_step p k d s
+    dos_step p (environment_after k d) rest later
 
--- One record.
+-- A fault carries the number of the record at which it came.
+abbrev pub at_record : ℕ → Result State FaultKind → Outcome
+at_record n (Ok s) = Going s
+at_record n (Err kind) = Ended (record { kind = kind; no = n })
+
+-- One record: a group that has ended stays as it is.
 abbrev pub step : ScriptPlan → Outcome → Record → Outcome
-step p outcome rec = on_going (dos_step p rec [] p.update) outcome
+step p (Going s) rec = at_record rec.no (dos_step p (environment rec []) p.update s)
+step p (Ended end) rec = Ended end
 
 -- Many records, in order.
 abbrev pub after : ScriptPlan → List Record → Outcome → Outcome

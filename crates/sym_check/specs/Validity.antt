@@ -1,8 +1,10 @@
 -- Values and records that are of a script's kinds, and states that are valid.
-use Rattle.std.specs.Prelude.{ℕ, ℤ, ◌<◌, ◌≤ℤ◌, List, length, map, Option, Some, None, slice_get}
+use Rattle.std.specs.Prelude.{ℕ, ℤ, ◌<◌, ◌≤ℤ◌, List, length, map, Option, Some, None, slice_get, IfSome}
 use Rattle.std.specs.List.{All, AllZip}
 use Rattle.sym_base.specs.declared.values.value.Value.{Value}
 use Rattle.sym_base.specs.declared.values.value.Value.TheVariants as value
+use Rattle.sym_base.specs.declared.values.value.Key.{Key}
+use Rattle.sym_base.specs.declared.values.value.Key.TheVariants.{Whole, One}
 use Rattle.sym_base.specs.declared.values.record.Record.{Record}
 use Rattle.sym_base.specs.declared.values.state.Cell.{Cell}
 use Rattle.sym_base.specs.declared.values.state.Cell.TheVariants as cell
@@ -49,6 +51,16 @@ field_kinds p = map (λ (f : FieldPlan). f.kind) p.fields
 abbrev pub IsRecord : ScriptPlan → Record → Type 0
 IsRecord p rec = AreOfKinds p.enums (field_kinds p) rec.fields
 
+-- The key of a group is the value of the group field, or the one key where no field is named.
+abbrev pub IsKeyOf : ScriptPlan → Option ℕ → Key → Type 0
+IsKeyOf p None Whole = Unit {0}
+IsKeyOf p None (One v) = ⊥
+IsKeyOf p (Some g) Whole = ⊥
+IsKeyOf p (Some g) (One v) = IfSome (slice_get (field_kinds p) g) (λ k. IsOfKind p.enums k v)
+
+abbrev pub IsKey : ScriptPlan → Key → Type 0
+IsKey p key = IsKeyOf p p.group key
+
 -- Both ends are in a range.
 abbrev pub InRange : ℤ → ℤ → ℤ → Type 0
 InRange lo hi x = (lo ≤ℤ x) × (x ≤ℤ hi)
@@ -56,11 +68,19 @@ InRange lo hi x = (lo ≤ℤ x) × (x ≤ℤ hi)
 -- A cell holds what it may: a number or numbers in its range, words, parts of its kinds, or a label
 -- of its enum.
 pub data IsValidCell (enums : List EnumPlan) : CellPlan → Cell → Type 0 where
-  int : (lo hi first x : ℤ) → InRange lo hi x → IsValidCell enums (plan.Int lo hi first) (cell.Int x)
-  nums : (lo hi : ℤ) (xs : List ℤ) → All (InRange lo hi) xs → IsValidCell enums (plan.Nums lo hi) (cell.Nums xs)
+  int : (lo hi first x : ℤ)
+    → InRange lo hi x
+    → IsValidCell enums (plan.Int lo hi first) (cell.Int x)
+  nums : (lo hi : ℤ) (xs : List ℤ)
+    → All (InRange lo hi) xs
+    → IsValidCell enums (plan.Nums lo hi) (cell.Nums xs)
   words : (ts : List (List ℕ)) → IsValidCell enums plan.Words (cell.Words ts)
-  hold : (kinds : List KindPlan) (first parts : List Value) → AreOfKinds enums kinds parts → IsValidCell enums (plan.Hold kinds first) (cell.Hold parts)
-  enum : (of first l : ℕ) → l < label_count enums of → IsValidCell enums (plan.Enum of first) (cell.Enum l)
+  hold : (kinds : List KindPlan) (first parts : List Value)
+    → AreOfKinds enums kinds parts
+    → IsValidCell enums (plan.Hold kinds first) (cell.Hold parts)
+  enum : (of first l : ℕ)
+    → l < label_count enums of
+    → IsValidCell enums (plan.Enum of first) (cell.Enum l)
 
 -- The state has one cell for each that the script declares, and each holds what it may.
 abbrev pub IsValid : ScriptPlan → State → Type 0

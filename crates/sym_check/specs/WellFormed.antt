@@ -4,6 +4,7 @@ use Rattle.std.specs.Prelude.{◌≡◌, ℕ, ℤ, ◌-◌, ◌<◌, ◌≤◌, 
 use Rattle.std.specs.List.{All, AllZip}
 use Rattle.sym_base.specs.declared.values.value.Value.{Value}
 use Rattle.sym_base.specs.Limits.{IsNumber}
+use Rattle.sym_base.specs.declared.limits.TheConstants as limit
 use Rattle.sym_check.specs.declared.plan.expression.WordOf.{WordOf}
 use Rattle.sym_check.specs.declared.plan.expression.WordOf.TheVariants as word
 use Rattle.sym_check.specs.declared.plan.expression.LabelOf.{LabelOf}
@@ -21,6 +22,8 @@ use Rattle.sym_check.specs.LinePlans as line
 use Rattle.sym_check.specs.CondPlans.{CondPlan, Compared, Words, CellIs, LabelIs, Test, Not, And, Or}
 use Rattle.sym_check.specs.DoPlans.{DoPlan, Let, SetInt, SetEnum, CopyEnum, Keep, KeepFrom, PushNum, PushWord, If, DosPlan, End, Then}
 use Rattle.sym_check.specs.ScriptPlans.{ScriptPlan, TestOf}
+use Rattle.sym_check.specs.CellKinds.{IsIntCell, IsNumsCell, IsWordsCell, IsHoldCell, IsEnumCell}
+use Rattle.sym_check.specs.Columns.{IsColumn}
 use Rattle.sym_check.specs.Validity.{label_count, IsOfKind, AreOfKinds, field_kinds, InRange}
 
 -- The kinds of what an expression may name.
@@ -54,32 +57,9 @@ IsLabel enums k enum (label.Param i) = slice_get k.params i ≡ Some (kind.Label
 pub data IsFixed (enums : List EnumPlan) (k : Kinds) : KindPlan → FixedPlan → Type 0 where
   of_num : (n : NumPlan) → IsNum k n → IsFixed enums k kind.Num (fixed.OfNum n)
   of_word : (w : WordOf) → IsWord k w → IsFixed enums k kind.Word (OfWord w)
-  of_label : (enum : ℕ) (l : LabelOf) → IsLabel enums k enum l → IsFixed enums k (kind.Label enum) (OfLabel l)
-
--- The cell with this number is an integer cell; the others in the same way.
-pub record IsIntCell (cells : List CellPlan) (c : ℕ) : Type 0 where
-  pub lo : ℤ
-  pub hi : ℤ
-  pub first : ℤ
-  pub is : slice_get cells c ≡ Some (plan.Int lo hi first)
-
-pub record IsNumsCell (cells : List CellPlan) (c : ℕ) : Type 0 where
-  pub lo : ℤ
-  pub hi : ℤ
-  pub is : slice_get cells c ≡ Some (plan.Nums lo hi)
-
-pub record IsWordsCell (cells : List CellPlan) (c : ℕ) : Type 0 where
-  pub is : slice_get cells c ≡ Some plan.Words
-
--- A hold cell with these part kinds.
-pub record IsHoldCell (cells : List CellPlan) (c : ℕ) (parts : List KindPlan) : Type 0 where
-  pub first : List Value
-  pub is : slice_get cells c ≡ Some (plan.Hold parts first)
-
--- A cell of this enum.
-pub record IsEnumCell (cells : List CellPlan) (c enum : ℕ) : Type 0 where
-  pub first : ℕ
-  pub is : slice_get cells c ≡ Some (plan.Enum enum first)
+  of_label : (enum : ℕ) (l : LabelOf)
+    → IsLabel enums k enum l
+    → IsFixed enums k (kind.Label enum) (OfLabel l)
 
 abbrev pub IsLine : List CellPlan → Kinds → LinePlan → Type 0
 IsLine cells k (line.Cell c) = IsIntCell cells c
@@ -142,25 +122,50 @@ pub record IsKept (p : ScriptPlan) (k : Kinds) (c : ℕ) (values : List FixedPla
 
 -- The kinds with one local more; the gap before it holds numbers.
 abbrev pub with_kind : Kinds → ℕ → KindPlan → Kinds
-with_kind k n last = record k { locals = k.locals ++ (replicate (n - length k.locals) kind.Num ++ last ∷ []) }
+with_kind k n last = record k {
+  locals = k.locals ++ (replicate (n - length k.locals) kind.Num ++ last ∷ []);
+}
 
 -- Statements with the kinds that are known before them. A local takes the next number or a later
 -- one, and is known to the end of its block.
 mutual
   pub data IsDo (p : ScriptPlan) : Kinds → DoPlan → Kinds → Type 0 where
-    let_value : (k : Kinds) (n : ℕ) (last : KindPlan) (e : FixedPlan) → length k.locals ≤ n → IsFixed p.enums k last e → IsDo p k (Let n e) (with_kind k n last)
-    set_int : (k : Kinds) (c : ℕ) (t : TermPlan) → IsIntCell p.cells c → IsTerm p.cells k t → IsDo p k (SetInt c t) k
-    set_enum : (k : Kinds) (c : ℕ) (l : LabelOf) → IsLabelOfCell p k c l → IsDo p k (SetEnum c l) k
+    let_value : (k : Kinds) (n : ℕ) (last : KindPlan) (e : FixedPlan)
+      → length k.locals ≤ n
+      → IsFixed p.enums k last e
+      → IsDo p k (Let n e) (with_kind k n last)
+    set_int : (k : Kinds) (c : ℕ) (t : TermPlan)
+      → IsIntCell p.cells c
+      → IsTerm p.cells k t
+      → IsDo p k (SetInt c t) k
+    set_enum : (k : Kinds) (c : ℕ) (l : LabelOf)
+      → IsLabelOfCell p k c l
+      → IsDo p k (SetEnum c l) k
     copy_enum : (k : Kinds) (c d : ℕ) → AreOfOneEnum p.cells c d → IsDo p k (CopyEnum c d) k
-    keep : (k : Kinds) (c : ℕ) (values : List FixedPlan) → IsKept p k c values → IsDo p k (Keep c values) k
+    keep : (k : Kinds) (c : ℕ) (values : List FixedPlan)
+      → IsKept p k c values
+      → IsDo p k (Keep c values) k
     keep_from : (k : Kinds) (c d : ℕ) → HaveSameKinds p.cells c d → IsDo p k (KeepFrom c d) k
-    push_num : (k : Kinds) (c : ℕ) (t : TermPlan) → IsNumsCell p.cells c → IsTerm p.cells k t → IsDo p k (PushNum c t) k
-    push_word : (k : Kinds) (c : ℕ) (w : WordOf) → IsWordsCell p.cells c → IsWord k w → IsDo p k (PushWord c w) k
-    branch : (k : Kinds) (c : CondPlan) (a b : DosPlan) → IsCond p k c → IsDos p k a → IsDos p k b → IsDo p k (If c a b) k
+    push_num : (k : Kinds) (c : ℕ) (t : TermPlan)
+      → IsNumsCell p.cells c
+      → IsTerm p.cells k t
+      → IsDo p k (PushNum c t) k
+    push_word : (k : Kinds) (c : ℕ) (w : WordOf)
+      → IsWordsCell p.cells c
+      → IsWord k w
+      → IsDo p k (PushWord c w) k
+    branch : (k : Kinds) (c : CondPlan) (a b : DosPlan)
+      → IsCond p k c
+      → IsDos p k a
+      → IsDos p k b
+      → IsDo p k (If c a b) k
 
   pub data IsDos (p : ScriptPlan) : Kinds → DosPlan → Type 0 where
     finished : (k : Kinds) → IsDos p k End
-    followed : (k later : Kinds) (d : DoPlan) (rest : DosPlan) → IsDo p k d later → IsDos p later rest → IsDos p k (Then d rest)
+    followed : (k later : Kinds) (d : DoPlan) (rest : DosPlan)
+      → IsDo p k d later
+      → IsDos p later rest
+      → IsDos p k (Then d rest)
 
 -- The kind of a field, a part or a parameter.
 abbrev pub IsKind : List EnumPlan → KindPlan → Type 0
@@ -181,18 +186,28 @@ IsCell enums plan.Words = Unit {0}
 IsCell enums (plan.Hold kinds first) = All (IsKind enums) kinds × AreOfKinds enums kinds first
 IsCell enums (plan.Enum enum first) = first < label_count enums enum
 
+abbrev pub parameter_kinds : TestOf → Kinds
+parameter_kinds t = record { fields = []; locals = []; params = t.params }
+
 -- A body names its test's parameters alone.
 pub record IsTest (p : ScriptPlan) (t : TestOf) : Type 0 where
   pub kinds : All (IsKind p.enums) t.params
-  pub body : IsCond (record p { cells = []; tests = [] }) (record { fields = []; locals = []; params = t.params }) t.body
+  pub body : IsCond (record p { cells = []; tests = [] }) (parameter_kinds t) t.body
 
 abbrev pub known_kinds : ScriptPlan → Kinds
 known_kinds p = record { fields = field_kinds p; locals = []; params = [] }
 
--- Each part of the plan is so.
+-- An enum has from 1 to 32 labels.
+abbrev pub IsEnum : EnumPlan → Type 0
+IsEnum e = (1 ≤ length e.labels) × (length e.labels ≤ limit.LABELS_MAX)
+
+-- Each part of the plan is so, and there are at most 32 cells.
 pub record IsWellFormed (p : ScriptPlan) : Type 0 where
+  pub enums : All IsEnum p.enums
   pub fields : All (IsField p.enums) p.fields
   pub group : IfSome p.group (λ g. g < length p.fields)
+  pub cell_count : length p.cells ≤ limit.CELLS_MAX
   pub cells : All (IsCell p.enums) p.cells
   pub tests : All (IsTest p) p.tests
   pub update : IsDos p (known_kinds p) p.update
+  pub columns : All (IsColumn p.cells) p.columns

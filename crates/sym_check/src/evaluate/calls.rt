@@ -5,7 +5,7 @@ ghost use Rattle.sym_check.specs.FixedValues.{number, fixed_value};
 ghost use Rattle.sym_check.specs.KnownValues.{known_values, fixed_result};
 ghost use Rattle.sym_check.specs.LinePlans.{line_plan};
 ghost use Rattle.sym_check.specs.LineValues.{pair};
-ghost use Rattle.sym_check.specs.Updates.{known_at};
+ghost use Rattle.sym_check.specs.Updates.{environment};
 
 use crate::checked::Checked;
 use crate::evaluate::arithmetic::Arith;
@@ -20,7 +20,7 @@ use sym_base::{NoMemory, Record, Values};
 // A name that stands for nothing, or for a value of another kind, counts as 0, the empty word or
 // the label 0. So these calls need no condition; in a plan of a checked script no name does.
 fn known_in<'a>(rec: &'a Record, locals: &'a Values) -> Known<'a>
-    ensures { known_values result ≡ known_at rec.now locals.now }
+    ensures { known_values result ≡ environment rec.now locals.now }
 {
     Known {
         fields: rec.fields.as_slice(),
@@ -39,7 +39,7 @@ pub fn number(
     rec: &Record,
     locals: &Values,
 ) -> Result<i64, Arith>
-    ensures { result ≡ number (known_at rec.now locals.now) (num_plan expression.now) }
+    ensures { result ≡ number (environment rec.now locals.now) (num_plan expression.now) }
 {
     number_of(&known_in(rec, locals), expression)
 }
@@ -48,7 +48,7 @@ pub fn number(
 /// `Arith` is returned exactly where a step of the pair leaves `-NUM_MAX` to `NUM_MAX` or divides
 /// by zero, whatever the cell holds. It takes no memory.
 pub fn pair(_checked: &Checked, line: &Line, rec: &Record, locals: &Values) -> Result<Pair, Arith>
-    ensures { result ≡ pair (known_at rec.now locals.now) (line_plan line.now) }
+    ensures { result ≡ pair (environment rec.now locals.now) (line_plan line.now) }
 {
     pair_of(&known_in(rec, locals), line)
 }
@@ -62,7 +62,8 @@ pub fn fixed(
     rec: &Record,
     locals: &Values,
 ) -> Result<FixedValue, NoMemory>
-    ensures { IfOk result (λ v. fixed_result v ≡ fixed_value (known_at rec.now locals.now) (fixed_plan expression.now)) }
+    ensures { let k = environment rec.now locals.now in
+        IfOk result (λ v. fixed_result v ≡ fixed_value k (fixed_plan expression.now)) }
 {
     value_of(alloc, &known_in(rec, locals), expression)
 }

@@ -18,13 +18,26 @@ pub enum FixedValue {
     Arith,
 }
 
+impl FixedValue {
+    /// An equal value of its own.
+    pub fn copy(&self, alloc: Global) -> Result<FixedValue, NoMemory>
+        ensures { IfOk result (λ v. v ≡ self.now) }
+    {
+        match self {
+            FixedValue::Is(value) => Ok(FixedValue::Is(value.copy(alloc)?)),
+            FixedValue::Arith => Ok(FixedValue::Arith),
+        }
+    }
+}
+
 /// The value of a fixed expression. A word is copied.
 pub(crate) fn value_of(
     alloc: Global,
     known: &Known,
     expression: &Fixed,
 ) -> Result<FixedValue, NoMemory>
-    ensures { IfOk result (λ v. fixed_result v ≡ fixed_value (known_values known.now) (fixed_plan expression.now)) }
+    ensures { let k = known_values known.now in
+        IfOk result (λ v. fixed_result v ≡ fixed_value k (fixed_plan expression.now)) }
 {
     match expression {
         Fixed::Num(number) => match number_of(known, number) {
