@@ -20,3 +20,10 @@ pub mod Columns
 pub mod WellFormed
 pub mod PathBounds
 pub mod KnownValues
+pub mod Faults
+pub mod Scopes
+pub mod Typing
+pub mod Breaks
+pub mod Elaborate
+pub mod Statements
+pub mod BreaksStatements
