@@ -27,3 +27,8 @@ pub mod Breaks
 pub mod Elaborate
 pub mod Statements
 pub mod BreaksStatements
+pub mod ElaborateStatements
+pub mod InOrder
+pub mod Declarations
+pub mod BreaksDeclarations
+pub mod ElaborateDeclarations
