@@ -5,3 +5,4 @@ mod ZippedLists
 mod ValidSteps
 mod TestAnswers
 mod PlanLaws
+mod CheckedExamples

@@ -140,7 +140,7 @@ more_known enums k v n last x h t =
     record {
       fields = h.fields;
       locals =
-        zip_append (IsOfKind enums) k.locals _ v.locals _ h.locals
+          zip_append (IsOfKind enums) k.locals _ v.locals _ h.locals
           (rw long (zip_append (IsOfKind enums) _ _ _ _ (zip_replicate (IsOfKind enums) (n - length k.locals) kind.Num (value.Num (pos 0)) zero_is) (t, tt)));
       params = h.params;
     }
@@ -219,14 +219,14 @@ mutual
   do_valid : (p : ScriptPlan) (k later : Kinds) (d : DoPlan) → IsDo p k d later → (v : Environment) (s : State) → IsKnown p.enums k v → IsValid p s → IfOk (do_step p v d s) (Goes p later (environment_after v d))
   do_valid p _ _ _ (well.let_value k n last e free t) v s h i =
       calculated_valid (Goes p (with_kind k n last) (with_result v n (fixed_value v e))) (λ (x : Value). Ok s) (fixed_value v e)
-        (λ x is. record { state = i; known = rw is (more_known p.enums k v n last x h (fixed_is p.enums k v h last e x t is)) })
+      (λ x is. record { state = i; known = rw is (more_known p.enums k v n last x h (fixed_is p.enums k v h last e x t is)) })
   do_valid p _ _ _ (well.set_int k c t w u) v s h i =
       calculated_valid (Goes p k v) (λ (x : ℤ). stored p c (cell.Int x) x s) (term_number v t s)
-        (λ x is. stored_valid p (Goes p k v) s c (cell.Int x) x
-          (λ fits. record {
-            state = put_is p s c (plan.Int w.lo w.hi w.first) (cell.Int x) i w.is (valid.int w.lo w.hi w.first x (in_range_is w.lo w.hi x (rw w.is at fits)));
-            known = h;
-          }))
+      (λ x is. stored_valid p (Goes p k v) s c (cell.Int x) x
+      (λ fits. record {
+        state = put_is p s c (plan.Int w.lo w.hi w.first) (cell.Int x) i w.is (valid.int w.lo w.hi w.first x (in_range_is w.lo w.hi x (rw w.is at fits)));
+        known = h;
+      }))
   do_valid p _ _ _ (well.set_enum k c l w) v s h i = record {
     state = put_is p s c (plan.Enum w.enum w.of_cell.first) (cell.Enum (label_of v l)) i w.of_cell.is (valid.enum w.enum w.of_cell.first (label_of v l) (label_is p.enums k v w.enum h l w.is_label));
     known = h;
@@ -237,21 +237,21 @@ mutual
   }
   do_valid p _ _ _ (well.keep k c es w) v s h i =
       calculated_valid (Goes p k v) (λ (xs : List Value). Ok (with_cell s c (cell.Hold xs))) (fixed_values v es)
-        (λ xs is. record {
-          state = put_is p s c (plan.Hold w.parts w.is_hold.first) (cell.Hold xs) i w.is_hold.is (valid.hold w.parts w.is_hold.first xs (all_fixed_are p.enums k v h w.parts es xs w.kept is));
-          known = h;
-        })
+      (λ xs is. record {
+        state = put_is p s c (plan.Hold w.parts w.is_hold.first) (cell.Hold xs) i w.is_hold.is (valid.hold w.parts w.is_hold.first xs (all_fixed_are p.enums k v h w.parts es xs w.kept is));
+        known = h;
+      })
   do_valid p _ _ _ (well.keep_from k c d w) v s h i = record {
     state = put_is p s c (plan.Hold w.parts w.to.first) (cell.Hold (parts_at s d)) i w.to.is (valid.hold w.parts w.to.first (parts_at s d) (parts_held p s d w.parts i w.from));
     known = h;
   }
   do_valid p _ _ _ (well.push_num k c t w u) v s h i =
       calculated_valid (Goes p k v) (λ (x : ℤ). stored p c (cell.Nums (nums_at s c ++ x ∷ [])) x s) (term_number v t s)
-        (λ x is. stored_valid p (Goes p k v) s c (cell.Nums (nums_at s c ++ x ∷ [])) x
-          (λ fits. record {
-            state = put_is p s c (plan.Nums w.lo w.hi) (cell.Nums (nums_at s c ++ x ∷ [])) i w.is (nums_held p s c x i w (in_range_is w.lo w.hi x (rw w.is at fits)));
-            known = h;
-          }))
+      (λ x is. stored_valid p (Goes p k v) s c (cell.Nums (nums_at s c ++ x ∷ [])) x
+      (λ fits. record {
+        state = put_is p s c (plan.Nums w.lo w.hi) (cell.Nums (nums_at s c ++ x ∷ [])) i w.is (nums_held p s c x i w (in_range_is w.lo w.hi x (rw w.is at fits)));
+        known = h;
+      }))
   do_valid p _ _ _ (well.push_word k c w u t) v s h i = record {
     state = put_is p s c plan.Words (cell.Words (words_at s c ++ word_of v w ∷ [])) i u.is (valid.words _);
     known = h;
@@ -260,14 +260,14 @@ mutual
       let left : IfOk (dos_step p v a s) (Goes p k v) = ends_known p k v h (dos_step p v a s) (dos_valid p k a ta v s h i) in
       let right : IfOk (dos_step p v b s) (Goes p k v) = ends_known p k v h (dos_step p v b s) (dos_valid p k b tb v s h i) in
       calculated_valid (Goes p k v) (λ (x : Bool). if x then dos_step p v a s else dos_step p v b s) (truth (test_truth p.tests) v c s)
-        (λ x is. either (Goes p k v) (dos_step p v a s) (dos_step p v b s) x left right)
+      (λ x is. either (Goes p k v) (dos_step p v a s) (dos_step p v b s) x left right)
 
   dos_valid : (p : ScriptPlan) (k : Kinds) (ds : DosPlan) → IsDos p k ds → (v : Environment) (s : State) → IsKnown p.enums k v → IsValid p s → IfOk (dos_step p v ds s) (IsValid p)
   dos_valid p _ _ (well.finished k) v s h i = i
   dos_valid p _ _ (well.followed k later d rest t r) v s h i =
       followed_valid (IsValid p) (Goes p later (environment_after v d)) (λ (s' : State). dos_step p (environment_after v d) rest s') (do_step p v d s)
-        (do_valid p k later d t v s h i)
-        (λ s' g. dos_valid p later rest r (environment_after v d) s' g.known g.state)
+      (do_valid p k later d t v s h i)
+      (λ s' g. dos_valid p later rest r (environment_after v d) s' g.known g.state)
 
 recorded_valid : (p : ScriptPlan) (n : ℕ) (r : Result State FaultKind) → IfOk r (IsValid p) → IsValidOutcome p (at_record n r)
 recorded_valid p n (Ok s) h = h

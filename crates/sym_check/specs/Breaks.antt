@@ -63,137 +63,137 @@ pub record TakesNumbers (s : Scope) (o : BinOp) (l r : ExprTree) : Type 0 where
 pub data AreOperands (s : Scope) : ExprsTree → ℕ → Type 0 where
   none : AreOperands s End 0
   more : (e : ExprTree) (es : ExprsTree) (t : Typed) (n : ℕ)
-    → Means s e t
-    → IsOperand t
-    → AreOperands s es n
-    → AreOperands s (More e es) (1 + n)
+      → Means s e t
+      → IsOperand t
+      → AreOperands s es n
+      → AreOperands s (More e es) (1 + n)
 
 -- The first value that isn't of its kind, where each is an operand.
 pub data WrongValue (s : Scope) : List KindPlan → ExprsTree → ℕ → Type 0 where
   here : (k : KindPlan) (ks : List KindPlan) (e : ExprTree) (es : ExprsTree)
-    → ((v : FixedPlan) → IsValue s k e v → ⊥)
-    → WrongValue s (k ∷ ks) (More e es) (place e)
+      → ((v : FixedPlan) → IsValue s k e v → ⊥)
+      → WrongValue s (k ∷ ks) (More e es) (place e)
   later : (k : KindPlan) (ks : List KindPlan) (e : ExprTree) (es : ExprsTree) (v : FixedPlan) (at : ℕ)
-    → IsValue s k e v
-    → WrongValue s ks es at
-    → WrongValue s (k ∷ ks) (More e es) at
+      → IsValue s k e v
+      → WrongValue s ks es at
+      → WrongValue s (k ∷ ks) (More e es) at
 
 -- What is wrong with a call whose name and n further arguments are right by themselves.
 pub data WrongCall (s : Scope) (x : Name) (params : List KindPlan) (n : ℕ) : ExprTree → ExprsTree → ℕ → Type 0 where
   no_hold_cell : (e : ExprTree) (es : ExprsTree) (t : Typed)
-    → Means s e t
-    → IsOperand t
-    → WrongCall s x params n e es (place e)
+      → Means s e t
+      → IsOperand t
+      → WrongCall s x params n e es (place e)
   wrong_number : (e : ExprTree) (es : ExprsTree) (c : ℕ) (ks : List KindPlan)
-    → Means s e (HoldCell c ks)
-    → length ks + n ≢ length params
-    → WrongCall s x params n e es x.at
+      → Means s e (HoldCell c ks)
+      → length ks + n ≢ length params
+      → WrongCall s x params n e es x.at
   wrong_cell : (e : ExprTree) (es : ExprsTree) (c : ℕ) (ks : List KindPlan)
-    → Means s e (HoldCell c ks)
-    → length ks + n ≡ length params
-    → ks ≢ take (length ks) params
-    → WrongCall s x params n e es (place e)
+      → Means s e (HoldCell c ks)
+      → length ks + n ≡ length params
+      → ks ≢ take (length ks) params
+      → WrongCall s x params n e es (place e)
   wrong_argument : (e : ExprTree) (es : ExprsTree) (c : ℕ) (ks js : List KindPlan) (at : ℕ)
-    → Means s e (HoldCell c ks)
-    → params ≡ ks ++ js
-    → length js ≡ n
-    → WrongValue s js es at
-    → WrongCall s x params n e es at
+      → Means s e (HoldCell c ks)
+      → params ≡ ks ++ js
+      → length js ≡ n
+      → WrongValue s js es at
+      → WrongCall s x params n e es at
 
 mutual
   pub data Breaks (s : Scope) : ExprTree → Fault → Type 0 where
     unknown : (x : Name) → IsFree s x → Breaks s (Named x) (fault.Name x.at)
     no_value : (x : Name) (m : Meaning)
-      → Stands s x m
-      → (HasMeaning s (Named x) → ⊥)
-      → Breaks s (Named x) (fault.Kind x.at)
+        → Stands s x m
+        → (HasMeaning s (Named x) → ⊥)
+        → Breaks s (Named x) (fault.Kind x.at)
     in_negated : (e : ExprTree) (at : ℕ) (f : Fault) → Breaks s e f → Breaks s (Neg e at) f
     negated_cell : (e : ExprTree) (at : ℕ) (t : Typed)
-      → Means s e t
-      → (IsOperand t → ⊥)
-      → Breaks s (Neg e at) (fault.Kind (place e))
+        → Means s e t
+        → (IsOperand t → ⊥)
+        → Breaks s (Neg e at) (fault.Kind (place e))
     not_negated : (e : ExprTree) (at : ℕ) (t : Typed)
-      → Means s e t
-      → IsOperand t
-      → (HasMeaning s (Neg e at) → ⊥)
-      → Breaks s (Neg e at) (fault.Kind at)
+        → Means s e t
+        → IsOperand t
+        → (HasMeaning s (Neg e at) → ⊥)
+        → Breaks s (Neg e at) (fault.Kind at)
     in_not : (e : ExprTree) (at : ℕ) (f : Fault) → Breaks s e f → Breaks s (Not e at) f
     not_cell : (e : ExprTree) (at : ℕ) (t : Typed)
-      → Means s e t
-      → (IsOperand t → ⊥)
-      → Breaks s (Not e at) (fault.Kind (place e))
+        → Means s e t
+        → (IsOperand t → ⊥)
+        → Breaks s (Not e at) (fault.Kind (place e))
     no_condition : (e : ExprTree) (at : ℕ) (t : Typed)
-      → Means s e t
-      → IsOperand t
-      → (HasMeaning s (Not e at) → ⊥)
-      → Breaks s (Not e at) (fault.Kind at)
+        → Means s e t
+        → IsOperand t
+        → (HasMeaning s (Not e at) → ⊥)
+        → Breaks s (Not e at) (fault.Kind at)
     in_left : (o : BinOp) (l r : ExprTree) (at : ℕ) (f : Fault)
-      → Breaks s l f
-      → Breaks s (Bin o l r at) f
+        → Breaks s l f
+        → Breaks s (Bin o l r at) f
     left_cell : (o : BinOp) (l r : ExprTree) (at : ℕ) (t : Typed)
-      → Means s l t
-      → (IsLeft o t → ⊥)
-      → Breaks s (Bin o l r at) (fault.Kind (place l))
+        → Means s l t
+        → (IsLeft o t → ⊥)
+        → Breaks s (Bin o l r at) (fault.Kind (place l))
     in_right : (o : BinOp) (l r : ExprTree) (at : ℕ) (t : Typed) (f : Fault)
-      → Means s l t
-      → IsLeft o t
-      → Breaks s r f
-      → Breaks s (Bin o l r at) f
+        → Means s l t
+        → IsLeft o t
+        → Breaks s r f
+        → Breaks s (Bin o l r at) f
     right_cell : (o : BinOp) (l r : ExprTree) (at : ℕ) (t u : Typed)
-      → Means s l t
-      → IsLeft o t
-      → Means s r u
-      → (IsOperand u → ⊥)
-      → Breaks s (Bin o l r at) (fault.Kind (place r))
+        → Means s l t
+        → IsLeft o t
+        → Means s r u
+        → (IsOperand u → ⊥)
+        → Breaks s (Bin o l r at) (fault.Kind (place r))
     not_linear : (o : BinOp) (l r : ExprTree) (at : ℕ)
-      → TakesNumbers s o l r
-      → (HasMeaning s (Bin o l r at) → ⊥)
-      → Breaks s (Bin o l r at) (fault.NotLinear at)
+        → TakesNumbers s o l r
+        → (HasMeaning s (Bin o l r at) → ⊥)
+        → Breaks s (Bin o l r at) (fault.NotLinear at)
     wrong_kinds : (o : BinOp) (l r : ExprTree) (at : ℕ) (t u : Typed)
-      → Means s l t
-      → IsLeft o t
-      → Means s r u
-      → IsOperand u
-      → (TakesNumbers s o l r → ⊥)
-      → (HasMeaning s (Bin o l r at) → ⊥)
-      → Breaks s (Bin o l r at) (fault.Kind at)
+        → Means s l t
+        → IsLeft o t
+        → Means s r u
+        → IsOperand u
+        → (TakesNumbers s o l r → ⊥)
+        → (HasMeaning s (Bin o l r at) → ⊥)
+        → Breaks s (Bin o l r at) (fault.Kind at)
     unknown_call : (x : Name) (es : ExprsTree) → IsFree s x → Breaks s (Call x es) (fault.Name x.at)
     no_test : (x : Name) (es : ExprsTree) (m : Meaning)
-      → Stands s x m
-      → ((t : ℕ) (params : List KindPlan) → m ≡ meaning.Test t params → ⊥)
-      → Breaks s (Call x es) (fault.Kind x.at)
+        → Stands s x m
+        → ((t : ℕ) (params : List KindPlan) → m ≡ meaning.Test t params → ⊥)
+        → Breaks s (Call x es) (fault.Kind x.at)
     in_first : (x : Name) (e : ExprTree) (es : ExprsTree) (t : ℕ) (params : List KindPlan) (f : Fault)
-      → Stands s x (meaning.Test t params)
-      → Breaks s e f
-      → Breaks s (Call x (More e es)) f
+        → Stands s x (meaning.Test t params)
+        → Breaks s e f
+        → Breaks s (Call x (More e es)) f
     first_cell : (x : Name) (e : ExprTree) (es : ExprsTree) (t : ℕ) (params : List KindPlan) (u : Typed)
-      → Stands s x (meaning.Test t params)
-      → Means s e u
-      → (IsFirst u → ⊥)
-      → Breaks s (Call x (More e es)) (fault.Kind (place e))
+        → Stands s x (meaning.Test t params)
+        → Means s e u
+        → (IsFirst u → ⊥)
+        → Breaks s (Call x (More e es)) (fault.Kind (place e))
     in_others : (x : Name) (e : ExprTree) (es : ExprsTree) (t : ℕ) (params : List KindPlan) (u : Typed) (f : Fault)
-      → Stands s x (meaning.Test t params)
-      → Means s e u
-      → IsFirst u
-      → BreaksOperands s es f
-      → Breaks s (Call x (More e es)) f
+        → Stands s x (meaning.Test t params)
+        → Means s e u
+        → IsFirst u
+        → BreaksOperands s es f
+        → Breaks s (Call x (More e es)) f
     wrong_call : (x : Name) (e : ExprTree) (es : ExprsTree) (t n at : ℕ) (params : List KindPlan)
-      → Stands s x (meaning.Test t params)
-      → AreOperands s es n
-      → WrongCall s x params n e es at
-      → Breaks s (Call x (More e es)) (fault.Kind at)
+        → Stands s x (meaning.Test t params)
+        → AreOperands s es n
+        → WrongCall s x params n e es at
+        → Breaks s (Call x (More e es)) (fault.Kind at)
 
   -- The first broken rule inside operands, one after the other.
   pub data BreaksOperands (s : Scope) : ExprsTree → Fault → Type 0 where
     in_operand : (e : ExprTree) (es : ExprsTree) (f : Fault)
-      → Breaks s e f
-      → BreaksOperands s (More e es) f
+        → Breaks s e f
+        → BreaksOperands s (More e es) f
     operand_cell : (e : ExprTree) (es : ExprsTree) (t : Typed)
-      → Means s e t
-      → (IsOperand t → ⊥)
-      → BreaksOperands s (More e es) (fault.Kind (place e))
+        → Means s e t
+        → (IsOperand t → ⊥)
+        → BreaksOperands s (More e es) (fault.Kind (place e))
     in_rest : (e : ExprTree) (es : ExprsTree) (t : Typed) (f : Fault)
-      → Means s e t
-      → IsOperand t
-      → BreaksOperands s es f
-      → BreaksOperands s (More e es) f
+        → Means s e t
+        → IsOperand t
+        → BreaksOperands s es f
+        → BreaksOperands s (More e es) f

@@ -58,9 +58,9 @@ IsKept (meaning.Test t ks) = ⊥
 pub data BreaksName (s : Scope) (wanted : Meaning → Type 0) (x : Name) : Fault → Type 0 where
   unknown : IsFree s x → BreaksName s wanted x (fault.Name x.at)
   wrong_cell : (m : Meaning)
-    → Stands s x m
-    → (wanted m → ⊥)
-    → BreaksName s wanted x (fault.Kind x.at)
+      → Stands s x m
+      → (wanted m → ⊥)
+      → BreaksName s wanted x (fault.Kind x.at)
 
 -- A name that does.
 pub record Names (s : Scope) (wanted : Meaning → Type 0) (x : Name) : Type 0 where
@@ -75,97 +75,97 @@ HasNoPlan hidden s n d = (p : DoPlan) (later : Scope) (m : ℕ) → IsStmt hidde
 mutual
   pub data BreaksStmt (hidden : Scope) : Scope → ℕ → StmtTree → Fault → Type 0 where
     let_hidden : (s : Scope) (n : ℕ) (x : Name) (e : ExprTree) (m : Meaning)
-      → Stands hidden x m
-      → BreaksStmt hidden s n (Let x e) (fault.Twice x.at)
+        → Stands hidden x m
+        → BreaksStmt hidden s n (Let x e) (fault.Twice x.at)
     let_taken : (s : Scope) (n : ℕ) (x : Name) (e : ExprTree) (m : Meaning)
-      → Stands s x m
-      → BreaksStmt hidden s n (Let x e) (fault.Twice x.at)
+        → Stands s x m
+        → BreaksStmt hidden s n (Let x e) (fault.Twice x.at)
     in_let : (s : Scope) (n : ℕ) (x : Name) (e : ExprTree) (f : Fault)
-      → IsFree hidden x
-      → IsFree s x
-      → Breaks s e f
-      → BreaksStmt hidden s n (Let x e) f
+        → IsFree hidden x
+        → IsFree s x
+        → Breaks s e f
+        → BreaksStmt hidden s n (Let x e) f
     no_value : (s : Scope) (n : ℕ) (x : Name) (e : ExprTree) (t : Typed)
-      → IsFree hidden x
-      → IsFree s x
-      → Means s e t
-      → ((k : KindPlan) (v : FixedPlan) → IsValue s k e v → ⊥)
-      → BreaksStmt hidden s n (Let x e) (fault.Kind (place e))
+        → IsFree hidden x
+        → IsFree s x
+        → Means s e t
+        → ((k : KindPlan) (v : FixedPlan) → IsValue s k e v → ⊥)
+        → BreaksStmt hidden s n (Let x e) (fault.Kind (place e))
     set_name : (s : Scope) (n : ℕ) (x : Name) (e : ExprTree) (f : Fault)
-      → BreaksName s IsAssigned x f
-      → BreaksStmt hidden s n (Set x e) f
+        → BreaksName s IsAssigned x f
+        → BreaksStmt hidden s n (Set x e) f
     in_set : (s : Scope) (n : ℕ) (x : Name) (e : ExprTree) (f : Fault)
-      → Names s IsAssigned x
-      → Breaks s e f
-      → BreaksStmt hidden s n (Set x e) f
+        → Names s IsAssigned x
+        → Breaks s e f
+        → BreaksStmt hidden s n (Set x e) f
     not_assigned : (s : Scope) (n : ℕ) (x : Name) (e : ExprTree) (t : Typed)
-      → Names s IsAssigned x
-      → Means s e t
-      → HasNoPlan hidden s n (Set x e)
-      → BreaksStmt hidden s n (Set x e) (fault.Kind (place e))
+        → Names s IsAssigned x
+        → Means s e t
+        → HasNoPlan hidden s n (Set x e)
+        → BreaksStmt hidden s n (Set x e) (fault.Kind (place e))
     push_name : (s : Scope) (n : ℕ) (x : Name) (e : ExprTree) (f : Fault)
-      → BreaksName s IsPushed x f
-      → BreaksStmt hidden s n (Push x e) f
+        → BreaksName s IsPushed x f
+        → BreaksStmt hidden s n (Push x e) f
     in_push : (s : Scope) (n : ℕ) (x : Name) (e : ExprTree) (f : Fault)
-      → Names s IsPushed x
-      → Breaks s e f
-      → BreaksStmt hidden s n (Push x e) f
+        → Names s IsPushed x
+        → Breaks s e f
+        → BreaksStmt hidden s n (Push x e) f
     not_pushed : (s : Scope) (n : ℕ) (x : Name) (e : ExprTree) (t : Typed)
-      → Names s IsPushed x
-      → Means s e t
-      → HasNoPlan hidden s n (Push x e)
-      → BreaksStmt hidden s n (Push x e) (fault.Kind (place e))
+        → Names s IsPushed x
+        → Means s e t
+        → HasNoPlan hidden s n (Push x e)
+        → BreaksStmt hidden s n (Push x e) (fault.Kind (place e))
     keep_name : (s : Scope) (n : ℕ) (x : Name) (es : ExprsTree) (f : Fault)
-      → BreaksName s IsKept x f
-      → BreaksStmt hidden s n (Keep x es) f
+        → BreaksName s IsKept x f
+        → BreaksStmt hidden s n (Keep x es) f
     in_keep : (s : Scope) (n : ℕ) (x : Name) (es : ExprsTree) (f : Fault)
-      → Names s IsKept x
-      → BreaksOperands s es f
-      → BreaksStmt hidden s n (Keep x es) f
+        → Names s IsKept x
+        → BreaksOperands s es f
+        → BreaksStmt hidden s n (Keep x es) f
     wrong_number : (s : Scope) (n : ℕ) (x : Name) (es : ExprsTree) (c count : ℕ) (ks : List KindPlan)
-      → Stands s x (meaning.HoldCell c ks)
-      → AreOperands s es count
-      → count ≢ length ks
-      → BreaksStmt hidden s n (Keep x es) (fault.Kind x.at)
+        → Stands s x (meaning.HoldCell c ks)
+        → AreOperands s es count
+        → count ≢ length ks
+        → BreaksStmt hidden s n (Keep x es) (fault.Kind x.at)
     wrong_value : (s : Scope) (n : ℕ) (x : Name) (es : ExprsTree) (c at : ℕ) (ks : List KindPlan)
-      → Stands s x (meaning.HoldCell c ks)
-      → AreOperands s es (length ks)
-      → WrongValue s ks es at
-      → BreaksStmt hidden s n (Keep x es) (fault.Kind at)
+        → Stands s x (meaning.HoldCell c ks)
+        → AreOperands s es (length ks)
+        → WrongValue s ks es at
+        → BreaksStmt hidden s n (Keep x es) (fault.Kind at)
     keep_from_name : (s : Scope) (n : ℕ) (x y : Name) (f : Fault)
-      → BreaksName s IsKept x f
-      → BreaksStmt hidden s n (KeepFrom x y) f
+        → BreaksName s IsKept x f
+        → BreaksStmt hidden s n (KeepFrom x y) f
     from_name : (s : Scope) (n : ℕ) (x y : Name) (f : Fault)
-      → Names s IsKept x
-      → BreaksName s IsKept y f
-      → BreaksStmt hidden s n (KeepFrom x y) f
+        → Names s IsKept x
+        → BreaksName s IsKept y f
+        → BreaksStmt hidden s n (KeepFrom x y) f
     not_kept : (s : Scope) (n : ℕ) (x y : Name)
-      → Names s IsKept x
-      → Names s IsKept y
-      → HasNoPlan hidden s n (KeepFrom x y)
-      → BreaksStmt hidden s n (KeepFrom x y) (fault.Kind y.at)
+        → Names s IsKept x
+        → Names s IsKept y
+        → HasNoPlan hidden s n (KeepFrom x y)
+        → BreaksStmt hidden s n (KeepFrom x y) (fault.Kind y.at)
     in_if : (s : Scope) (n : ℕ) (e : ExprTree) (a b : StmtsTree) (f : Fault)
-      → Breaks s e f
-      → BreaksStmt hidden s n (If e a b) f
+        → Breaks s e f
+        → BreaksStmt hidden s n (If e a b) f
     no_condition : (s : Scope) (n : ℕ) (e : ExprTree) (a b : StmtsTree) (t : Typed)
-      → Means s e t
-      → ((c : CondPlan) → IsCondition s e c → ⊥)
-      → BreaksStmt hidden s n (If e a b) (fault.Kind (place e))
+        → Means s e t
+        → ((c : CondPlan) → IsCondition s e c → ⊥)
+        → BreaksStmt hidden s n (If e a b) (fault.Kind (place e))
     in_then : (s : Scope) (n : ℕ) (e : ExprTree) (a b : StmtsTree) (c : CondPlan) (f : Fault)
-      → IsCondition s e c
-      → BreaksBlock hidden s n a f
-      → BreaksStmt hidden s n (If e a b) f
+        → IsCondition s e c
+        → BreaksBlock hidden s n a f
+        → BreaksStmt hidden s n (If e a b) f
     in_else : (s : Scope) (n m : ℕ) (e : ExprTree) (a b : StmtsTree) (c : CondPlan) (ds : DosPlan) (f : Fault)
-      → IsCondition s e c
-      → IsBlock hidden s n a ds m
-      → BreaksBlock hidden s m b f
-      → BreaksStmt hidden s n (If e a b) f
+        → IsCondition s e c
+        → IsBlock hidden s n a ds m
+        → BreaksBlock hidden s m b f
+        → BreaksStmt hidden s n (If e a b) f
 
   pub data BreaksBlock (hidden : Scope) : Scope → ℕ → StmtsTree → Fault → Type 0 where
     in_statement : (s : Scope) (n : ℕ) (first : StmtTree) (rest : StmtsTree) (f : Fault)
-      → BreaksStmt hidden s n first f
-      → BreaksBlock hidden s n (Then first rest) f
+        → BreaksStmt hidden s n first f
+        → BreaksBlock hidden s n (Then first rest) f
     in_rest : (s later : Scope) (n m : ℕ) (first : StmtTree) (rest : StmtsTree) (d : DoPlan) (f : Fault)
-      → IsStmt hidden s n first d later m
-      → BreaksBlock hidden later m rest f
-      → BreaksBlock hidden s n (Then first rest) f
+        → IsStmt hidden s n first d later m
+        → BreaksBlock hidden later m rest f
+        → BreaksBlock hidden s n (Then first rest) f

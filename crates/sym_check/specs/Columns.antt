@@ -50,20 +50,20 @@ pub data Shows (cells : List CellPlan) : ShowPlan → ShownAs → Type 0 where
   nums_cell : (c : ℕ) → IsNumsCell cells c → Shows cells (show.Cell c) as_list
   words_cell : (c : ℕ) → IsWordsCell cells c → Shows cells (show.Cell c) as_list
   part : (c part : ℕ) (kinds : List KindPlan) (of : KindPlan)
-    → IsHoldCell cells c kinds
-    → 1 ≤ part
-    → slice_get kinds (part - 1) ≡ Some of
-    → Shows cells (show.Part c part) (shown_kind of)
+      → IsHoldCell cells c kinds
+      → 1 ≤ part
+      → slice_get kinds (part - 1) ≡ Some of
+      → Shows cells (show.Part c part) (shown_kind of)
   of_nums : (f : ShowFn) (c : ℕ) → IsNumsCell cells c → Shows cells (show.Call f c) as_number
   of_words : (f : ShowFn) (c : ℕ)
-    → IsWordsCell cells c
-    → OfAnyList f
-    → Shows cells (show.Call f c) (word_list_shows f)
+      → IsWordsCell cells c
+      → OfAnyList f
+      → Shows cells (show.Call f c) (word_list_shows f)
   negative : (e : ShowPlan) → Shows cells e as_number → Shows cells (show.Neg e) as_number
   calculated : (operator : ArithOp) (l r : ShowPlan)
-    → Shows cells l as_number
-    → Shows cells r as_number
-    → Shows cells (show.Bin operator l r) as_number
+      → Shows cells l as_number
+      → Shows cells r as_number
+      → Shows cells (show.Bin operator l r) as_number
 
 pub record IsColumn (cells : List CellPlan) (c : ColumnOf) : Type 0 where
   pub gives : ShownAs

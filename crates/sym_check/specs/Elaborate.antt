@@ -233,10 +233,10 @@ abbrev pub called_on : ℕ → TestNamed → Arguments → Typed → Result Type
 called_on at test args (HoldCell c ks) =
     if length ks + length args.others == length test.params
     then (if pointwise same_kind ks (take (length ks) test.params)
-      then (do
-        vs ← values_of (drop (length ks) test.params) args.others
-        Ok (Truth (cond.Test test.test c vs)))
-      else kind_at args.first.at)
+    then (do
+      vs ← values_of (drop (length ks) test.params) args.others
+      Ok (Truth (cond.Test test.test c vs)))
+    else kind_at args.first.at)
     else kind_at at
 called_on at test args _ = kind_at args.first.at
 

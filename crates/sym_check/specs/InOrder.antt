@@ -8,19 +8,19 @@ use Rattle.sym_check.specs.Scopes.{Scope}
 pub data Each {A B : Type 0} (One : Scope → ℕ → A → B → Scope → Type 0) : Scope → ℕ → List A → List B → Scope → Type 0 where
   none : (s : Scope) (n : ℕ) → Each One s n [] [] s
   one_more : (s m later : Scope) (n : ℕ) (a : A) (rest : List A) (b : B) (bs : List B)
-    → One s n a b m
-    → Each One m (n + 1) rest bs later
-    → Each One s n (a ∷ rest) (b ∷ bs) later
+      → One s n a b m
+      → Each One m (n + 1) rest bs later
+      → Each One s n (a ∷ rest) (b ∷ bs) later
 
 -- One declaration breaks a rule, and those before it have their plans.
 pub data FirstBroken {A B : Type 0} (One : Scope → ℕ → A → B → Scope → Type 0) (Broken : Scope → ℕ → A → Fault → Type 0) : Scope → ℕ → List A → Fault → Type 0 where
   here : (s : Scope) (n : ℕ) (a : A) (rest : List A) (f : Fault)
-    → Broken s n a f
-    → FirstBroken One Broken s n (a ∷ rest) f
+      → Broken s n a f
+      → FirstBroken One Broken s n (a ∷ rest) f
   further : (s m : Scope) (n : ℕ) (a : A) (rest : List A) (b : B) (f : Fault)
-    → One s n a b m
-    → FirstBroken One Broken m (n + 1) rest f
-    → FirstBroken One Broken s n (a ∷ rest) f
+      → One s n a b m
+      → FirstBroken One Broken m (n + 1) rest f
+      → FirstBroken One Broken s n (a ∷ rest) f
 
 -- The plan of one declaration, and the scope after it.
 pub record Planned (B : Type 0) : Type 0 where

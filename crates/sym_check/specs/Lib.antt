@@ -32,3 +32,7 @@ pub mod InOrder
 pub mod Declarations
 pub mod BreaksDeclarations
 pub mod ElaborateDeclarations
+pub mod Reports
+pub mod BreaksReports
+pub mod ElaborateReports
+pub mod Scripts

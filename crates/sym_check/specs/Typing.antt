@@ -85,60 +85,60 @@ turned compare.Ge = compare.Le
 pub data IsNum (s : Scope) : ExprTree → NumPlan → Type 0 where
   numeral : (n : ℤ) (at : ℕ) → IsNum s (Num n at) (fixed.Lit n)
   named : (x : Name) (v : Variable)
-    → Stands s x (meaning.Value kind.Num v)
-    → IsNum s (Named x) (num_variable v)
+      → Stands s x (meaning.Value kind.Num v)
+      → IsNum s (Named x) (num_variable v)
   negative : (e : ExprTree) (at : ℕ) (n : NumPlan) → IsNum s e n → IsNum s (Neg e at) (fixed.Neg n)
   calculated : (o : BinOp) (a : ArithOp) (l r : ExprTree) (at : ℕ) (m n : NumPlan)
-    → arith_of o ≡ Some a
-    → IsNum s l m
-    → IsNum s r n
-    → IsNum s (Bin o l r at) (fixed.Bin a m n)
+      → arith_of o ≡ Some a
+      → IsNum s l m
+      → IsNum s r n
+      → IsNum s (Bin o l r at) (fixed.Bin a m n)
 
 pub data IsWord (s : Scope) : ExprTree → WordOf → Type 0 where
   text : (t : List ℕ) (at : ℕ) → IsWord s (Words t at) (word.Lit t)
   word_named : (x : Name) (v : Variable)
-    → Stands s x (meaning.Value kind.Word v)
-    → IsWord s (Named x) (word_variable v)
+      → Stands s x (meaning.Value kind.Word v)
+      → IsWord s (Named x) (word_variable v)
 
 -- A label of the enum with this number.
 pub data IsLabel (s : Scope) : ℕ → ExprTree → LabelOf → Type 0 where
   label_name : (x : Name) (enum l : ℕ)
-    → Stands s x (meaning.Label enum l)
-    → IsLabel s enum (Named x) (label.Lit l)
+      → Stands s x (meaning.Label enum l)
+      → IsLabel s enum (Named x) (label.Lit l)
   label_named : (x : Name) (enum : ℕ) (v : Variable)
-    → Stands s x (meaning.Value (kind.Label enum) v)
-    → IsLabel s enum (Named x) (label_variable v)
+      → Stands s x (meaning.Value (kind.Label enum) v)
+      → IsLabel s enum (Named x) (label_variable v)
 
 -- A line names one integer cell, once.
 pub data IsLine (s : Scope) : ExprTree → LinePlan → Type 0 where
   cell : (x : Name) (c : ℕ) → Stands s x (meaning.IntCell c) → IsLine s (Named x) (line.Cell c)
   opposite : (e : ExprTree) (at : ℕ) (k : LinePlan)
-    → IsLine s e k
-    → IsLine s (Neg e at) (line.Neg k)
+      → IsLine s e k
+      → IsLine s (Neg e at) (line.Neg k)
   line_plus : (l r : ExprTree) (at : ℕ) (k : LinePlan) (n : NumPlan)
-    → IsLine s l k
-    → IsNum s r n
-    → IsLine s (Bin op.Add l r at) (line.Add k n)
+      → IsLine s l k
+      → IsNum s r n
+      → IsLine s (Bin op.Add l r at) (line.Add k n)
   plus_line : (l r : ExprTree) (at : ℕ) (n : NumPlan) (k : LinePlan)
-    → IsNum s l n
-    → IsLine s r k
-    → IsLine s (Bin op.Add l r at) (line.Add k n)
+      → IsNum s l n
+      → IsLine s r k
+      → IsLine s (Bin op.Add l r at) (line.Add k n)
   line_minus : (l r : ExprTree) (at : ℕ) (k : LinePlan) (n : NumPlan)
-    → IsLine s l k
-    → IsNum s r n
-    → IsLine s (Bin op.Sub l r at) (line.Add k (fixed.Neg n))
+      → IsLine s l k
+      → IsNum s r n
+      → IsLine s (Bin op.Sub l r at) (line.Add k (fixed.Neg n))
   minus_line : (l r : ExprTree) (at : ℕ) (n : NumPlan) (k : LinePlan)
-    → IsNum s l n
-    → IsLine s r k
-    → IsLine s (Bin op.Sub l r at) (line.Add (line.Neg k) n)
+      → IsNum s l n
+      → IsLine s r k
+      → IsLine s (Bin op.Sub l r at) (line.Add (line.Neg k) n)
   line_times : (l r : ExprTree) (at : ℕ) (k : LinePlan) (n : NumPlan)
-    → IsLine s l k
-    → IsNum s r n
-    → IsLine s (Bin op.Mul l r at) (line.Scale n k)
+      → IsLine s l k
+      → IsNum s r n
+      → IsLine s (Bin op.Mul l r at) (line.Scale n k)
   times_line : (l r : ExprTree) (at : ℕ) (n : NumPlan) (k : LinePlan)
-    → IsNum s l n
-    → IsLine s r k
-    → IsLine s (Bin op.Mul l r at) (line.Scale n k)
+      → IsNum s l n
+      → IsLine s r k
+      → IsLine s (Bin op.Mul l r at) (line.Scale n k)
 
 -- A number or a line.
 pub data IsTerm (s : Scope) : ExprTree → TermPlan → Type 0 where
@@ -150,61 +150,61 @@ pub data IsValue (s : Scope) : KindPlan → ExprTree → FixedPlan → Type 0 wh
   num_value : (e : ExprTree) (n : NumPlan) → IsNum s e n → IsValue s kind.Num e (fixed.OfNum n)
   word_value : (e : ExprTree) (w : WordOf) → IsWord s e w → IsValue s kind.Word e (fixed.OfWord w)
   label_value : (enum : ℕ) (e : ExprTree) (l : LabelOf)
-    → IsLabel s enum e l
-    → IsValue s (kind.Label enum) e (fixed.OfLabel l)
+      → IsLabel s enum e l
+      → IsValue s (kind.Label enum) e (fixed.OfLabel l)
 
 -- Values of these kinds, one of each, in order.
 pub data AreValues (s : Scope) : List KindPlan → ExprsTree → List FixedPlan → Type 0 where
   no_values : AreValues s [] End []
   more_values : (k : KindPlan) (ks : List KindPlan) (e : ExprTree) (es : ExprsTree) (v : FixedPlan) (vs : List FixedPlan)
-    → IsValue s k e v
-    → AreValues s ks es vs
-    → AreValues s (k ∷ ks) (More e es) (v ∷ vs)
+      → IsValue s k e v
+      → AreValues s ks es vs
+      → AreValues s (k ∷ ks) (More e es) (v ∷ vs)
 
 pub data IsCondition (s : Scope) : ExprTree → CondPlan → Type 0 where
   compared : (o : BinOp) (c : Compare) (l r : ExprTree) (at : ℕ) (t : TermPlan) (n : NumPlan)
-    → compare_of o ≡ Some c
-    → IsTerm s l t
-    → IsNum s r n
-    → IsCondition s (Bin o l r at) (cond.Compared c t n)
+      → compare_of o ≡ Some c
+      → IsTerm s l t
+      → IsNum s r n
+      → IsCondition s (Bin o l r at) (cond.Compared c t n)
   turned_round : (o : BinOp) (c : Compare) (l r : ExprTree) (at : ℕ) (n : NumPlan) (k : LinePlan)
-    → compare_of o ≡ Some c
-    → IsNum s l n
-    → IsLine s r k
-    → IsCondition s (Bin o l r at) (cond.Compared (turned c) (line.OfLine k) n)
+      → compare_of o ≡ Some c
+      → IsNum s l n
+      → IsLine s r k
+      → IsCondition s (Bin o l r at) (cond.Compared (turned c) (line.OfLine k) n)
   same_words : (l r : ExprTree) (at : ℕ) (v w : WordOf)
-    → IsWord s l v
-    → IsWord s r w
-    → IsCondition s (Bin op.Eq l r at) (cond.Words v w)
+      → IsWord s l v
+      → IsWord s r w
+      → IsCondition s (Bin op.Eq l r at) (cond.Words v w)
   other_words : (l r : ExprTree) (at : ℕ) (v w : WordOf)
-    → IsWord s l v
-    → IsWord s r w
-    → IsCondition s (Bin op.Ne l r at) (cond.Not (cond.Words v w))
+      → IsWord s l v
+      → IsWord s r w
+      → IsCondition s (Bin op.Ne l r at) (cond.Not (cond.Words v w))
   cell_is : (x : Name) (r : ExprTree) (at c enum : ℕ) (l : LabelOf)
-    → Stands s x (meaning.EnumCell c enum)
-    → IsLabel s enum r l
-    → IsCondition s (Bin op.Is (Named x) r at) (cond.CellIs c l)
+      → Stands s x (meaning.EnumCell c enum)
+      → IsLabel s enum r l
+      → IsCondition s (Bin op.Is (Named x) r at) (cond.CellIs c l)
   label_is : (l r : ExprTree) (at enum : ℕ) (m n : LabelOf)
-    → IsLabel s enum l m
-    → IsLabel s enum r n
-    → IsCondition s (Bin op.Is l r at) (cond.LabelIs m n)
+      → IsLabel s enum l m
+      → IsLabel s enum r n
+      → IsCondition s (Bin op.Is l r at) (cond.LabelIs m n)
   -- The first parameters are of the kinds of the cell's parts, the others of the arguments'.
   call : (x h : Name) (es : ExprsTree) (t c : ℕ) (ks js : List KindPlan) (vs : List FixedPlan)
-    → Stands s x (meaning.Test t (ks ++ js))
-    → Stands s h (meaning.HoldCell c ks)
-    → AreValues s js es vs
-    → IsCondition s (Call x (More (Named h) es)) (cond.Test t c vs)
+      → Stands s x (meaning.Test t (ks ++ js))
+      → Stands s h (meaning.HoldCell c ks)
+      → AreValues s js es vs
+      → IsCondition s (Call x (More (Named h) es)) (cond.Test t c vs)
   negation : (e : ExprTree) (at : ℕ) (c : CondPlan)
-    → IsCondition s e c
-    → IsCondition s (Not e at) (cond.Not c)
+      → IsCondition s e c
+      → IsCondition s (Not e at) (cond.Not c)
   both : (l r : ExprTree) (at : ℕ) (c d : CondPlan)
-    → IsCondition s l c
-    → IsCondition s r d
-    → IsCondition s (Bin op.And l r at) (cond.And c d)
+      → IsCondition s l c
+      → IsCondition s r d
+      → IsCondition s (Bin op.And l r at) (cond.And c d)
   either : (l r : ExprTree) (at : ℕ) (c d : CondPlan)
-    → IsCondition s l c
-    → IsCondition s r d
-    → IsCondition s (Bin op.Or l r at) (cond.Or c d)
+      → IsCondition s l c
+      → IsCondition s r d
+      → IsCondition s (Bin op.Or l r at) (cond.Or c d)
 
 -- What an expression may stand for. The name of an enum cell or of a hold cell is no value by
 -- itself: it has a place of its own in some rules.
@@ -220,14 +220,14 @@ pub data Means (s : Scope) : ExprTree → Typed → Type 0 where
   number : (e : ExprTree) (t : TermPlan) → IsTerm s e t → Means s e (Number t)
   of_word : (e : ExprTree) (w : WordOf) → IsWord s e w → Means s e (Word w)
   of_label : (e : ExprTree) (enum : ℕ) (l : LabelOf)
-    → IsLabel s enum e l
-    → Means s e (Label enum l)
+      → IsLabel s enum e l
+      → Means s e (Label enum l)
   enum_cell : (x : Name) (c enum : ℕ)
-    → Stands s x (meaning.EnumCell c enum)
-    → Means s (Named x) (EnumCell c enum)
+      → Stands s x (meaning.EnumCell c enum)
+      → Means s (Named x) (EnumCell c enum)
   hold_cell : (x : Name) (c : ℕ) (ks : List KindPlan)
-    → Stands s x (meaning.HoldCell c ks)
-    → Means s (Named x) (HoldCell c ks)
+      → Stands s x (meaning.HoldCell c ks)
+      → Means s (Named x) (HoldCell c ks)
   truth : (e : ExprTree) (c : CondPlan) → IsCondition s e c → Means s e (Truth c)
 
 abbrev pub HasMeaning : Scope → ExprTree → Type 0

@@ -69,18 +69,18 @@ InRange lo hi x = (lo ≤ℤ x) × (x ≤ℤ hi)
 -- of its enum.
 pub data IsValidCell (enums : List EnumPlan) : CellPlan → Cell → Type 0 where
   int : (lo hi first x : ℤ)
-    → InRange lo hi x
-    → IsValidCell enums (plan.Int lo hi first) (cell.Int x)
+      → InRange lo hi x
+      → IsValidCell enums (plan.Int lo hi first) (cell.Int x)
   nums : (lo hi : ℤ) (xs : List ℤ)
-    → All (InRange lo hi) xs
-    → IsValidCell enums (plan.Nums lo hi) (cell.Nums xs)
+      → All (InRange lo hi) xs
+      → IsValidCell enums (plan.Nums lo hi) (cell.Nums xs)
   words : (ts : List (List ℕ)) → IsValidCell enums plan.Words (cell.Words ts)
   hold : (kinds : List KindPlan) (first parts : List Value)
-    → AreOfKinds enums kinds parts
-    → IsValidCell enums (plan.Hold kinds first) (cell.Hold parts)
+      → AreOfKinds enums kinds parts
+      → IsValidCell enums (plan.Hold kinds first) (cell.Hold parts)
   enum : (of first l : ℕ)
-    → l < label_count enums of
-    → IsValidCell enums (plan.Enum of first) (cell.Enum l)
+      → l < label_count enums of
+      → IsValidCell enums (plan.Enum of first) (cell.Enum l)
 
 -- The state has one cell for each that the script declares, and each holds what it may.
 abbrev pub IsValid : ScriptPlan → State → Type 0

@@ -58,8 +58,8 @@ pub data IsFixed (enums : List EnumPlan) (k : Kinds) : KindPlan → FixedPlan �
   of_num : (n : NumPlan) → IsNum k n → IsFixed enums k kind.Num (fixed.OfNum n)
   of_word : (w : WordOf) → IsWord k w → IsFixed enums k kind.Word (OfWord w)
   of_label : (enum : ℕ) (l : LabelOf)
-    → IsLabel enums k enum l
-    → IsFixed enums k (kind.Label enum) (OfLabel l)
+      → IsLabel enums k enum l
+      → IsFixed enums k (kind.Label enum) (OfLabel l)
 
 abbrev pub IsLine : List CellPlan → Kinds → LinePlan → Type 0
 IsLine cells k (line.Cell c) = IsIntCell cells c
@@ -131,41 +131,41 @@ with_kind k n last = record k {
 mutual
   pub data IsDo (p : ScriptPlan) : Kinds → DoPlan → Kinds → Type 0 where
     let_value : (k : Kinds) (n : ℕ) (last : KindPlan) (e : FixedPlan)
-      → length k.locals ≤ n
-      → IsFixed p.enums k last e
-      → IsDo p k (Let n e) (with_kind k n last)
+        → length k.locals ≤ n
+        → IsFixed p.enums k last e
+        → IsDo p k (Let n e) (with_kind k n last)
     set_int : (k : Kinds) (c : ℕ) (t : TermPlan)
-      → IsIntCell p.cells c
-      → IsTerm p.cells k t
-      → IsDo p k (SetInt c t) k
+        → IsIntCell p.cells c
+        → IsTerm p.cells k t
+        → IsDo p k (SetInt c t) k
     set_enum : (k : Kinds) (c : ℕ) (l : LabelOf)
-      → IsLabelOfCell p k c l
-      → IsDo p k (SetEnum c l) k
+        → IsLabelOfCell p k c l
+        → IsDo p k (SetEnum c l) k
     copy_enum : (k : Kinds) (c d : ℕ) → AreOfOneEnum p.cells c d → IsDo p k (CopyEnum c d) k
     keep : (k : Kinds) (c : ℕ) (values : List FixedPlan)
-      → IsKept p k c values
-      → IsDo p k (Keep c values) k
+        → IsKept p k c values
+        → IsDo p k (Keep c values) k
     keep_from : (k : Kinds) (c d : ℕ) → HaveSameKinds p.cells c d → IsDo p k (KeepFrom c d) k
     push_num : (k : Kinds) (c : ℕ) (t : TermPlan)
-      → IsNumsCell p.cells c
-      → IsTerm p.cells k t
-      → IsDo p k (PushNum c t) k
+        → IsNumsCell p.cells c
+        → IsTerm p.cells k t
+        → IsDo p k (PushNum c t) k
     push_word : (k : Kinds) (c : ℕ) (w : WordOf)
-      → IsWordsCell p.cells c
-      → IsWord k w
-      → IsDo p k (PushWord c w) k
+        → IsWordsCell p.cells c
+        → IsWord k w
+        → IsDo p k (PushWord c w) k
     branch : (k : Kinds) (c : CondPlan) (a b : DosPlan)
-      → IsCond p k c
-      → IsDos p k a
-      → IsDos p k b
-      → IsDo p k (If c a b) k
+        → IsCond p k c
+        → IsDos p k a
+        → IsDos p k b
+        → IsDo p k (If c a b) k
 
   pub data IsDos (p : ScriptPlan) : Kinds → DosPlan → Type 0 where
     finished : (k : Kinds) → IsDos p k End
     followed : (k later : Kinds) (d : DoPlan) (rest : DosPlan)
-      → IsDo p k d later
-      → IsDos p later rest
-      → IsDos p k (Then d rest)
+        → IsDo p k d later
+        → IsDos p later rest
+        → IsDos p k (Then d rest)
 
 -- The kind of a field, a part or a parameter.
 abbrev pub IsKind : List EnumPlan → KindPlan → Type 0
