@@ -23,8 +23,8 @@ use Rattle.sym_check.specs.CondPlans as cond
 use Rattle.sym_check.specs.DoPlans as do_
 use Rattle.sym_check.specs.ShowPlans as show
 use Rattle.sym_check.specs.ScriptPlans.{ScriptPlan}
-use Rattle.sym_check.specs.Faults as fault
-use Rattle.sym_check.specs.Scripts.{checked}
+use Rattle.sym_check.specs.BrokenRules as broken
+use Rattle.sym_check.specs.Scripts.{plan_of}
 
 abbrev n_at : ℕ → Name
 n_at at = record { text = codes "n"; at = at }
@@ -54,43 +54,43 @@ abbrev only : StmtTree → StmtsTree
 only d = Then d Done
 
 -- n = n * n;
-square : checked (counter (only (Set (n_at 48) (Bin op.Mul (Named (n_at 52)) (Named (n_at 56)) 54)))) ≡ Err (fault.NotLinear 54)
+square : plan_of (counter (only (Set (n_at 48) (Bin op.Mul (Named (n_at 52)) (Named (n_at 56)) 54)))) ≡ Err (broken.NotLinear 54)
 square = refl
 
 -- n = n + n;
-double : checked (counter (only (Set (n_at 48) (Bin op.Add (Named (n_at 52)) (Named (n_at 56)) 54)))) ≡ Err (fault.NotLinear 54)
+double : plan_of (counter (only (Set (n_at 48) (Bin op.Add (Named (n_at 52)) (Named (n_at 56)) 54)))) ≡ Err (broken.NotLinear 54)
 double = refl
 
 -- n = m;
-unknown : checked (counter (only (Set (n_at 48) (Named (name_at (codes "m") 52))))) ≡ Err (fault.Name 52)
+unknown : plan_of (counter (only (Set (n_at 48) (Named (name_at (codes "m") 52))))) ≡ Err (broken.Name 52)
 unknown = refl
 
 -- n = "a";
-a_word : checked (counter (only (Set (n_at 48) (Words (codes "a") 52)))) ≡ Err (fault.Kind 52)
+a_word : plan_of (counter (only (Set (n_at 48) (Words (codes "a") 52)))) ≡ Err (broken.Kind 52)
 a_word = refl
 
 -- n = 1 + "a";
-a_word_added : checked (counter (only (Set (n_at 48) (Bin op.Add (Num (pos 1) 52) (Words (codes "a") 56) 54)))) ≡ Err (fault.Kind 54)
+a_word_added : plan_of (counter (only (Set (n_at 48) (Bin op.Add (Num (pos 1) 52) (Words (codes "a") 56) 54)))) ≡ Err (broken.Kind 54)
 a_word_added = refl
 
 -- let n = 1;
-taken : checked (counter (only (Let (n_at 52) (Num (pos 1) 56)))) ≡ Err (fault.Twice 52)
+taken : plan_of (counter (only (Let (n_at 52) (Num (pos 1) 56)))) ≡ Err (broken.Twice 52)
 taken = refl
 
 -- if n { }
-no_condition : checked (counter (only (If (Named (n_at 51)) Done Done))) ≡ Err (fault.Kind 51)
+no_condition : plan_of (counter (only (If (Named (n_at 51)) Done Done))) ≡ Err (broken.Kind 51)
 no_condition = refl
 
 -- The range is [3..0].
-no_range : checked (ranged (pos 3) (pos 0) Done) ≡ Err (fault.Range 20)
+no_range : plan_of (ranged (pos 3) (pos 0) Done) ≡ Err (broken.Range 20)
 no_range = refl
 
 -- The operands of an operator come before it: n = m * "a";
-operands_first : checked (counter (only (Set (n_at 48) (Bin op.Mul (Named (name_at (codes "m") 52)) (Words (codes "a") 56) 54)))) ≡ Err (fault.Name 52)
+operands_first : plan_of (counter (only (Set (n_at 48) (Bin op.Mul (Named (name_at (codes "m") 52)) (Words (codes "a") 56) 54)))) ≡ Err (broken.Name 52)
 operands_first = refl
 
 -- n = 1 - x < n; the whole is no number, but a condition
-a_condition : checked (counter (only (Set (n_at 48) (Bin op.Lt (Bin op.Sub (Num (pos 1) 52) (Named (x_at 56)) 54) (Named (n_at 60)) 58)))) ≡ Err (fault.Kind 58)
+a_condition : plan_of (counter (only (Set (n_at 48) (Bin op.Lt (Bin op.Sub (Num (pos 1) 52) (Named (x_at 56)) 54) (Named (n_at 60)) 58)))) ≡ Err (broken.Kind 58)
 a_condition = refl
 
 abbrev counted : do_.DosPlan → ScriptPlan
@@ -105,19 +105,19 @@ counted update = record {
 }
 
 -- n = n + 1;
-one_more : checked (counter (only (Set (n_at 48) (Bin op.Add (Named (n_at 52)) (Num (pos 1) 56) 54)))) ≡ Ok (counted (do_.Then (do_.SetInt 0 (line.OfLine (line.Add (line.Cell 0) (fixed.Lit (pos 1))))) do_.End))
+one_more : plan_of (counter (only (Set (n_at 48) (Bin op.Add (Named (n_at 52)) (Num (pos 1) 56) 54)))) ≡ Ok (counted (do_.Then (do_.SetInt 0 (line.OfLine (line.Add (line.Cell 0) (fixed.Lit (pos 1))))) do_.End))
 one_more = refl
 
 -- n = x - n;
-from_the_left : checked (counter (only (Set (n_at 48) (Bin op.Sub (Named (x_at 52)) (Named (n_at 56)) 54)))) ≡ Ok (counted (do_.Then (do_.SetInt 0 (line.OfLine (line.Add (line.Neg (line.Cell 0)) (fixed.Field 0)))) do_.End))
+from_the_left : plan_of (counter (only (Set (n_at 48) (Bin op.Sub (Named (x_at 52)) (Named (n_at 56)) 54)))) ≡ Ok (counted (do_.Then (do_.SetInt 0 (line.OfLine (line.Add (line.Neg (line.Cell 0)) (fixed.Field 0)))) do_.End))
 from_the_left = refl
 
 -- if 2 < n { } has its line turned to the left.
-turned_round : checked (counter (only (If (Bin op.Lt (Num (pos 2) 51) (Named (n_at 55)) 53) Done Done))) ≡ Ok (counted (do_.Then (do_.If (cond.Compared compare.Gt (line.OfLine (line.Cell 0)) (fixed.Lit (pos 2))) do_.End do_.End) do_.End))
+turned_round : plan_of (counter (only (If (Bin op.Lt (Num (pos 2) 51) (Named (n_at 55)) 53) Done Done))) ≡ Ok (counted (do_.Then (do_.If (cond.Compared compare.Gt (line.OfLine (line.Cell 0)) (fixed.Lit (pos 2))) do_.End do_.End) do_.End))
 turned_round = refl
 
 -- A local ends with its block: if x == 1 { let a = x; } n = a;
-ended_local : checked (counter (Then (If (Bin op.Eq (Named (x_at 51)) (Num (pos 1) 56) 53) (only (Let (name_at (codes "a") 64) (Named (x_at 68)))) Done) (only (Set (n_at 73) (Named (name_at (codes "a") 77)))))) ≡ Err (fault.Name 77)
+ended_local : plan_of (counter (Then (If (Bin op.Eq (Named (x_at 51)) (Num (pos 1) 56) 53) (only (Let (name_at (codes "a") 64) (Named (x_at 68)))) Done) (only (Set (n_at 73) (Named (name_at (codes "a") 77)))))) ≡ Err (broken.Name 77)
 ended_local = refl
 
 abbrev a_at : ℕ → Name
@@ -145,31 +145,31 @@ abbrev shows_c : List ColumnTree
 shows_c = record { name = c_at 200; value = Named (c_at 204) } ∷ []
 
 -- c = c;
-same_cell : checked (toggle (only (Set (c_at 110) (Named (c_at 114)))) shows_c) ≡ Err (fault.Kind 114)
+same_cell : plan_of (toggle (only (Set (c_at 110) (Named (c_at 114)))) shows_c) ≡ Err (broken.Kind 114)
 same_cell = refl
 
 -- if c == a { }: an enum cell stands only to the left of `is`.
-cell_compared : checked (toggle (only (If (Bin op.Eq (Named (c_at 113)) (Named (a_at 118)) 115) Done Done)) shows_c) ≡ Err (fault.Kind 113)
+cell_compared : plan_of (toggle (only (If (Bin op.Eq (Named (c_at 113)) (Named (a_at 118)) 115) Done Done)) shows_c) ≡ Err (broken.Kind 113)
 cell_compared = refl
 
 -- if t(h) { }: a wrong number of arguments is at the call.
-too_few : checked (toggle (only (If (Call (name_at (codes "t") 113) (More (Named (name_at (codes "h") 115)) End)) Done Done)) shows_c) ≡ Err (fault.Kind 113)
+too_few : plan_of (toggle (only (If (Call (name_at (codes "t") 113) (More (Named (name_at (codes "h") 115)) End)) Done Done)) shows_c) ≡ Err (broken.Kind 113)
 too_few = refl
 
 -- if t(h, a) { }: a wrong argument is at itself.
-wrong_argument : checked (toggle (only (If (Call (name_at (codes "t") 113) (More (Named (name_at (codes "h") 115)) (More (Named (a_at 118)) End))) Done Done)) shows_c) ≡ Err (fault.Kind 118)
+wrong_argument : plan_of (toggle (only (If (Call (name_at (codes "t") 113) (More (Named (name_at (codes "h") 115)) (More (Named (a_at 118)) End))) Done Done)) shows_c) ≡ Err (broken.Kind 118)
 wrong_argument = refl
 
 -- keep h(1, a);: a wrong number of values comes before their kinds, at the cell.
-too_many : checked (toggle (only (Keep (name_at (codes "h") 115) (More (Num (pos 1) 117) (More (Named (a_at 120)) End)))) shows_c) ≡ Err (fault.Kind 115)
+too_many : plan_of (toggle (only (Keep (name_at (codes "h") 115) (More (Num (pos 1) 117) (More (Named (a_at 120)) End)))) shows_c) ≡ Err (broken.Kind 115)
 too_many = refl
 
 -- part(h, 2) of a cell with one part.
-no_part : checked (toggle Done (record { name = c_at 200; value = Call (name_at (codes "part") 204) (More (Named (name_at (codes "h") 209)) (More (Num (pos 2) 212) End)) } ∷ [])) ≡ Err (fault.Range 212)
+no_part : plan_of (toggle Done (record { name = c_at 200; value = Call (name_at (codes "part") 204) (More (Named (name_at (codes "h") 209)) (More (Num (pos 2) 212) End)) } ∷ [])) ≡ Err (broken.Range 212)
 no_part = refl
 
 -- h as a whole column.
-whole_cell : checked (toggle Done (record { name = c_at 200; value = Named (name_at (codes "h") 204) } ∷ [])) ≡ Err (fault.Kind 204)
+whole_cell : plan_of (toggle Done (record { name = c_at 200; value = Named (name_at (codes "h") 204) } ∷ [])) ≡ Err (broken.Kind 204)
 whole_cell = refl
 
 -- Statements `if c is a { }` one after the other.
@@ -177,11 +177,11 @@ abbrev branches : ℕ → StmtsTree
 branches zero = Done
 branches (suc n) = Then (If (Bin op.Is (Named (c_at 113)) (Named (a_at 118)) 115) Done Done) (branches n)
 
-too_many_paths : checked (toggle (branches 11) shows_c) ≡ Err (fault.Branchy 2048)
+too_many_paths : plan_of (toggle (branches 11) shows_c) ≡ Err (broken.Branchy 2048)
 too_many_paths = refl
 
 -- if c is a { c = b; } else { c = a; }
-toggled : checked (toggle (only (If (Bin op.Is (Named (c_at 113)) (Named (a_at 118)) 115) (only (Set (c_at 122) (Named (b_at 126)))) (only (Set (c_at 136) (Named (a_at 140)))))) shows_c) ≡ Ok (record {
+toggled : plan_of (toggle (only (If (Bin op.Is (Named (c_at 113)) (Named (a_at 118)) 115) (only (Set (c_at 122) (Named (b_at 126)))) (only (Set (c_at 136) (Named (a_at 140)))))) shows_c) ≡ Ok (record {
   enums = record { labels = codes "a" ∷ codes "b" ∷ [] } ∷ [];
   fields = record { header = codes "x"; kind = kind.Num; default = None } ∷ [];
   group = None;

@@ -36,7 +36,7 @@ use Rattle.sym_check.specs.Arithmetic.{and_then, within, divided, calculated, fa
 use Rattle.sym_check.specs.FixedValues.{Environment, value_number, value_label, number, label_of, word_of, fixed_value, fixed_values}
 use Rattle.sym_check.specs.LineValues.{term_number}
 use Rattle.sym_check.specs.Conditions.{truth, test_truth}
-use Rattle.sym_check.specs.Updates.{first_cell, initial, nums_at, nums_in, words_at, with_cell, in_range, checked, stored, environment, with_local, with_result, environment_after, do_step, dos_step, at_record, step}
+use Rattle.sym_check.specs.Updates.{first_cell, initial, nums_at, nums_in, words_at, with_cell, in_range, or_fault, stored, environment, with_local, with_result, environment_after, do_step, dos_step, at_record, step}
 use Rattle.sym_check.specs.Validity.{label_count, IsOfKind, AreOfKinds, field_kinds, IsRecord, InRange, IsValidCell, IsValid, IsValidOutcome}
 use Rattle.sym_check.specs.Validity as valid
 use Rattle.sym_check.specs.WellFormed.{Kinds, IsNum, IsLabel, IsFixed, IsKept, with_kind, IsDo, IsDos, IsCell, IsWellFormed, known_kinds}
@@ -153,7 +153,7 @@ in_range_is : (lo hi x : ℤ) → (int_le lo x && int_le x hi) ≡ true → InRa
 in_range_is lo hi x e = grind (arith, ints, e)
 
 -- What is done with a value, where there is one.
-calculated_valid : {A : Type 0} (P : State → Type 0) (f : A → Result State FaultKind) (r : Result A Arith) → ((x : A) → r ≡ Ok x → IfOk (f x) P) → IfOk (and_then f (checked r)) P
+calculated_valid : {A : Type 0} (P : State → Type 0) (f : A → Result State FaultKind) (r : Result A Arith) → ((x : A) → r ≡ Ok x → IfOk (f x) P) → IfOk (and_then f (or_fault r)) P
 calculated_valid P f (Ok x) goes = goes x refl
 calculated_valid P f (Err e) goes = tt
 

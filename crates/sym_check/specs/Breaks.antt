@@ -1,6 +1,6 @@
 -- The first broken rule in an expression, with its place: what stands before has its meaning, and
 -- this has none.
-use Rattle.std.specs.Prelude.{◌≡◌, ◌≢◌, ℕ, ◌+◌, List, [], ◌∷◌, ◌++◌, length, take, Option, Some, None, IsSome, ◌⊎◌}
+use Rattle.std.specs.Prelude.{◌≡◌, ◌≢◌, ℕ, ◌+◌, ◌-◌, List, [], ◌∷◌, ◌++◌, length, take, Option, Some, None, IsSome, ◌⊎◌}
 use Rattle.sym_base.specs.declared.tree.name.Name.{Name}
 use Rattle.sym_base.specs.declared.tree.expression.BinOp.{BinOp}
 use Rattle.sym_base.specs.declared.tree.expression.BinOp.TheVariants as op
@@ -8,8 +8,8 @@ use Rattle.sym_base.specs.Trees.{ExprTree, Num, Words, Named, Call, Neg, Not, Bi
 use Rattle.sym_check.specs.declared.plan.script.KindPlan.{KindPlan}
 use Rattle.sym_check.specs.FixedPlans.{FixedPlan}
 use Rattle.sym_check.specs.LinePlans.{TermPlan}
-use Rattle.sym_check.specs.Faults.{Fault}
-use Rattle.sym_check.specs.Faults as fault
+use Rattle.sym_check.specs.BrokenRules.{BrokenRule}
+use Rattle.sym_check.specs.BrokenRules as broken
 use Rattle.sym_check.specs.Scopes.{Meaning, Scope, Stands, IsFree}
 use Rattle.sym_check.specs.Scopes as meaning
 use Rattle.sym_check.specs.Typing.{arith_of, compare_of, Typed, Number, Word, Label, EnumCell, HoldCell, Truth, Means, HasMeaning, IsTerm, IsValue, AreValues}
@@ -78,7 +78,8 @@ pub data WrongValue (s : Scope) : List KindPlan → ExprsTree → ℕ → Type 0
       → WrongValue s ks es at
       → WrongValue s (k ∷ ks) (More e es) at
 
--- What is wrong with a call whose name and n further arguments are right by themselves.
+-- What is wrong with a call whose name and n further arguments are right by themselves. They are
+-- as many as the parameters after those of the cell's parts.
 pub data WrongCall (s : Scope) (x : Name) (params : List KindPlan) (n : ℕ) : ExprTree → ExprsTree → ℕ → Type 0 where
   no_hold_cell : (e : ExprTree) (es : ExprsTree) (t : Typed)
       → Means s e t
@@ -86,11 +87,11 @@ pub data WrongCall (s : Scope) (x : Name) (params : List KindPlan) (n : ℕ) : E
       → WrongCall s x params n e es (place e)
   wrong_number : (e : ExprTree) (es : ExprsTree) (c : ℕ) (ks : List KindPlan)
       → Means s e (HoldCell c ks)
-      → length ks + n ≢ length params
+      → n ≢ length params - length ks
       → WrongCall s x params n e es x.at
   wrong_cell : (e : ExprTree) (es : ExprsTree) (c : ℕ) (ks : List KindPlan)
       → Means s e (HoldCell c ks)
-      → length ks + n ≡ length params
+      → n ≡ length params - length ks
       → ks ≢ take (length ks) params
       → WrongCall s x params n e es (place e)
   wrong_argument : (e : ExprTree) (es : ExprsTree) (c : ℕ) (ks js : List KindPlan) (at : ℕ)
@@ -101,40 +102,40 @@ pub data WrongCall (s : Scope) (x : Name) (params : List KindPlan) (n : ℕ) : E
       → WrongCall s x params n e es at
 
 mutual
-  pub data Breaks (s : Scope) : ExprTree → Fault → Type 0 where
-    unknown : (x : Name) → IsFree s x → Breaks s (Named x) (fault.Name x.at)
+  pub data Breaks (s : Scope) : ExprTree → BrokenRule → Type 0 where
+    unknown : (x : Name) → IsFree s x → Breaks s (Named x) (broken.Name x.at)
     no_value : (x : Name) (m : Meaning)
         → Stands s x m
         → (HasMeaning s (Named x) → ⊥)
-        → Breaks s (Named x) (fault.Kind x.at)
-    in_negated : (e : ExprTree) (at : ℕ) (f : Fault) → Breaks s e f → Breaks s (Neg e at) f
+        → Breaks s (Named x) (broken.Kind x.at)
+    in_negated : (e : ExprTree) (at : ℕ) (f : BrokenRule) → Breaks s e f → Breaks s (Neg e at) f
     negated_cell : (e : ExprTree) (at : ℕ) (t : Typed)
         → Means s e t
         → (IsOperand t → ⊥)
-        → Breaks s (Neg e at) (fault.Kind (place e))
+        → Breaks s (Neg e at) (broken.Kind (place e))
     not_negated : (e : ExprTree) (at : ℕ) (t : Typed)
         → Means s e t
         → IsOperand t
         → (HasMeaning s (Neg e at) → ⊥)
-        → Breaks s (Neg e at) (fault.Kind at)
-    in_not : (e : ExprTree) (at : ℕ) (f : Fault) → Breaks s e f → Breaks s (Not e at) f
+        → Breaks s (Neg e at) (broken.Kind at)
+    in_not : (e : ExprTree) (at : ℕ) (f : BrokenRule) → Breaks s e f → Breaks s (Not e at) f
     not_cell : (e : ExprTree) (at : ℕ) (t : Typed)
         → Means s e t
         → (IsOperand t → ⊥)
-        → Breaks s (Not e at) (fault.Kind (place e))
+        → Breaks s (Not e at) (broken.Kind (place e))
     no_condition : (e : ExprTree) (at : ℕ) (t : Typed)
         → Means s e t
         → IsOperand t
         → (HasMeaning s (Not e at) → ⊥)
-        → Breaks s (Not e at) (fault.Kind at)
-    in_left : (o : BinOp) (l r : ExprTree) (at : ℕ) (f : Fault)
+        → Breaks s (Not e at) (broken.Kind at)
+    in_left : (o : BinOp) (l r : ExprTree) (at : ℕ) (f : BrokenRule)
         → Breaks s l f
         → Breaks s (Bin o l r at) f
     left_cell : (o : BinOp) (l r : ExprTree) (at : ℕ) (t : Typed)
         → Means s l t
         → (IsLeft o t → ⊥)
-        → Breaks s (Bin o l r at) (fault.Kind (place l))
-    in_right : (o : BinOp) (l r : ExprTree) (at : ℕ) (t : Typed) (f : Fault)
+        → Breaks s (Bin o l r at) (broken.Kind (place l))
+    in_right : (o : BinOp) (l r : ExprTree) (at : ℕ) (t : Typed) (f : BrokenRule)
         → Means s l t
         → IsLeft o t
         → Breaks s r f
@@ -144,11 +145,11 @@ mutual
         → IsLeft o t
         → Means s r u
         → (IsOperand u → ⊥)
-        → Breaks s (Bin o l r at) (fault.Kind (place r))
+        → Breaks s (Bin o l r at) (broken.Kind (place r))
     not_linear : (o : BinOp) (l r : ExprTree) (at : ℕ)
         → TakesNumbers s o l r
         → (HasMeaning s (Bin o l r at) → ⊥)
-        → Breaks s (Bin o l r at) (fault.NotLinear at)
+        → Breaks s (Bin o l r at) (broken.NotLinear at)
     wrong_kinds : (o : BinOp) (l r : ExprTree) (at : ℕ) (t u : Typed)
         → Means s l t
         → IsLeft o t
@@ -156,13 +157,16 @@ mutual
         → IsOperand u
         → (TakesNumbers s o l r → ⊥)
         → (HasMeaning s (Bin o l r at) → ⊥)
-        → Breaks s (Bin o l r at) (fault.Kind at)
-    unknown_call : (x : Name) (es : ExprsTree) → IsFree s x → Breaks s (Call x es) (fault.Name x.at)
+        → Breaks s (Bin o l r at) (broken.Kind at)
+    unknown_call : (x : Name) (es : ExprsTree) → IsFree s x → Breaks s (Call x es) (broken.Name x.at)
     no_test : (x : Name) (es : ExprsTree) (m : Meaning)
         → Stands s x m
         → ((t : ℕ) (params : List KindPlan) → m ≡ meaning.Test t params → ⊥)
-        → Breaks s (Call x es) (fault.Kind x.at)
-    in_first : (x : Name) (e : ExprTree) (es : ExprsTree) (t : ℕ) (params : List KindPlan) (f : Fault)
+        → Breaks s (Call x es) (broken.Kind x.at)
+    no_arguments : (x : Name) (t : ℕ) (params : List KindPlan)
+        → Stands s x (meaning.Test t params)
+        → Breaks s (Call x End) (broken.Kind x.at)
+    in_first : (x : Name) (e : ExprTree) (es : ExprsTree) (t : ℕ) (params : List KindPlan) (f : BrokenRule)
         → Stands s x (meaning.Test t params)
         → Breaks s e f
         → Breaks s (Call x (More e es)) f
@@ -170,8 +174,8 @@ mutual
         → Stands s x (meaning.Test t params)
         → Means s e u
         → (IsFirst u → ⊥)
-        → Breaks s (Call x (More e es)) (fault.Kind (place e))
-    in_others : (x : Name) (e : ExprTree) (es : ExprsTree) (t : ℕ) (params : List KindPlan) (u : Typed) (f : Fault)
+        → Breaks s (Call x (More e es)) (broken.Kind (place e))
+    in_others : (x : Name) (e : ExprTree) (es : ExprsTree) (t : ℕ) (params : List KindPlan) (u : Typed) (f : BrokenRule)
         → Stands s x (meaning.Test t params)
         → Means s e u
         → IsFirst u
@@ -181,18 +185,18 @@ mutual
         → Stands s x (meaning.Test t params)
         → AreOperands s es n
         → WrongCall s x params n e es at
-        → Breaks s (Call x (More e es)) (fault.Kind at)
+        → Breaks s (Call x (More e es)) (broken.Kind at)
 
   -- The first broken rule inside operands, one after the other.
-  pub data BreaksOperands (s : Scope) : ExprsTree → Fault → Type 0 where
-    in_operand : (e : ExprTree) (es : ExprsTree) (f : Fault)
+  pub data BreaksOperands (s : Scope) : ExprsTree → BrokenRule → Type 0 where
+    in_operand : (e : ExprTree) (es : ExprsTree) (f : BrokenRule)
         → Breaks s e f
         → BreaksOperands s (More e es) f
     operand_cell : (e : ExprTree) (es : ExprsTree) (t : Typed)
         → Means s e t
         → (IsOperand t → ⊥)
-        → BreaksOperands s (More e es) (fault.Kind (place e))
-    in_rest : (e : ExprTree) (es : ExprsTree) (t : Typed) (f : Fault)
+        → BreaksOperands s (More e es) (broken.Kind (place e))
+    in_rest : (e : ExprTree) (es : ExprsTree) (t : Typed) (f : BrokenRule)
         → Means s e t
         → IsOperand t
         → BreaksOperands s es f

@@ -19,8 +19,8 @@ use Rattle.sym_base.specs.Trees.{ExprTree, TestTree}
 use Rattle.sym_check.specs.declared.plan.script.KindPlan.{KindPlan}
 use Rattle.sym_check.specs.declared.plan.script.KindPlan.TheVariants as kind
 use Rattle.sym_check.specs.CondPlans.{CondPlan}
-use Rattle.sym_check.specs.Faults.{Fault}
-use Rattle.sym_check.specs.Faults as fault
+use Rattle.sym_check.specs.BrokenRules.{BrokenRule}
+use Rattle.sym_check.specs.BrokenRules as broken
 use Rattle.sym_check.specs.Scopes.{OfField, Meaning, Scope, entry, Stands, IsFree, in_tests}
 use Rattle.sym_check.specs.Scopes as meaning
 use Rattle.sym_check.specs.Typing.{Typed, Means, IsCondition}
@@ -30,12 +30,12 @@ use Rattle.sym_check.specs.InOrder.{Each, FirstBroken}
 use Rattle.sym_check.specs.Declarations.{unfinished, IsKindOf, IsLiteral, IsLabelDecl, IsParamDecl}
 
 -- A name that is to stand for an enum.
-pub data BreaksKind (s : Scope) : KindRef → Fault → Type 0 where
-  unknown_kind : (x : Name) → IsFree s x → BreaksKind s (ref.Named x) (fault.Name x.at)
+pub data BreaksKind (s : Scope) : KindRef → BrokenRule → Type 0 where
+  unknown_kind : (x : Name) → IsFree s x → BreaksKind s (ref.Named x) (broken.Name x.at)
   no_enum : (x : Name) (m : Meaning)
       → Stands s x m
       → ((enum : ℕ) → m ≡ meaning.Enum enum → ⊥)
-      → BreaksKind s (ref.Named x) (fault.Kind x.at)
+      → BreaksKind s (ref.Named x) (broken.Kind x.at)
 
 abbrev pub literal_place : Literal → ℕ
 literal_place (literal.Num n at) = at
@@ -48,113 +48,113 @@ IsVisible s (literal.Num n at) = Unit {0}
 IsVisible s (literal.Text t at) = Unit {0}
 IsVisible s (literal.Named x) = (m : Meaning) × Stands s x m
 
-pub data BreaksLiteral (s : Scope) (k : KindPlan) : Literal → Fault → Type 0 where
-  unknown_label : (x : Name) → IsFree s x → BreaksLiteral s k (literal.Named x) (fault.Name x.at)
+pub data BreaksLiteral (s : Scope) (k : KindPlan) : Literal → BrokenRule → Type 0 where
+  unknown_label : (x : Name) → IsFree s x → BreaksLiteral s k (literal.Named x) (broken.Name x.at)
   other_kind : (l : Literal)
       → IsVisible s l
       → ((v : Value) → IsLiteral s k l v → ⊥)
-      → BreaksLiteral s k l (fault.Kind (literal_place l))
+      → BreaksLiteral s k l (broken.Kind (literal_place l))
 
-pub data BreaksLabel (s : Scope) (n : ℕ) : Name → Fault → Type 0 where
-  label_taken : (x : Name) (m : Meaning) → Stands s x m → BreaksLabel s n x (fault.Twice x.at)
+pub data BreaksLabel (s : Scope) (n : ℕ) : Name → BrokenRule → Type 0 where
+  label_taken : (x : Name) (m : Meaning) → Stands s x m → BreaksLabel s n x (broken.Twice x.at)
 
-pub data BreaksEnum (s : Scope) (n : ℕ) : EnumDecl → Fault → Type 0 where
+pub data BreaksEnum (s : Scope) (n : ℕ) : EnumDecl → BrokenRule → Type 0 where
   enum_taken : (d : EnumDecl) (m : Meaning)
       → Stands s d.name m
-      → BreaksEnum s n d (fault.Twice d.name.at)
-  in_labels : (d : EnumDecl) (f : Fault)
+      → BreaksEnum s n d (broken.Twice d.name.at)
+  in_labels : (d : EnumDecl) (f : BrokenRule)
       → IsFree s d.name
       → FirstBroken (IsLabelDecl n) BreaksLabel (s ++ entry d.name (meaning.Enum n) ∷ []) 0 d.labels f
       → BreaksEnum s n d f
 
-pub data BreaksField (s : Scope) (n : ℕ) : FieldDecl → Fault → Type 0 where
+pub data BreaksField (s : Scope) (n : ℕ) : FieldDecl → BrokenRule → Type 0 where
   field_taken : (d : FieldDecl) (m : Meaning)
       → Stands s d.name m
-      → BreaksField s n d (fault.Twice d.name.at)
-  in_field_kind : (d : FieldDecl) (f : Fault)
+      → BreaksField s n d (broken.Twice d.name.at)
+  in_field_kind : (d : FieldDecl) (f : BrokenRule)
       → IsFree s d.name
       → BreaksKind (unfinished s d.name) d.kind f
       → BreaksField s n d f
-  in_default : (d : FieldDecl) (k : KindPlan) (l : Literal) (f : Fault)
+  in_default : (d : FieldDecl) (k : KindPlan) (l : Literal) (f : BrokenRule)
       → IsFree s d.name
       → IsKindOf (unfinished s d.name) d.kind k
       → d.default ≡ Some l
       → BreaksLiteral (unfinished s d.name) k l f
       → BreaksField s n d f
 
-pub data BreaksGroup (s : Scope) : Option Name → Fault → Type 0 where
-  unknown_group : (x : Name) → IsFree s x → BreaksGroup s (Some x) (fault.Name x.at)
+pub data BreaksGroup (s : Scope) : Option Name → BrokenRule → Type 0 where
+  unknown_group : (x : Name) → IsFree s x → BreaksGroup s (Some x) (broken.Name x.at)
   no_field : (x : Name) (m : Meaning)
       → Stands s x m
       → ((k : KindPlan) (n : ℕ) → m ≡ meaning.Value k (OfField n) → ⊥)
-      → BreaksGroup s (Some x) (fault.Kind x.at)
+      → BreaksGroup s (Some x) (broken.Kind x.at)
 
 -- Parts go one by one, a kind before its literal.
-pub data BreaksParts (s : Scope) : List Part → Fault → Type 0 where
-  in_part_kind : (d : Part) (rest : List Part) (f : Fault)
+pub data BreaksParts (s : Scope) : List Part → BrokenRule → Type 0 where
+  in_part_kind : (d : Part) (rest : List Part) (f : BrokenRule)
       → BreaksKind s d.kind f
       → BreaksParts s (d ∷ rest) f
-  in_part_literal : (d : Part) (rest : List Part) (k : KindPlan) (f : Fault)
+  in_part_literal : (d : Part) (rest : List Part) (k : KindPlan) (f : BrokenRule)
       → IsKindOf s d.kind k
       → BreaksLiteral s k d.first f
       → BreaksParts s (d ∷ rest) f
-  in_other_parts : (d : Part) (rest : List Part) (k : KindPlan) (v : Value) (f : Fault)
+  in_other_parts : (d : Part) (rest : List Part) (k : KindPlan) (v : Value) (f : BrokenRule)
       → IsKindOf s d.kind k
       → IsLiteral s k d.first v
       → BreaksParts s rest f
       → BreaksParts s (d ∷ rest) f
 
 -- `at` is the place of the state's name.
-pub data BreaksCell (s : Scope) (at : ℕ) : CellDecl → Fault → Type 0 where
+pub data BreaksCell (s : Scope) (at : ℕ) : CellDecl → BrokenRule → Type 0 where
   no_int_range : (lo hi first : ℤ)
       → (InRange lo hi first → ⊥)
-      → BreaksCell s at (cell.Int lo hi first) (fault.Range at)
+      → BreaksCell s at (cell.Int lo hi first) (broken.Range at)
   no_nums_range : (lo hi : ℤ)
       → (lo ≤ℤ hi → ⊥)
-      → BreaksCell s at (cell.Nums lo hi) (fault.Range at)
-  in_parts : (parts : List Part) (f : Fault)
+      → BreaksCell s at (cell.Nums lo hi) (broken.Range at)
+  in_parts : (parts : List Part) (f : BrokenRule)
       → BreaksParts s parts f
       → BreaksCell s at (cell.Hold parts) f
-  in_enum : (of first : Name) (f : Fault)
+  in_enum : (of first : Name) (f : BrokenRule)
       → BreaksKind s (ref.Named of) f
       → BreaksCell s at (cell.Enum of first) f
-  in_label : (of first : Name) (enum : ℕ) (f : Fault)
+  in_label : (of first : Name) (enum : ℕ) (f : BrokenRule)
       → Stands s of (meaning.Enum enum)
       → BreaksLiteral s (kind.Label enum) (literal.Named first) f
       → BreaksCell s at (cell.Enum of first) f
 
-pub data BreaksState (s : Scope) (n : ℕ) : StateDecl → Fault → Type 0 where
+pub data BreaksState (s : Scope) (n : ℕ) : StateDecl → BrokenRule → Type 0 where
   state_taken : (d : StateDecl) (m : Meaning)
       → Stands s d.name m
-      → BreaksState s n d (fault.Twice d.name.at)
-  in_cell : (d : StateDecl) (f : Fault)
+      → BreaksState s n d (broken.Twice d.name.at)
+  in_cell : (d : StateDecl) (f : BrokenRule)
       → IsFree s d.name
       → BreaksCell (unfinished s d.name) d.name.at d.cell f
       → BreaksState s n d f
 
 -- A parameter's name is taken by any name of the script, or by an earlier parameter.
-pub data BreaksParam (names : List (List ℕ)) (s params : Scope) (n : ℕ) : Param → Fault → Type 0 where
+pub data BreaksParam (names : List (List ℕ)) (s params : Scope) (n : ℕ) : Param → BrokenRule → Type 0 where
   name_of_script : (d : Param)
       → Contains names d.name.text
-      → BreaksParam names s params n d (fault.Twice d.name.at)
+      → BreaksParam names s params n d (broken.Twice d.name.at)
   param_taken : (d : Param) (m : Meaning)
       → Stands params d.name m
-      → BreaksParam names s params n d (fault.Twice d.name.at)
-  in_param_kind : (d : Param) (f : Fault)
+      → BreaksParam names s params n d (broken.Twice d.name.at)
+  in_param_kind : (d : Param) (f : BrokenRule)
       → (Contains names d.name.text → ⊥)
       → IsFree params d.name
       → BreaksKind s d.kind f
       → BreaksParam names s params n d f
 
-pub data BreaksTest (names : List (List ℕ)) (s : Scope) (n : ℕ) : TestTree → Fault → Type 0 where
+pub data BreaksTest (names : List (List ℕ)) (s : Scope) (n : ℕ) : TestTree → BrokenRule → Type 0 where
   test_taken : (d : TestTree) (m : Meaning)
       → Stands s d.name m
-      → BreaksTest names s n d (fault.Twice d.name.at)
-  in_params : (d : TestTree) (f : Fault)
+      → BreaksTest names s n d (broken.Twice d.name.at)
+  in_params : (d : TestTree) (f : BrokenRule)
       → IsFree s d.name
       → FirstBroken (IsParamDecl names (unfinished s d.name)) (BreaksParam names (unfinished s d.name)) [] 0 d.params f
       → BreaksTest names s n d f
-  in_body : (d : TestTree) (ks : List KindPlan) (params : Scope) (f : Fault)
+  in_body : (d : TestTree) (ks : List KindPlan) (params : Scope) (f : BrokenRule)
       → IsFree s d.name
       → Each (IsParamDecl names (unfinished s d.name)) [] 0 d.params ks params
       → Breaks (in_tests s ++ params) d.body f
@@ -164,4 +164,4 @@ pub data BreaksTest (names : List (List ℕ)) (s : Scope) (n : ℕ) : TestTree �
       → Each (IsParamDecl names (unfinished s d.name)) [] 0 d.params ks params
       → Means (in_tests s ++ params) d.body t
       → ((c : CondPlan) → IsCondition (in_tests s ++ params) d.body c → ⊥)
-      → BreaksTest names s n d (fault.Kind (place d.body))
+      → BreaksTest names s n d (broken.Kind (place d.body))

@@ -7,8 +7,8 @@ use Rattle.sym_check.specs.declared.plan.script.KindPlan.{KindPlan}
 use Rattle.sym_check.specs.declared.plan.show.ShowFn.{ShowFn}
 use Rattle.sym_check.specs.Columns.{ShownAs}
 use Rattle.sym_check.specs.ShowPlans.{ShowPlan}
-use Rattle.sym_check.specs.Faults.{Fault}
-use Rattle.sym_check.specs.Faults as fault
+use Rattle.sym_check.specs.BrokenRules.{BrokenRule}
+use Rattle.sym_check.specs.BrokenRules as broken
 use Rattle.sym_check.specs.Scopes.{Meaning, Scope, Stands, IsFree}
 use Rattle.sym_check.specs.Scopes as meaning
 use Rattle.sym_check.specs.Breaks.{place}
@@ -43,21 +43,21 @@ pub record IsOutside (s : Scope) (f h : Name) (k : ℕ) : Type 0 where
   pub outside : (k ≡ 0) ⊎ (length kinds < k)
 
 mutual
-  pub data BreaksShown (s : Scope) : ExprTree → Fault → Type 0 where
-    unknown : (x : Name) → IsFree s x → BreaksShown s (Named x) (fault.Name x.at)
-    in_negated : (e : ExprTree) (at : ℕ) (f : Fault)
+  pub data BreaksShown (s : Scope) : ExprTree → BrokenRule → Type 0 where
+    unknown : (x : Name) → IsFree s x → BreaksShown s (Named x) (broken.Name x.at)
+    in_negated : (e : ExprTree) (at : ℕ) (f : BrokenRule)
         → BreaksShown s e f
         → BreaksShown s (Neg e at) f
     not_negated : (e : ExprTree) (at : ℕ)
         → IsSeen s e
         → (GivesSomething s (Neg e at) → ⊥)
-        → BreaksShown s (Neg e at) (fault.Kind at)
-    in_not : (e : ExprTree) (at : ℕ) (f : Fault) → BreaksShown s e f → BreaksShown s (Not e at) f
-    no_condition : (e : ExprTree) (at : ℕ) → IsSeen s e → BreaksShown s (Not e at) (fault.Kind at)
-    in_left : (o : BinOp) (l r : ExprTree) (at : ℕ) (f : Fault)
+        → BreaksShown s (Neg e at) (broken.Kind at)
+    in_not : (e : ExprTree) (at : ℕ) (f : BrokenRule) → BreaksShown s e f → BreaksShown s (Not e at) f
+    no_condition : (e : ExprTree) (at : ℕ) → IsSeen s e → BreaksShown s (Not e at) (broken.Kind at)
+    in_left : (o : BinOp) (l r : ExprTree) (at : ℕ) (f : BrokenRule)
         → BreaksShown s l f
         → BreaksShown s (Bin o l r at) f
-    in_right : (o : BinOp) (l r : ExprTree) (at : ℕ) (f : Fault)
+    in_right : (o : BinOp) (l r : ExprTree) (at : ℕ) (f : BrokenRule)
         → IsSeen s l
         → BreaksShown s r f
         → BreaksShown s (Bin o l r at) f
@@ -65,39 +65,39 @@ mutual
         → IsSeen s l
         → IsSeen s r
         → (GivesSomething s (Bin o l r at) → ⊥)
-        → BreaksShown s (Bin o l r at) (fault.Kind at)
+        → BreaksShown s (Bin o l r at) (broken.Kind at)
     no_function : (x : Name) (es : ExprsTree)
         → (IsFunction x → ⊥)
-        → BreaksShown s (Call x es) (fault.Name x.at)
-    in_argument : (x : Name) (es : ExprsTree) (f : Fault)
+        → BreaksShown s (Call x es) (broken.Name x.at)
+    in_argument : (x : Name) (es : ExprsTree) (f : BrokenRule)
         → IsFunction x
         → BreakShown s es f
         → BreaksShown s (Call x es) f
     no_part : (x h : Name) (k at : ℕ)
         → IsOutside s x h k
-        → BreaksShown s (Call x (More (Named h) (More (Num (pos k) at) End))) (fault.Range at)
+        → BreaksShown s (Call x (More (Named h) (More (Num (pos k) at) End))) (broken.Range at)
     wrong_arguments : (x : Name) (es : ExprsTree)
         → IsFunction x
         → AreSeen s es
         → (GivesSomething s (Call x es) → ⊥)
         → ((h : Name) (k at : ℕ) → es ≡ More (Named h) (More (Num (pos k) at) End) → IsOutside s x h k → ⊥)
-        → BreaksShown s (Call x es) (fault.Kind x.at)
+        → BreaksShown s (Call x es) (broken.Kind x.at)
 
   -- Arguments, one after the other.
-  pub data BreakShown (s : Scope) : ExprsTree → Fault → Type 0 where
-    in_first : (e : ExprTree) (es : ExprsTree) (f : Fault)
+  pub data BreakShown (s : Scope) : ExprsTree → BrokenRule → Type 0 where
+    in_first : (e : ExprTree) (es : ExprsTree) (f : BrokenRule)
         → BreaksShown s e f
         → BreakShown s (More e es) f
-    in_others : (e : ExprTree) (es : ExprsTree) (f : Fault)
+    in_others : (e : ExprTree) (es : ExprsTree) (f : BrokenRule)
         → IsSeen s e
         → BreakShown s es f
         → BreakShown s (More e es) f
 
-pub data BreaksColumn (s columns : Scope) (n : ℕ) : ColumnTree → Fault → Type 0 where
+pub data BreaksColumn (s columns : Scope) (n : ℕ) : ColumnTree → BrokenRule → Type 0 where
   column_taken : (d : ColumnTree) (m : Meaning)
       → Stands columns d.name m
-      → BreaksColumn s columns n d (fault.Twice d.name.at)
-  in_value : (d : ColumnTree) (f : Fault)
+      → BreaksColumn s columns n d (broken.Twice d.name.at)
+  in_value : (d : ColumnTree) (f : BrokenRule)
       → IsFree columns d.name
       → BreaksShown s d.value f
       → BreaksColumn s columns n d f
@@ -105,4 +105,4 @@ pub data BreaksColumn (s columns : Scope) (n : ℕ) : ColumnTree → Fault → T
       → IsFree columns d.name
       → d.value ≡ Named x
       → Stands s x (meaning.HoldCell c ks)
-      → BreaksColumn s columns n d (fault.Kind x.at)
+      → BreaksColumn s columns n d (broken.Kind x.at)

@@ -1,5 +1,5 @@
 -- The plan of an expression, or the first broken rule in it, by trying the rules in order.
-use Rattle.std.specs.Prelude.{ℕ, ◌+◌, ◌==◌, ◌&&◌, Bool, true, false, if◌then◌else◌, List, [], ◌∷◌, length, take, drop, Option, Some, None, Result, Ok, Err}
+use Rattle.std.specs.Prelude.{ℕ, ◌-◌, ◌==◌, ◌&&◌, Bool, true, false, if◌then◌else◌, List, [], ◌∷◌, length, take, drop, Option, Some, None, Result, Ok, Err}
 use Rattle.std.specs.Cmp.Lexicographic.{pointwise}
 use Rattle.sym_base.specs.declared.tree.name.Name.{Name}
 use Rattle.sym_base.specs.declared.tree.compare.Compare.{Compare}
@@ -21,21 +21,21 @@ use Rattle.sym_check.specs.LinePlans.{LinePlan, TermPlan}
 use Rattle.sym_check.specs.LinePlans as line
 use Rattle.sym_check.specs.CondPlans.{CondPlan}
 use Rattle.sym_check.specs.CondPlans as cond
-use Rattle.sym_check.specs.Faults.{Fault}
-use Rattle.sym_check.specs.Faults as fault
+use Rattle.sym_check.specs.BrokenRules.{BrokenRule}
+use Rattle.sym_check.specs.BrokenRules as broken
 use Rattle.sym_check.specs.Scopes.{Variable, Meaning, Scope, find}
 use Rattle.sym_check.specs.Scopes as meaning
 use Rattle.sym_check.specs.Typing.{num_variable, word_variable, label_variable, turned, Typed, Number, Word, Label, EnumCell, HoldCell, Truth}
 use Rattle.sym_check.specs.Breaks.{place}
 
-abbrev pub kind_at : {A : Type 0} → ℕ → Result A Fault
-kind_at at = Err (fault.Kind at)
+abbrev pub kind_at : {A : Type 0} → ℕ → Result A BrokenRule
+kind_at at = Err (broken.Kind at)
 
 abbrev pub same_kind : KindPlan → KindPlan → Bool
 same_kind k other = (kinds.ghosts).eq k other
 
 -- Cells that have no number are refused where a value is wanted.
-abbrev pub no_cell : ℕ → Typed → Result Typed Fault
+abbrev pub no_cell : ℕ → Typed → Result Typed BrokenRule
 no_cell at (Number t) = Ok (Number t)
 no_cell at (Word w) = Ok (Word w)
 no_cell at (Label enum l) = Ok (Label enum l)
@@ -44,12 +44,12 @@ no_cell at (HoldCell c ks) = kind_at at
 no_cell at (Truth c) = Ok (Truth c)
 
 -- But an enum cell to the left of `is`,
-abbrev pub left_of : BinOp → ℕ → Typed → Result Typed Fault
+abbrev pub left_of : BinOp → ℕ → Typed → Result Typed BrokenRule
 left_of op.Is at (EnumCell c enum) = Ok (EnumCell c enum)
 left_of o at t = no_cell at t
 
 -- and a hold cell as the first argument of a call.
-abbrev pub first_of : ℕ → Typed → Result Typed Fault
+abbrev pub first_of : ℕ → Typed → Result Typed BrokenRule
 first_of at (Number t) = Ok (Number t)
 first_of at (Word w) = Ok (Word w)
 first_of at (Label enum l) = Ok (Label enum l)
@@ -63,8 +63,8 @@ variable kind.Word v = Word (word_variable v)
 variable (kind.Label enum) v = Label enum (label_variable v)
 
 -- What a name stands for in an expression.
-abbrev pub named : ℕ → Option Meaning → Result Typed Fault
-named at None = Err (fault.Name at)
+abbrev pub named : ℕ → Option Meaning → Result Typed BrokenRule
+named at None = Err (broken.Name at)
 named at (Some meaning.Unfinished) = kind_at at
 named at (Some (meaning.Enum enum)) = kind_at at
 named at (Some (meaning.Label enum l)) = Ok (Label enum (label.Lit l))
@@ -81,8 +81,8 @@ pub record TestNamed : Type 0 where
   pub params : List KindPlan
 
 -- The test that a call names.
-abbrev pub test_named : ℕ → Option Meaning → Result TestNamed Fault
-test_named at None = Err (fault.Name at)
+abbrev pub test_named : ℕ → Option Meaning → Result TestNamed BrokenRule
+test_named at None = Err (broken.Name at)
 test_named at (Some meaning.Unfinished) = kind_at at
 test_named at (Some (meaning.Enum enum)) = kind_at at
 test_named at (Some (meaning.Label enum l)) = kind_at at
@@ -98,93 +98,93 @@ abbrev pub opposite : TermPlan → TermPlan
 opposite (line.OfNum n) = line.OfNum (fixed.Neg n)
 opposite (line.OfLine k) = line.OfLine (line.Neg k)
 
-abbrev pub negated : ℕ → Typed → Result Typed Fault
+abbrev pub negated : ℕ → Typed → Result Typed BrokenRule
 negated at (Number t) = Ok (Number (opposite t))
 negated at _ = kind_at at
 
-abbrev pub condition : ℕ → Typed → Result CondPlan Fault
+abbrev pub condition : ℕ → Typed → Result CondPlan BrokenRule
 condition at (Truth c) = Ok c
 condition at _ = kind_at at
 
-abbrev pub inverted : ℕ → Typed → Result Typed Fault
+abbrev pub inverted : ℕ → Typed → Result Typed BrokenRule
 inverted at t = do
   c ← condition at t
   Ok (Truth (cond.Not c))
 
-abbrev pub both : (CondPlan → CondPlan → CondPlan) → ℕ → Typed → Typed → Result Typed Fault
+abbrev pub both : (CondPlan → CondPlan → CondPlan) → ℕ → Typed → Typed → Result Typed BrokenRule
 both make at t u = do
   c ← condition at t
   d ← condition at u
   Ok (Truth (make c d))
 
 -- A sum, a difference or a product; a line takes a fixed number beside it.
-abbrev pub added : ℕ → TermPlan → TermPlan → Result TermPlan Fault
+abbrev pub added : ℕ → TermPlan → TermPlan → Result TermPlan BrokenRule
 added at (line.OfNum m) (line.OfNum n) = Ok (line.OfNum (fixed.Bin arith.Add m n))
 added at (line.OfNum n) (line.OfLine k) = Ok (line.OfLine (line.Add k n))
 added at (line.OfLine k) (line.OfNum n) = Ok (line.OfLine (line.Add k n))
-added at (line.OfLine k) (line.OfLine m) = Err (fault.NotLinear at)
+added at (line.OfLine k) (line.OfLine m) = Err (broken.NotLinear at)
 
-abbrev pub subtracted : ℕ → TermPlan → TermPlan → Result TermPlan Fault
+abbrev pub subtracted : ℕ → TermPlan → TermPlan → Result TermPlan BrokenRule
 subtracted at (line.OfNum m) (line.OfNum n) = Ok (line.OfNum (fixed.Bin arith.Sub m n))
 subtracted at (line.OfNum n) (line.OfLine k) = Ok (line.OfLine (line.Add (line.Neg k) n))
 subtracted at (line.OfLine k) (line.OfNum n) = Ok (line.OfLine (line.Add k (fixed.Neg n)))
-subtracted at (line.OfLine k) (line.OfLine m) = Err (fault.NotLinear at)
+subtracted at (line.OfLine k) (line.OfLine m) = Err (broken.NotLinear at)
 
-abbrev pub multiplied : ℕ → TermPlan → TermPlan → Result TermPlan Fault
+abbrev pub multiplied : ℕ → TermPlan → TermPlan → Result TermPlan BrokenRule
 multiplied at (line.OfNum m) (line.OfNum n) = Ok (line.OfNum (fixed.Bin arith.Mul m n))
 multiplied at (line.OfNum n) (line.OfLine k) = Ok (line.OfLine (line.Scale n k))
 multiplied at (line.OfLine k) (line.OfNum n) = Ok (line.OfLine (line.Scale n k))
-multiplied at (line.OfLine k) (line.OfLine m) = Err (fault.NotLinear at)
+multiplied at (line.OfLine k) (line.OfLine m) = Err (broken.NotLinear at)
 
 -- Quotients and remainders are of fixed numbers alone.
-abbrev pub divided : ArithOp → ℕ → TermPlan → TermPlan → Result TermPlan Fault
-divided a at (line.OfNum m) (line.OfNum n) = Ok (line.OfNum (fixed.Bin a m n))
-divided a at (line.OfNum n) (line.OfLine k) = Err (fault.NotLinear at)
-divided a at (line.OfLine k) (line.OfNum n) = Err (fault.NotLinear at)
-divided a at (line.OfLine k) (line.OfLine m) = Err (fault.NotLinear at)
+abbrev pub quotient_of : ArithOp → ℕ → TermPlan → TermPlan → Result TermPlan BrokenRule
+quotient_of a at (line.OfNum m) (line.OfNum n) = Ok (line.OfNum (fixed.Bin a m n))
+quotient_of a at (line.OfNum n) (line.OfLine k) = Err (broken.NotLinear at)
+quotient_of a at (line.OfLine k) (line.OfNum n) = Err (broken.NotLinear at)
+quotient_of a at (line.OfLine k) (line.OfLine m) = Err (broken.NotLinear at)
 
 -- A line stands to the left of its comparison in the plan.
-abbrev pub compared : Compare → ℕ → TermPlan → TermPlan → Result CondPlan Fault
+abbrev pub compared : Compare → ℕ → TermPlan → TermPlan → Result CondPlan BrokenRule
 compared c at (line.OfNum m) (line.OfNum n) = Ok (cond.Compared c (line.OfNum m) n)
 compared c at (line.OfNum n) (line.OfLine k) = Ok (cond.Compared (turned c) (line.OfLine k) n)
 compared c at (line.OfLine k) (line.OfNum n) = Ok (cond.Compared c (line.OfLine k) n)
-compared c at (line.OfLine k) (line.OfLine m) = Err (fault.NotLinear at)
+compared c at (line.OfLine k) (line.OfLine m) = Err (broken.NotLinear at)
 
-abbrev pub number : ℕ → Typed → Result TermPlan Fault
-number at (Number t) = Ok t
-number at _ = kind_at at
+abbrev pub term_of : ℕ → Typed → Result TermPlan BrokenRule
+term_of at (Number t) = Ok t
+term_of at _ = kind_at at
 
-abbrev pub calculated : (ℕ → TermPlan → TermPlan → Result TermPlan Fault) → ℕ → Typed → Typed → Result Typed Fault
-calculated rule at t u = do
-  x ← number at t
-  y ← number at u
+abbrev pub arithmetic : (ℕ → TermPlan → TermPlan → Result TermPlan BrokenRule) → ℕ → Typed → Typed → Result Typed BrokenRule
+arithmetic rule at t u = do
+  x ← term_of at t
+  y ← term_of at u
   z ← rule at x y
   Ok (Number z)
 
-abbrev pub ordered : Compare → ℕ → Typed → Typed → Result Typed Fault
+abbrev pub ordered : Compare → ℕ → Typed → Typed → Result Typed BrokenRule
 ordered c at t u = do
-  x ← number at t
-  y ← number at u
+  x ← term_of at t
+  y ← term_of at u
   z ← compared c at x y
   Ok (Truth z)
 
 -- Two words, or two numbers.
-abbrev pub equal : ℕ → Typed → Typed → Result Typed Fault
+abbrev pub equal : ℕ → Typed → Typed → Result Typed BrokenRule
 equal at (Word v) (Word w) = Ok (Truth (cond.Words v w))
 equal at t u = ordered compare.Eq at t u
 
-abbrev pub different : ℕ → Typed → Typed → Result Typed Fault
+abbrev pub different : ℕ → Typed → Typed → Result Typed BrokenRule
 different at (Word v) (Word w) = Ok (Truth (cond.Not (cond.Words v w)))
 different at t u = ordered compare.Ne at t u
 
 -- Labels of one enum, the left one maybe that of a cell.
-abbrev pub is_label : ℕ → Typed → Typed → Result Typed Fault
-is_label at (Label enum l) (Label other m) = if enum == other then Ok (Truth (cond.LabelIs l m)) else kind_at at
-is_label at (EnumCell c enum) (Label other l) = if enum == other then Ok (Truth (cond.CellIs c l)) else kind_at at
-is_label at t u = kind_at at
+abbrev pub labels_joined : ℕ → Typed → Typed → Result Typed BrokenRule
+labels_joined at (Label enum l) (Label other m) = if enum == other then Ok (Truth (cond.LabelIs l m)) else kind_at at
+labels_joined at (EnumCell c enum) (Label other l) = if enum == other then Ok (Truth (cond.CellIs c l)) else kind_at at
+labels_joined at t u = kind_at at
 
 -- What the operator makes of its operands.
-abbrev pub joined : BinOp → ℕ → Typed → Typed → Result Typed Fault
+abbrev pub joined : BinOp → ℕ → Typed → Typed → Result Typed BrokenRule
 joined op.Or at t u = both cond.Or at t u
 joined op.And at t u = both cond.And at t u
 joined op.Eq at t u = equal at t u
@@ -193,12 +193,12 @@ joined op.Lt at t u = ordered compare.Lt at t u
 joined op.Le at t u = ordered compare.Le at t u
 joined op.Gt at t u = ordered compare.Gt at t u
 joined op.Ge at t u = ordered compare.Ge at t u
-joined op.Is at t u = is_label at t u
-joined op.Add at t u = calculated added at t u
-joined op.Sub at t u = calculated subtracted at t u
-joined op.Mul at t u = calculated multiplied at t u
-joined op.Div at t u = calculated (divided arith.Div) at t u
-joined op.Rem at t u = calculated (divided arith.Rem) at t u
+joined op.Is at t u = labels_joined at t u
+joined op.Add at t u = arithmetic added at t u
+joined op.Sub at t u = arithmetic subtracted at t u
+joined op.Mul at t u = arithmetic multiplied at t u
+joined op.Div at t u = arithmetic (quotient_of arith.Div) at t u
+joined op.Rem at t u = arithmetic (quotient_of arith.Rem) at t u
 
 -- What an expression stands for, with its place.
 pub record Located : Type 0 where
@@ -206,17 +206,17 @@ pub record Located : Type 0 where
   pub typed : Typed
 
 -- The value, where it is of the kind and names no cell.
-abbrev pub value_of : KindPlan → Located → Result FixedPlan Fault
+abbrev pub value_of : KindPlan → Located → Result FixedPlan BrokenRule
 value_of wanted a = of_kind wanted a.typed
   where
-    of_kind : KindPlan → Typed → Result FixedPlan Fault
+    of_kind : KindPlan → Typed → Result FixedPlan BrokenRule
     of_kind kind.Num (Number (line.OfNum n)) = Ok (fixed.OfNum n)
     of_kind kind.Word (Word w) = Ok (fixed.OfWord w)
     of_kind (kind.Label enum) (Label other l) = if enum == other then Ok (fixed.OfLabel l) else kind_at a.at
     of_kind _ _ = kind_at a.at
 
 -- As many values as kinds.
-abbrev pub values_of : List KindPlan → List Located → Result (List FixedPlan) Fault
+abbrev pub values_of : List KindPlan → List Located → Result (List FixedPlan) BrokenRule
 values_of [] located = Ok []
 values_of (k ∷ ks) [] = Ok []
 values_of (k ∷ ks) (a ∷ rest) = do
@@ -229,9 +229,9 @@ pub record Arguments : Type 0 where
   pub others : List Located
 
 -- A call whose arguments are right by themselves: their number first, then the cell, then the others.
-abbrev pub called_on : ℕ → TestNamed → Arguments → Typed → Result Typed Fault
+abbrev pub called_on : ℕ → TestNamed → Arguments → Typed → Result Typed BrokenRule
 called_on at test args (HoldCell c ks) =
-    if length ks + length args.others == length test.params
+    if length args.others == length test.params - length ks
     then (if pointwise same_kind ks (take (length ks) test.params)
     then (do
       vs ← values_of (drop (length ks) test.params) args.others
@@ -241,7 +241,7 @@ called_on at test args (HoldCell c ks) =
 called_on at test args _ = kind_at args.first.at
 
 abbrev mutual
-  pub infer : Scope → ExprTree → Result Typed Fault
+  pub infer : Scope → ExprTree → Result Typed BrokenRule
   infer s (Num n at) = Ok (Number (line.OfNum (fixed.Lit n)))
   infer s (Words t at) = Ok (Word (word.Lit t))
   infer s (Named x) = named x.at (find s x.text)
@@ -265,7 +265,7 @@ abbrev mutual
     joined o at u w
 
   -- The arguments of a call; there is at least one.
-  pub arguments : Scope → ℕ → ExprsTree → Result Arguments Fault
+  pub arguments : Scope → ℕ → ExprsTree → Result Arguments BrokenRule
   arguments s at End = kind_at at
   arguments s at (More e es) = do
     t ← infer s e
@@ -274,7 +274,7 @@ abbrev mutual
     Ok (record { first = record { at = place e; typed = u }; others = others })
 
   -- Operands, one after the other.
-  pub operands : Scope → ExprsTree → Result (List Located) Fault
+  pub operands : Scope → ExprsTree → Result (List Located) BrokenRule
   operands s End = Ok []
   operands s (More e es) = do
     t ← infer s e

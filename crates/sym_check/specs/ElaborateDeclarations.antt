@@ -25,8 +25,8 @@ use Rattle.sym_check.specs.declared.plan.script.CellPlan.{CellPlan}
 use Rattle.sym_check.specs.declared.plan.script.CellPlan.TheVariants as plan
 use Rattle.sym_check.specs.Arithmetic.{◌>>=◌, and_then}
 use Rattle.sym_check.specs.ScriptPlans.{TestOf}
-use Rattle.sym_check.specs.Faults.{Fault}
-use Rattle.sym_check.specs.Faults as fault
+use Rattle.sym_check.specs.BrokenRules.{BrokenRule}
+use Rattle.sym_check.specs.BrokenRules as broken
 use Rattle.sym_check.specs.Conditions.{same_word}
 use Rattle.sym_check.specs.Scopes.{OfField, OfLocal, OfParam, Meaning, Scope, entry, find, in_tests}
 use Rattle.sym_check.specs.Scopes as meaning
@@ -37,8 +37,8 @@ use Rattle.sym_check.specs.InOrder.{Planned, each}
 use Rattle.sym_check.specs.Declarations.{unfinished}
 
 -- The enum that a name stands for.
-abbrev pub enum_named : ℕ → Option Meaning → Result ℕ Fault
-enum_named at None = Err (fault.Name at)
+abbrev pub enum_named : ℕ → Option Meaning → Result ℕ BrokenRule
+enum_named at None = Err (broken.Name at)
 enum_named at (Some meaning.Unfinished) = kind_at at
 enum_named at (Some (meaning.Enum enum)) = Ok enum
 enum_named at (Some (meaning.Label enum l)) = kind_at at
@@ -51,8 +51,8 @@ enum_named at (Some (meaning.WordsCell c)) = kind_at at
 enum_named at (Some (meaning.Test t ks)) = kind_at at
 
 -- The label of an enum that a name stands for.
-abbrev pub label_named : ℕ → ℕ → Option Meaning → Result ℕ Fault
-label_named wanted at None = Err (fault.Name at)
+abbrev pub label_named : ℕ → ℕ → Option Meaning → Result ℕ BrokenRule
+label_named wanted at None = Err (broken.Name at)
 label_named wanted at (Some meaning.Unfinished) = kind_at at
 label_named wanted at (Some (meaning.Enum enum)) = kind_at at
 label_named wanted at (Some (meaning.Label enum l)) = if enum == wanted then Ok l else kind_at at
@@ -65,8 +65,8 @@ label_named wanted at (Some (meaning.WordsCell c)) = kind_at at
 label_named wanted at (Some (meaning.Test t ks)) = kind_at at
 
 -- The field that a name stands for.
-abbrev pub field_named : ℕ → Option Meaning → Result ℕ Fault
-field_named at None = Err (fault.Name at)
+abbrev pub field_named : ℕ → Option Meaning → Result ℕ BrokenRule
+field_named at None = Err (broken.Name at)
 field_named at (Some meaning.Unfinished) = kind_at at
 field_named at (Some (meaning.Enum enum)) = kind_at at
 field_named at (Some (meaning.Label enum l)) = kind_at at
@@ -80,7 +80,7 @@ field_named at (Some (meaning.NumsCell c)) = kind_at at
 field_named at (Some (meaning.WordsCell c)) = kind_at at
 field_named at (Some (meaning.Test t ks)) = kind_at at
 
-abbrev pub kind_of : Scope → KindRef → Result KindPlan Fault
+abbrev pub kind_of : Scope → KindRef → Result KindPlan BrokenRule
 kind_of s ref.Num = Ok kind.Num
 kind_of s ref.Word = Ok kind.Word
 kind_of s (ref.Named x) = do
@@ -88,11 +88,11 @@ kind_of s (ref.Named x) = do
   Ok (kind.Label enum)
 
 -- No label, though its name may stand for something.
-abbrev pub no_label : {A : Type 0} → ℕ → Option Meaning → Result A Fault
-no_label at None = Err (fault.Name at)
+abbrev pub no_label : {A : Type 0} → ℕ → Option Meaning → Result A BrokenRule
+no_label at None = Err (broken.Name at)
 no_label at (Some m) = kind_at at
 
-abbrev pub literal_of : Scope → KindPlan → Literal → Result Value Fault
+abbrev pub literal_of : Scope → KindPlan → Literal → Result Value BrokenRule
 literal_of s kind.Num (literal.Num n at) = Ok (value.Num n)
 literal_of s kind.Num (literal.Text t at) = kind_at at
 literal_of s kind.Num (literal.Named x) = no_label x.at (find s x.text)
@@ -105,26 +105,26 @@ literal_of s (kind.Label enum) (literal.Named x) = do
   l ← label_named enum x.at (find s x.text)
   Ok (value.Label l)
 
-abbrev pub default_of : Scope → KindPlan → Option Literal → Result (Option Value) Fault
+abbrev pub default_of : Scope → KindPlan → Option Literal → Result (Option Value) BrokenRule
 default_of s k None = Ok None
 default_of s k (Some l) = do
   v ← literal_of s k l
   Ok (Some v)
 
-abbrev pub label_decl : ℕ → Scope → ℕ → Name → Result (Planned (List ℕ)) Fault
+abbrev pub label_decl : ℕ → Scope → ℕ → Name → Result (Planned (List ℕ)) BrokenRule
 label_decl enum s n x =
     unless_taken x.at (find s x.text) (Ok (record {
       plan = x.text;
       scope = s ++ entry x (meaning.Label enum n) ∷ [];
     }))
 
-abbrev pub enum_decl : Scope → ℕ → EnumDecl → Result (Planned EnumPlan) Fault
+abbrev pub enum_decl : Scope → ℕ → EnumDecl → Result (Planned EnumPlan) BrokenRule
 enum_decl s n d =
     unless_taken d.name.at (find s d.name.text) (do
       labels ← each (label_decl n) (s ++ entry d.name (meaning.Enum n) ∷ []) 0 d.labels
       Ok (record { plan = record { labels = labels.plan }; scope = labels.scope }))
 
-abbrev pub field_decl : Scope → ℕ → FieldDecl → Result (Planned FieldPlan) Fault
+abbrev pub field_decl : Scope → ℕ → FieldDecl → Result (Planned FieldPlan) BrokenRule
 field_decl s n d =
     unless_taken d.name.at (find s d.name.text) (do
       k ← kind_of (unfinished s d.name) d.kind
@@ -134,7 +134,7 @@ field_decl s n d =
         scope = s ++ entry d.name (meaning.Value k (OfField n)) ∷ [];
       }))
 
-abbrev pub group_of : Scope → Option Name → Result (Option ℕ) Fault
+abbrev pub group_of : Scope → Option Name → Result (Option ℕ) BrokenRule
 group_of s None = Ok None
 group_of s (Some x) = do
   n ← field_named x.at (find s x.text)
@@ -144,7 +144,7 @@ pub record PlannedParts : Type 0 where
   pub kinds : List KindPlan
   pub firsts : List Value
 
-abbrev pub parts_of : Scope → List Part → Result PlannedParts Fault
+abbrev pub parts_of : Scope → List Part → Result PlannedParts BrokenRule
 parts_of s [] = Ok (record { kinds = []; firsts = [] })
 parts_of s (d ∷ rest) = do
   k ← kind_of s d.kind
@@ -157,15 +157,15 @@ pub record PlannedCell : Type 0 where
   pub meaning : Meaning
 
 -- The place is that of the state's name.
-abbrev pub cell_of : Scope → ℕ → ℕ → CellDecl → Result PlannedCell Fault
+abbrev pub cell_of : Scope → ℕ → ℕ → CellDecl → Result PlannedCell BrokenRule
 cell_of s n at (cell.Int lo hi first) =
     if int_le lo first && int_le first hi
     then Ok (record { plan = plan.Int lo hi first; meaning = meaning.IntCell n })
-    else Err (fault.Range at)
+    else Err (broken.Range at)
 cell_of s n at (cell.Nums lo hi) =
     if int_le lo hi
     then Ok (record { plan = plan.Nums lo hi; meaning = meaning.NumsCell n })
-    else Err (fault.Range at)
+    else Err (broken.Range at)
 cell_of s n at cell.Words = Ok (record { plan = plan.Words; meaning = meaning.WordsCell n })
 cell_of s n at (cell.Hold parts) = do
   p ← parts_of s parts
@@ -175,22 +175,22 @@ cell_of s n at (cell.Enum of first) = do
   l ← label_named enum first.at (find s first.text)
   Ok (record { plan = plan.Enum enum l; meaning = meaning.EnumCell n enum })
 
-abbrev pub state_decl : Scope → ℕ → StateDecl → Result (Planned CellPlan) Fault
+abbrev pub state_decl : Scope → ℕ → StateDecl → Result (Planned CellPlan) BrokenRule
 state_decl s n d =
     unless_taken d.name.at (find s d.name.text) (do
       c ← cell_of (unfinished s d.name) n d.name.at d.cell
       Ok (record { plan = c.plan; scope = s ++ entry d.name c.meaning ∷ [] }))
 
-abbrev pub unless_named : {A : Type 0} → List (List ℕ) → Name → Result A Fault → Result A Fault
-unless_named names x next = if list_any (same_word x.text) names then Err (fault.Twice x.at) else next
+abbrev pub unless_named : {A : Type 0} → List (List ℕ) → Name → Result A BrokenRule → Result A BrokenRule
+unless_named names x next = if list_any (same_word x.text) names then Err (broken.Twice x.at) else next
 
-abbrev pub param_decl : List (List ℕ) → Scope → Scope → ℕ → Param → Result (Planned KindPlan) Fault
+abbrev pub param_decl : List (List ℕ) → Scope → Scope → ℕ → Param → Result (Planned KindPlan) BrokenRule
 param_decl names s params n d =
     unless_named names d.name (unless_taken d.name.at (find params d.name.text) (do
       k ← kind_of s d.kind
       Ok (record { plan = k; scope = params ++ entry d.name (meaning.Value k (OfParam n)) ∷ [] })))
 
-abbrev pub test_decl : List (List ℕ) → Scope → ℕ → TestTree → Result (Planned TestOf) Fault
+abbrev pub test_decl : List (List ℕ) → Scope → ℕ → TestTree → Result (Planned TestOf) BrokenRule
 test_decl names s n d =
     unless_taken d.name.at (find s d.name.text) (do
       params ← each (param_decl names (unfinished s d.name)) [] 0 d.params

@@ -11,8 +11,8 @@ use Rattle.sym_check.specs.FixedPlans as fixed
 use Rattle.sym_check.specs.LinePlans as line
 use Rattle.sym_check.specs.DoPlans.{DoPlan, DosPlan}
 use Rattle.sym_check.specs.DoPlans as plan
-use Rattle.sym_check.specs.Faults.{Fault}
-use Rattle.sym_check.specs.Faults as fault
+use Rattle.sym_check.specs.BrokenRules.{BrokenRule}
+use Rattle.sym_check.specs.BrokenRules as broken
 use Rattle.sym_check.specs.Scopes.{Meaning, Scope, find}
 use Rattle.sym_check.specs.Scopes as meaning
 use Rattle.sym_check.specs.Typing.{Typed, Number, Word, Label, EnumCell, HoldCell, Truth}
@@ -21,16 +21,16 @@ use Rattle.sym_check.specs.Elaborate.{kind_at, same_kind, Located, values_of, co
 use Rattle.sym_check.specs.Statements.{local_entry}
 
 -- Goes on where a name isn't taken.
-abbrev pub unless_taken : {A : Type 0} → ℕ → Option Meaning → Result A Fault → Result A Fault
+abbrev pub unless_taken : {A : Type 0} → ℕ → Option Meaning → Result A BrokenRule → Result A BrokenRule
 unless_taken at None next = next
-unless_taken at (Some m) next = Err (fault.Twice at)
+unless_taken at (Some m) next = Err (broken.Twice at)
 
 -- A value that a local may have.
 pub record LetValue : Type 0 where
   pub kind : KindPlan
   pub value : FixedPlan
 
-abbrev pub let_value : ℕ → Typed → Result LetValue Fault
+abbrev pub let_value : ℕ → Typed → Result LetValue BrokenRule
 let_value at (Number (line.OfNum n)) = Ok (record { kind = kind.Num; value = fixed.OfNum n })
 let_value at (Number (line.OfLine k)) = kind_at at
 let_value at (Word w) = Ok (record { kind = kind.Word; value = fixed.OfWord w })
@@ -47,8 +47,8 @@ pub data Target : Type 0 where
   ToWords : ℕ → Target
 
 -- The cell that an assignment names.
-abbrev pub assigned : ℕ → Option Meaning → Result Target Fault
-assigned at None = Err (fault.Name at)
+abbrev pub assigned : ℕ → Option Meaning → Result Target BrokenRule
+assigned at None = Err (broken.Name at)
 assigned at (Some meaning.Unfinished) = kind_at at
 assigned at (Some (meaning.Enum enum)) = kind_at at
 assigned at (Some (meaning.Label enum l)) = kind_at at
@@ -61,8 +61,8 @@ assigned at (Some (meaning.WordsCell c)) = kind_at at
 assigned at (Some (meaning.Test t ks)) = kind_at at
 
 -- The cell that a push names.
-abbrev pub pushed : ℕ → Option Meaning → Result Target Fault
-pushed at None = Err (fault.Name at)
+abbrev pub pushed : ℕ → Option Meaning → Result Target BrokenRule
+pushed at None = Err (broken.Name at)
 pushed at (Some meaning.Unfinished) = kind_at at
 pushed at (Some (meaning.Enum enum)) = kind_at at
 pushed at (Some (meaning.Label enum l)) = kind_at at
@@ -79,8 +79,8 @@ pub record Kept : Type 0 where
   pub kinds : List KindPlan
 
 -- The cell that a `keep` names.
-abbrev pub kept : ℕ → Option Meaning → Result Kept Fault
-kept at None = Err (fault.Name at)
+abbrev pub kept : ℕ → Option Meaning → Result Kept BrokenRule
+kept at None = Err (broken.Name at)
 kept at (Some meaning.Unfinished) = kind_at at
 kept at (Some (meaning.Enum enum)) = kind_at at
 kept at (Some (meaning.Label enum l)) = kind_at at
@@ -93,16 +93,16 @@ kept at (Some (meaning.WordsCell c)) = kind_at at
 kept at (Some (meaning.Test t ks)) = kind_at at
 
 -- What is stored in the target; another enum cell is copied.
-abbrev pub stored : ℕ → Target → Typed → Result DoPlan Fault
-stored at (ToInt c) (Number t) = Ok (plan.SetInt c t)
-stored at (ToEnum c enum) (Label other l) = if enum == other then Ok (plan.SetEnum c l) else kind_at at
-stored at (ToEnum c enum) (EnumCell d other) = if (enum == other) && not (c == d) then Ok (plan.CopyEnum c d) else kind_at at
-stored at (ToNums c) (Number t) = Ok (plan.PushNum c t)
-stored at (ToWords c) (Word w) = Ok (plan.PushWord c w)
-stored at _ _ = kind_at at
+abbrev pub placed_in : ℕ → Target → Typed → Result DoPlan BrokenRule
+placed_in at (ToInt c) (Number t) = Ok (plan.SetInt c t)
+placed_in at (ToEnum c enum) (Label other l) = if enum == other then Ok (plan.SetEnum c l) else kind_at at
+placed_in at (ToEnum c enum) (EnumCell d other) = if (enum == other) && not (c == d) then Ok (plan.CopyEnum c d) else kind_at at
+placed_in at (ToNums c) (Number t) = Ok (plan.PushNum c t)
+placed_in at (ToWords c) (Word w) = Ok (plan.PushWord c w)
+placed_in at _ _ = kind_at at
 
 -- As many values as parts, else the place is that of the cell's name.
-abbrev pub kept_values : ℕ → Kept → List Located → Result DoPlan Fault
+abbrev pub kept_values : ℕ → Kept → List Located → Result DoPlan BrokenRule
 kept_values at k found =
     if length found == length k.kinds
     then (do
@@ -110,7 +110,7 @@ kept_values at k found =
       Ok (plan.Keep k.cell vs))
     else kind_at at
 
-abbrev pub kept_from : ℕ → Kept → Kept → Result DoPlan Fault
+abbrev pub kept_from : ℕ → Kept → Kept → Result DoPlan BrokenRule
 kept_from at k from =
     if pointwise same_kind k.kinds from.kinds && not (k.cell == from.cell)
     then Ok (plan.KeepFrom k.cell from.cell)
@@ -127,7 +127,7 @@ pub record PlannedDos : Type 0 where
   pub next : ℕ
 
 abbrev mutual
-  pub statement : Scope → Scope → ℕ → StmtTree → Result PlannedDo Fault
+  pub statement : Scope → Scope → ℕ → StmtTree → Result PlannedDo BrokenRule
   statement hidden s n (Let x e) =
       unless_taken x.at (find hidden x.text) (unless_taken x.at (find s x.text) (do
         t ← infer s e
@@ -136,12 +136,12 @@ abbrev mutual
   statement hidden s n (Set x e) = do
     target ← assigned x.at (find s x.text)
     t ← infer s e
-    d ← stored (place e) target t
+    d ← placed_in (place e) target t
     Ok (record { plan = d; scope = s; next = n })
   statement hidden s n (Push x e) = do
     target ← pushed x.at (find s x.text)
     t ← infer s e
-    d ← stored (place e) target t
+    d ← placed_in (place e) target t
     Ok (record { plan = d; scope = s; next = n })
   statement hidden s n (Keep x es) = do
     k ← kept x.at (find s x.text)
@@ -160,7 +160,7 @@ abbrev mutual
     right ← block hidden s left.next b
     Ok (record { plan = plan.If c left.plan right.plan; scope = s; next = right.next })
 
-  pub block : Scope → Scope → ℕ → StmtsTree → Result PlannedDos Fault
+  pub block : Scope → Scope → ℕ → StmtsTree → Result PlannedDos BrokenRule
   block hidden s n Done = Ok (record { plan = plan.End; next = n })
   block hidden s n (Then first rest) = do
     d ← statement hidden s n first

@@ -20,7 +20,7 @@ pub mod Columns
 pub mod WellFormed
 pub mod PathBounds
 pub mod KnownValues
-pub mod Faults
+pub mod BrokenRules
 pub mod Scopes
 pub mod Typing
 pub mod Breaks

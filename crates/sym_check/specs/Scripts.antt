@@ -12,8 +12,8 @@ use Rattle.sym_check.specs.Arithmetic.{◌>>=◌, and_then}
 use Rattle.sym_check.specs.PathBounds.{path_bound}
 use Rattle.sym_check.specs.ScriptPlans.{ScriptPlan, ColumnOf}
 use Rattle.sym_check.specs.DoPlans.{DosPlan}
-use Rattle.sym_check.specs.Faults.{Fault}
-use Rattle.sym_check.specs.Faults as fault
+use Rattle.sym_check.specs.BrokenRules.{BrokenRule}
+use Rattle.sym_check.specs.BrokenRules as broken
 use Rattle.sym_check.specs.Scopes.{Scope, is_enum, in_update, in_report}
 use Rattle.sym_check.specs.InOrder.{Each, FirstBroken, each}
 use Rattle.sym_check.specs.Declarations.{IsEnumDecl, IsFieldDecl, IsGroup, IsStateDecl, IsTestDecl}
@@ -42,13 +42,17 @@ names t =
 abbrev pub hidden : Scope → Scope
 hidden s = filter (λ e. is_enum e.meaning) s
 
--- The declarations have these plans, each in the scope of those before it.
-pub record AreDeclared (t : ScriptTree) (p : ScriptPlan) (s : Scope) : Type 0 where
+-- The enums and fields have these plans, each in the scope of those before it, and the group line.
+pub record HaveFields (t : ScriptTree) (p : ScriptPlan) (s : Scope) : Type 0 where
   pub enum_scope : Scope
   pub enums : Each IsEnumDecl [] 0 t.enums p.enums enum_scope
+  pub fields : Each IsFieldDecl enum_scope 0 t.fields p.fields s
+  pub group : IsGroup s t.group p.group
+
+-- All declarations do.
+pub record AreDeclared (t : ScriptTree) (p : ScriptPlan) (s : Scope) : Type 0 where
   pub field_scope : Scope
-  pub fields : Each IsFieldDecl enum_scope 0 t.fields p.fields field_scope
-  pub group : IsGroup field_scope t.group p.group
+  pub fields : HaveFields t p field_scope
   pub cell_scope : Scope
   pub cells : Each IsStateDecl field_scope 0 t.states p.cells cell_scope
   pub tests : Each (IsTestDecl (names t)) cell_scope 0 t.tests p.tests s
@@ -68,37 +72,33 @@ pub record IsAccepted (t : ScriptTree) (p : ScriptPlan) : Type 0 where
   pub few : path_bound p.update ≤ limit.PATHS_MAX
 
 -- The first broken rule of a script. `p` has the plans of what stands before.
-pub data BreaksScript (t : ScriptTree) : Fault → Type 0 where
-  in_enums : (f : Fault)
+pub data BreaksScript (t : ScriptTree) : BrokenRule → Type 0 where
+  in_enums : (f : BrokenRule)
       → FirstBroken IsEnumDecl BreaksEnum [] 0 t.enums f
       → BreaksScript t f
-  in_fields : (p : ScriptPlan) (s : Scope) (f : Fault)
+  in_fields : (p : ScriptPlan) (s : Scope) (f : BrokenRule)
       → Each IsEnumDecl [] 0 t.enums p.enums s
       → FirstBroken IsFieldDecl BreaksField s 0 t.fields f
       → BreaksScript t f
-  in_group : (p : ScriptPlan) (s later : Scope) (f : Fault)
+  in_group : (p : ScriptPlan) (s later : Scope) (f : BrokenRule)
       → Each IsEnumDecl [] 0 t.enums p.enums s
       → Each IsFieldDecl s 0 t.fields p.fields later
       → BreaksGroup later t.group f
       → BreaksScript t f
-  in_states : (p : ScriptPlan) (s later : Scope) (f : Fault)
-      → Each IsEnumDecl [] 0 t.enums p.enums s
-      → Each IsFieldDecl s 0 t.fields p.fields later
-      → IsGroup later t.group p.group
-      → FirstBroken IsStateDecl BreaksState later 0 t.states f
+  in_states : (p : ScriptPlan) (s : Scope) (f : BrokenRule)
+      → HaveFields t p s
+      → FirstBroken IsStateDecl BreaksState s 0 t.states f
       → BreaksScript t f
-  in_tests : (p : ScriptPlan) (s later all : Scope) (f : Fault)
-      → Each IsEnumDecl [] 0 t.enums p.enums s
-      → Each IsFieldDecl s 0 t.fields p.fields later
-      → IsGroup later t.group p.group
-      → Each IsStateDecl later 0 t.states p.cells all
-      → FirstBroken (IsTestDecl (names t)) (BreaksTest (names t)) all 0 t.tests f
+  in_tests : (p : ScriptPlan) (s later : Scope) (f : BrokenRule)
+      → HaveFields t p s
+      → Each IsStateDecl s 0 t.states p.cells later
+      → FirstBroken (IsTestDecl (names t)) (BreaksTest (names t)) later 0 t.tests f
       → BreaksScript t f
-  in_block : (p : ScriptPlan) (s : Scope) (f : Fault)
+  in_block : (p : ScriptPlan) (s : Scope) (f : BrokenRule)
       → AreDeclared t p s
       → BreaksBlock (hidden s) (in_update s) 0 t.update f
       → BreaksScript t f
-  in_columns : (p : ScriptPlan) (s : Scope) (locals : ℕ) (f : Fault)
+  in_columns : (p : ScriptPlan) (s : Scope) (locals : ℕ) (f : BrokenRule)
       → AreDeclared t p s
       → IsBlock (hidden s) (in_update s) 0 t.update p.update locals
       → FirstBroken (IsColumnDecl (in_report s)) (BreaksColumn (in_report s)) [] 0 t.columns f
@@ -106,18 +106,18 @@ pub data BreaksScript (t : ScriptTree) : Fault → Type 0 where
   too_many : (p : ScriptPlan)
       → HasPlan t p
       → limit.PATHS_MAX < path_bound p.update
-      → BreaksScript t (fault.Branchy (path_bound p.update))
+      → BreaksScript t (broken.Branchy (path_bound p.update))
 
 -- Tried last, when all else stands.
-abbrev pub bounded : ScriptPlan → Result ScriptPlan Fault
+abbrev pub bounded : ScriptPlan → Result ScriptPlan BrokenRule
 bounded p =
     if nat_le (path_bound p.update) limit.PATHS_MAX
     then Ok p
-    else Err (fault.Branchy (path_bound p.update))
+    else Err (broken.Branchy (path_bound p.update))
 
 -- The plan of a script, or its first broken rule.
-abbrev pub checked : ScriptTree → Result ScriptPlan Fault
-checked t = do
+abbrev pub plan_of : ScriptTree → Result ScriptPlan BrokenRule
+plan_of t = do
   enums ← each enum_decl [] 0 t.enums
   fields ← each field_decl enums.scope 0 t.fields
   group ← group_of fields.scope t.group

@@ -72,9 +72,9 @@ in_range (Some (plan.Hold kinds first)) x = false
 in_range (Some (plan.Enum enum first)) x = false
 
 -- Arithmetic that fails ends the group.
-abbrev pub checked : {A : Type 0} → Result A Arith → Result A FaultKind
-checked (Ok x) = Ok x
-checked (Err e) = Err fault.Arith
+abbrev pub or_fault : {A : Type 0} → Result A Arith → Result A FaultKind
+or_fault (Ok x) = Ok x
+or_fault (Err e) = Err fault.Arith
 
 -- The cell becomes `content` for a number in its range; any other number ends the group.
 abbrev pub stored : ScriptPlan → ℕ → Cell → ℤ → State → Result State FaultKind
@@ -112,23 +112,23 @@ abbrev mutual
   -- A statement gives the state after it, or the kind of fault that ends the group.
   pub do_step : ScriptPlan → Environment → DoPlan → State → Result State FaultKind
   do_step p k (Let n e) s = do
-    v ← checked (fixed_value k e)
+    v ← or_fault (fixed_value k e)
     Ok s
   do_step p k (SetInt c t) s = do
-    x ← checked (term_number k t s)
+    x ← or_fault (term_number k t s)
     stored p c (cell.Int x) x s
   do_step p k (SetEnum c l) s = Ok (with_cell s c (cell.Enum (label_of k l)))
   do_step p k (CopyEnum c d) s = Ok (with_cell s c (cell.Enum (label_at s d)))
   do_step p k (Keep c es) s = do
-    parts ← checked (fixed_values k es)
+    parts ← or_fault (fixed_values k es)
     Ok (with_cell s c (cell.Hold parts))
   do_step p k (KeepFrom c d) s = Ok (with_cell s c (cell.Hold (parts_at s d)))
   do_step p k (PushNum c t) s = do
-    x ← checked (term_number k t s)
+    x ← or_fault (term_number k t s)
     stored p c (cell.Nums (nums_at s c ++ x ∷ [])) x s
   do_step p k (PushWord c w) s = Ok (with_cell s c (cell.Words (words_at s c ++ word_of k w ∷ [])))
   do_step p k (If c a b) s = do
-    x ← checked (truth (test_truth p.tests) k c s)
+    x ← or_fault (truth (test_truth p.tests) k c s)
     if x then dos_step p k a s else dos_step p k b s
 
   -- Statements in order, each of which sees the changes before it.
