@@ -10,8 +10,9 @@ use Rattle.sym_check.specs.FixedPlans.{FixedPlan}
 use Rattle.sym_check.specs.LinePlans.{TermPlan}
 use Rattle.sym_check.specs.BrokenRules.{BrokenRule}
 use Rattle.sym_check.specs.BrokenRules as broken
-use Rattle.sym_check.specs.Scopes.{Meaning, Scope, Stands, IsFree}
-use Rattle.sym_check.specs.Scopes as meaning
+use Rattle.sym_check.specs.declared.elaborate.scope.Meaning.{Meaning}
+use Rattle.sym_check.specs.Scopes.{Scope, Stands, IsFree}
+use Rattle.sym_check.specs.declared.elaborate.scope.Meaning.TheVariants as meaning
 use Rattle.sym_check.specs.Typing.{arith_of, compare_of, Typed, Number, Word, Label, EnumCell, HoldCell, Truth, Means, HasMeaning, IsTerm, IsValue, AreValues}
 
 -- The place of an expression: that of a leaf, of an operator, or of a call's name.

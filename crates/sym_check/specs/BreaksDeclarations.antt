@@ -21,8 +21,10 @@ use Rattle.sym_check.specs.declared.plan.script.KindPlan.TheVariants as kind
 use Rattle.sym_check.specs.CondPlans.{CondPlan}
 use Rattle.sym_check.specs.BrokenRules.{BrokenRule}
 use Rattle.sym_check.specs.BrokenRules as broken
-use Rattle.sym_check.specs.Scopes.{OfField, Meaning, Scope, entry, Stands, IsFree, in_tests}
-use Rattle.sym_check.specs.Scopes as meaning
+use Rattle.sym_check.specs.declared.elaborate.scope.Variable.TheVariants as var
+use Rattle.sym_check.specs.declared.elaborate.scope.Meaning.{Meaning}
+use Rattle.sym_check.specs.Scopes.{Scope, entry, Stands, IsFree, in_tests}
+use Rattle.sym_check.specs.declared.elaborate.scope.Meaning.TheVariants as meaning
 use Rattle.sym_check.specs.Typing.{Typed, Means, IsCondition}
 use Rattle.sym_check.specs.Breaks.{place, Breaks}
 use Rattle.sym_check.specs.Validity.{InRange}
@@ -86,7 +88,7 @@ pub data BreaksGroup (s : Scope) : Option Name → BrokenRule → Type 0 where
   unknown_group : (x : Name) → IsFree s x → BreaksGroup s (Some x) (broken.Name x.at)
   no_field : (x : Name) (m : Meaning)
       → Stands s x m
-      → ((k : KindPlan) (n : ℕ) → m ≡ meaning.Value k (OfField n) → ⊥)
+      → ((k : KindPlan) (n : ℕ) → m ≡ meaning.Value k (var.Field n) → ⊥)
       → BreaksGroup s (Some x) (broken.Kind x.at)
 
 -- Parts go one by one, a kind before its literal.

@@ -9,8 +9,9 @@ use Rattle.sym_check.specs.Columns.{ShownAs}
 use Rattle.sym_check.specs.ShowPlans.{ShowPlan}
 use Rattle.sym_check.specs.BrokenRules.{BrokenRule}
 use Rattle.sym_check.specs.BrokenRules as broken
-use Rattle.sym_check.specs.Scopes.{Meaning, Scope, Stands, IsFree}
-use Rattle.sym_check.specs.Scopes as meaning
+use Rattle.sym_check.specs.declared.elaborate.scope.Meaning.{Meaning}
+use Rattle.sym_check.specs.Scopes.{Scope, Stands, IsFree}
+use Rattle.sym_check.specs.declared.elaborate.scope.Meaning.TheVariants as meaning
 use Rattle.sym_check.specs.Breaks.{place}
 use Rattle.sym_check.specs.Reports.{list_function, is_part, IsShown}
 

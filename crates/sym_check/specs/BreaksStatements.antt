@@ -9,8 +9,9 @@ use Rattle.sym_check.specs.CondPlans.{CondPlan}
 use Rattle.sym_check.specs.DoPlans.{DoPlan, DosPlan}
 use Rattle.sym_check.specs.BrokenRules.{BrokenRule}
 use Rattle.sym_check.specs.BrokenRules as broken
-use Rattle.sym_check.specs.Scopes.{Meaning, Scope, Stands, IsFree}
-use Rattle.sym_check.specs.Scopes as meaning
+use Rattle.sym_check.specs.declared.elaborate.scope.Meaning.{Meaning}
+use Rattle.sym_check.specs.Scopes.{Scope, Stands, IsFree}
+use Rattle.sym_check.specs.declared.elaborate.scope.Meaning.TheVariants as meaning
 use Rattle.sym_check.specs.Typing.{Typed, EnumCell, Means, IsValue, IsCondition}
 use Rattle.sym_check.specs.Breaks.{place, IsOperand, AreOperands, WrongValue, Breaks, BreaksOperands}
 use Rattle.sym_check.specs.Statements.{IsStmt, IsBlock}

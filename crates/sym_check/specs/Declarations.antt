@@ -25,8 +25,10 @@ use Rattle.sym_check.specs.declared.plan.script.CellPlan.{CellPlan}
 use Rattle.sym_check.specs.declared.plan.script.CellPlan.TheVariants as plan
 use Rattle.sym_check.specs.CondPlans.{CondPlan}
 use Rattle.sym_check.specs.ScriptPlans.{TestOf}
-use Rattle.sym_check.specs.Scopes.{OfField, OfParam, Meaning, Scope, entry, Stands, IsFree, in_tests}
-use Rattle.sym_check.specs.Scopes as meaning
+use Rattle.sym_check.specs.declared.elaborate.scope.Variable.TheVariants as var
+use Rattle.sym_check.specs.declared.elaborate.scope.Meaning.{Meaning}
+use Rattle.sym_check.specs.Scopes.{Scope, entry, Stands, IsFree, in_tests}
+use Rattle.sym_check.specs.declared.elaborate.scope.Meaning.TheVariants as meaning
 use Rattle.sym_check.specs.Typing.{IsCondition}
 use Rattle.sym_check.specs.Validity.{InRange}
 use Rattle.sym_check.specs.InOrder.{Each}
@@ -75,13 +77,13 @@ pub data IsFieldDecl : Scope → ℕ → FieldDecl → FieldPlan → Scope → T
       → IsDefault (unfinished s d.name) k d.default empty
       → IsFieldDecl s n d
       (record { header = unwrap_or d.header d.name.text; kind = k; default = empty })
-      (s ++ entry d.name (meaning.Value k (OfField n)) ∷ [])
+      (s ++ entry d.name (meaning.Value k (var.Field n)) ∷ [])
 
 -- The group line, where there is one, names a field.
 pub data IsGroup (s : Scope) : Option Name → Option ℕ → Type 0 where
   no_group : IsGroup s None None
   group : (x : Name) (k : KindPlan) (n : ℕ)
-      → Stands s x (meaning.Value k (OfField n))
+      → Stands s x (meaning.Value k (var.Field n))
       → IsGroup s (Some x) (Some n)
 
 -- Parts with their kinds and first values.
@@ -123,7 +125,7 @@ pub data IsParamDecl (names : List (List ℕ)) (s : Scope) : Scope → ℕ → P
       → (Contains names d.name.text → ⊥)
       → IsFree params d.name
       → IsKindOf s d.kind k
-      → IsParamDecl names s params n d k (params ++ entry d.name (meaning.Value k (OfParam n)) ∷ [])
+      → IsParamDecl names s params n d k (params ++ entry d.name (meaning.Value k (var.Param n)) ∷ [])
 
 -- In the body of a test its parameters and the labels are visible.
 pub data IsTestDecl (names : List (List ℕ)) : Scope → ℕ → TestTree → TestOf → Scope → Type 0 where

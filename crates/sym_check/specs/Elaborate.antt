@@ -23,8 +23,10 @@ use Rattle.sym_check.specs.CondPlans.{CondPlan}
 use Rattle.sym_check.specs.CondPlans as cond
 use Rattle.sym_check.specs.BrokenRules.{BrokenRule}
 use Rattle.sym_check.specs.BrokenRules as broken
-use Rattle.sym_check.specs.Scopes.{Variable, Meaning, Scope, find}
-use Rattle.sym_check.specs.Scopes as meaning
+use Rattle.sym_check.specs.declared.elaborate.scope.Variable.{Variable}
+use Rattle.sym_check.specs.declared.elaborate.scope.Meaning.{Meaning}
+use Rattle.sym_check.specs.Scopes.{Scope, find}
+use Rattle.sym_check.specs.declared.elaborate.scope.Meaning.TheVariants as meaning
 use Rattle.sym_check.specs.Typing.{num_variable, word_variable, label_variable, turned, Typed, Number, Word, Label, EnumCell, HoldCell, Truth}
 use Rattle.sym_check.specs.Breaks.{place}
 

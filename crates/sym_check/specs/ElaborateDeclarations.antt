@@ -28,8 +28,10 @@ use Rattle.sym_check.specs.ScriptPlans.{TestOf}
 use Rattle.sym_check.specs.BrokenRules.{BrokenRule}
 use Rattle.sym_check.specs.BrokenRules as broken
 use Rattle.sym_check.specs.Conditions.{same_word}
-use Rattle.sym_check.specs.Scopes.{OfField, OfLocal, OfParam, Meaning, Scope, entry, find, in_tests}
-use Rattle.sym_check.specs.Scopes as meaning
+use Rattle.sym_check.specs.declared.elaborate.scope.Variable.TheVariants as var
+use Rattle.sym_check.specs.declared.elaborate.scope.Meaning.{Meaning}
+use Rattle.sym_check.specs.Scopes.{Scope, entry, find, in_tests}
+use Rattle.sym_check.specs.declared.elaborate.scope.Meaning.TheVariants as meaning
 use Rattle.sym_check.specs.Breaks.{place}
 use Rattle.sym_check.specs.Elaborate.{kind_at, condition, infer}
 use Rattle.sym_check.specs.ElaborateStatements.{unless_taken}
@@ -70,9 +72,9 @@ field_named at None = Err (broken.Name at)
 field_named at (Some meaning.Unfinished) = kind_at at
 field_named at (Some (meaning.Enum enum)) = kind_at at
 field_named at (Some (meaning.Label enum l)) = kind_at at
-field_named at (Some (meaning.Value k (OfField n))) = Ok n
-field_named at (Some (meaning.Value k (OfLocal n))) = kind_at at
-field_named at (Some (meaning.Value k (OfParam n))) = kind_at at
+field_named at (Some (meaning.Value k (var.Field n))) = Ok n
+field_named at (Some (meaning.Value k (var.Local n))) = kind_at at
+field_named at (Some (meaning.Value k (var.Param n))) = kind_at at
 field_named at (Some (meaning.IntCell c)) = kind_at at
 field_named at (Some (meaning.EnumCell c enum)) = kind_at at
 field_named at (Some (meaning.HoldCell c ks)) = kind_at at
@@ -131,7 +133,7 @@ field_decl s n d =
       empty ← default_of (unfinished s d.name) k d.default
       Ok (record {
         plan = record { header = unwrap_or d.header d.name.text; kind = k; default = empty };
-        scope = s ++ entry d.name (meaning.Value k (OfField n)) ∷ [];
+        scope = s ++ entry d.name (meaning.Value k (var.Field n)) ∷ [];
       }))
 
 abbrev pub group_of : Scope → Option Name → Result (Option ℕ) BrokenRule
@@ -188,7 +190,7 @@ abbrev pub param_decl : List (List ℕ) → Scope → Scope → ℕ → Param �
 param_decl names s params n d =
     unless_named names d.name (unless_taken d.name.at (find params d.name.text) (do
       k ← kind_of s d.kind
-      Ok (record { plan = k; scope = params ++ entry d.name (meaning.Value k (OfParam n)) ∷ [] })))
+      Ok (record { plan = k; scope = params ++ entry d.name (meaning.Value k (var.Param n)) ∷ [] })))
 
 abbrev pub test_decl : List (List ℕ) → Scope → ℕ → TestTree → Result (Planned TestOf) BrokenRule
 test_decl names s n d =

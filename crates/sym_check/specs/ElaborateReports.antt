@@ -14,8 +14,9 @@ use Rattle.sym_check.specs.ShowPlans as show
 use Rattle.sym_check.specs.ScriptPlans.{ColumnOf}
 use Rattle.sym_check.specs.BrokenRules.{BrokenRule}
 use Rattle.sym_check.specs.BrokenRules as broken
-use Rattle.sym_check.specs.Scopes.{Meaning, Scope, entry, find}
-use Rattle.sym_check.specs.Scopes as meaning
+use Rattle.sym_check.specs.declared.elaborate.scope.Meaning.{Meaning}
+use Rattle.sym_check.specs.Scopes.{Scope, entry, find}
+use Rattle.sym_check.specs.declared.elaborate.scope.Meaning.TheVariants as meaning
 use Rattle.sym_check.specs.Typing.{arith_of}
 use Rattle.sym_check.specs.Breaks.{place}
 use Rattle.sym_check.specs.Elaborate.{kind_at}

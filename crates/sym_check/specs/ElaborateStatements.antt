@@ -13,8 +13,9 @@ use Rattle.sym_check.specs.DoPlans.{DoPlan, DosPlan}
 use Rattle.sym_check.specs.DoPlans as plan
 use Rattle.sym_check.specs.BrokenRules.{BrokenRule}
 use Rattle.sym_check.specs.BrokenRules as broken
-use Rattle.sym_check.specs.Scopes.{Meaning, Scope, find}
-use Rattle.sym_check.specs.Scopes as meaning
+use Rattle.sym_check.specs.declared.elaborate.scope.Meaning.{Meaning}
+use Rattle.sym_check.specs.Scopes.{Scope, find}
+use Rattle.sym_check.specs.declared.elaborate.scope.Meaning.TheVariants as meaning
 use Rattle.sym_check.specs.Typing.{Typed, Number, Word, Label, EnumCell, HoldCell, Truth}
 use Rattle.sym_check.specs.Breaks.{place}
 use Rattle.sym_check.specs.Elaborate.{kind_at, same_kind, Located, values_of, condition, infer, operands}

@@ -13,7 +13,7 @@ use Rattle.sym_check.specs.ShowPlans.{ShowPlan}
 use Rattle.sym_check.specs.ShowPlans as show
 use Rattle.sym_check.specs.ScriptPlans.{ColumnOf}
 use Rattle.sym_check.specs.Scopes.{Scope, entry, Stands, IsFree}
-use Rattle.sym_check.specs.Scopes as meaning
+use Rattle.sym_check.specs.declared.elaborate.scope.Meaning.TheVariants as meaning
 use Rattle.sym_check.specs.Typing.{arith_of}
 
 -- The functions of lists, by their names.

@@ -2,31 +2,12 @@
 use Rattle.std.specs.Prelude.{◌≡◌, ℕ, Bool, true, false, not, List, [], ◌∷◌, ◌++◌, if◌then◌else◌, Option, Some, None}
 use Rattle.std.specs.List.{filter}
 use Rattle.sym_base.specs.declared.tree.name.Name.{Name}
-use Rattle.sym_check.specs.declared.plan.script.KindPlan.{KindPlan}
+use Rattle.sym_check.specs.declared.elaborate.scope.Meaning.{Meaning}
+use Rattle.sym_check.specs.declared.elaborate.scope.Meaning.TheVariants.{Unfinished, Enum, Label, Value, IntCell, EnumCell, HoldCell, NumsCell, WordsCell, Test}
+use Rattle.sym_check.specs.declared.elaborate.scope.Entry.{Entry}
+use Rattle.sym_check.specs.declared.elaborate.scope.View.{View}
+use Rattle.sym_check.specs.declared.elaborate.scope.View.TheVariants as view
 use Rattle.sym_check.specs.Conditions.{same_word}
-
--- What has a value that no cell takes part in, by its number.
-pub data Variable : Type 0 where
-  OfField : ℕ → Variable
-  OfLocal : ℕ → Variable
-  OfParam : ℕ → Variable
-
--- What a name stands for; things by their numbers. A name is unfinished in its own declaration.
-pub data Meaning : Type 0 where
-  Unfinished : Meaning
-  Enum : ℕ → Meaning
-  Label : ℕ → ℕ → Meaning
-  Value : KindPlan → Variable → Meaning
-  IntCell : ℕ → Meaning
-  EnumCell : ℕ → ℕ → Meaning
-  HoldCell : ℕ → List KindPlan → Meaning
-  NumsCell : ℕ → Meaning
-  WordsCell : ℕ → Meaning
-  Test : ℕ → List KindPlan → Meaning
-
-pub record Entry : Type 0 where
-  pub name : List ℕ
-  pub meaning : Meaning
 
 abbrev pub Scope : Type 0
 Scope = List Entry
@@ -85,11 +66,24 @@ is_enum (NumsCell c) = false
 is_enum (WordsCell c) = false
 is_enum (Test t ks) = false
 
+-- Whether the names of such things are in the view; hidden are those that the update doesn't see.
+abbrev pub shows : View → Meaning → Bool
+shows view.Tests m = is_label m
+shows view.Update m = not (is_enum m)
+shows view.Hidden m = is_enum m
+shows view.Report m = is_cell m
+
+abbrev pub visible : View → Scope → Scope
+visible v s = filter (λ (e : Entry). shows v e.meaning) s
+
 abbrev pub in_tests : Scope → Scope
-in_tests s = filter (λ e. is_label e.meaning) s
+in_tests s = visible view.Tests s
 
 abbrev pub in_update : Scope → Scope
-in_update s = filter (λ e. not (is_enum e.meaning)) s
+in_update s = visible view.Update s
+
+abbrev pub hidden : Scope → Scope
+hidden s = visible view.Hidden s
 
 abbrev pub in_report : Scope → Scope
-in_report s = filter (λ e. is_cell e.meaning) s
+in_report s = visible view.Report s

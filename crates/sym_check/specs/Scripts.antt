@@ -14,7 +14,7 @@ use Rattle.sym_check.specs.ScriptPlans.{ScriptPlan, ColumnOf}
 use Rattle.sym_check.specs.DoPlans.{DosPlan}
 use Rattle.sym_check.specs.BrokenRules.{BrokenRule}
 use Rattle.sym_check.specs.BrokenRules as broken
-use Rattle.sym_check.specs.Scopes.{Scope, is_enum, in_update, in_report}
+use Rattle.sym_check.specs.Scopes.{Scope, hidden, in_update, in_report}
 use Rattle.sym_check.specs.InOrder.{Each, FirstBroken, each}
 use Rattle.sym_check.specs.Declarations.{IsEnumDecl, IsFieldDecl, IsGroup, IsStateDecl, IsTestDecl}
 use Rattle.sym_check.specs.BreaksDeclarations.{BreaksEnum, BreaksField, BreaksGroup, BreaksState, BreaksTest}
@@ -25,7 +25,6 @@ use Rattle.sym_check.specs.ElaborateStatements.{block}
 use Rattle.sym_check.specs.Reports.{IsColumnDecl}
 use Rattle.sym_check.specs.BreaksReports.{BreaksColumn}
 use Rattle.sym_check.specs.ElaborateReports.{column_decl}
-use Rattle.std.specs.List.{filter}
 
 -- All names that a script declares, wherever they stand; those of columns are apart.
 abbrev pub enum_names : EnumDecl → List (List ℕ)
@@ -37,10 +36,6 @@ names t =
     ++ (map (λ (d : FieldDecl). d.name.text) t.fields
     ++ (map (λ (d : StateDecl). d.name.text) t.states
     ++ map (λ (d : TestTree). d.name.text) t.tests))
-
--- The names of the script that aren't visible in the update.
-abbrev pub hidden : Scope → Scope
-hidden s = filter (λ e. is_enum e.meaning) s
 
 -- The enums and fields have these plans, each in the scope of those before it, and the group line.
 pub record HaveFields (t : ScriptTree) (p : ScriptPlan) (s : Scope) : Type 0 where

@@ -11,13 +11,15 @@ use Rattle.sym_check.specs.LinePlans.{TermPlan}
 use Rattle.sym_check.specs.CondPlans.{CondPlan}
 use Rattle.sym_check.specs.DoPlans.{DoPlan, DosPlan}
 use Rattle.sym_check.specs.DoPlans as plan
-use Rattle.sym_check.specs.Scopes.{OfLocal, Scope, Entry, entry, Stands, IsFree}
-use Rattle.sym_check.specs.Scopes as meaning
+use Rattle.sym_check.specs.declared.elaborate.scope.Variable.TheVariants as var
+use Rattle.sym_check.specs.declared.elaborate.scope.Entry.{Entry}
+use Rattle.sym_check.specs.Scopes.{Scope, entry, Stands, IsFree}
+use Rattle.sym_check.specs.declared.elaborate.scope.Meaning.TheVariants as meaning
 use Rattle.sym_check.specs.Typing.{IsTerm, IsWord, IsLabel, IsValue, AreValues, IsCondition}
 
 -- The entry of a local with this number.
 abbrev pub local_entry : Name → ℕ → KindPlan → Entry
-local_entry x n k = entry x (meaning.Value k (OfLocal n))
+local_entry x n k = entry x (meaning.Value k (var.Local n))
 
 -- `hidden` are the names of the script that aren't visible in the update, but are taken.
 mutual

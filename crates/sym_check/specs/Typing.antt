@@ -20,23 +20,25 @@ use Rattle.sym_check.specs.LinePlans.{LinePlan, TermPlan}
 use Rattle.sym_check.specs.LinePlans as line
 use Rattle.sym_check.specs.CondPlans.{CondPlan}
 use Rattle.sym_check.specs.CondPlans as cond
-use Rattle.sym_check.specs.Scopes.{Variable, OfField, OfLocal, OfParam, Scope, Stands}
-use Rattle.sym_check.specs.Scopes as meaning
+use Rattle.sym_check.specs.declared.elaborate.scope.Variable.TheVariants as var
+use Rattle.sym_check.specs.declared.elaborate.scope.Variable.{Variable}
+use Rattle.sym_check.specs.Scopes.{Scope, Stands}
+use Rattle.sym_check.specs.declared.elaborate.scope.Meaning.TheVariants as meaning
 
 abbrev pub num_variable : Variable → NumPlan
-num_variable (OfField i) = fixed.Field i
-num_variable (OfLocal i) = fixed.Local i
-num_variable (OfParam i) = fixed.Param i
+num_variable (var.Field i) = fixed.Field i
+num_variable (var.Local i) = fixed.Local i
+num_variable (var.Param i) = fixed.Param i
 
 abbrev pub word_variable : Variable → WordOf
-word_variable (OfField i) = word.Field i
-word_variable (OfLocal i) = word.Local i
-word_variable (OfParam i) = word.Param i
+word_variable (var.Field i) = word.Field i
+word_variable (var.Local i) = word.Local i
+word_variable (var.Param i) = word.Param i
 
 abbrev pub label_variable : Variable → LabelOf
-label_variable (OfField i) = label.Field i
-label_variable (OfLocal i) = label.Local i
-label_variable (OfParam i) = label.Param i
+label_variable (var.Field i) = label.Field i
+label_variable (var.Local i) = label.Local i
+label_variable (var.Param i) = label.Param i
 
 -- The operators of arithmetic.
 abbrev pub arith_of : BinOp → Option ArithOp

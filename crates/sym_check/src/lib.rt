@@ -2,6 +2,7 @@
 #![tactic(auto)]
 
 pub mod checked;
+pub mod elaborate;
 pub mod evaluate;
 pub mod laws;
 pub mod plan;

@@ -1,0 +1,3 @@
+//! From a syntax tree to its plan: the rules are tried in the order of the script's text.
+pub mod error;
+pub mod scope;
