@@ -20,7 +20,6 @@ pub mod Columns
 pub mod WellFormed
 pub mod PathBounds
 pub mod KnownValues
-pub mod BrokenRules
 pub mod Scopes
 pub mod Typing
 pub mod Breaks
@@ -36,3 +35,4 @@ pub mod Reports
 pub mod BreaksReports
 pub mod ElaborateReports
 pub mod Scripts
+pub mod TypedPlans
