@@ -6,3 +6,4 @@ mod ValidSteps
 mod TestAnswers
 mod PlanLaws
 mod CheckedExamples
+mod Fits

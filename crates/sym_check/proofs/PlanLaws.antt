@@ -46,3 +46,8 @@ all_fixed p (t ∷ tests) h =
 
 pub bodies_are_fixed : (p : ScriptPlan) → IsWellFormed p → IsTrue (list_all has_fixed_body p.tests)
 bodies_are_fixed p w = all_fixed p p.tests w.tests
+
+-- More records go on from where the first ones ended.
+pub after_append : (p : ScriptPlan) (first rest : List Record) (o : Outcome) → after p (first ++ rest) o ≡ after p rest (after p first o)
+after_append p [] rest o = refl
+after_append p (rec ∷ first) rest o = after_append p first rest (step p o rec)
