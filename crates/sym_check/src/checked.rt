@@ -15,7 +15,7 @@ pub enum CheckErr {
 }
 
 /// A script that may be run: a counter, today.
-#[derive(Debug, Drop)]
+#[derive(Drop)]
 pub struct Checked {
     script: Script,
     pub ghost counter: { IsSome (counter_of (script_tree script)) },

@@ -2,8 +2,25 @@
 #![tactic(auto)]
 
 pub mod checked;
+pub mod elaborate;
+pub mod evaluate;
 pub mod laws;
+pub mod plan;
 pub mod rules;
 
 pub use checked::{CheckErr, Checked};
+pub use evaluate::arithmetic::Arith;
+pub use evaluate::calls::{fixed, number, pair};
+pub use evaluate::fixed_value::FixedValue;
+pub use evaluate::pairs::Pair;
+pub use plan::condition::Cond;
+pub use plan::expression::{
+    ArithOp, Fixed, FixedList, LabelOf, Line, Num, Term, WordOf, copy_fixed_list,
+};
+pub use plan::script::{
+    CellPlan, CellPlans, ColumnPlan, ColumnPlans, EnumPlan, EnumPlans, FieldPlan, FieldPlans,
+    KindPlan, KindPlans, Plan, TestPlan, TestPlans, copy_column_plans, copy_test_plans,
+};
+pub use plan::show::{Show, ShowFn};
+pub use plan::statement::{Do, Dos};
 pub use rules::check;

@@ -1,0 +1,116 @@
+-- What fits a well-formed plan: the key of a record, a valid state, and the outcome of a step.
+use Rattle.std.proofs.Common.{◌≡◌, refl, ℕ, ℤ, Bool, true, false, List, [], ◌∷◌, ◌++◌, Option, Some, None, Result, Ok, Err}
+use Rattle.std.specs.Prelude.{slice_get, if◌then◌else◌, IfSome, IfErr, IsSomeAnd}
+use Rattle.std.specs.List.{AllZip}
+use Rattle.sym_base.specs.declared.values.value.Value.{Value}
+use Rattle.sym_base.specs.declared.values.value.Key.TheVariants.{Whole, One}
+use Rattle.sym_base.specs.declared.values.record.Record.{Record}
+use Rattle.sym_base.specs.declared.values.state.Cell.{Cell}
+use Rattle.sym_base.specs.declared.values.state.Cell.TheVariants as cell
+use Rattle.sym_base.specs.declared.values.state.State.{State}
+use Rattle.sym_base.specs.declared.values.state.FaultKind.{FaultKind}
+use Rattle.sym_base.specs.declared.values.state.FaultKind.TheVariants as fault
+use Rattle.sym_base.specs.declared.values.state.Outcome.{Outcome}
+use Rattle.sym_base.specs.declared.values.state.Outcome.TheVariants.{Going, Ended}
+use Rattle.sym_check.specs.declared.evaluate.arithmetic.Arith.{Arith}
+use Rattle.sym_check.specs.declared.plan.script.EnumPlan.{EnumPlan}
+use Rattle.sym_check.specs.declared.plan.script.KindPlan.{KindPlan}
+use Rattle.sym_check.specs.declared.plan.script.CellPlan.{CellPlan}
+use Rattle.sym_check.specs.declared.plan.script.CellPlan.TheVariants as plan
+use Rattle.sym_check.specs.Arithmetic.{and_then}
+use Rattle.sym_check.specs.FixedValues.{Environment, fixed_value, fixed_values}
+use Rattle.sym_check.specs.LineValues.{term_number}
+use Rattle.sym_check.specs.Conditions.{truth, test_truth}
+use Rattle.sym_check.specs.DoPlans.{DoPlan, DosPlan}
+use Rattle.sym_check.specs.ScriptPlans.{ScriptPlan}
+use Rattle.sym_check.specs.Updates.{nums_at, with_cell, in_range, or_fault, stored, environment, environment_after, do_step, dos_step, at_record, step}
+use Rattle.sym_check.specs.Groups.{field_value, key_by, key_of}
+use Rattle.sym_check.specs.Validity.{IsOfKind, AreOfKinds, field_kinds, IsRecord, IsKeyOf, IsKey, IsValidCell, IsValid, IsValidOutcome}
+use Rattle.sym_check.specs.Validity as valid
+use Rattle.sym_check.specs.Fitting.{FitsCell, FitsState, HasRange, FitsFault, FitsOutcome}
+use Rattle.sym_check.specs.Fitting as fitting
+use Rattle.sym_check.specs.WellFormed.{Kinds, IsDo, IsDos, IsWellFormed, known_kinds}
+use Rattle.sym_check.specs.WellFormed as well
+use Rattle.sym_check.proofs.ZippedLists.{zip_get}
+
+-- The value of the group field is of its kind.
+key_by_is : (p : ScriptPlan) (rec : Record) (group : Option ℕ) → IsRecord p rec → IsKeyOf p group (key_by group rec)
+key_by_is p rec None r = tt
+key_by_is p rec (Some g) r = go (slice_get (field_kinds p) g) refl
+  where
+    found : (k : KindPlan) → (v : Value) × (slice_get rec.fields g ≡ Some v) × IsOfKind p.enums k v → IsOfKind p.enums k (field_value (slice_get rec.fields g))
+    found k (v, e, h) = rw e h
+
+    go : (o : Option KindPlan) → slice_get (field_kinds p) g ≡ o → IsKeyOf p (Some g) (key_by (Some g) rec)
+    go None e = rw e tt
+    go (Some k) e = rw e (found k (zip_get (IsOfKind p.enums) (field_kinds p) rec.fields g k r e))
+
+pub key_is : (p : ScriptPlan) (rec : Record) → IsRecord p rec → IsKey p (key_of p rec)
+key_is p rec r = key_by_is p rec p.group r
+
+cell_fits : (enums : List EnumPlan) (c : CellPlan) (content : Cell) → IsValidCell enums c content → FitsCell c content
+cell_fits enums _ _ (valid.int lo hi first x h) = fitting.int lo hi first x
+cell_fits enums _ _ (valid.nums lo hi xs h) = fitting.nums lo hi xs
+cell_fits enums _ _ (valid.words ts) = fitting.words ts
+cell_fits enums _ _ (valid.hold kinds first parts h) = fitting.hold kinds first parts
+cell_fits enums _ _ (valid.enum of first l h) = fitting.enum of first l
+
+cells_fit : (enums : List EnumPlan) (cells : List CellPlan) (contents : List Cell) → AllZip (IsValidCell enums) cells contents → AllZip FitsCell cells contents
+cells_fit enums [] [] h = tt
+cells_fit enums [] (x ∷ contents) h = absurd h
+cells_fit enums (c ∷ cells) [] h = absurd h
+cells_fit enums (c ∷ cells) (x ∷ contents) h = (cell_fits enums c x h.0, cells_fit enums cells contents h.1)
+
+pub valid_fits : (p : ScriptPlan) (s : State) → IsValid p s → FitsState p s
+valid_fits p s h = cells_fit p.enums p.cells s.cells h
+
+-- Failed arithmetic, or a number out of the range of a cell that has one.
+calculated_fits : {A : Type 0} (p : ScriptPlan) (f : A → Result State FaultKind) (r : Result A Arith) → ((x : A) → IfErr (f x) (FitsFault p)) → IfErr (and_then f (or_fault r)) (FitsFault p)
+calculated_fits p f (Ok x) h = h x
+calculated_fits p f (Err e) h = tt
+
+stored_fits : (p : ScriptPlan) (s : State) (c : ℕ) (content : Cell) (x : ℤ) → FitsFault p (fault.Over c) → IfErr (stored p c content x s) (FitsFault p)
+stored_fits p s c content x h = go (in_range (slice_get p.cells c) x)
+  where
+    go : (b : Bool) → IfErr (if b then Ok (with_cell s c content) else Err (fault.Over c)) (FitsFault p)
+    go true = tt
+    go false = h
+
+followed_fits : (p : ScriptPlan) (f : State → Result State FaultKind) (r : Result State FaultKind) → IfErr r (FitsFault p) → ((s : State) → IfErr (f s) (FitsFault p)) → IfErr (and_then f r) (FitsFault p)
+followed_fits p f (Ok s) h k = k s
+followed_fits p f (Err e) h k = h
+
+either_fits : (p : ScriptPlan) (l r : Result State FaultKind) (x : Bool) → IfErr l (FitsFault p) → IfErr r (FitsFault p) → IfErr (if x then l else r) (FitsFault p)
+either_fits p l r true h k = h
+either_fits p l r false h k = k
+
+mutual
+  do_fits : (p : ScriptPlan) (k later : Kinds) (d : DoPlan) → IsDo p k d later → (v : Environment) (s : State) → IfErr (do_step p v d s) (FitsFault p)
+  do_fits p _ _ _ (well.let_value k n last e free t) v s = calculated_fits p (λ (x : Value). Ok s) (fixed_value v e) (λ x. tt)
+  do_fits p _ _ _ (well.set_int k c t w u) v s =
+      calculated_fits p (λ (x : ℤ). stored p c (cell.Int x) x s) (term_number v t s) (λ x. stored_fits p s c (cell.Int x) x (rw w.is tt))
+  do_fits p _ _ _ (well.set_enum k c l w) v s = tt
+  do_fits p _ _ _ (well.copy_enum k c d w) v s = tt
+  do_fits p _ _ _ (well.keep k c es w) v s = calculated_fits p (λ (xs : List Value). Ok (with_cell s c (cell.Hold xs))) (fixed_values v es) (λ xs. tt)
+  do_fits p _ _ _ (well.keep_from k c d w) v s = tt
+  do_fits p _ _ _ (well.push_num k c t w u) v s =
+      calculated_fits p (λ (x : ℤ). stored p c (cell.Nums (nums_at s c ++ x ∷ [])) x s) (term_number v t s)
+      (λ x. stored_fits p s c (cell.Nums (nums_at s c ++ x ∷ [])) x (rw w.is tt))
+  do_fits p _ _ _ (well.push_word k c w u t) v s = tt
+  do_fits p _ _ _ (well.branch k c a b t ta tb) v s =
+      calculated_fits p (λ (x : Bool). if x then dos_step p v a s else dos_step p v b s) (truth (test_truth p.tests) v c s)
+      (λ x. either_fits p (dos_step p v a s) (dos_step p v b s) x (dos_fit p k a ta v s) (dos_fit p k b tb v s))
+
+  dos_fit : (p : ScriptPlan) (k : Kinds) (ds : DosPlan) → IsDos p k ds → (v : Environment) (s : State) → IfErr (dos_step p v ds s) (FitsFault p)
+  dos_fit p _ _ (well.finished k) v s = tt
+  dos_fit p _ _ (well.followed k later d rest t r) v s =
+      followed_fits p (λ (s' : State). dos_step p (environment_after v d) rest s') (do_step p v d s) (do_fits p k later d t v s)
+      (λ s'. dos_fit p later rest r (environment_after v d) s')
+
+recorded_fits : (p : ScriptPlan) (n : ℕ) (r : Result State FaultKind) → IfErr r (FitsFault p) → IsValidOutcome p (at_record n r) → FitsOutcome p (at_record n r)
+recorded_fits p n (Ok s) h i = valid_fits p s i
+recorded_fits p n (Err e) h i = h
+
+pub step_fits : (p : ScriptPlan) (o : Outcome) (rec : Record) → IsWellFormed p → IsValidOutcome p (step p o rec) → FitsOutcome p o → FitsOutcome p (step p o rec)
+step_fits p (Going s) rec w i h = recorded_fits p rec.no (dos_step p (environment rec []) p.update s) (dos_fit p (known_kinds p) p.update w.update (environment rec []) s) i
+step_fits p (Ended end) rec w i h = h

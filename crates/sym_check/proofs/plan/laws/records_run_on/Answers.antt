@@ -1,0 +1,8 @@
+use Rattle.sym_check.proofs.PlanLaws.{after_more, after_append}
+use Rattle.sym_check.proofs.plan.laws.records_run_on.Goals as goal
+
+pub returns-clause-one : goal.returns-clause-one
+returns-clause-one c = after_more
+
+pub returns-clause-more : goal.returns-clause-more
+returns-clause-more c = after_append

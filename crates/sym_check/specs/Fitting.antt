@@ -1,0 +1,44 @@
+-- States and outcomes that fit a plan: of the declared kinds, whatever values they hold.
+use Rattle.std.specs.Prelude.{ℕ, ℤ, List, slice_get, IsSomeAnd}
+use Rattle.std.specs.List.{AllZip}
+use Rattle.sym_base.specs.declared.values.value.Value.{Value}
+use Rattle.sym_base.specs.declared.values.state.Cell.{Cell}
+use Rattle.sym_base.specs.declared.values.state.Cell.TheVariants as cell
+use Rattle.sym_base.specs.declared.values.state.State.{State}
+use Rattle.sym_base.specs.declared.values.state.FaultKind.{FaultKind}
+use Rattle.sym_base.specs.declared.values.state.FaultKind.TheVariants as fault
+use Rattle.sym_base.specs.declared.values.state.Outcome.{Outcome}
+use Rattle.sym_base.specs.declared.values.state.Outcome.TheVariants.{Going, Ended}
+use Rattle.sym_check.specs.declared.plan.script.KindPlan.{KindPlan}
+use Rattle.sym_check.specs.declared.plan.script.CellPlan.{CellPlan}
+use Rattle.sym_check.specs.declared.plan.script.CellPlan.TheVariants as plan
+use Rattle.sym_check.specs.ScriptPlans.{ScriptPlan}
+
+-- A cell is of its declared kind, whatever values it holds.
+pub data FitsCell : CellPlan → Cell → Type 0 where
+  int : (lo hi first x : ℤ) → FitsCell (plan.Int lo hi first) (cell.Int x)
+  nums : (lo hi : ℤ) (xs : List ℤ) → FitsCell (plan.Nums lo hi) (cell.Nums xs)
+  words : (ts : List (List ℕ)) → FitsCell plan.Words (cell.Words ts)
+  hold : (kinds : List KindPlan) (first parts : List Value) → FitsCell (plan.Hold kinds first) (cell.Hold parts)
+  enum : (of first l : ℕ) → FitsCell (plan.Enum of first) (cell.Enum l)
+
+-- The state has one cell for each that the script declares, of its kind.
+abbrev pub FitsState : ScriptPlan → State → Type 0
+FitsState p s = AllZip FitsCell p.cells s.cells
+
+-- The cell has a range, which an assignment or a push can leave.
+abbrev pub HasRange : CellPlan → Type 0
+HasRange (plan.Int lo hi first) = Unit {0}
+HasRange (plan.Nums lo hi) = Unit {0}
+HasRange plan.Words = ⊥
+HasRange (plan.Hold kinds first) = ⊥
+HasRange (plan.Enum of first) = ⊥
+
+abbrev pub FitsFault : ScriptPlan → FaultKind → Type 0
+FitsFault p (fault.Over c) = IsSomeAnd (slice_get p.cells c) HasRange
+FitsFault p fault.Arith = Unit {0}
+
+-- The outcome may be one of a group of the script.
+abbrev pub FitsOutcome : ScriptPlan → Outcome → Type 0
+FitsOutcome p (Going s) = FitsState p s
+FitsOutcome p (Ended fault) = FitsFault p fault.kind

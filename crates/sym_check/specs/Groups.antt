@@ -1,0 +1,47 @@
+-- The sequential pass over records: how each group stands after its records. Groups and their order
+-- are those of the SYMPLE paper (SOSP 2015).
+use Rattle.std.specs.Prelude.{ℕ, Bool, not, List, [], ◌∷◌, map, Option, Some, None, slice_get, pos}
+use Rattle.std.specs.List.{filter}
+use Rattle.sym_base.specs.declared.values.value.Value.{Value}
+use Rattle.sym_base.specs.declared.values.value.Value.TheVariants as value
+use Rattle.sym_base.specs.declared.values.value.Key.{Key}
+use Rattle.sym_base.specs.declared.values.value.Key.TheVariants.{Whole, One}
+use Rattle.sym_base.specs.contracts.values.value.KeyPartialEq.TheImpl as same_key
+use Rattle.sym_base.specs.declared.values.record.Record.{Record}
+use Rattle.sym_base.specs.declared.values.state.Outcome.{Outcome}
+use Rattle.sym_base.specs.declared.values.state.Outcome.TheVariants.{Going}
+use Rattle.sym_check.specs.ScriptPlans.{ScriptPlan}
+use Rattle.sym_check.specs.Updates.{initial, after}
+
+-- The value of a field; the number 0 where the record has no such field.
+abbrev pub field_value : Option Value → Value
+field_value None = value.Num (pos 0)
+field_value (Some v) = v
+
+abbrev pub key_by : Option ℕ → Record → Key
+key_by None rec = Whole
+key_by (Some field) rec = One (field_value (slice_get rec.fields field))
+
+-- The key of a record's group.
+abbrev pub key_of : ScriptPlan → Record → Key
+key_of p rec = key_by p.group rec
+
+abbrev pub is_key : Key → Key → Bool
+is_key k other = (same_key.ghosts).eq k other
+
+-- The records with a key, in order.
+abbrev pub records_of : ScriptPlan → Key → List Record → List Record
+records_of p k records = filter (λ rec. is_key (key_of p rec) k) records
+
+-- Keys without repetition, in order of first appearance.
+abbrev pub distinct : List Key → List Key
+distinct [] = []
+distinct (k ∷ rest) = k ∷ filter (λ other. not (is_key other k)) (distinct rest)
+
+-- The keys of records, in order of first appearance.
+abbrev pub keys : ScriptPlan → List Record → List Key
+keys p records = distinct (map (key_of p) records)
+
+-- Each key with how its group stands after its records.
+abbrev pub pass : ScriptPlan → List Record → List (Key × Outcome)
+pass p records = map (λ k. (k, after p (records_of p k records) (Going (initial p)))) (keys p records)

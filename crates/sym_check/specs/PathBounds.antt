@@ -1,0 +1,95 @@
+-- The path bound: how many paths the symbolic execution of one record can have at most. Sums and
+-- products stop at a million.
+use Rattle.std.specs.Prelude.{ℕ, ◌+◌, ◌*◌, min, max, if◌then◌else◌}
+use Rattle.sym_base.specs.declared.tree.compare.Compare.{Compare}
+use Rattle.sym_base.specs.declared.tree.compare.Compare.TheVariants as compare
+use Rattle.sym_base.specs.declared.limits.TheConstants as limit
+use Rattle.sym_check.specs.LinePlans.{TermPlan, OfNum, OfLine}
+use Rattle.sym_check.specs.CondPlans.{CondPlan, Compared, Words, CellIs, LabelIs, Test, Not, And, Or}
+use Rattle.sym_check.specs.Conditions.{is_fixed}
+use Rattle.sym_check.specs.DoPlans.{DoPlan, Let, SetInt, SetEnum, CopyEnum, Keep, KeepFrom, PushNum, PushWord, If, DosPlan, End, Then}
+
+abbrev pub plus : ℕ → ℕ → ℕ
+plus a b = min (a + b) limit.PATHS_COUNTED
+
+abbrev pub times : ℕ → ℕ → ℕ
+times a b = min (a * b) limit.PATHS_COUNTED
+
+-- How many paths a condition makes of one: where it is true, and where it is false.
+pub record Counts : Type 0 where
+  pub true_paths : ℕ
+  pub false_paths : ℕ
+
+-- A line equals a number at one value of its cell, and differs from it below and above that.
+abbrev pub compare_counts : Compare → Counts
+compare_counts compare.Eq = record { true_paths = 1; false_paths = 2 }
+compare_counts compare.Ne = record { true_paths = 2; false_paths = 1 }
+compare_counts compare.Lt = record { true_paths = 1; false_paths = 1 }
+compare_counts compare.Le = record { true_paths = 1; false_paths = 1 }
+compare_counts compare.Gt = record { true_paths = 1; false_paths = 1 }
+compare_counts compare.Ge = record { true_paths = 1; false_paths = 1 }
+
+abbrev pub term_counts : Compare → TermPlan → Counts
+term_counts c (OfNum n) = record { true_paths = 1; false_paths = 1 }
+term_counts c (OfLine l) = compare_counts c
+
+-- The right side counts on each path where the left one doesn't decide.
+abbrev pub and_counts : Counts → Counts → Counts
+and_counts l r = record {
+  true_paths = times l.true_paths r.true_paths;
+  false_paths = plus l.false_paths (times l.true_paths r.false_paths);
+}
+
+abbrev pub or_counts : Counts → Counts → Counts
+or_counts l r = record {
+  true_paths = plus l.true_paths (times l.false_paths r.true_paths);
+  false_paths = times l.false_paths r.false_paths;
+}
+
+abbrev pub counts : CondPlan → Counts
+counts (Compared c t n) = term_counts c t
+counts (Words v w) = record { true_paths = 1; false_paths = 1 }
+counts (CellIs c l) = record { true_paths = 1; false_paths = 1 }
+counts (LabelIs l m) = record { true_paths = 1; false_paths = 1 }
+counts (Test t c es) = record { true_paths = 1; false_paths = 1 }
+counts (Not c) = record { true_paths = (counts c).false_paths; false_paths = (counts c).true_paths }
+counts (And c d) = and_counts (counts c) (counts d)
+counts (Or c d) = or_counts (counts c) (counts d)
+
+-- How many paths statements make of one that goes on: those that go on, and those that end.
+pub record Ways : Type 0 where
+  pub going : ℕ
+  pub ended : ℕ
+
+-- A fixed condition takes the same side at each state.
+abbrev pub if_ways : CondPlan → Ways → Ways → Ways
+if_ways c a b =
+    if is_fixed c
+    then record { going = max a.going b.going; ended = max a.ended b.ended }
+    else record {
+      going = plus (times (counts c).true_paths a.going) (times (counts c).false_paths b.going);
+      ended = plus (times (counts c).true_paths a.ended) (times (counts c).false_paths b.ended);
+    }
+
+abbrev mutual
+  pub do_ways : DoPlan → Ways
+  do_ways (Let n e) = record { going = 1; ended = 0 }
+  do_ways (SetInt c t) = record { going = 1; ended = 2 }
+  do_ways (SetEnum c l) = record { going = 1; ended = 0 }
+  do_ways (CopyEnum c d) = record { going = 1; ended = 0 }
+  do_ways (Keep c es) = record { going = 1; ended = 0 }
+  do_ways (KeepFrom c d) = record { going = 1; ended = 0 }
+  do_ways (PushNum c t) = record { going = 1; ended = 2 }
+  do_ways (PushWord c w) = record { going = 1; ended = 0 }
+  do_ways (If c a b) = if_ways c (dos_ways a) (dos_ways b)
+
+  pub dos_ways : DosPlan → Ways
+  dos_ways End = record { going = 1; ended = 0 }
+  dos_ways (Then d rest) = record {
+    going = times (do_ways d).going (dos_ways rest).going;
+    ended = plus (do_ways d).ended (times (do_ways d).going (dos_ways rest).ended);
+  }
+
+-- The path bound of an update.
+abbrev pub path_bound : DosPlan → ℕ
+path_bound update = plus (dos_ways update).going (dos_ways update).ended

@@ -1,0 +1,49 @@
+//! The first broken rule of a script.
+ghost use Rattle.std.specs.Prelude.{◌≡◌};
+ghost use Rattle.sym_check.specs.declared.elaborate.error.RuleErr.TheVariants as rule_err;
+
+use std::alloc::AllocError;
+use sym_base::NoMemory;
+use thiserror::Error;
+
+/// Why a script isn't accepted: the first broken rule, with the place of its first byte.
+#[derive(Clone, Copy, Debug, PartialEq, Eq, Error)]
+pub enum RuleErr {
+    /// A name that is used isn't visible there.
+    #[error("Name")]
+    Name { at: u32 },
+    /// A name is taken.
+    #[error("Twice")]
+    Twice { at: u32 },
+    /// Something is of a wrong kind.
+    #[error("Kind")]
+    Kind { at: u32 },
+    /// A range, or the number of a part.
+    #[error("Range")]
+    Range { at: u32 },
+    /// An operator over integer cells that gives no line.
+    #[error("NotLinear")]
+    NotLinear { at: u32 },
+    /// No rule is broken but the last: the path bound, or 1,000,000 where it is more.
+    #[error("Branchy")]
+    Branchy { paths: u32 },
+    /// An allocation was refused.
+    #[error("NoMemory")]
+    NoMemory,
+}
+
+impl From<NoMemory> for RuleErr {
+    ghost from_gives = { λ _ e. e ≡ rule_err.NoMemory };
+
+    fn from(_refused: NoMemory) -> RuleErr {
+        RuleErr::NoMemory
+    }
+}
+
+impl From<AllocError> for RuleErr {
+    ghost from_gives = { λ _ e. e ≡ rule_err.NoMemory };
+
+    fn from(_refused: AllocError) -> RuleErr {
+        RuleErr::NoMemory
+    }
+}

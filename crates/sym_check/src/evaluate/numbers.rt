@@ -1,0 +1,97 @@
+//! Numbers of fixed expressions, and the pairs of lines.
+ghost use Rattle.std.specs.Prelude.{◌≡◌, neg_ℤ, ◌+ℤ◌, ◌*ℤ◌};
+ghost use Rattle.sym_check.specs.Arithmetic.{within};
+ghost use Rattle.sym_check.specs.FixedPlans.{num_plan};
+ghost use Rattle.sym_check.specs.FixedValues.{number};
+ghost use Rattle.sym_check.specs.KnownValues.{known_values};
+ghost use Rattle.sym_check.specs.LinePlans.{line_plan};
+ghost use Rattle.sym_check.specs.LineValues.{pair, pair_within};
+
+use crate::evaluate::arithmetic::{Arith, calculated, negative, product, sum, within};
+use crate::evaluate::known::Known;
+use crate::evaluate::pairs::Pair;
+use crate::plan::expression::{Line, Num};
+
+/// The number of a fixed expression.
+pub(crate) fn number_of(known: &Known, expression: &Num) -> Result<i64, Arith>
+    ensures { result ≡ number (known_values known.now) (num_plan expression.now) }
+{
+    match expression {
+        Num::Lit(number) => Ok(*number),
+        Num::Field(field) => Ok(known.field_number(*field)),
+        Num::Local(local) => Ok(known.local_number(*local)),
+        Num::Param(param) => Ok(known.param_number(*param)),
+        Num::Neg(operand) => {
+            let operand = number_of(known, operand)?;
+            within(negative(operand))
+        }
+        Num::Bin(operator, left, right) => {
+            let left = number_of(known, left)?;
+            let right = number_of(known, right)?;
+            calculated(*operator, left, right)
+        }
+    }
+}
+
+fn negated(pair: &Pair) -> Result<Pair, Arith>
+    ensures { result ≡ pair_within pair.now.cell (neg_ℤ pair.now.a) (neg_ℤ pair.now.b) }
+{
+    let a = within(negative(pair.a))?;
+    let b = within(negative(pair.b))?;
+    Ok(Pair {
+        cell: pair.cell,
+        a,
+        b,
+    })
+}
+
+fn raised(pair: &Pair, by: i64) -> Result<Pair, Arith>
+    ensures { result ≡ pair_within pair.now.cell pair.now.a (pair.now.b +ℤ by) }
+{
+    let a = within(pair.a as i128)?;
+    let b = within(sum(pair.b, by))?;
+    Ok(Pair {
+        cell: pair.cell,
+        a,
+        b,
+    })
+}
+
+fn scaled(pair: &Pair, by: i64) -> Result<Pair, Arith>
+    ensures { result ≡ pair_within pair.now.cell (by *ℤ pair.now.a) (by *ℤ pair.now.b) }
+{
+    let a = within(product(by, pair.a))?;
+    let b = within(product(by, pair.b))?;
+    Ok(Pair {
+        cell: pair.cell,
+        a,
+        b,
+    })
+}
+
+/// The pair of a line.
+pub(crate) fn pair_of(known: &Known, line: &Line) -> Result<Pair, Arith>
+    ensures { result ≡ pair (known_values known.now) (line_plan line.now) }
+{
+    match line {
+        Line::Cell(cell) => Ok(Pair {
+            cell: *cell,
+            a: 1,
+            b: 0,
+        }),
+        Line::Neg(line) => {
+            let pair = pair_of(known, line)?;
+            negated(&pair)
+        }
+        Line::Add(line, number) => {
+            let by = number_of(known, number)?;
+            let pair = pair_of(known, line)?;
+            raised(&pair, by)
+        }
+        Line::Scale(number, line) => {
+            let by = number_of(known, number)?;
+            let pair = pair_of(known, line)?;
+            scaled(&pair, by)
+        }
+    }
+}

@@ -1,0 +1,154 @@
+//! Values at the ends of the range of numbers and at zero divisors.
+ghost use Rattle.std.specs.Prelude.{IfOk, IsTrue};
+ghost use Rattle.sym_check.specs.Conditions.{has_fixed_body};
+ghost use Rattle.sym_check.specs.ScriptPlans.{test_plan};
+
+use crate::evaluate::arithmetic::{Arith, calculated};
+use crate::evaluate::fixed_value::{FixedValue, value_of};
+use crate::evaluate::known::Known;
+use crate::evaluate::numbers::{number_of, pair_of};
+use crate::evaluate::pairs::Pair;
+use crate::evaluate::truth::answer_of;
+use crate::plan::condition::Cond;
+use crate::plan::expression::{ArithOp, Fixed, LabelOf, Line, Num, Term, WordOf};
+use crate::plan::script::{KindPlan, KindPlans, TestPlan};
+use std::alloc::Global;
+use std::test::Fail;
+use sym_base::{Compare, NUM_MAX, NoMemory, Text, Value};
+
+#[test]
+fn arithmetic_fails_past_the_ends_and_by_zero(rt: HostRuntime) -> Result<(), Fail> {
+    let rows = [
+        (ArithOp::Add, NUM_MAX, 0, Ok(NUM_MAX)),
+        (ArithOp::Add, NUM_MAX, 1, Err(Arith)),
+        (ArithOp::Add, -NUM_MAX, -1, Err(Arith)),
+        (ArithOp::Sub, -NUM_MAX, 0, Ok(-NUM_MAX)),
+        (ArithOp::Sub, -NUM_MAX, 1, Err(Arith)),
+        (ArithOp::Sub, NUM_MAX, -1, Err(Arith)),
+        (ArithOp::Mul, 1_000_000, 1_000_000, Ok(NUM_MAX)),
+        (ArithOp::Mul, 1_000_000, -1_000_000, Ok(-NUM_MAX)),
+        (ArithOp::Mul, 1_000_001, 1_000_000, Err(Arith)),
+        (ArithOp::Mul, NUM_MAX, NUM_MAX, Err(Arith)),
+        (ArithOp::Mul, NUM_MAX, -NUM_MAX, Err(Arith)),
+        (ArithOp::Div, -7, 2, Ok(-3)),
+        (ArithOp::Div, 7, -2, Ok(-3)),
+        (ArithOp::Div, -NUM_MAX, -1, Ok(NUM_MAX)),
+        (ArithOp::Div, 1, 0, Err(Arith)),
+        (ArithOp::Div, -1, 0, Err(Arith)),
+        (ArithOp::Div, 0, 0, Err(Arith)),
+        (ArithOp::Rem, -7, 2, Ok(-1)),
+        (ArithOp::Rem, 7, -2, Ok(1)),
+        (ArithOp::Rem, -NUM_MAX, -1, Ok(0)),
+        (ArithOp::Rem, 1, 0, Err(Arith)),
+        (ArithOp::Rem, -1, 0, Err(Arith)),
+    ];
+    for (operator, x, y, wanted) in rows {
+        assert_eq!(rt; calculated(operator, x, y), wanted);
+    }
+    Ok(())
+}
+
+fn known<'a>(fields: &'a [Value], locals: &'a [Value]) -> Known<'a> {
+    Known {
+        fields,
+        locals,
+        parts: &[],
+        args: &[],
+    }
+}
+
+fn bin(alloc: Global, operator: ArithOp, left: Num, right: Num) -> Result<Num, NoMemory> {
+    let left = Box::new(alloc, left)?;
+    Ok(Num::Bin(operator, left, Box::new(alloc, right)?))
+}
+
+#[test]
+fn fixed_expressions_have_values(rt: HostRuntime) -> Result<(), Fail> {
+    let alloc = rt.alloc();
+    let fields = [Value::Num(7), Value::Word(Text::from_str(alloc, "ann")?)];
+    let locals = [Value::Label(3)];
+    let known = known(&fields, &locals);
+    let operand = bin(alloc, ArithOp::Sub, Num::Field(0), Num::Lit(9))?;
+    let number = Num::Neg(Box::new(alloc, operand)?);
+    assert_eq!(rt; number_of(&known, &number), Ok(2));
+    let word = value_of(alloc, &known, &Fixed::Word(WordOf::Field(1)))?;
+    let ann = FixedValue::Is(Value::Word(Text::from_str(alloc, "ann")?));
+    assert!(rt; word == ann);
+    let label = value_of(alloc, &known, &Fixed::Label(LabelOf::Local(0)))?;
+    assert!(rt; label == FixedValue::Is(Value::Label(3)));
+    let broken = bin(alloc, ArithOp::Rem, Num::Lit(1), Num::Lit(0))?;
+    assert!(rt; value_of(alloc, &known, &Fixed::Num(broken))? == FixedValue::Arith);
+    Ok(())
+}
+
+// -(cell 4) * field 0 + 10
+fn falling(alloc: Global) -> Result<Line, NoMemory> {
+    let negated = Line::Neg(Box::new(alloc, Line::Cell(4))?);
+    let scaled = Line::Scale(Num::Field(0), Box::new(alloc, negated)?);
+    Ok(Line::Add(Box::new(alloc, scaled)?, Num::Lit(10)))
+}
+
+#[test]
+fn lines_have_pairs(rt: HostRuntime) -> Result<(), Fail> {
+    let line = falling(rt.alloc())?;
+    let rows = [
+        (
+            3,
+            Ok(Pair {
+                cell: 4,
+                a: -3,
+                b: 10,
+            }),
+        ),
+        (
+            0,
+            Ok(Pair {
+                cell: 4,
+                a: 0,
+                b: 10,
+            }),
+        ),
+        (
+            NUM_MAX,
+            Ok(Pair {
+                cell: 4,
+                a: -NUM_MAX,
+                b: 10,
+            }),
+        ),
+        (NUM_MAX + 1, Err(Arith)),
+    ];
+    for (by, wanted) in rows {
+        let fields = [Value::Num(by)];
+        assert_eq!(rt; pair_of(&known(&fields, &[]), &line), wanted);
+    }
+    Ok(())
+}
+
+// Whether the second parameter is more than 30 past the first.
+fn gap(alloc: Global) -> Result<TestPlan, NoMemory>
+    ensures { IfOk result (λ t. IsTrue (has_fixed_body (test_plan t))) }
+{
+    let mut params = KindPlans::new(alloc);
+    params.push(KindPlan::Num)?;
+    params.push(KindPlan::Num)?;
+    let past = bin(alloc, ArithOp::Sub, Num::Param(1), Num::Param(0))?;
+    let body = Cond::Compare(Compare::Gt, Term::Fixed(past), Num::Lit(30));
+    Ok(TestPlan { params, body })
+}
+
+#[test]
+fn tests_answer_by_their_bodies(rt: HostRuntime) -> Result<(), Fail> {
+    let rows = [
+        (0, 30, false),
+        (0, 31, true),
+        (-NUM_MAX, 0, true),
+        (-NUM_MAX, 1, false),
+    ];
+    for (last, now, wanted) in rows {
+        let gap = gap(rt.alloc())?;
+        let (parts, args) = ([Value::Num(last)], [Value::Num(now)]);
+        assert_eq!(rt; answer_of(&gap, &parts, &args), wanted);
+    }
+    Ok(())
+}

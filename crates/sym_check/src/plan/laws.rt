@@ -1,0 +1,43 @@
+//! Laws of the definitions on plans.
+ghost use Rattle.std.specs.Prelude.{◌≡◌, ◌++◌, ◌∷◌, [], List, IsTrue};
+ghost use Rattle.std.specs.List.{list_all};
+ghost use Rattle.sym_base.specs.declared.values.record.Record.{Record as OneRecord};
+ghost use Rattle.sym_base.specs.declared.values.state.Outcome.{Outcome as OneOutcome};
+ghost use Rattle.sym_base.specs.declared.values.state.State.{State as OneState};
+ghost use Rattle.sym_check.specs.ScriptPlans.{ScriptPlan};
+ghost use Rattle.sym_check.specs.Conditions.{has_fixed_body};
+ghost use Rattle.sym_check.specs.Fitting.{FitsState, FitsOutcome};
+ghost use Rattle.sym_check.specs.Groups.{key_of};
+ghost use Rattle.sym_check.specs.Updates.{initial, step, after};
+ghost use Rattle.sym_check.specs.Validity.{IsRecord, IsKey, IsValid, IsValidOutcome};
+ghost use Rattle.sym_check.specs.WellFormed.{IsWellFormed};
+
+/// One record more is one step more, and more records go on from where the first ones ended.
+pub fn records_run_on()
+    ensures one { (p : ScriptPlan) (records : List OneRecord) (rec : OneRecord) (o : OneOutcome) →
+        after p (records ++ rec ∷ []) o ≡ step p (after p records o) rec }
+    ensures more { (p : ScriptPlan) (first rest : List OneRecord) (o : OneOutcome) →
+        after p (first ++ rest) o ≡ after p rest (after p first o) }
+{}
+
+/// A group begins with a valid state, and no record leads to one that isn't.
+pub fn well_formed_plans_keep_states_valid()
+    ensures first { (p : ScriptPlan) → IsWellFormed p → IsValid p (initial p) }
+    ensures then { (p : ScriptPlan) (o : OneOutcome) (rec : OneRecord) →
+        IsWellFormed p → IsRecord p rec → IsValidOutcome p o → IsValidOutcome p (step p o rec) }
+{}
+
+/// A record's key is of the script's kind, a valid state fits the script, and so does what a step
+/// leads to: a fault by a number names a cell that has a range.
+pub fn keys_states_and_steps_fit()
+    ensures key { (p : ScriptPlan) (rec : OneRecord) → IsRecord p rec → IsKey p (key_of p rec) }
+    ensures state { (p : ScriptPlan) (s : OneState) → IsValid p s → FitsState p s }
+    ensures then { (p : ScriptPlan) (o : OneOutcome) (rec : OneRecord) →
+        IsWellFormed p → IsValidOutcome p (step p o rec) → FitsOutcome p o →
+        FitsOutcome p (step p o rec) }
+{}
+
+/// The bodies of tests name no cell and call no test.
+pub fn well_formed_tests_are_fixed()
+    ensures { (p : ScriptPlan) → IsWellFormed p → IsTrue (list_all has_fixed_body p.tests) }
+{}
