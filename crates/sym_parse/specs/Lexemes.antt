@@ -1,0 +1,56 @@
+-- Tokens as the grammar sees them: what a token is, a name with its text, and its place.
+use Rattle.std.specs.Prelude.{◌≡◌, ℕ, ℤ, ◌-◌, List, map, take, drop}
+use Rattle.sym_base.specs.declared.tree.name.Name.{Name as NameRecord}
+use Rattle.sym_lex.specs.declared.token.Token.{Token}
+use Rattle.sym_lex.specs.declared.token.TokenKind.{TokenKind}
+use Rattle.sym_lex.specs.declared.token.TokenKind.TheVariants as kind
+use Rattle.sym_lex.specs.declared.keyword.Keyword.{Keyword}
+use Rattle.sym_lex.specs.declared.symbol.Symbol.{Symbol}
+
+-- What a token is. A name has its bytes, a text those between its quotes, with no escapes left.
+pub data Terminal : Type 0 where
+  Name : List ℕ → Terminal
+  Number : ℤ → Terminal
+  Str : List ℕ → Terminal
+  Word : Keyword → Terminal
+  Sign : Symbol → Terminal
+
+-- A token where it stands; its place counts bytes from 0.
+pub record Lexeme : Type 0 where
+  pub terminal : Terminal
+  pub at : ℕ
+
+-- The bytes of a token.
+abbrev pub token_text : List ℕ → Token → List ℕ
+token_text source token = take (token.end - token.at) (drop token.at source)
+
+abbrev pub terminal_of : List ℕ → TokenKind → Terminal
+terminal_of name kind.Name = Name name
+terminal_of name (kind.Number n) = Number n
+terminal_of name (kind.Str text) = Str text
+terminal_of name (kind.Word k) = Word k
+terminal_of name (kind.Sign s) = Sign s
+
+abbrev pub lexeme_of : List ℕ → Token → Lexeme
+lexeme_of source token = record { terminal = terminal_of (token_text source token) token.kind; at = token.at }
+
+abbrev pub lexemes_of : List ℕ → List Token → List Lexeme
+lexemes_of source tokens = map (lexeme_of source) tokens
+
+-- The lexeme is this keyword, this symbol, this name, this number or this text.
+abbrev pub IsWord : Keyword → Lexeme → Type 0
+IsWord k l = l.terminal ≡ Word k
+
+abbrev pub IsSign : Symbol → Lexeme → Type 0
+IsSign s l = l.terminal ≡ Sign s
+
+abbrev pub IsNumber : ℤ → Lexeme → Type 0
+IsNumber n l = l.terminal ≡ Number n
+
+abbrev pub IsText : List ℕ → Lexeme → Type 0
+IsText text l = l.terminal ≡ Str text
+
+-- A name in the tree has the text and the place of its lexeme.
+pub record IsName (name : NameRecord) (l : Lexeme) : Type 0 where
+  pub text : l.terminal ≡ Name name.text
+  pub place : l.at ≡ name.at
