@@ -1,5 +1,7 @@
 -- Tokens as the grammar sees them: what a token is, a name with its text, and its place.
-use Rattle.std.specs.Prelude.{◌≡◌, ℕ, ℤ, ◌-◌, List, map, take, drop}
+use Rattle.std.specs.Prelude.{◌≡◌, ℕ, ℤ, pos, ◌-◌, Bool, true, ◌&&◌, nat_lt, nat_le, int_le, List, length, map, take, drop}
+use Rattle.std.specs.List.{list_all}
+use Rattle.sym_base.specs.Numbers.{num_max}
 use Rattle.sym_base.specs.declared.tree.name.Name.{Name as NameRecord}
 use Rattle.sym_lex.specs.declared.token.Token.{Token}
 use Rattle.sym_lex.specs.declared.token.TokenKind.{TokenKind}
@@ -54,3 +56,19 @@ IsText text l = l.terminal ≡ Str text
 pub record IsName (name : NameRecord) (l : Lexeme) : Type 0 where
   pub text : l.terminal ≡ Name name.text
   pub place : l.at ≡ name.at
+
+-- A name is ASCII, and a number is one of a script without a sign.
+abbrev pub is_sound_kind : List ℕ → TokenKind → Bool
+is_sound_kind name kind.Name = list_all (λ b. nat_lt b 128) name
+is_sound_kind name (kind.Number n) = int_le (pos 0) n && int_le n (pos num_max)
+is_sound_kind name (kind.Str text) = true
+is_sound_kind name (kind.Word k) = true
+is_sound_kind name (kind.Sign s) = true
+
+-- The token lies within the source, and its bytes suit its kind.
+abbrev pub is_sound : List ℕ → Token → Bool
+is_sound source token =
+    nat_le token.at token.end && nat_le token.end (length source) && is_sound_kind (token_text source token) token.kind
+
+abbrev pub are_sound : List ℕ → List Token → Bool
+are_sound source tokens = list_all (is_sound source) tokens

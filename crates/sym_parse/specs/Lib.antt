@@ -3,3 +3,4 @@ pub mod Limits
 pub mod Steps
 pub mod Syntax
 pub mod Parsing
+pub mod Views

@@ -2,6 +2,8 @@
 #![tactic(auto)]
 
 mod cursor;
+mod state;
+mod limits;
 pub mod error;
 mod stop;
 

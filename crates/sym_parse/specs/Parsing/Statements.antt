@@ -106,9 +106,9 @@ module _ (most : LimitKind → ℕ) (room : ℕ) (if_here : Parser StmtTree) whe
   unfoldable pub branches : Parser StmtTree
   branches = do
     e ← expression most room
-    yes ← block
-    no ← else_part
-    pure (If e yes no)
+    body ← block
+    rest ← else_part
+    pure (If e body rest)
 
 module _ (most : LimitKind → ℕ) where
   -- An `if` statement, with so many levels free. It opens one.

@@ -72,7 +72,7 @@ pub data IsHeader : List Lexeme → Option (List ℕ) → Type 0 where
 -- ["else" literal]
 pub data IsDefault : List Lexeme → Option Literal → Type 0 where
   none : IsDefault [] None
-  literal : {xs : List Lexeme} {v : Literal} (w : Lexeme) → IsWord keyword.Else w → IsLiteral xs v → IsDefault (w ∷ xs) (Some v)
+  given : {xs : List Lexeme} {v : Literal} (w : Lexeme) → IsWord keyword.Else w → IsLiteral xs v → IsDefault (w ∷ xs) (Some v)
 
 -- field = "field" NAME ["from" TEXT] ":" kind ["else" literal] ";"
 pub data IsField : List Lexeme → FieldDecl → Type 0 where

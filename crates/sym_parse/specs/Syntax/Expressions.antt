@@ -1,13 +1,15 @@
 -- Expressions. Operators of one line group to the left. What stands behind a token that opens a
 -- level (`(`, `not`, a unary `-`) stands one level deeper.
-use Rattle.std.specs.Prelude.{◌≡◌, ℕ, zero, suc, List, [], ◌∷◌, ◌++◌, Option, None, Some}
-use Rattle.sym_base.specs.declared.tree.name.Name.{Name}
+use Rattle.std.specs.Prelude.{◌≡◌, ℕ, zero, suc, ℤ, List, [], ◌∷◌, ◌++◌, Option, None, Some}
+use Rattle.sym_base.specs.declared.tree.name.Name.{Name as NameRecord}
 use Rattle.sym_base.specs.declared.tree.expression.BinOp.{BinOp}
 use Rattle.sym_base.specs.declared.tree.expression.BinOp.TheVariants as op
 use Rattle.sym_base.specs.Trees.{ExprTree, ExprsTree, Num, Words, Named, Call, Neg, Not, Bin, End, More}
+use Rattle.sym_lex.specs.declared.keyword.Keyword.{Keyword}
 use Rattle.sym_lex.specs.declared.keyword.Keyword.TheVariants as keyword
+use Rattle.sym_lex.specs.declared.symbol.Symbol.{Symbol}
 use Rattle.sym_lex.specs.declared.symbol.Symbol.TheVariants as symbol
-use Rattle.sym_parse.specs.Lexemes.{Terminal, Word, Sign, Lexeme, IsWord, IsSign, IsNumber, IsText, IsName}
+use Rattle.sym_parse.specs.Lexemes.{Terminal, Name, Number, Str, Word, Sign, Lexeme, IsWord, IsSign, IsNumber, IsText, IsName}
 
 -- The lines that may stand one level deeper: a whole expression in parentheses or in a call, what
 -- `not` denies, and what a unary `-` turns round.
@@ -16,39 +18,64 @@ pub data Line : Type 0 where
   Negation : Line
   Signed : Line
 
--- Which lexemes are which tree.
-abbrev pub Language : Type 0 → Type 1
-Language A = List Lexeme → A → Type 0
-
 -- The operators of each line.
+abbrev pub or_word : Keyword → Option BinOp
+or_word keyword.Or = Some op.Or
+or_word _ = None
+
+abbrev pub and_word : Keyword → Option BinOp
+and_word keyword.And = Some op.And
+and_word _ = None
+
+abbrev pub compare_word : Keyword → Option BinOp
+compare_word keyword.Is = Some op.Is
+compare_word _ = None
+
+abbrev pub compare_sign : Symbol → Option BinOp
+compare_sign symbol.Equal = Some op.Eq
+compare_sign symbol.NotEqual = Some op.Ne
+compare_sign symbol.Less = Some op.Lt
+compare_sign symbol.LessEqual = Some op.Le
+compare_sign symbol.Greater = Some op.Gt
+compare_sign symbol.GreaterEqual = Some op.Ge
+compare_sign _ = None
+
+abbrev pub sum_sign : Symbol → Option BinOp
+sum_sign symbol.Plus = Some op.Add
+sum_sign symbol.Minus = Some op.Sub
+sum_sign _ = None
+
+abbrev pub product_sign : Symbol → Option BinOp
+product_sign symbol.Star = Some op.Mul
+product_sign symbol.Slash = Some op.Div
+product_sign symbol.Percent = Some op.Rem
+product_sign _ = None
+
+abbrev pub no_op : {A : Type 0} → A → Option BinOp
+no_op _ = None
+
+-- The operator that a token is, by the words and the symbols of a line.
+abbrev pub op_by : (Keyword → Option BinOp) → (Symbol → Option BinOp) → Terminal → Option BinOp
+op_by words signs (Name text) = None
+op_by words signs (Number n) = None
+op_by words signs (Str text) = None
+op_by words signs (Word k) = words k
+op_by words signs (Sign s) = signs s
+
 abbrev pub or_op : Terminal → Option BinOp
-or_op (Word keyword.Or) = Some op.Or
-or_op _ = None
+or_op = op_by or_word no_op
 
 abbrev pub and_op : Terminal → Option BinOp
-and_op (Word keyword.And) = Some op.And
-and_op _ = None
+and_op = op_by and_word no_op
 
 abbrev pub compare_op : Terminal → Option BinOp
-compare_op (Sign symbol.Equal) = Some op.Eq
-compare_op (Sign symbol.NotEqual) = Some op.Ne
-compare_op (Sign symbol.Less) = Some op.Lt
-compare_op (Sign symbol.LessEqual) = Some op.Le
-compare_op (Sign symbol.Greater) = Some op.Gt
-compare_op (Sign symbol.GreaterEqual) = Some op.Ge
-compare_op (Word keyword.Is) = Some op.Is
-compare_op _ = None
+compare_op = op_by compare_word compare_sign
 
 abbrev pub sum_op : Terminal → Option BinOp
-sum_op (Sign symbol.Plus) = Some op.Add
-sum_op (Sign symbol.Minus) = Some op.Sub
-sum_op _ = None
+sum_op = op_by no_op sum_sign
 
 abbrev pub product_op : Terminal → Option BinOp
-product_op (Sign symbol.Star) = Some op.Mul
-product_op (Sign symbol.Slash) = Some op.Div
-product_op (Sign symbol.Percent) = Some op.Rem
-product_op _ = None
+product_op = op_by no_op product_sign
 
 -- item {operator item}
 pub data IsGrouped (ops : Terminal → Option BinOp) (Item : List Lexeme → ExprTree → Type 0) : List Lexeme → ExprTree → Type 0 where
@@ -67,10 +94,10 @@ pub data IsValues (Value : List Lexeme → ExprTree → Type 0) : List Lexeme �
 module _ (Deeper : Line → List Lexeme → ExprTree → Type 0) where
   -- primary = NUMBER | TEXT | NAME ["(" expr {"," expr} ")"] | "(" expr ")"
   pub data IsPrimary : List Lexeme → ExprTree → Type 0 where
-    number : {n : _} (l : Lexeme) → IsNumber n l → IsPrimary (l ∷ []) (Num n l.at)
+    number : {n : ℤ} (l : Lexeme) → IsNumber n l → IsPrimary (l ∷ []) (Num n l.at)
     text : {t : List ℕ} (l : Lexeme) → IsText t l → IsPrimary (l ∷ []) (Words t l.at)
-    name : {n : Name} (l : Lexeme) → IsName n l → IsPrimary (l ∷ []) (Named n)
-    call : {n : Name} {xs : List Lexeme} {es : ExprsTree} (l begin end : Lexeme) →
+    name : {n : NameRecord} (l : Lexeme) → IsName n l → IsPrimary (l ∷ []) (Named n)
+    call : {n : NameRecord} {xs : List Lexeme} {es : ExprsTree} (l begin end : Lexeme) →
         IsName n l → IsSign symbol.OpenParen begin → IsValues (Deeper Whole) xs es → IsSign symbol.CloseParen end →
         IsPrimary (l ∷ begin ∷ (xs ++ end ∷ [])) (Call n es)
     parens : {xs : List Lexeme} {e : ExprTree} (begin end : Lexeme) →
@@ -121,5 +148,5 @@ Within zero x ls e = ⊥
 Within (suc levels) x ls e = IsLine (Within levels) x ls e
 
 -- A whole expression in which at most so many levels are open at once.
-abbrev pub IsExprWithin : ℕ → List Lexeme → ExprTree → Type 0
-IsExprWithin levels = Within (suc levels) Whole
+pub record IsExprWithin (levels : ℕ) (ls : List Lexeme) (e : ExprTree) : Type 0 where
+  pub whole : Within (suc levels) Whole ls e
