@@ -4,3 +4,4 @@ pub mod Expressions
 pub mod Statements
 pub mod Declarations
 pub mod Scripts
+pub mod Levels

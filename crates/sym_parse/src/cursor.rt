@@ -1,9 +1,8 @@
 //! Steps of one token, which every line of the grammar is read by.
-ghost use Rattle.std.specs.Prelude.{◌≡◌, ◌<◌, ◌≤◌, ◌-◌, true, nat_lt, length, OnOk, OnSome, IfOk, IsTrue};
+ghost use Rattle.std.specs.Prelude.{◌≡◌, ◌<◌, ◌-◌, ◌≤ℤ◌, pos, true, nat_lt, length, option_copied, OnOk, OnSome, IfOk, IfSome};
 ghost use Rattle.std.specs.Bool.{OnTrue};
 ghost use Rattle.std.specs.List.{list_all};
-ghost use Rattle.sym_parse.specs.Limits.{most};
-ghost use Rattle.sym_parse.specs.Steps.{Input, Reads, sees_name, sees_number, sees_sign, sees_text, sees_word, sign_of, word_of};
+ghost use Rattle.sym_parse.specs.Steps.{Reads, name_of, number_of, sees_name, sees_number, sees_sign, sees_text, sees_word, sign_of, text_of, word_of};
 ghost use Rattle.sym_parse.specs.Steps as spec;
 ghost use Rattle.sym_parse.specs.Views.{input};
 
@@ -184,5 +183,197 @@ impl Cursor<'_> {
         ensures { result ≡ Stop.Limit (length (input self.now).rest) which }
     {
         Stop::Limit(self.rest.len(), which)
+    }
+
+    /// This keyword, which is taken.
+    #[tactic(auto, unfolding(crate::specs::Steps::word))]
+    pub fn word(&mut self, keyword: Keyword) -> Result<(), Stop>
+        ensures reads { Reads (λ _. tt) (spec.word keyword (input self.old)) result (input self.new) }
+        ensures shorter { OnOk result (length self.new.rest.now < length self.old.rest.now) }
+    {
+        if !self.is_word(keyword) {
+            return Err(self.refusal());
+        }
+        self.bump();
+        Ok(())
+    }
+
+    /// This symbol, which is taken.
+    #[tactic(auto, unfolding(crate::specs::Steps::sign))]
+    pub fn sign(&mut self, symbol: Symbol) -> Result<(), Stop>
+        ensures reads { Reads (λ _. tt) (spec.sign symbol (input self.old)) result (input self.new) }
+        ensures shorter { OnOk result (length self.new.rest.now < length self.old.rest.now) }
+    {
+        if !self.is_sign(symbol) {
+            return Err(self.refusal());
+        }
+        self.bump();
+        Ok(())
+    }
+
+    /// That no token is left.
+    #[tactic(auto, unfolding(crate::specs::Steps::done))]
+    pub fn done(&self) -> Result<(), Stop>
+        ensures { Reads (λ _. tt) (spec.done (input self.now)) result (input self.now) }
+    {
+        if !self.is_done() {
+            return Err(self.refusal());
+        }
+        Ok(())
+    }
+
+    /// The token that opens a level, of which `room` are free. It is taken.
+    #[tactic(auto, using(crate::proofs::Openings::openings))]
+    pub fn open(&mut self, room: usize) -> Result<(), Stop>
+        ensures reads { Reads (λ _. tt) (spec.opening room (input self.old)) result (input self.new) }
+        ensures left { OnOk result (length self.new.rest.now ≡ length self.old.rest.now - 1) }
+        ensures free { OnOk result (0 < room) }
+    {
+        if room == 0 {
+            return Err(self.full(LimitKind::Depth));
+        }
+        self.bump();
+        Ok(())
+    }
+
+    /// Counts the statement that the next token begins.
+    #[tactic(auto, unfolding(crate::specs::Steps::one_statement))]
+    pub fn count_statement(&mut self) -> Result<(), Stop>
+        ensures reads { Reads (λ _. tt) (spec.one_statement STATEMENTS (input self.old)) result (input self.new) }
+        ensures rest { self.new.rest.now ≡ self.old.rest.now }
+    {
+        if self.statements >= STATEMENTS {
+            return Err(self.full(LimitKind::Statements));
+        }
+        self.statements += 1;
+        Ok(())
+    }
+
+    /// Counts the operand that the next token is.
+    #[tactic(auto, unfolding(crate::specs::Steps::one_operand))]
+    pub fn count_operand(&mut self) -> Result<(), Stop>
+        ensures reads { Reads (λ _. tt) (spec.one_operand OPERANDS (input self.old)) result (input self.new) }
+        ensures rest { self.new.rest.now ≡ self.old.rest.now }
+    {
+        if self.operands >= OPERANDS {
+            return Err(self.full(LimitKind::Operands));
+        }
+        self.operands += 1;
+        Ok(())
+    }
+
+    /// Begins an expression, whose operands are counted from 0.
+    pub fn begin_expression(&mut self)
+        ensures input { input self.new ≡ record (input self.old) { operands = 0 } }
+        ensures rest { self.new.rest.now ≡ self.old.rest.now }
+    {
+        self.operands = 0;
+    }
+
+    /// A number without a sign, which is taken.
+    #[tactic(auto, unfolding(crate::specs::Steps::number))]
+    pub fn number(&mut self) -> Result<i64, Stop>
+        ensures reads { Reads (λ n. n) (spec.number (input self.old)) result (input self.new) }
+        ensures shorter { OnOk result (length self.new.rest.now < length self.old.rest.now) }
+        ensures unsigned { IfOk result (λ n. pos 0 ≤ℤ n) }
+    {
+        match self.numeral() {
+            Some(number) => {
+                self.bump();
+                Ok(number)
+            }
+            None => Err(self.refusal()),
+        }
+    }
+
+    /// A name, which is taken.
+    #[tactic(auto, unfolding(crate::specs::Steps::name))]
+    pub fn name(&mut self, alloc: Global) -> Result<Name, Stop>
+        ensures reads { Reads (λ n. n) (spec.name (input self.old)) result (input self.new) }
+        ensures shorter { OnOk result (length self.new.rest.now < length self.old.rest.now) }
+    {
+        match self.spelling() {
+            Some(spelling) => {
+                let text = Text::from_str(alloc, spelling)?;
+                let at = self.place();
+                self.bump();
+                Ok(Name { text, at })
+            }
+            None => Err(self.refusal()),
+        }
+    }
+
+    /// A text, which is taken.
+    #[tactic(auto, unfolding(crate::specs::Steps::text))]
+    pub fn text(&mut self, alloc: Global) -> Result<Text, Stop>
+        ensures reads { Reads (λ t. t) (spec.text (input self.old)) result (input self.new) }
+        ensures shorter { OnOk result (length self.new.rest.now < length self.old.rest.now) }
+    {
+        match self.quoted() {
+            Some(quoted) => {
+                let text = quoted.copy(alloc)?;
+                self.bump();
+                Ok(text)
+            }
+            None => Err(self.refusal()),
+        }
+    }
+}
+
+impl<'a> Cursor<'a> {
+    /// The next token's text, if it is a name.
+    #[tactic(auto, unfolding(crate::specs::Steps::next))]
+    fn spelling(&self) -> Option<&'a str>
+        ensures is { option_copied result ≡ name_of (spec.next (input self.now)) }
+        ensures some { OnSome result (0 < length self.now.rest.now) }
+    {
+        match self.rest {
+            [] => None,
+            [first, ..] => match &first.kind {
+                TokenKind::Name => Some(ascii(
+                    &self.source[first.at as usize..first.end as usize],
+                )),
+                TokenKind::Number(_)
+                | TokenKind::Str(_)
+                | TokenKind::Word(_)
+                | TokenKind::Sign(_) => None,
+            },
+        }
+    }
+
+    /// The next token's number, if it is one.
+    #[tactic(auto, unfolding(crate::specs::Steps::next))]
+    fn numeral(&self) -> Option<i64>
+        ensures is { result ≡ number_of (spec.next (input self.now)) }
+        ensures some { OnSome result (0 < length self.now.rest.now) }
+        ensures unsigned { IfSome result (λ n. pos 0 ≤ℤ n) }
+    {
+        match self.rest {
+            [] => None,
+            [first, ..] => match &first.kind {
+                TokenKind::Number(number) => Some(*number),
+                TokenKind::Name | TokenKind::Str(_) | TokenKind::Word(_) | TokenKind::Sign(_) => {
+                    None
+                }
+            },
+        }
+    }
+
+    /// The text that the next token is, if it is one.
+    #[tactic(auto, unfolding(crate::specs::Steps::next))]
+    fn quoted(&self) -> Option<&'a Text>
+        ensures is { option_copied result ≡ text_of (spec.next (input self.now)) }
+        ensures some { OnSome result (0 < length self.now.rest.now) }
+    {
+        match self.rest {
+            [] => None,
+            [first, ..] => match &first.kind {
+                TokenKind::Str(text) => Some(text),
+                TokenKind::Name
+                | TokenKind::Number(_)
+                | TokenKind::Word(_)
+                | TokenKind::Sign(_) => None,
+            },
+        }
     }
 }

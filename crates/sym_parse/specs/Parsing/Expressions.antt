@@ -38,15 +38,19 @@ module _ (ops : Terminal → Option BinOp) (item : Parser ExprTree) where
 
 -- expression {"," expression}
 module _ (item : Parser ExprTree) where
+  -- Each turn takes a token, so the number of tokens bounds the turns.
+  abbrev pub further : Parser ExprsTree → Parser ExprsTree
+  further more = choose (sees_sign symbol.Comma) (bump >> more) (pure End)
+
   abbrev pub values_turn : Parser ExprsTree → Parser ExprsTree
-  values_turn more = choose (sees_sign symbol.Comma) (bump >> more) (pure End)
+  values_turn more = do
+    first ← item
+    rest ← further more
+    pure (More first rest)
 
   unfoldable pub values_from : ℕ → Parser ExprsTree
-  values_from zero = pure End
-  values_from (suc n) = do
-    first ← item
-    rest ← values_turn (values_from n)
-    pure (More first rest)
+  values_from zero = refuse
+  values_from (suc n) = values_turn (values_from n)
 
   unfoldable pub values : Parser ExprsTree
   values = λ i. values_from (suc (length i.rest)) i
@@ -54,25 +58,62 @@ module _ (item : Parser ExprTree) where
 -- With these numbers, so many levels free, and what the lines mean one level deeper.
 module _ (most : LimitKind → ℕ) (room : ℕ) (deeper : Line → Parser ExprTree) where
   -- NAME ["(" expr {"," expr} ")"], behind the name
+  unfoldable pub call : Name → Parser ExprTree
+  call n = do
+    opening room
+    es ← values (deeper Whole)
+    sign symbol.CloseParen
+    pure (Call n es)
+
   unfoldable pub call_or_name : Name → Parser ExprTree
-  call_or_name n = choose (sees_sign symbol.OpenParen)
-      (do opening room; es ← values (deeper Whole); sign symbol.CloseParen; pure (Call n es))
-      (pure (Named n))
+  call_or_name n = choose (sees_sign symbol.OpenParen) (call n) (pure (Named n))
+
+  unfoldable pub number_leaf : Parser ExprTree
+  number_leaf = do
+    one_operand (most limit.Operands)
+    at ← here
+    n ← number
+    pure (Num n at)
+
+  unfoldable pub text_leaf : Parser ExprTree
+  text_leaf = do
+    one_operand (most limit.Operands)
+    at ← here
+    t ← text
+    pure (Words t at)
+
+  unfoldable pub named : Parser ExprTree
+  named = do
+    one_operand (most limit.Operands)
+    n ← name
+    call_or_name n
+
+  unfoldable pub parens : Parser ExprTree
+  parens = do
+    opening room
+    e ← deeper Whole
+    sign symbol.CloseParen
+    pure e
 
   -- primary = NUMBER | TEXT | NAME ["(" expr {"," expr} ")"] | "(" expr ")"
   unfoldable pub primary : Parser ExprTree
   primary =
-      choose sees_number (do one_operand (most limit.Operands); at ← here; n ← number; pure (Num n at))
-      (choose sees_text (do one_operand (most limit.Operands); at ← here; t ← text; pure (Words t at))
-      (choose sees_name (do one_operand (most limit.Operands); n ← name; call_or_name n)
-      (choose (sees_sign symbol.OpenParen) (do opening room; e ← deeper Whole; sign symbol.CloseParen; pure e)
+      choose sees_number number_leaf
+      (choose sees_text text_leaf
+      (choose sees_name named
+      (choose (sees_sign symbol.OpenParen) parens
       refuse)))
+
+  unfoldable pub negated : Parser ExprTree
+  negated = do
+    at ← here
+    opening room
+    e ← deeper Signed
+    pure (Neg e at)
 
   -- unary = "-" unary | primary
   unfoldable pub unary : Parser ExprTree
-  unary = choose (sees_sign symbol.Minus)
-      (do at ← here; opening room; e ← deeper Signed; pure (Neg e at))
-      primary
+  unary = choose (sees_sign symbol.Minus) negated primary
 
   -- prod = unary {("*" | "/" | "%") unary}
   unfoldable pub product : Parser ExprTree
@@ -96,11 +137,16 @@ module _ (most : LimitKind → ℕ) (room : ℕ) (deeper : Line → Parser ExprT
     left ← sum
     (λ i. relation_turn left (op_in compare_op (next i)) i)
 
+  unfoldable pub denied : Parser ExprTree
+  denied = do
+    at ← here
+    opening room
+    e ← deeper Negation
+    pure (Not e at)
+
   -- neg = "not" neg | rel
   unfoldable pub negation : Parser ExprTree
-  negation = choose (sees_word keyword.Not)
-      (do at ← here; opening room; e ← deeper Negation; pure (Not e at))
-      relation
+  negation = choose (sees_word keyword.Not) denied relation
 
   -- conj = neg {"and" neg}
   unfoldable pub conjunction : Parser ExprTree
