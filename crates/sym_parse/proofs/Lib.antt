@@ -3,3 +3,8 @@ pub mod Openings
 pub mod Marks
 pub mod Turns
 pub mod Chains
+pub mod Statements
+pub mod Lists
+pub mod Taking
+pub mod ExpressionsFound
+pub mod StatementsFound

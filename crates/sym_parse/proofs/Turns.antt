@@ -10,7 +10,7 @@ use Rattle.sym_parse.specs.Syntax.Expressions.{Line, Whole, Negation, Signed}
 use Rattle.sym_parse.specs.Parsing.Expressions.{lines, expr, negation, unary, values_from, values_turn, chain, conjunction, sum, product}
 use Rattle.sym_parse.specs.Parsing.Levels.{op_at, item_at, chain_at}
 
-some : {X : Type 0} (f : ℕ → X) (n : ℕ) → 0 < n → f n ≡ f (suc (n - 1))
+pub some : {X : Type 0} (f : ℕ → X) (n : ℕ) → 0 < n → f n ≡ f (suc (n - 1))
 some f n h = let e : n ≡ suc (n - 1) = omega arith in ap f e
 
 pub deeper_whole : (room : ℕ) (i : Input) → 0 < room → lines most room Whole i ≡ expr most (room - 1) (lines most (room - 1)) i

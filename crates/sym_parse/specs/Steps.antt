@@ -20,13 +20,13 @@ pub record Input : Type 0 where
   pub statements : ℕ
   pub operands : ℕ
 
-abbrev pub Outcome : Type 0 → Type 0
-Outcome A = Result (A × Input) Stop
+abbrev pub Parsed : Type 0 → Type 0
+Parsed A = Result (A × Input) Stop
 
 abbrev pub Parser : Type 0 → Type 0
-Parser A = Input → Outcome A
+Parser A = Input → Parsed A
 
-abbrev pub and_then : {A B : Type 0} → Outcome A → (A → Parser B) → Outcome B
+abbrev pub and_then : {A B : Type 0} → Parsed A → (A → Parser B) → Parsed B
 and_then (Ok p) f = f p.0 p.1
 and_then (Err stop) f = Err stop
 
@@ -59,9 +59,9 @@ abbrev pub next_of : List Lexeme → Option Terminal
 next_of [] = None
 next_of (l ∷ rest) = Some l.terminal
 
-abbrev pub behind_first : List Lexeme → List Lexeme
-behind_first [] = []
-behind_first (l ∷ rest) = rest
+abbrev pub after_first : List Lexeme → List Lexeme
+after_first [] = []
+after_first (l ∷ rest) = rest
 
 abbrev pub place_of : List Lexeme → ℕ
 place_of [] = 0
@@ -79,7 +79,7 @@ here = λ i. Ok (place i, i)
 
 -- Past the next token.
 unfoldable pub passed : Input → Input
-passed i = record i { rest = behind_first i.rest }
+passed i = record i { rest = after_first i.rest }
 
 abbrev pub bump : Parser (Unit {0})
 bump = λ i. Ok (tt, passed i)
@@ -205,6 +205,13 @@ one_operand most = λ i.
     if nat_lt i.operands most then Ok (tt, record i { operands = i.operands + 1 })
     else Err (Limit (length i.rest) limit.Operands)
 
+-- One more of a kind may stand next, where fewer than the most were found. The test says whether the
+-- next token begins one.
+unfoldable pub one_more : ℕ → ℕ → LimitKind → Bool → Parser (Unit {0})
+one_more found most which begins = λ i.
+    if nat_lt found most then Ok (tt, i)
+    else (if begins then Err (Limit (length i.rest) which) else Err (Expected (length i.rest)))
+
 -- ---- lists
 
 module _ {A : Type 0} (which : LimitKind) (begins : Input → Bool) (item : Parser A) where
@@ -220,6 +227,6 @@ module _ {A : Type 0} (which : LimitKind) (begins : Input → Bool) (item : Pars
 
 -- ---- what a function that parses ensures: the parser's outcome, unless an allocation was refused
 
-abbrev pub Reads : {A B : Type 0} → (A → B) → Outcome B → Result A Stop → Input → Type 0
-Reads view outcome (Ok a) new = outcome ≡ Ok (view a, new)
-Reads view outcome (Err stop) new = stop ≢ NoMemory → outcome ≡ Err stop
+abbrev pub Parses : {A B : Type 0} → (A → B) → Parsed B → Result A Stop → Input → Type 0
+Parses view outcome (Ok a) new = outcome ≡ Ok (view a, new)
+Parses view outcome (Err stop) new = stop ≢ NoMemory → outcome ≡ Err stop

@@ -20,14 +20,14 @@ pub fn binary(
 }
 
 /// A unary `-` before its operand.
-pub fn negated(alloc: Global, operand: Expr, at: u32) -> Result<Expr, AllocError>
+pub fn minus_of(alloc: Global, operand: Expr, at: u32) -> Result<Expr, AllocError>
     ensures { IfOk result (λ e. expr_tree e ≡ Neg (expr_tree operand) at) }
 {
     Ok(Expr::Neg(Box::new(alloc, operand)?, at))
 }
 
 /// A `not` before its operand.
-pub fn denied(alloc: Global, operand: Expr, at: u32) -> Result<Expr, AllocError>
+pub fn not_of(alloc: Global, operand: Expr, at: u32) -> Result<Expr, AllocError>
     ensures { IfOk result (λ e. expr_tree e ≡ Not (expr_tree operand) at) }
 {
     Ok(Expr::Not(Box::new(alloc, operand)?, at))

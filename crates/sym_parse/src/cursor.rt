@@ -1,23 +1,22 @@
 //! Steps of one token, which every line of the grammar is read by.
-ghost use Rattle.std.specs.Prelude.{◌≡◌, ◌<◌, ◌-◌, ◌≤ℤ◌, pos, true, nat_lt, length, option_copied, OnOk, OnSome, IfOk, IfSome};
+ghost use Rattle.std.specs.Prelude.{◌≡◌, ◌<◌, ◌-◌, ◌≤ℤ◌, pos, true, length, option_copied, OnOk, OnSome, IfOk, IfSome};
 ghost use Rattle.std.specs.Bool.{OnTrue};
-ghost use Rattle.std.specs.List.{list_all};
-ghost use Rattle.sym_parse.specs.Steps.{Reads, name_of, number_of, sees_name, sees_number, sees_sign, sees_text, sees_word, sign_of, text_of, word_of};
+ghost use Rattle.sym_base.specs.Names.{is_name};
+ghost use Rattle.sym_parse.specs.Steps.{Parses, name_of, number_of, sees_name, sees_number, sees_sign, sees_text, sees_word, sign_of, text_of, word_of};
 ghost use Rattle.sym_parse.specs.Steps as spec;
 ghost use Rattle.sym_parse.specs.Views.{input};
 
 use crate::error::LimitKind;
-use crate::limits::{OPERANDS, STATEMENTS};
 use crate::state::Cursor;
 use crate::stop::Stop;
 use std::alloc::Global;
 use std::str;
-use sym_base::{Name, Text};
+use sym_base::{Name, OPERANDS_MAX, STATEMENTS_MAX, Text};
 use sym_lex::{Keyword, Symbol, TokenKind};
 
-/// The text of bytes that are ASCII.
-fn ascii(bytes: &[u8]) -> &str
-    requires { list_all (λ b. nat_lt b 128) bytes.now ≡ true }
+/// The text of a name's bytes.
+fn name_text(bytes: &[u8]) -> &str
+    requires { is_name bytes.now ≡ true }
     ensures { result.now ≡ bytes.now }
 {
     match str::from_utf8(bytes) {
@@ -188,7 +187,7 @@ impl Cursor<'_> {
     /// This keyword, which is taken.
     #[tactic(auto, unfolding(crate::specs::Steps::word))]
     pub fn word(&mut self, keyword: Keyword) -> Result<(), Stop>
-        ensures reads { Reads (λ _. tt) (spec.word keyword (input self.old)) result (input self.new) }
+        ensures reads { Parses (λ _. tt) (spec.word keyword (input self.old)) result (input self.new) }
         ensures shorter { OnOk result (length self.new.rest.now < length self.old.rest.now) }
     {
         if !self.is_word(keyword) {
@@ -201,7 +200,7 @@ impl Cursor<'_> {
     /// This symbol, which is taken.
     #[tactic(auto, unfolding(crate::specs::Steps::sign))]
     pub fn sign(&mut self, symbol: Symbol) -> Result<(), Stop>
-        ensures reads { Reads (λ _. tt) (spec.sign symbol (input self.old)) result (input self.new) }
+        ensures reads { Parses (λ _. tt) (spec.sign symbol (input self.old)) result (input self.new) }
         ensures shorter { OnOk result (length self.new.rest.now < length self.old.rest.now) }
     {
         if !self.is_sign(symbol) {
@@ -214,7 +213,7 @@ impl Cursor<'_> {
     /// That no token is left.
     #[tactic(auto, unfolding(crate::specs::Steps::done))]
     pub fn done(&self) -> Result<(), Stop>
-        ensures { Reads (λ _. tt) (spec.done (input self.now)) result (input self.now) }
+        ensures { Parses (λ _. tt) (spec.done (input self.now)) result (input self.now) }
     {
         if !self.is_done() {
             return Err(self.refusal());
@@ -225,7 +224,7 @@ impl Cursor<'_> {
     /// The token that opens a level, of which `room` are free. It is taken.
     #[tactic(auto, using(crate::proofs::Openings::openings))]
     pub fn open(&mut self, room: usize) -> Result<(), Stop>
-        ensures reads { Reads (λ _. tt) (spec.opening room (input self.old)) result (input self.new) }
+        ensures reads { Parses (λ _. tt) (spec.opening room (input self.old)) result (input self.new) }
         ensures left { OnOk result (length self.new.rest.now ≡ length self.old.rest.now - 1) }
         ensures free { OnOk result (0 < room) }
     {
@@ -239,10 +238,10 @@ impl Cursor<'_> {
     /// Counts the statement that the next token begins.
     #[tactic(auto, unfolding(crate::specs::Steps::one_statement))]
     pub fn count_statement(&mut self) -> Result<(), Stop>
-        ensures reads { Reads (λ _. tt) (spec.one_statement STATEMENTS (input self.old)) result (input self.new) }
+        ensures reads { Parses (λ _. tt) (spec.one_statement STATEMENTS_MAX (input self.old)) result (input self.new) }
         ensures rest { self.new.rest.now ≡ self.old.rest.now }
     {
-        if self.statements >= STATEMENTS {
+        if self.statements >= STATEMENTS_MAX {
             return Err(self.full(LimitKind::Statements));
         }
         self.statements += 1;
@@ -252,14 +251,35 @@ impl Cursor<'_> {
     /// Counts the operand that the next token is.
     #[tactic(auto, unfolding(crate::specs::Steps::one_operand))]
     pub fn count_operand(&mut self) -> Result<(), Stop>
-        ensures reads { Reads (λ _. tt) (spec.one_operand OPERANDS (input self.old)) result (input self.new) }
+        ensures reads { Parses (λ _. tt) (spec.one_operand OPERANDS_MAX (input self.old)) result (input self.new) }
         ensures rest { self.new.rest.now ≡ self.old.rest.now }
     {
-        if self.operands >= OPERANDS {
+        if self.operands >= OPERANDS_MAX {
             return Err(self.full(LimitKind::Operands));
         }
         self.operands += 1;
         Ok(())
+    }
+
+    /// That one more of a kind may stand next, after `found` of them. `begins` says whether the next
+    /// token begins one.
+    #[tactic(auto, unfolding(crate::specs::Steps::one_more))]
+    pub fn one_more(
+        &self,
+        found: usize,
+        most: usize,
+        which: LimitKind,
+        begins: bool,
+    ) -> Result<(), Stop>
+        ensures { Parses (λ _. tt) (spec.one_more found most which begins (input self.now)) result (input self.now) }
+    {
+        if found < most {
+            return Ok(());
+        }
+        if begins {
+            return Err(self.full(which));
+        }
+        Err(self.refusal())
     }
 
     /// Begins an expression, whose operands are counted from 0.
@@ -270,10 +290,18 @@ impl Cursor<'_> {
         self.operands = 0;
     }
 
+    /// Begins the update, whose statements are counted from 0.
+    pub fn begin_update(&mut self)
+        ensures input { input self.new ≡ record (input self.old) { statements = 0 } }
+        ensures rest { self.new.rest.now ≡ self.old.rest.now }
+    {
+        self.statements = 0;
+    }
+
     /// A number without a sign, which is taken.
     #[tactic(auto, unfolding(crate::specs::Steps::number))]
     pub fn number(&mut self) -> Result<i64, Stop>
-        ensures reads { Reads (λ n. n) (spec.number (input self.old)) result (input self.new) }
+        ensures reads { Parses (λ n. n) (spec.number (input self.old)) result (input self.new) }
         ensures shorter { OnOk result (length self.new.rest.now < length self.old.rest.now) }
         ensures unsigned { IfOk result (λ n. pos 0 ≤ℤ n) }
     {
@@ -289,7 +317,7 @@ impl Cursor<'_> {
     /// A name, which is taken.
     #[tactic(auto, unfolding(crate::specs::Steps::name))]
     pub fn name(&mut self, alloc: Global) -> Result<Name, Stop>
-        ensures reads { Reads (λ n. n) (spec.name (input self.old)) result (input self.new) }
+        ensures reads { Parses (λ n. n) (spec.name (input self.old)) result (input self.new) }
         ensures shorter { OnOk result (length self.new.rest.now < length self.old.rest.now) }
     {
         match self.spelling() {
@@ -306,7 +334,7 @@ impl Cursor<'_> {
     /// A text, which is taken.
     #[tactic(auto, unfolding(crate::specs::Steps::text))]
     pub fn text(&mut self, alloc: Global) -> Result<Text, Stop>
-        ensures reads { Reads (λ t. t) (spec.text (input self.old)) result (input self.new) }
+        ensures reads { Parses (λ t. t) (spec.text (input self.old)) result (input self.new) }
         ensures shorter { OnOk result (length self.new.rest.now < length self.old.rest.now) }
     {
         match self.quoted() {
@@ -330,7 +358,7 @@ impl<'a> Cursor<'a> {
         match self.rest {
             [] => None,
             [first, ..] => match &first.kind {
-                TokenKind::Name => Some(ascii(
+                TokenKind::Name => Some(name_text(
                     &self.source[first.at as usize..first.end as usize],
                 )),
                 TokenKind::Number(_)

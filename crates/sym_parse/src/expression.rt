@@ -4,11 +4,11 @@ ghost use Rattle.sym_base.specs.Trees.{expr_tree, exprs_tree};
 ghost use Rattle.sym_parse.specs.Limits.{most};
 ghost use Rattle.sym_parse.specs.Parsing.Expressions as spec;
 ghost use Rattle.sym_parse.specs.Parsing.Levels.{chain_at, item_at};
-ghost use Rattle.sym_parse.specs.Steps.{Reads};
+ghost use Rattle.sym_parse.specs.Steps.{Parses};
 ghost use Rattle.sym_parse.specs.Syntax.Expressions.{Whole};
 ghost use Rattle.sym_parse.specs.Views.{input};
 
-use crate::build::{before_exprs, binary, denied, negated};
+use crate::build::{before_exprs, binary, not_of, minus_of};
 use crate::operators::Level;
 use crate::state::Cursor;
 use crate::stop::Stop;
@@ -18,7 +18,7 @@ use sym_lex::{Keyword, Symbol};
 
 #[tactic(auto, unfolding(crate::specs::Parsing::Expressions::number_leaf))]
 fn number_leaf(cursor: &mut Cursor<'_>) -> Result<Expr, Stop>
-    ensures reads { (room : ℕ) → Reads expr_tree (spec.number_leaf most room (spec.lines most room) (input cursor.old)) result (input cursor.new) }
+    ensures reads { (room : ℕ) → Parses expr_tree (spec.number_leaf most room (spec.lines most room) (input cursor.old)) result (input cursor.new) }
     ensures shorter { OnOk result (length cursor.new.rest.now < length cursor.old.rest.now) }
 {
     cursor.count_operand()?;
@@ -29,7 +29,7 @@ fn number_leaf(cursor: &mut Cursor<'_>) -> Result<Expr, Stop>
 
 #[tactic(auto, unfolding(crate::specs::Parsing::Expressions::text_leaf))]
 fn text_leaf(alloc: Global, cursor: &mut Cursor<'_>) -> Result<Expr, Stop>
-    ensures reads { (room : ℕ) → Reads expr_tree (spec.text_leaf most room (spec.lines most room) (input cursor.old)) result (input cursor.new) }
+    ensures reads { (room : ℕ) → Parses expr_tree (spec.text_leaf most room (spec.lines most room) (input cursor.old)) result (input cursor.new) }
     ensures shorter { OnOk result (length cursor.new.rest.now < length cursor.old.rest.now) }
 {
     cursor.count_operand()?;
@@ -43,7 +43,7 @@ fn text_leaf(alloc: Global, cursor: &mut Cursor<'_>) -> Result<Expr, Stop>
 #[tactic(auto, using(crate::proofs::Turns::turns))]
 fn arguments(alloc: Global, cursor: &mut Cursor<'_>, room: usize) -> Result<Exprs, Stop>
     requires { 0 < room }
-    ensures reads { (n : ℕ) → length cursor.old.rest.now < n → Reads exprs_tree (spec.values_from (spec.lines most room Whole) n (input cursor.old)) result (input cursor.new) }
+    ensures reads { (n : ℕ) → length cursor.old.rest.now < n → Parses exprs_tree (spec.values_from (spec.lines most room Whole) n (input cursor.old)) result (input cursor.new) }
     ensures shorter { OnOk result (length cursor.new.rest.now < length cursor.old.rest.now) }
 {
     let first = expr(alloc, cursor, room - 1)?;
@@ -55,7 +55,7 @@ fn arguments(alloc: Global, cursor: &mut Cursor<'_>, room: usize) -> Result<Expr
 #[tactic(auto, using(crate::proofs::Turns::turns))]
 fn more_arguments(alloc: Global, cursor: &mut Cursor<'_>, room: usize) -> Result<Exprs, Stop>
     requires { 0 < room }
-    ensures reads { (n : ℕ) → length cursor.old.rest.now ≤ n → Reads exprs_tree (spec.further (spec.lines most room Whole) (spec.values_from (spec.lines most room Whole) n) (input cursor.old)) result (input cursor.new) }
+    ensures reads { (n : ℕ) → length cursor.old.rest.now ≤ n → Parses exprs_tree (spec.further (spec.lines most room Whole) (spec.values_from (spec.lines most room Whole) n) (input cursor.old)) result (input cursor.new) }
     ensures shorter { OnOk result (length cursor.new.rest.now ≤ length cursor.old.rest.now) }
 {
     if !cursor.is_sign(Symbol::Comma) {
@@ -70,7 +70,7 @@ fn more_arguments(alloc: Global, cursor: &mut Cursor<'_>, room: usize) -> Result
 #[tactic(auto, unfolding(crate::specs::Parsing::Expressions::values))]
 fn values(alloc: Global, cursor: &mut Cursor<'_>, room: usize) -> Result<Exprs, Stop>
     requires { 0 < room }
-    ensures reads { Reads exprs_tree (spec.values (spec.lines most room Whole) (input cursor.old)) result (input cursor.new) }
+    ensures reads { Parses exprs_tree (spec.values (spec.lines most room Whole) (input cursor.old)) result (input cursor.new) }
     ensures shorter { OnOk result (length cursor.new.rest.now < length cursor.old.rest.now) }
 {
     arguments(alloc, cursor, room)
@@ -81,7 +81,7 @@ fn values(alloc: Global, cursor: &mut Cursor<'_>, room: usize) -> Result<Exprs, 
 #[tactic(auto, unfolding(crate::specs::Parsing::Expressions::call))]
 fn call(alloc: Global, cursor: &mut Cursor<'_>, room: usize, name: Name) -> Result<Expr, Stop>
     requires { 0 < length cursor.old.rest.now }
-    ensures reads { Reads expr_tree (spec.call most room (spec.lines most room) name (input cursor.old)) result (input cursor.new) }
+    ensures reads { Parses expr_tree (spec.call most room (spec.lines most room) name (input cursor.old)) result (input cursor.new) }
     ensures shorter { OnOk result (length cursor.new.rest.now < length cursor.old.rest.now) }
 {
     cursor.open(room)?;
@@ -94,7 +94,7 @@ fn call(alloc: Global, cursor: &mut Cursor<'_>, room: usize, name: Name) -> Resu
 #[cycle(expression)]
 #[tactic(auto, unfolding(crate::specs::Parsing::Expressions::named, crate::specs::Parsing::Expressions::call_or_name))]
 fn named(alloc: Global, cursor: &mut Cursor<'_>, room: usize) -> Result<Expr, Stop>
-    ensures reads { Reads expr_tree (spec.named most room (spec.lines most room) (input cursor.old)) result (input cursor.new) }
+    ensures reads { Parses expr_tree (spec.named most room (spec.lines most room) (input cursor.old)) result (input cursor.new) }
     ensures shorter { OnOk result (length cursor.new.rest.now < length cursor.old.rest.now) }
 {
     cursor.count_operand()?;
@@ -110,7 +110,7 @@ fn named(alloc: Global, cursor: &mut Cursor<'_>, room: usize) -> Result<Expr, St
 #[tactic(auto, using(crate::proofs::Turns::turns), unfolding(crate::specs::Parsing::Expressions::parens))]
 fn parens(alloc: Global, cursor: &mut Cursor<'_>, room: usize) -> Result<Expr, Stop>
     requires { 0 < length cursor.old.rest.now }
-    ensures reads { Reads expr_tree (spec.parens most room (spec.lines most room) (input cursor.old)) result (input cursor.new) }
+    ensures reads { Parses expr_tree (spec.parens most room (spec.lines most room) (input cursor.old)) result (input cursor.new) }
     ensures shorter { OnOk result (length cursor.new.rest.now < length cursor.old.rest.now) }
 {
     cursor.open(room)?;
@@ -122,7 +122,7 @@ fn parens(alloc: Global, cursor: &mut Cursor<'_>, room: usize) -> Result<Expr, S
 #[cycle(expression)]
 #[tactic(auto, unfolding(crate::specs::Parsing::Expressions::primary))]
 fn primary(alloc: Global, cursor: &mut Cursor<'_>, room: usize) -> Result<Expr, Stop>
-    ensures reads { Reads expr_tree (spec.primary most room (spec.lines most room) (input cursor.old)) result (input cursor.new) }
+    ensures reads { Parses expr_tree (spec.primary most room (spec.lines most room) (input cursor.old)) result (input cursor.new) }
     ensures shorter { OnOk result (length cursor.new.rest.now < length cursor.old.rest.now) }
 {
     if cursor.is_number() {
@@ -141,9 +141,9 @@ fn primary(alloc: Global, cursor: &mut Cursor<'_>, room: usize) -> Result<Expr, 
 }
 
 #[cycle(expression)]
-#[tactic(auto, using(crate::proofs::Turns::turns), unfolding(crate::specs::Parsing::Expressions::unary, crate::specs::Parsing::Expressions::negated))]
+#[tactic(auto, using(crate::proofs::Turns::turns), unfolding(crate::specs::Parsing::Expressions::unary, crate::specs::Parsing::Expressions::minus))]
 fn unary(alloc: Global, cursor: &mut Cursor<'_>, room: usize) -> Result<Expr, Stop>
-    ensures reads { Reads expr_tree (spec.unary most room (spec.lines most room) (input cursor.old)) result (input cursor.new) }
+    ensures reads { Parses expr_tree (spec.unary most room (spec.lines most room) (input cursor.old)) result (input cursor.new) }
     ensures shorter { OnOk result (length cursor.new.rest.now < length cursor.old.rest.now) }
 {
     if !cursor.is_sign(Symbol::Minus) {
@@ -152,7 +152,7 @@ fn unary(alloc: Global, cursor: &mut Cursor<'_>, room: usize) -> Result<Expr, St
     let at = cursor.place();
     cursor.open(room)?;
     let operand = unary(alloc, cursor, room - 1)?;
-    Ok(negated(alloc, operand, at)?)
+    Ok(minus_of(alloc, operand, at)?)
 }
 
 /// What stands between the operators of a level.
@@ -164,7 +164,7 @@ fn item(
     room: usize,
     level: Level,
 ) -> Result<Expr, Stop>
-    ensures reads { Reads expr_tree (item_at most room (spec.lines most room) level (input cursor.old)) result (input cursor.new) }
+    ensures reads { Parses expr_tree (item_at most room (spec.lines most room) level (input cursor.old)) result (input cursor.new) }
     ensures shorter { OnOk result (length cursor.new.rest.now < length cursor.old.rest.now) }
 {
     match level {
@@ -183,7 +183,7 @@ fn chain(
     room: usize,
     level: Level,
 ) -> Result<Expr, Stop>
-    ensures reads { Reads expr_tree (chain_at most room (spec.lines most room) level (input cursor.old)) result (input cursor.new) }
+    ensures reads { Parses expr_tree (chain_at most room (spec.lines most room) level (input cursor.old)) result (input cursor.new) }
     ensures shorter { OnOk result (length cursor.new.rest.now < length cursor.old.rest.now) }
 {
     let mut left = item(alloc, cursor, room, level)?;
@@ -199,7 +199,7 @@ fn chain(
 #[cycle(expression)]
 #[tactic(auto, unfolding(crate::specs::Parsing::Expressions::relation, crate::specs::Parsing::Levels::chain_at))]
 fn relation(alloc: Global, cursor: &mut Cursor<'_>, room: usize) -> Result<Expr, Stop>
-    ensures reads { Reads expr_tree (spec.relation most room (spec.lines most room) (input cursor.old)) result (input cursor.new) }
+    ensures reads { Parses expr_tree (spec.relation most room (spec.lines most room) (input cursor.old)) result (input cursor.new) }
     ensures shorter { OnOk result (length cursor.new.rest.now < length cursor.old.rest.now) }
 {
     let left = chain(alloc, cursor, room, Level::Sum)?;
@@ -213,9 +213,9 @@ fn relation(alloc: Global, cursor: &mut Cursor<'_>, room: usize) -> Result<Expr,
 }
 
 #[cycle(expression)]
-#[tactic(auto, using(crate::proofs::Turns::turns), unfolding(crate::specs::Parsing::Expressions::negation, crate::specs::Parsing::Expressions::denied))]
+#[tactic(auto, using(crate::proofs::Turns::turns), unfolding(crate::specs::Parsing::Expressions::negation, crate::specs::Parsing::Expressions::not_line))]
 fn negation(alloc: Global, cursor: &mut Cursor<'_>, room: usize) -> Result<Expr, Stop>
-    ensures reads { Reads expr_tree (spec.negation most room (spec.lines most room) (input cursor.old)) result (input cursor.new) }
+    ensures reads { Parses expr_tree (spec.negation most room (spec.lines most room) (input cursor.old)) result (input cursor.new) }
     ensures shorter { OnOk result (length cursor.new.rest.now < length cursor.old.rest.now) }
 {
     if !cursor.is_word(Keyword::Not) {
@@ -224,13 +224,13 @@ fn negation(alloc: Global, cursor: &mut Cursor<'_>, room: usize) -> Result<Expr,
     let at = cursor.place();
     cursor.open(room)?;
     let operand = negation(alloc, cursor, room - 1)?;
-    Ok(denied(alloc, operand, at)?)
+    Ok(not_of(alloc, operand, at)?)
 }
 
 #[cycle(expression)]
 #[tactic(auto, unfolding(crate::specs::Parsing::Levels::chain_at))]
 fn expr(alloc: Global, cursor: &mut Cursor<'_>, room: usize) -> Result<Expr, Stop>
-    ensures reads { Reads expr_tree (spec.expr most room (spec.lines most room) (input cursor.old)) result (input cursor.new) }
+    ensures reads { Parses expr_tree (spec.expr most room (spec.lines most room) (input cursor.old)) result (input cursor.new) }
     ensures shorter { OnOk result (length cursor.new.rest.now < length cursor.old.rest.now) }
 {
     chain(alloc, cursor, room, Level::Or)
@@ -239,7 +239,7 @@ fn expr(alloc: Global, cursor: &mut Cursor<'_>, room: usize) -> Result<Expr, Sto
 /// A whole expression. Its operands are counted from 0.
 #[tactic(auto, unfolding(crate::specs::Parsing::Expressions::expression))]
 pub fn expression(alloc: Global, cursor: &mut Cursor<'_>, room: usize) -> Result<Expr, Stop>
-    ensures reads { Reads expr_tree (spec.expression most room (input cursor.old)) result (input cursor.new) }
+    ensures reads { Parses expr_tree (spec.expression most room (input cursor.old)) result (input cursor.new) }
     ensures shorter { OnOk result (length cursor.new.rest.now < length cursor.old.rest.now) }
 {
     cursor.begin_expression();

@@ -4,10 +4,12 @@
 mod build;
 mod cursor;
 pub mod error;
+mod declaration;
 mod expression;
-mod limits;
 mod operators;
+mod script;
 mod state;
+mod statement;
 mod stop;
 
 pub use error::{LimitKind, ParseErr};

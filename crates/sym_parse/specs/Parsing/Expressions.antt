@@ -57,7 +57,7 @@ module _ (item : Parser ExprTree) where
 
 -- With these numbers, so many levels free, and what the lines mean one level deeper.
 module _ (most : LimitKind → ℕ) (room : ℕ) (deeper : Line → Parser ExprTree) where
-  -- NAME ["(" expr {"," expr} ")"], behind the name
+  -- NAME ["(" expr {"," expr} ")"], after the name
   unfoldable pub call : Name → Parser ExprTree
   call n = do
     opening room
@@ -104,8 +104,8 @@ module _ (most : LimitKind → ℕ) (room : ℕ) (deeper : Line → Parser ExprT
       (choose (sees_sign symbol.OpenParen) parens
       refuse)))
 
-  unfoldable pub negated : Parser ExprTree
-  negated = do
+  unfoldable pub minus : Parser ExprTree
+  minus = do
     at ← here
     opening room
     e ← deeper Signed
@@ -113,7 +113,7 @@ module _ (most : LimitKind → ℕ) (room : ℕ) (deeper : Line → Parser ExprT
 
   -- unary = "-" unary | primary
   unfoldable pub unary : Parser ExprTree
-  unary = choose (sees_sign symbol.Minus) negated primary
+  unary = choose (sees_sign symbol.Minus) minus primary
 
   -- prod = unary {("*" | "/" | "%") unary}
   unfoldable pub product : Parser ExprTree
@@ -137,8 +137,8 @@ module _ (most : LimitKind → ℕ) (room : ℕ) (deeper : Line → Parser ExprT
     left ← sum
     (λ i. relation_turn left (op_in compare_op (next i)) i)
 
-  unfoldable pub denied : Parser ExprTree
-  denied = do
+  unfoldable pub not_line : Parser ExprTree
+  not_line = do
     at ← here
     opening room
     e ← deeper Negation
@@ -146,7 +146,7 @@ module _ (most : LimitKind → ℕ) (room : ℕ) (deeper : Line → Parser ExprT
 
   -- neg = "not" neg | rel
   unfoldable pub negation : Parser ExprTree
-  negation = choose (sees_word keyword.Not) denied relation
+  negation = choose (sees_word keyword.Not) not_line relation
 
   -- conj = neg {"and" neg}
   unfoldable pub conjunction : Parser ExprTree

@@ -10,7 +10,7 @@ use Rattle.sym_parse.specs.declared.error.LimitKind.{LimitKind}
 use Rattle.sym_parse.specs.declared.error.LimitKind.TheVariants as limit
 use Rattle.sym_parse.specs.declared.stop.Stop.{Stop}
 use Rattle.sym_parse.specs.Lexemes.{Lexeme}
-use Rattle.sym_parse.specs.Steps.{Input, Outcome, Parser, ◌>>=◌, ◌>>◌, pure, sees_word, sees_name, word, sign, done, repeated}
+use Rattle.sym_parse.specs.Steps.{Input, Parsed, Parser, ◌>>=◌, ◌>>◌, pure, sees_word, sees_name, word, sign, done, repeated}
 use Rattle.sym_parse.specs.Parsing.Statements.{update}
 use Rattle.sym_parse.specs.Parsing.Declarations.{enum_decl, field, group, state, test, column}
 

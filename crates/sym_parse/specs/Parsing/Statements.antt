@@ -6,7 +6,7 @@ use Rattle.sym_lex.specs.declared.keyword.Keyword.TheVariants as keyword
 use Rattle.sym_lex.specs.declared.symbol.Symbol.TheVariants as symbol
 use Rattle.sym_parse.specs.declared.error.LimitKind.{LimitKind}
 use Rattle.sym_parse.specs.declared.error.LimitKind.TheVariants as limit
-use Rattle.sym_parse.specs.Steps.{Input, Parser, ◌>>=◌, ◌>>◌, pure, choose, refuse, full, bump, sees_word, sees_sign, sees_name, word, sign, name, one_statement, opening}
+use Rattle.sym_parse.specs.Steps.{Input, Parser, ◌>>=◌, ◌>>◌, pure, choose, refuse, bump, sees_word, sees_sign, sees_name, word, sign, name, one_statement, opening}
 use Rattle.sym_parse.specs.Parsing.Expressions.{expression, values}
 
 -- The next token can begin a statement.
@@ -74,12 +74,19 @@ module _ (most : LimitKind → ℕ) (room : ℕ) (if_here : Parser StmtTree) whe
   unfoldable pub statement : Parser StmtTree
   statement = choose (sees_word keyword.If) if_here (one_statement (most limit.Statements) >> simple)
 
+  abbrev pub one_more : Parser StmtsTree → Parser StmtsTree
+  one_more more = do
+    first ← statement
+    rest ← more
+    pure (Then first rest)
+
+  abbrev pub statements_turn : Parser StmtsTree → Parser StmtsTree
+  statements_turn more = choose begins_statement (one_more more) (pure Done)
+
   -- {stmt}. Each turn takes a token, so the number of tokens bounds the turns.
   unfoldable pub statements_from : ℕ → Parser StmtsTree
   statements_from zero = pure Done
-  statements_from (suc n) = choose begins_statement
-      (do first ← statement; rest ← statements_from n; pure (Then first rest))
-      (pure Done)
+  statements_from (suc n) = statements_turn (statements_from n)
 
   unfoldable pub statements : Parser StmtsTree
   statements = λ i. statements_from (suc (length i.rest)) i
@@ -92,7 +99,7 @@ module _ (most : LimitKind → ℕ) (room : ℕ) (if_here : Parser StmtTree) whe
     sign symbol.CloseBrace
     pure ss
 
-  -- (block | if), behind an `else`
+  -- (block | if), after an `else`
   unfoldable pub otherwise : Parser StmtsTree
   otherwise = choose (sees_word keyword.If)
       (do s ← if_here; pure (Then s Done))
@@ -102,7 +109,7 @@ module _ (most : LimitKind → ℕ) (room : ℕ) (if_here : Parser StmtTree) whe
   unfoldable pub else_part : Parser StmtsTree
   else_part = choose (sees_word keyword.Else) (bump >> otherwise) (pure Done)
 
-  -- if = "if" expr block ["else" (block | if)], behind the `if`
+  -- if = "if" expr block ["else" (block | if)], after the `if`
   unfoldable pub branches : Parser StmtTree
   branches = do
     e ← expression most room
@@ -113,14 +120,17 @@ module _ (most : LimitKind → ℕ) (room : ℕ) (if_here : Parser StmtTree) whe
 module _ (most : LimitKind → ℕ) where
   -- An `if` statement, with so many levels free. It opens one.
   unfoldable pub if_statement : ℕ → Parser StmtTree
-  if_statement zero = one_statement (most limit.Statements) >> full limit.Depth
+  if_statement zero = do
+    one_statement (most limit.Statements)
+    opening zero
+    refuse
   if_statement (suc room) = do
     one_statement (most limit.Statements)
-    bump
+    opening (suc room)
     branches most room (if_statement room)
 
-  -- update = "update" block
+  -- update = "update" block. Its statements are counted from 0.
   unfoldable pub update : Parser StmtsTree
   update = do
     word keyword.Update
-    block most (most limit.Depth) (if_statement (most limit.Depth))
+    (λ i. block most (most limit.Depth) (if_statement (most limit.Depth)) (record i { statements = 0 }))

@@ -1,18 +1,21 @@
--- Expressions. Operators of one line group to the left. What stands behind a token that opens a
--- level (`(`, `not`, a unary `-`) stands one level deeper.
-use Rattle.std.specs.Prelude.{◌≡◌, ℕ, zero, suc, ℤ, List, [], ◌∷◌, ◌++◌, Option, None, Some}
+-- Expressions. Operators of one line group to the left. What follows a token that opens a level
+-- (`(`, `not`, a unary `-`) stands one level deeper.
+use Rattle.std.specs.Prelude.{◌≡◌, ℕ, zero, suc, ◌≤◌, ℤ, List, [], ◌∷◌, ◌++◌, Option, None, Some}
 use Rattle.sym_base.specs.declared.tree.name.Name.{Name as NameRecord}
 use Rattle.sym_base.specs.declared.tree.expression.BinOp.{BinOp}
 use Rattle.sym_base.specs.declared.tree.expression.BinOp.TheVariants as op
 use Rattle.sym_base.specs.Trees.{ExprTree, ExprsTree, Num, Words, Named, Call, Neg, Not, Bin, End, More}
+use Rattle.sym_base.specs.Sizes.{operand_count}
 use Rattle.sym_lex.specs.declared.keyword.Keyword.{Keyword}
 use Rattle.sym_lex.specs.declared.keyword.Keyword.TheVariants as keyword
 use Rattle.sym_lex.specs.declared.symbol.Symbol.{Symbol}
 use Rattle.sym_lex.specs.declared.symbol.Symbol.TheVariants as symbol
-use Rattle.sym_parse.specs.Lexemes.{Terminal, Name, Number, Str, Word, Sign, Lexeme, IsWord, IsSign, IsNumber, IsText, IsName}
+use Rattle.sym_parse.specs.declared.error.LimitKind.{LimitKind}
+use Rattle.sym_parse.specs.declared.error.LimitKind.TheVariants as limit
+use Rattle.sym_parse.specs.Lexemes.{Terminal, Name, Number, Str, Word, Sign, Lexeme, IsKeyword, IsSign, IsNumeral, IsText, IsName}
 
--- The lines that may stand one level deeper: a whole expression in parentheses or in a call, what
--- `not` denies, and what a unary `-` turns round.
+-- The lines that may stand one level deeper: a whole expression in parentheses or in a call, the
+-- operand of `not`, and the operand of a unary `-`.
 pub data Line : Type 0 where
   Whole : Line
   Negation : Line
@@ -94,7 +97,7 @@ pub data IsValues (Value : List Lexeme → ExprTree → Type 0) : List Lexeme �
 module _ (Deeper : Line → List Lexeme → ExprTree → Type 0) where
   -- primary = NUMBER | TEXT | NAME ["(" expr {"," expr} ")"] | "(" expr ")"
   pub data IsPrimary : List Lexeme → ExprTree → Type 0 where
-    number : {n : ℤ} (l : Lexeme) → IsNumber n l → IsPrimary (l ∷ []) (Num n l.at)
+    number : {n : ℤ} (l : Lexeme) → IsNumeral n l → IsPrimary (l ∷ []) (Num n l.at)
     text : {t : List ℕ} (l : Lexeme) → IsText t l → IsPrimary (l ∷ []) (Words t l.at)
     name : {n : NameRecord} (l : Lexeme) → IsName n l → IsPrimary (l ∷ []) (Named n)
     call : {n : NameRecord} {xs : List Lexeme} {es : ExprsTree} (l begin end : Lexeme) →
@@ -126,7 +129,7 @@ module _ (Deeper : Line → List Lexeme → ExprTree → Type 0) where
 
   -- neg = "not" neg | rel
   pub data IsNegation : List Lexeme → ExprTree → Type 0 where
-    denied : {xs : List Lexeme} {e : ExprTree} (l : Lexeme) → IsWord keyword.Not l → Deeper Negation xs e → IsNegation (l ∷ xs) (Not e l.at)
+    not : {xs : List Lexeme} {e : ExprTree} (l : Lexeme) → IsKeyword keyword.Not l → Deeper Negation xs e → IsNegation (l ∷ xs) (Not e l.at)
     plain : {xs : List Lexeme} {e : ExprTree} → IsRelation xs e → IsNegation xs e
 
   -- conj = neg {"and" neg}
@@ -145,8 +148,10 @@ module _ (Deeper : Line → List Lexeme → ExprTree → Type 0) where
 -- The lines where fewer than so many levels are open at once.
 unfoldable pub Within : ℕ → Line → List Lexeme → ExprTree → Type 0
 Within zero x ls e = ⊥
-Within (suc levels) x ls e = IsLine (Within levels) x ls e
+Within (suc room) x ls e = IsLine (Within room) x ls e
 
--- A whole expression in which at most so many levels are open at once.
-pub record IsExprWithin (levels : ℕ) (ls : List Lexeme) (e : ExprTree) : Type 0 where
-  pub whole : Within (suc levels) Whole ls e
+-- A whole expression in which at most so many levels are open at once, and whose operands keep
+-- their number.
+pub record IsExprWithin (most : LimitKind → ℕ) (room : ℕ) (ls : List Lexeme) (e : ExprTree) : Type 0 where
+  pub whole : Within (suc room) Whole ls e
+  pub few : operand_count e ≤ most limit.Operands
