@@ -15,7 +15,7 @@ use Rattle.sym_parse.specs.Steps.{Input, Parsed, Parser, and_then, choose, pure,
 use Rattle.sym_parse.specs.Syntax.Expressions as syntax
 use Rattle.sym_parse.specs.Syntax.Expressions.{Line, Whole, Negation, Signed, IsGrouped, IsValues, IsPrimary, IsUnary, IsProduct, IsSum, IsRelation, IsNegation, IsConjunction, IsExpression, IsLine, Within, IsExprWithin, product_op, sum_op, compare_op, and_op, or_op}
 use Rattle.sym_parse.specs.Parsing.Expressions.{op_in, chain, chain_from, chain_turn, values, values_from, values_turn, further, call, call_or_name, number_leaf, text_leaf, named, parens, primary, minus, unary, product, sum, relation, relation_turn, not_line, negation, conjunction, expr, line, lines, expression}
-use Rattle.sym_parse.proofs.Taking.{ok_parts, Then, after, by_test, Step, bump-word, bump-sign, sign-ok, name-ok, number-ok, text-ok}
+use Rattle.sym_parse.proofs.Taking.{ended, ok_parts, after, by_test, Step, bump-word, bump-sign, sign-ok, name-ok, number-ok, text-ok}
 
 -- The place of the next token is that of the lexeme.
 pub place-is : (i : Input) (l : Lexeme) (rest : List Lexeme) → i.rest ≡ l ∷ rest → place i ≡ l.at
@@ -53,7 +53,7 @@ pub record TookCounted {A : Type 0} (most : ℕ) (size : A → ℕ) (P : List Le
   pub few : i.operands ≤ most → j.operands ≤ most
   pub statements : j.statements ≡ i.statements
 
-pub counted_along : {A : Type 0} (most : ℕ) (size : A → ℕ) (P : List Lexeme → A → Type 0) (i j k : Input) (x y : A) → Ok (x, j) ≡ Ok (y, k) → TookCounted most size P i x j → TookCounted most size P i y k
+pub counted_along : {A : Type 0} (most : ℕ) (size : A → ℕ) (P : List Lexeme → A → Type 0) (i j k : Input) (x y : A) → ended x j ≡ ended y k → TookCounted most size P i x j → TookCounted most size P i y k
 counted_along most size P i j k x y e t =
     let parts = ok_parts x y j k e in
     subst (λ m. TookCounted most size P i y m) parts.1 (subst (λ m. TookCounted most size P i m j) parts.0 t)
@@ -411,10 +411,14 @@ module _ (most : LimitKind → ℕ) where
   pub expression-found : (room : ℕ) (i j : Input) (e : ExprTree) → expression most room i ≡ Ok (e, j) → TookExpression room i e j
   unfolding expression Within
   expression-found room i j e h =
-      let t = expr-found most room (lines most room) (Within room) (lines-found room) (record i { operands = 0 }) j e h in
-      record {
+      let a = after (expr most room (lines most room) (record i { operands = 0 })) (λ (x : ExprTree) (k : Input). Ok (x, record k { operands = 0 })) e j h in
+      let t = expr-found most room (lines most room) (Within room) (lines-found room) (record i { operands = 0 }) a.input a.value a.first in
+      let parts = ok_parts a.value e (record a.input { operands = 0 }) j a.rest in
+      subst (λ (k : Input). TookExpression room i e k) parts.1
+      (subst (λ (x : ExprTree). TookExpression room i x (record a.input { operands = 0 })) parts.0
+      (record {
         taken = t.taken;
         splits = t.splits;
         means = record { whole = t.means; few = omega (arith, t.operands, t.few (omega arith)) };
         statements = t.statements;
-      }
+      }))

@@ -8,3 +8,9 @@ pub mod Lists
 pub mod Taking
 pub mod ExpressionsFound
 pub mod StatementsFound
+pub mod DeclarationsFound
+pub mod ScriptsFound
+pub mod Reaching
+pub mod ExpressionsComplete
+pub mod StatementsComplete
+pub mod DeclarationsComplete

@@ -1,6 +1,7 @@
 -- Lists of items of which some number may stand: one turn, by how many were found.
-use Rattle.std.proofs.Common.{◌≡◌, ℕ, zero, suc, ◌+◌, ◌-◌, ◌<◌, ◌≤◌, Bool, true, false, nat_lt, if◌then◌else◌, List, [], ◌∷◌, ◌++◌, length, length-append, refl, ap, arith, Result, Ok, Err}
+use Rattle.std.proofs.Common.{◌≡◌, ℕ, zero, suc, ◌+◌, ◌-◌, ◌<◌, ◌≤◌, Bool, true, false, nat_lt, if◌then◌else◌, List, [], ◌∷◌, ◌++◌, length, map, length-append, refl, ap, ◌∙◌, arith, Result, Ok, Err}
 use Rattle.std.proofs.lemmas.Bool.Decides.{nat_tests}
+use Rattle.std.proofs.lemmas.List.{length-map, map-append}
 use Rattle.sym_lex.specs.declared.symbol.Symbol.TheVariants.{Comma}
 use Rattle.sym_parse.specs.declared.stop.Stop.{Stop}
 use Rattle.sym_parse.specs.declared.stop.Stop.TheVariants.{Expected, Limit}
@@ -61,3 +62,17 @@ module _ {A : Type 0} (which : LimitKind) (begins : Input → Bool) (item : Pars
 
   pub repeated_goes : (found : List A) (i : Input) → repeated which begins item (most - length found) found i ≡ repeated_turn found i
   repeated_goes found i = repeated_by (most - length found) found i refl
+
+  -- The same where the items are seen through a view.
+  pub repeated_maps : {B : Type 0} (view : B → A) (found : List B) (i : Input) → repeated which begins item (most - length (map view found)) (map view found) i
+      ≡ choose begins
+      (λ i. and_then (one_more (length found) most which true i) (λ _. item >>= (λ x. repeated which begins item (most - length (map view found ++ x ∷ [])) (map view found ++ x ∷ []))))
+      (pure (map view found)) i
+  repeated_maps view found i =
+      let n : length (map view found) ≡ length found = length-map found view in
+      let turn : ℕ → Parsed (List A) = λ m. choose begins
+      (λ i. and_then (one_more m most which true i) (λ _. item >>= (λ x. repeated which begins item (most - length (map view found ++ x ∷ [])) (map view found ++ x ∷ []))))
+      (pure (map view found)) i in
+      repeated_goes (map view found) i ∙ ap turn n
+
+pub ruleset mapped = (repeated_maps, map-append)

@@ -20,7 +20,7 @@ use Rattle.sym_parse.specs.Syntax.Scripts.{IsUpdate}
 use Rattle.sym_parse.specs.Syntax.Scripts as scripts
 use Rattle.sym_parse.specs.Parsing.Expressions.{expression, values, values_from, further}
 use Rattle.sym_parse.specs.Parsing.Statements.{begins_statement, binding, assignment, push, kept_values, kept_cell, keep, simple, statement, statements_from, statements_turn, statements, block, otherwise, else_part, branches, if_statement, update}
-use Rattle.sym_parse.proofs.Taking.{ok_parts, Then, after, by_test, Step, bump-word, bump-sign, word-ok, sign-ok, name-ok, Took}
+use Rattle.sym_parse.proofs.Taking.{ended, ok_parts, after, by_test, Step, bump-word, bump-sign, word-ok, sign-ok, name-ok, Took}
 use Rattle.sym_parse.proofs.ExpressionsFound.{TookExpression, expression-found, joins, closes, opening-ok}
 
 -- A statement was counted.
@@ -49,7 +49,7 @@ pub record TookQuiet {A : Type 0} (P : List Lexeme → A → Type 0) (i : Input)
   pub means : P taken x
   pub statements : j.statements ≡ i.statements
 
-quiet_along : {A : Type 0} (P : List Lexeme → A → Type 0) (i j k : Input) (x y : A) → Ok (x, j) ≡ Ok (y, k) → TookQuiet P i x j → TookQuiet P i y k
+quiet_along : {A : Type 0} (P : List Lexeme → A → Type 0) (i j k : Input) (x y : A) → ended x j ≡ ended y k → TookQuiet P i x j → TookQuiet P i y k
 quiet_along P i j k x y e t =
     let parts = ok_parts x y j k e in
     subst (λ m. TookQuiet P i y m) parts.1 (subst (λ m. TookQuiet P i m j) parts.0 t)
@@ -62,7 +62,7 @@ pub record TookStatements {A : Type 0} (most : ℕ) (size : A → ℕ) (P : List
   pub statements : j.statements ≡ i.statements + size x
   pub few : i.statements ≤ most → j.statements ≤ most
 
-statements_along : {A : Type 0} (most : ℕ) (size : A → ℕ) (P : List Lexeme → A → Type 0) (i j k : Input) (x y : A) → Ok (x, j) ≡ Ok (y, k) → TookStatements most size P i x j → TookStatements most size P i y k
+statements_along : {A : Type 0} (most : ℕ) (size : A → ℕ) (P : List Lexeme → A → Type 0) (i j k : Input) (x y : A) → ended x j ≡ ended y k → TookStatements most size P i x j → TookStatements most size P i y k
 statements_along most size P i j k x y e t =
     let parts = ok_parts x y j k e in
     subst (λ m. TookStatements most size P i y m) parts.1 (subst (λ m. TookStatements most size P i m j) parts.0 t)
@@ -204,7 +204,7 @@ module _ (most : LimitKind → ℕ) (room : ℕ) (if_here : Parser StmtTree) (Is
       })
 
   kept-cell-found : (i m j : Input) (n : NameRecord) (w l : Lexeme) (s : StmtTree) → i.rest ≡ w ∷ l ∷ m.rest → IsKeyword keyword.Keep w → IsName n l → m.statements ≡ i.statements →
-      kept_cell most room if_here n m ≡ Ok (s, j) → Quiet i s j
+      kept_cell n m ≡ Ok (s, j) → Quiet i s j
   unfolding kept_cell
   kept-cell-found i m j n w l s splits is-keep is-name same h =
       let a = after (word keyword.From m) _ s j h in
@@ -230,7 +230,7 @@ module _ (most : LimitKind → ℕ) (room : ℕ) (if_here : Parser StmtTree) (Is
       let n = name-ok a.input b.input b.value b.first in
       let splits : i.rest ≡ w.lexeme ∷ n.lexeme ∷ b.input.rest = rw (w.splits, n.splits) refl in
       let same : b.input.statements ≡ i.statements = n.statements ∙ w.statements in
-      by_test (sees_sign symbol.OpenParen b.input) (kept_values most room if_here b.value b.input) (kept_cell most room if_here b.value b.input) (Ok (s, j)) (Quiet i s j) b.rest
+      by_test (sees_sign symbol.OpenParen b.input) (kept_values most room if_here b.value b.input) (kept_cell b.value b.input) (Ok (s, j)) (Quiet i s j) b.rest
       (λ t f. kept-values-found i b.input j b.value w.lexeme n.lexeme s splits w.is n.is same f)
       (λ t f. kept-cell-found i b.input j b.value w.lexeme n.lexeme s splits w.is n.is same f)
 

@@ -14,22 +14,26 @@ use Rattle.sym_parse.specs.Steps.{Input, Parsed, Parser, and_then, pure, bump, r
 
 -- ---- outcomes
 
+-- A parser's Ok.
+abbrev pub ended : {A : Type 0} → A → Input → Parsed A
+ended x i = Ok (x, i)
+
 value_or : {A : Type 0} → A × Input → Parsed A → A × Input
 value_or d (Ok p) = p
 value_or d (Err stop) = d
 
-pub ok_parts : {A : Type 0} (x y : A) (i j : Input) → Ok (x, i) ≡ Ok (y, j) → (x ≡ y) × (i ≡ j)
+pub ok_parts : {A : Type 0} (x y : A) (i j : Input) → ended x i ≡ ended y j → (x ≡ y) × (i ≡ j)
 unfolding value_or
 ok_parts x y i j e = (ap (λ o. (value_or (x, i) o).0) e, ap (λ o. (value_or (x, i) o).1) e)
 
 -- The first step ended Ok, and so did what follows it.
-pub record Then {A B : Type 0} (o : Parsed A) (f : A → Parser B) (y : B) (k : Input) : Type 0 where
+pub record After {A B : Type 0} (o : Parsed A) (f : A → Parser B) (y : B) (k : Input) : Type 0 where
   pub value : A
   pub input : Input
   pub first : o ≡ Ok (value, input)
   pub rest : f value input ≡ Ok (y, k)
 
-pub after : {A B : Type 0} (o : Parsed A) (f : A → Parser B) (y : B) (k : Input) → and_then o f ≡ Ok (y, k) → Then o f y k
+pub after : {A B : Type 0} (o : Parsed A) (f : A → Parser B) (y : B) (k : Input) → and_then o f ≡ Ok (y, k) → After o f y k
 after (Ok p) f y k e = record { value = p.0; input = p.1; first = refl; rest = e }
 after (Err stop) f y k e = cc
 
@@ -178,7 +182,7 @@ pub record Took {A : Type 0} (P : List Lexeme → A → Type 0) (i : Input) (x :
   pub splits : i.rest ≡ taken ++ j.rest
   pub means : P taken x
 
-pub took_along : {A : Type 0} (P : List Lexeme → A → Type 0) (i j k : Input) (x y : A) → Ok (x, j) ≡ Ok (y, k) → Took P i x j → Took P i y k
+pub took_along : {A : Type 0} (P : List Lexeme → A → Type 0) (i j k : Input) (x y : A) → ended x j ≡ ended y k → Took P i x j → Took P i y k
 took_along P i j k x y e t =
     let parts = ok_parts x y j k e in
     subst (λ m. Took P i y m) parts.1 (subst (λ m. Took P i m j) parts.0 t)

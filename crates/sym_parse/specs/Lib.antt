@@ -4,3 +4,4 @@ pub mod Steps
 pub mod Syntax
 pub mod Parsing
 pub mod Views
+pub mod Answers

@@ -282,16 +282,16 @@ impl Cursor<'_> {
         Err(self.refusal())
     }
 
-    /// Begins an expression, whose operands are counted from 0.
-    pub fn begin_expression(&mut self)
+    /// That no operand was counted.
+    pub fn reset_operands(&mut self)
         ensures input { input self.new ≡ record (input self.old) { operands = 0 } }
         ensures rest { self.new.rest.now ≡ self.old.rest.now }
     {
         self.operands = 0;
     }
 
-    /// Begins the update, whose statements are counted from 0.
-    pub fn begin_update(&mut self)
+    /// That no statement was counted.
+    pub fn reset_statements(&mut self)
         ensures input { input self.new ≡ record (input self.old) { statements = 0 } }
         ensures rest { self.new.rest.now ≡ self.old.rest.now }
     {
@@ -370,7 +370,7 @@ impl<'a> Cursor<'a> {
     }
 
     /// The next token's number, if it is one.
-    #[tactic(auto, unfolding(crate::specs::Steps::next))]
+    #[tactic(auto, unfolding(crate::specs::Steps::next, sym_base::specs::Lawful::is_unsigned))]
     fn numeral(&self) -> Option<i64>
         ensures is { result ≡ number_of (spec.next (input self.now)) }
         ensures some { OnSome result (0 < length self.now.rest.now) }

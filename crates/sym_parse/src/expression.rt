@@ -236,12 +236,14 @@ fn expr(alloc: Global, cursor: &mut Cursor<'_>, room: usize) -> Result<Expr, Sto
     chain(alloc, cursor, room, Level::Or)
 }
 
-/// A whole expression. Its operands are counted from 0.
+/// A whole expression. Its operands are counted from 0, and none counts after it.
 #[tactic(auto, unfolding(crate::specs::Parsing::Expressions::expression))]
 pub fn expression(alloc: Global, cursor: &mut Cursor<'_>, room: usize) -> Result<Expr, Stop>
     ensures reads { Parses expr_tree (spec.expression most room (input cursor.old)) result (input cursor.new) }
     ensures shorter { OnOk result (length cursor.new.rest.now < length cursor.old.rest.now) }
 {
-    cursor.begin_expression();
-    expr(alloc, cursor, room)
+    cursor.reset_operands();
+    let value = expr(alloc, cursor, room)?;
+    cursor.reset_operands();
+    Ok(value)
 }

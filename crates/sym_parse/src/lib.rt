@@ -3,13 +3,15 @@
 
 mod build;
 mod cursor;
-pub mod error;
 mod declaration;
+pub mod error;
 mod expression;
 mod operators;
+mod parser;
 mod script;
 mod state;
 mod statement;
 mod stop;
 
 pub use error::{LimitKind, ParseErr};
+pub use parser::parse;

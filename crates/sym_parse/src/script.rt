@@ -109,7 +109,7 @@ fn states(alloc: Global, cursor: &mut Cursor<'_>) -> Result<Vec<StateDecl>, Stop
 }
 
 /// Further tests, as long as the next token begins one.
-#[tactic(auto, using(crate::proofs::Lists::repeated_goes))]
+#[tactic(auto, using(crate::proofs::Lists::mapped))]
 fn tests_from(
     alloc: Global,
     cursor: &mut Cursor<'_>,
@@ -136,7 +136,7 @@ fn tests(alloc: Global, cursor: &mut Cursor<'_>) -> Result<Vec<TestDecl>, Stop>
 }
 
 /// Further columns, as long as the next token begins one.
-#[tactic(auto, using(crate::proofs::Lists::repeated_goes))]
+#[tactic(auto, using(crate::proofs::Lists::mapped))]
 fn columns_from(
     alloc: Global,
     cursor: &mut Cursor<'_>,

@@ -5,6 +5,7 @@ ghost use Rattle.sym_parse.specs.Lexemes.{are_sound};
 use sym_lex::Token;
 
 /// The tokens that are left of a source, and what was counted before them.
+#[derive(Drop)]
 pub struct Cursor<'a> {
     pub source: &'a [u8],
     pub rest: &'a [Token],

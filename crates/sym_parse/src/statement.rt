@@ -122,7 +122,7 @@ fn kept_values(
 /// `from NAME ;`
 #[tactic(auto, unfolding(crate::specs::Parsing::Statements::kept_cell))]
 fn kept_cell(alloc: Global, cursor: &mut Cursor<'_>, name: Name) -> Result<Stmt, Stop>
-    ensures reads { (room : ℕ) → Parses stmt_tree (spec.kept_cell most room (spec.if_statement most room) name (input cursor.old)) result (input cursor.new) }
+    ensures reads { Parses stmt_tree (spec.kept_cell name (input cursor.old)) result (input cursor.new) }
     ensures shorter { OnOk result (length cursor.new.rest.now < length cursor.old.rest.now) }
 {
     cursor.word(Keyword::From)?;
@@ -274,6 +274,6 @@ pub fn update(alloc: Global, cursor: &mut Cursor<'_>) -> Result<Stmts, Stop>
     ensures shorter { OnOk result (length cursor.new.rest.now < length cursor.old.rest.now) }
 {
     cursor.word(Keyword::Update)?;
-    cursor.begin_update();
+    cursor.reset_statements();
     block(alloc, cursor, DEPTH_MAX)
 }

@@ -13,6 +13,14 @@ use Rattle.sym_parse.specs.Parsing.Expressions.{expression, values}
 unfoldable pub begins_statement : Input → Bool
 begins_statement i = sees_name i || (sees_word keyword.Let i || (sees_word keyword.Push i || (sees_word keyword.Keep i || sees_word keyword.If i)))
 
+-- "from" NAME ";", after the name of the cell that keeps
+unfoldable pub kept_cell : Name → Parser StmtTree
+kept_cell n = do
+  word keyword.From
+  source ← name
+  sign symbol.Semicolon
+  pure (KeepFrom n source)
+
 -- With these numbers, so many levels free, and an `if` statement here.
 module _ (most : LimitKind → ℕ) (room : ℕ) (if_here : Parser StmtTree) where
   unfoldable pub binding : Parser StmtTree
@@ -47,13 +55,6 @@ module _ (most : LimitKind → ℕ) (room : ℕ) (if_here : Parser StmtTree) whe
     sign symbol.CloseParen
     sign symbol.Semicolon
     pure (Keep n es)
-
-  unfoldable pub kept_cell : Name → Parser StmtTree
-  kept_cell n = do
-    word keyword.From
-    source ← name
-    sign symbol.Semicolon
-    pure (KeepFrom n source)
 
   unfoldable pub keep : Parser StmtTree
   keep = do

@@ -1,0 +1,83 @@
+//! The one script of a text.
+ghost use Rattle.std.specs.Prelude.{◌≡◌, ◌<◌, ◌^◌, length, Ok, Err, true, IfOk, IfErr};
+ghost use Rattle.sym_base.specs.Trees.{script_tree};
+ghost use Rattle.sym_lex.specs.Terminals.{are_sound};
+ghost use Rattle.sym_parse.specs.Answers.{Gives, ended, parsed, place_of_left, refusal};
+ghost use Rattle.sym_parse.specs.Lexemes.{lexemes_of};
+ghost use Rattle.sym_parse.specs.Limits.{most};
+ghost use Rattle.sym_parse.specs.Parsing.Scripts as spec;
+
+use crate::error::ParseErr;
+use crate::script::script;
+use crate::state::Cursor;
+use crate::stop::Stop;
+use std::alloc::Global;
+use sym_base::Script;
+use sym_lex::{LexErr, Token, lex};
+
+/// The place of the token from which `left` tokens are left, or the text's length.
+fn place(bytes: &[u8], tokens: &[Token], left: usize) -> u32
+    requires { length bytes.now < 2 ^ 32 }
+    ensures { result ≡ place_of_left (length bytes.now) tokens.now left }
+{
+    match tokens.get(tokens.len().saturating_sub(left)) {
+        Some(token) => token.at,
+        None => bytes.len() as u32,
+    }
+}
+
+/// Why the tokens are no script.
+fn refused(bytes: &[u8], tokens: &[Token], stop: Stop) -> ParseErr
+    requires { length bytes.now < 2 ^ 32 }
+    ensures { result ≡ refusal (length bytes.now) tokens.now stop }
+{
+    match stop {
+        Stop::Expected(left) => ParseErr::Expected {
+            at: place(bytes, tokens, left),
+        },
+        Stop::Limit(left, which) => ParseErr::Limit {
+            at: place(bytes, tokens, left),
+            which,
+        },
+        Stop::NoMemory => ParseErr::NoMemory,
+    }
+}
+
+/// The script of a text's tokens.
+fn parse_tokens(alloc: Global, bytes: &[u8], tokens: &[Token]) -> Result<Script, ParseErr>
+    requires small { length bytes.now < 2 ^ 32 }
+    requires sound { are_sound bytes.now tokens.now ≡ true }
+    ensures { Gives result (ended (length bytes.now) tokens.now (spec.script most (spec.start (lexemes_of bytes.now tokens.now)))) }
+{
+    let mut cursor = Cursor {
+        source: bytes,
+        rest: tokens,
+        statements: 0,
+        operands: 0,
+    };
+    match script(alloc, &mut cursor) {
+        Ok(script) => Ok(script),
+        Err(stop) => Err(refused(bytes, tokens, stop)),
+    }
+}
+
+/// The script of a text of fewer than 2^32 bytes, by the grammar of docs/LANGUAGE.md.
+///
+/// # Errors
+///
+/// `Lex` with the first lexical fault, wherever it stands in the text. Else, at the first token at
+/// which reading can't go on, or at the text's end: `Expected` where no sentence of the grammar
+/// goes on so, and `Limit` where the token begins a thing that passes its number. `NoMemory` where
+/// an allocation was refused.
+#[tactic(auto, unfolding(crate::specs::Answers::parsed))]
+pub fn parse(alloc: Global, bytes: &[u8]) -> Result<Script, ParseErr>
+    requires { length bytes.now < 2 ^ 32 }
+    ensures exact { Gives result (parsed bytes.now) }
+{
+    let tokens = match lex(alloc, bytes) {
+        Ok(tokens) => tokens,
+        Err(LexErr::Fault(fault)) => return Err(ParseErr::Lex(fault)),
+        Err(LexErr::NoMemory) => return Err(ParseErr::NoMemory),
+    };
+    parse_tokens(alloc, bytes, tokens.as_slice())
+}
