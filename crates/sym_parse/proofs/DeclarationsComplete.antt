@@ -62,8 +62,8 @@ module _ {A : Type 0} (which : LimitKind) (begins : Input → Bool) (item : Pars
   unfolding repeated
   repeated-reads zero _ rest found _ st syntax.none e few = no (begins (at rest st 0)) _ _ e ∙ ap (λ (m : List A). Ok (m, at rest st 0)) (sym (append-nil found))
   repeated-reads (suc free) _ rest found _ st syntax.none e few = no (begins (at rest st 0)) _ _ e ∙ ap (λ (m : List A). Ok (m, at rest st 0)) (sym (append-nil found))
-  repeated-reads zero _ rest found _ st (syntax.more {xs} {ys} {x} {items} p q) e few = absurd (omega arith)
-  repeated-reads (suc free) _ rest found _ st (syntax.more {xs} {ys} {x} {items} p q) e few =
+  repeated-reads zero _ rest found _ st (syntax.more {xs} {ys} {a = x} {rest = items} p q) e few = absurd (omega arith)
+  repeated-reads (suc free) _ rest found _ st (syntax.more {xs} {ys} {a = x} {rest = items} p q) e few =
       let apart : (xs ++ ys) ++ rest ≡ xs ++ (ys ++ rest) = append_assoc xs ys rest in
       let further = repeated-reads free ys rest (found ++ x ∷ []) items st q e (omega (arith, few)) in
       rw (apart, first xs (ys ++ rest) x st p, reads xs (ys ++ rest) x st p, further) (ap (λ (m : List A). Ok (m, at rest st 0)) (append_assoc found (x ∷ []) items))
@@ -74,7 +74,7 @@ module _ {A : Type 0} (which : LimitKind) (begins : Input → Bool) (item : Pars
 
   pub some-reads : (most : ℕ) (ls rest : List Lexeme) (items : List A) (st : ℕ) → AreSome most P ls items → begins (at rest st 0) ≡ false →
       (item >>= (λ (x : A). repeated which begins item (most - 1) (x ∷ []))) (at (ls ++ rest) st 0) ≡ Ok (items, at rest st 0)
-  some-reads most _ rest _ st (syntax.some {xs} {ys} {x} {items} p q few) e =
+  some-reads most _ rest _ st (syntax.some {xs} {ys} {a = x} {rest = items} p q few) e =
       rw (append_assoc xs ys rest, reads xs (ys ++ rest) x st p) (repeated-reads (most - 1) ys rest (x ∷ []) items st q e (omega (arith, few)))
 
 module _ {A : Type 0} (which : LimitKind) (begins : Input → Bool) (item : Parser A) (P : List Lexeme → A → Type 0) (reads : Reads item P) where
@@ -83,8 +83,8 @@ module _ {A : Type 0} (which : LimitKind) (begins : Input → Bool) (item : Pars
   unfolding separated
   separated-from-reads zero _ rest found _ st syntax.none e few = no (sees_sign symbol.Comma (at rest st 0)) _ _ (sign-in symbol.Comma rest st 0 ∙ e) ∙ ap (λ (m : List A). Ok (m, at rest st 0)) (sym (append-nil found))
   separated-from-reads (suc free) _ rest found _ st syntax.none e few = no (sees_sign symbol.Comma (at rest st 0)) _ _ (sign-in symbol.Comma rest st 0 ∙ e) ∙ ap (λ (m : List A). Ok (m, at rest st 0)) (sym (append-nil found))
-  separated-from-reads zero _ rest found _ st (syntax.more {xs} {ys} {x} {items} comma is p q) e few = absurd (omega arith)
-  separated-from-reads (suc free) _ rest found _ st (syntax.more {xs} {ys} {x} {items} comma is p q) e few =
+  separated-from-reads zero _ rest found _ st (syntax.more {xs} {ys} {a = x} {rest = items} comma is p q) e few = absurd (omega arith)
+  separated-from-reads (suc free) _ rest found _ st (syntax.more {xs} {ys} {a = x} {rest = items} comma is p q) e few =
       let apart : (xs ++ ys) ++ rest ≡ xs ++ (ys ++ rest) = append_assoc xs ys rest in
       let tail : List Lexeme = (xs ++ ys) ++ rest in
       let read : item (passed (at (comma ∷ tail) st 0)) ≡ Ok (x, at (ys ++ rest) st 0) =
@@ -94,7 +94,7 @@ module _ {A : Type 0} (which : LimitKind) (begins : Input → Bool) (item : Pars
 
   pub separated-reads : (most : ℕ) (ls rest : List Lexeme) (items : List A) (st : ℕ) → AreSeparated most P ls items → NoSign symbol.Comma rest →
       (item >>= (λ (x : A). separated which begins item (most - 1) (x ∷ []))) (at (ls ++ rest) st 0) ≡ Ok (items, at rest st 0)
-  separated-reads most _ rest _ st (syntax.some {xs} {ys} {x} {items} p q few) e =
+  separated-reads most _ rest _ st (syntax.some {xs} {ys} {a = x} {rest = items} p q few) e =
       rw (append_assoc xs ys rest, reads xs (ys ++ rest) x st p) (separated-from-reads (most - 1) ys rest (x ∷ []) items st q e (omega (arith, few)))
 
 -- ---- parts of declarations
@@ -149,7 +149,7 @@ group-reads _ rest _ st (syntax.group {n} w l z a b c) e =
 
 pub field-reads : Reads field IsField
 unfolding field
-field-reads _ rest _ st (syntax.declared {n} {hs} {ks} {ds} {h} {k} {d} w l colon end a b hp c kp dp z) =
+field-reads _ rest _ st (syntax.declared {n} {hs} {ks} {ds} {header = h} {k} {default = d} w l colon end a b hp c kp dp z) =
     let tail : List Lexeme = (hs ++ colon ∷ (ks ++ (ds ++ end ∷ []))) ++ rest in
     let apart : tail ≡ hs ++ colon ∷ (ks ++ (ds ++ end ∷ rest)) =
     append_assoc hs (colon ∷ (ks ++ (ds ++ end ∷ []))) rest
@@ -184,7 +184,7 @@ param-reads _ rest _ st (syntax.param {n} {xs} {k} l colon a b p) =
 module _ (most : LimitKind → ℕ) where
   pub enum-reads : Reads (enum_decl most) (IsEnum most)
   unfolding enum_decl labels
-  enum-reads _ rest _ st (syntax.declared {n} {xs} {names} w l begin end a b c p z) =
+  enum-reads _ rest _ st (syntax.declared {n} {xs} {labels = names} w l begin end a b c p z) =
       let tail : List Lexeme = (xs ++ end ∷ []) ++ rest in
       let inside : labels most (at tail st 0) ≡ Ok (names, at (end ∷ rest) st 0) =
       ap (λ (m : List Lexeme). labels most (at m st 0)) (append_assoc xs (end ∷ []) rest)
@@ -229,7 +229,7 @@ module _ (most : LimitKind → ℕ) where
       ∙ yes (sees_word keyword.Nums (at (w ∷ (xs ++ rest)) st 0)) _ _ (sees-word w (xs ++ rest) st 0 keyword.Nums a) ∙ nums-reads w xs rest r st a p
   cell-reads _ rest _ st (syntax.words w a) =
       rw (sees-word-as w rest st 0 keyword.Int (Word keyword.Words) a, sees-word-as w rest st 0 keyword.Nums (Word keyword.Words) a, sees-word w rest st 0 keyword.Words a, passes w rest st 0) refl
-  cell-reads _ rest _ st (syntax.hold {xs} {ps} w begin end a b p z) =
+  cell-reads _ rest _ st (syntax.hold {xs} {parts = ps} w begin end a b p z) =
       let tail : List Lexeme = begin ∷ ((xs ++ end ∷ []) ++ rest) in
       no (sees_word keyword.Int (at (w ∷ tail) st 0)) _ _ (sees-word-as w tail st 0 keyword.Int (Word keyword.Hold) a)
       ∙ no (sees_word keyword.Nums (at (w ∷ tail) st 0)) _ _ (sees-word-as w tail st 0 keyword.Nums (Word keyword.Hold) a)
@@ -252,7 +252,7 @@ module _ (most : LimitKind → ℕ) where
 
   pub test-reads : Reads (test most) (IsTest most)
   unfolding test params
-  test-reads _ rest _ st (syntax.declared {n} {xs} {ys} {ps} {body} w l begin close equals end a b c p d e q z) =
+  test-reads _ rest _ st (syntax.declared {n} {xs} {ys} {params = ps} {body} w l begin close equals end a b c p d e q z) =
       let tail : List Lexeme = (xs ++ close ∷ equals ∷ (ys ++ end ∷ [])) ++ rest in
       let after : List Lexeme = ys ++ end ∷ rest in
       let apart : tail ≡ xs ++ close ∷ equals ∷ after =

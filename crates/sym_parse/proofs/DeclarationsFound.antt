@@ -25,7 +25,7 @@ use Rattle.sym_parse.specs.Syntax.Declarations.{AreItems, AreFurther, AreAtMost,
 use Rattle.sym_parse.specs.Parsing.Expressions.{expression}
 use Rattle.sym_parse.specs.Parsing.Declarations as parsing
 use Rattle.sym_parse.specs.Parsing.Declarations.{num, literal_value, begins_kind, kind_ref, header, default_value, field, group, range, part, param, labels, enum_decl, parts, int_cell, nums_cell, hold_cell, label_cell, cell_decl, state, params, test, column}
-use Rattle.sym_parse.proofs.Taking.{ended, ok_parts, after, by_test, Step, bump-word, bump-sign, word-ok, sign-ok, name-ok, number-ok, text-ok, Took, took_along}
+use Rattle.sym_parse.proofs.Taking.{ended, ok_parts, after, by_test, tail_of, Step, bump-word, bump-sign, word-ok, sign-ok, name-ok, number-ok, text-ok, Took, took_along}
 use Rattle.sym_parse.proofs.ExpressionsFound.{TookExpression, expression-found, joins, closes, place-is}
 
 follows : (a b x y z : List Lexeme) → x ≡ a ++ y → y ≡ b ++ z → x ≡ (a ++ b) ++ z
@@ -244,7 +244,7 @@ group-found i j g e =
     let b = after (sign symbol.Semicolon a.input) _ g j a.rest in
     let z = sign-ok symbol.Semicolon a.input b.input b.value b.first in
     took_along IsGroup i b.input j (Some a.value) g b.rest
-    (record { taken = w.lexeme ∷ l.lexeme ∷ z.lexeme ∷ []; splits = rw (w.splits, l.splits, z.splits) refl; means = syntax.group w.lexeme l.lexeme z.lexeme w.is l.is z.is }))
+    (record { taken = w.lexeme ∷ l.lexeme ∷ z.lexeme ∷ []; splits = tail_of w.splits (tail_of l.splits z.splits); means = syntax.group w.lexeme l.lexeme z.lexeme w.is l.is z.is }))
     (λ t f. took_along IsGroup i i j None g f (record { taken = []; splits = refl; means = syntax.none }))
 
 pub field-found : (i j : Input) (d : FieldDecl) → field i ≡ Ok (d, j) → Took IsField i d j
@@ -271,7 +271,7 @@ field-found i j d e =
     took_along IsField i o.input j (record { name = b.value; header = c.value; kind = g.value; default = m.value }) d o.rest
     (record {
       taken = w.lexeme ∷ n.lexeme ∷ (hs.taken ++ q.lexeme ∷ (ks.taken ++ (ds.taken ++ z.lexeme ∷ [])));
-      splits = rw (w.splits, n.splits, headed) refl;
+      splits = tail_of w.splits (tail_of n.splits headed);
       means = syntax.declared w.lexeme n.lexeme q.lexeme z.lexeme w.is n.is hs.means q.is ks.means ds.means z.is;
     })
 
@@ -326,7 +326,7 @@ param-found i j p e =
     took_along IsParam i c.input j (record { name = a.value; kind = c.value }) p c.rest
     (record {
       taken = n.lexeme ∷ q.lexeme ∷ k.taken;
-      splits = rw (n.splits, q.splits, k.splits) refl;
+      splits = tail_of n.splits (tail_of q.splits k.splits);
       means = syntax.param n.lexeme q.lexeme n.is q.is k.means;
     })
 
@@ -350,7 +350,7 @@ module _ (most : LimitKind → ℕ) (some : (k : LimitKind) → 1 ≤ most k) wh
       took_along (IsEnum most) i g.input j (record { name = b.value; labels = f.value }) d g.rest
       (record {
         taken = w.lexeme ∷ n.lexeme ∷ o.lexeme ∷ (ls.taken ++ z.lexeme ∷ []);
-        splits = rw (w.splits, n.splits, o.splits, tail) refl;
+        splits = tail_of w.splits (tail_of n.splits (tail_of o.splits tail));
         means = syntax.declared w.lexeme n.lexeme o.lexeme z.lexeme w.is n.is o.is ls.means z.is;
       })
 
@@ -402,7 +402,7 @@ module _ (most : LimitKind → ℕ) (some : (k : LimitKind) → 1 ≤ most k) wh
       took_along (IsCell most) i d.input j (cell.Hold c.value) x d.rest
       (record {
         taken = w.lexeme ∷ o.lexeme ∷ (ps.taken ++ z.lexeme ∷ []);
-        splits = rw (w.splits, o.splits, tail) refl;
+        splits = tail_of w.splits (tail_of o.splits tail);
         means = syntax.hold w.lexeme o.lexeme z.lexeme w.is o.is ps.means z.is;
       })
 
@@ -418,7 +418,7 @@ module _ (most : LimitKind → ℕ) (some : (k : LimitKind) → 1 ≤ most k) wh
       took_along (IsCell most) i c.input j (cell.Enum a.value c.value) x c.rest
       (record {
         taken = n.lexeme ∷ q.lexeme ∷ m.lexeme ∷ [];
-        splits = rw (n.splits, q.splits, m.splits) refl;
+        splits = tail_of n.splits (tail_of q.splits m.splits);
         means = syntax.label n.lexeme q.lexeme m.lexeme n.is q.is m.is;
       })
 
@@ -453,7 +453,7 @@ module _ (most : LimitKind → ℕ) (some : (k : LimitKind) → 1 ≤ most k) wh
       took_along (IsState most) i g.input j (record { name = b.value; cell = f.value }) d g.rest
       (record {
         taken = w.lexeme ∷ n.lexeme ∷ q.lexeme ∷ (x.taken ++ z.lexeme ∷ []);
-        splits = rw (w.splits, n.splits, q.splits, tail) refl;
+        splits = tail_of w.splits (tail_of n.splits (tail_of q.splits tail));
         means = syntax.declared w.lexeme n.lexeme q.lexeme z.lexeme w.is n.is q.is x.means z.is;
       })
 
@@ -477,13 +477,13 @@ module _ (most : LimitKind → ℕ) (some : (k : LimitKind) → 1 ≤ most k) wh
       let s = after (sign symbol.Semicolon r.input) _ d j r.rest in
       let z = sign-ok symbol.Semicolon r.input s.input s.value s.first in
       let body : m.input.rest ≡ (x.taken ++ z.lexeme ∷ []) ++ s.input.rest = closes x.taken z.lexeme m.input.rest r.input.rest s.input.rest x.splits z.splits in
-      let closed : f.input.rest ≡ p.lexeme ∷ q.lexeme ∷ ((x.taken ++ z.lexeme ∷ []) ++ s.input.rest) = rw (p.splits, q.splits, body) refl in
+      let closed : f.input.rest ≡ p.lexeme ∷ q.lexeme ∷ ((x.taken ++ z.lexeme ∷ []) ++ s.input.rest) = tail_of p.splits (tail_of q.splits body) in
       let tail : c.input.rest ≡ (ps.taken ++ p.lexeme ∷ q.lexeme ∷ (x.taken ++ z.lexeme ∷ [])) ++ s.input.rest =
       ps.splits ∙ ap (λ (k : List Lexeme). ps.taken ++ k) closed ∙ sym (append_assoc ps.taken (p.lexeme ∷ q.lexeme ∷ (x.taken ++ z.lexeme ∷ [])) s.input.rest) in
       took_along (IsTest most) i s.input j (record { name = b.value; params = f.value; body = r.value }) d s.rest
       (record {
         taken = w.lexeme ∷ n.lexeme ∷ o.lexeme ∷ (ps.taken ++ p.lexeme ∷ q.lexeme ∷ (x.taken ++ z.lexeme ∷ []));
-        splits = rw (w.splits, n.splits, o.splits, tail) refl;
+        splits = tail_of w.splits (tail_of n.splits (tail_of o.splits tail));
         means = syntax.declared w.lexeme n.lexeme o.lexeme p.lexeme q.lexeme z.lexeme w.is n.is o.is ps.means p.is q.is x.means z.is;
       })
 
@@ -502,6 +502,6 @@ module _ (most : LimitKind → ℕ) (some : (k : LimitKind) → 1 ≤ most k) wh
       took_along (IsColumn most) i g.input j (record { name = b.value; value = f.value }) d g.rest
       (record {
         taken = n.lexeme ∷ q.lexeme ∷ (x.taken ++ z.lexeme ∷ []);
-        splits = rw (n.splits, q.splits, tail) refl;
+        splits = tail_of n.splits (tail_of q.splits tail);
         means = syntax.column n.lexeme q.lexeme z.lexeme n.is q.is x.means z.is;
       })

@@ -38,9 +38,9 @@ tight (Some (Sign symbol.OpenParen)) = 9
 tight _ = 0
 
 -- An operator of a line binds as that line does, and a token that binds less is none.
-record Level (ops : Terminal → Option BinOp) (level : ℕ) : Type 0 where
-  is : (t : Terminal) (b : BinOp) → ops t ≡ Some b → tight (Some t) ≡ level
-  none : (o : Option Terminal) → tight o < level → op_in ops o ≡ None
+pub record Level (ops : Terminal → Option BinOp) (level : ℕ) : Type 0 where
+  pub is : (t : Terminal) (b : BinOp) → ops t ≡ Some b → tight (Some t) ≡ level
+  pub none : (o : Option Terminal) → tight o < level → op_in ops o ≡ None
 
 or-is : (t : Terminal) (b : BinOp) → or_op t ≡ Some b → tight (Some t) ≡ 1
 or-is (Word keyword.Or) b e = refl
@@ -207,12 +207,12 @@ module _ (most : ℕ) (P : List Lexeme → ExprTree → Type 0) (item : Parser E
       values_from item n (at (ls ++ rest) st op) ≡ Ok (es, at rest st (op + operands_count es))
   unfolding values_from
   values-from-reads zero ls rest es st op v e few enough = absurd (omega arith)
-  values-from-reads (suc n) ls rest _ st op (syntax.one {xs} {x} p) e few enough =
+  values-from-reads (suc n) ls rest _ st op (syntax.one {xs} {e = x} p) e few enough =
       let first = reads ls rest x st op p e.loose (omega (arith, few)) in
       let last = further-ends (values_from item n) rest st (op + operand_count x) e in
       let counted : op + operand_count x ≡ op + operands_count (More x End) = omega arith in
       rw (first, last) (ap (λ (m : ℕ). Ok (More x End, at rest st m)) counted)
-  values-from-reads (suc n) _ rest _ st op (syntax.more {xs} {ys} {x} {es} comma p is v) e few enough =
+  values-from-reads (suc n) _ rest _ st op (syntax.more {xs} {ys} {e = x} {rest = es} comma p is v) e few enough =
       let loose : tight (Some comma.terminal) ≡ 0 = comma-loose comma is in
       let first = reads xs (comma ∷ (ys ++ rest)) x st op p (omega (arith, loose)) (omega (arith, few)) in
       let goes = further-goes (values_from item n) comma (ys ++ rest) st (op + operand_count x) is in
@@ -305,7 +305,7 @@ module _ (most : LimitKind → ℕ) (room : ℕ) (deeper : Line → Parser ExprT
 
   primary-reads : Complete (most limit.Operands) (primary most room deeper) (IsPrimary D) 9
   primary-reads _ rest _ st op (syntax.number {n} l is) t few = number-first l rest n st op is ∙ number-reads l rest n st op is few
-  primary-reads _ rest _ st op (syntax.text {s} l is) t few = text-first l rest s st op is ∙ text-reads l rest s st op is few
+  primary-reads _ rest _ st op (syntax.text {t = s} l is) t few = text-first l rest s st op is ∙ text-reads l rest s st op is few
   primary-reads _ rest _ st op (syntax.name {n} l is) t few = name-first l rest n st op is ∙ name-reads l rest n st op is t few
   primary-reads _ rest _ st op (syntax.call {n} {xs} {es} l begin end is b v z) t few =
       name-first l (begin ∷ ((xs ++ end ∷ []) ++ rest)) n st op is ∙ call-reads l begin end xs rest n es st op is b v z few
@@ -320,7 +320,7 @@ module _ (most : LimitKind → ℕ) (room : ℕ) (deeper : Line → Parser ExprT
   -- No primary begins with a minus.
   primary-plain : (ls rest : List Lexeme) (e : ExprTree) (st op : ℕ) → IsPrimary D ls e → sees_sign symbol.Minus (at (ls ++ rest) st op) ≡ false
   primary-plain _ rest _ st op (syntax.number {n} l is) = sees-sign-as l rest st op symbol.Minus (Number n) is
-  primary-plain _ rest _ st op (syntax.text {s} l is) = sees-sign-as l rest st op symbol.Minus (Str s) is
+  primary-plain _ rest _ st op (syntax.text {t = s} l is) = sees-sign-as l rest st op symbol.Minus (Str s) is
   primary-plain _ rest _ st op (syntax.name {n} l is) = sees-sign-as l rest st op symbol.Minus (Name n.text) is.text
   primary-plain _ rest _ st op (syntax.call {n} {xs} {es} l begin end is b v z) = sees-sign-as l (begin ∷ ((xs ++ end ∷ []) ++ rest)) st op symbol.Minus (Name n.text) is.text
   primary-plain _ rest _ st op (syntax.parens {xs} {e} begin end b d z) = sees-sign-as begin ((xs ++ end ∷ []) ++ rest) st op symbol.Minus (Sign symbol.OpenParen) b
@@ -365,7 +365,7 @@ module _ (most : LimitKind → ℕ) (room : ℕ) (deeper : Line → Parser ExprT
   -- No relation begins with `not`.
   pub primary-no-word : (k : Keyword) (ls rest : List Lexeme) (e : ExprTree) (st op : ℕ) → IsPrimary D ls e → sees_word k (at (ls ++ rest) st op) ≡ false
   primary-no-word k _ rest _ st op (syntax.number {n} l is) = sees-word-as l rest st op k (Number n) is
-  primary-no-word k _ rest _ st op (syntax.text {s} l is) = sees-word-as l rest st op k (Str s) is
+  primary-no-word k _ rest _ st op (syntax.text {t = s} l is) = sees-word-as l rest st op k (Str s) is
   primary-no-word k _ rest _ st op (syntax.name {n} l is) = sees-word-as l rest st op k (Name n.text) is.text
   primary-no-word k _ rest _ st op (syntax.call {n} {xs} {es} l begin end is b v z) = sees-word-as l (begin ∷ ((xs ++ end ∷ []) ++ rest)) st op k (Name n.text) is.text
   primary-no-word k _ rest _ st op (syntax.parens {xs} {e} begin end b d z) = sees-word-as begin ((xs ++ end ∷ []) ++ rest) st op k (Sign symbol.OpenParen) b
@@ -417,12 +417,12 @@ module _ (most : LimitKind → ℕ) where
 
   some-values : (room : ℕ) (ls : List Lexeme) (es : ExprsTree) → IsValues (Within room Whole) ls es → 0 < room
   some-values room ls _ (syntax.one {xs} {e} p) = some-within room Whole ls e p
-  some-values room _ _ (syntax.more {xs} {ys} {e} {es} comma p is v) = some-within room Whole xs e p
+  some-values room _ _ (syntax.more {xs} {ys} {e} {rest = es} comma p is v) = some-within room Whole xs e p
 
   lines-read : (room : ℕ) (x : Line) → Complete (most limit.Operands) (lines most room x) (Within room x) (level_of x)
   unfolding lines Within
   lines-read zero x ls rest e st op d t few = absurd d
-  lines-read (suc room) x = line-reads most room (lines most room) (Within room) (lines-read room) (some-within room) (some-values room) x
+  lines-read (suc room) x ls rest e st op d t few = line-reads most room (lines most room) (Within room) (lines-read room) (some-within room) (some-values room) x ls rest e st op d t few
 
   -- A whole expression is read, if the token after it binds nothing.
   pub expression-reads : (room : ℕ) (ls rest : List Lexeme) (e : ExprTree) (st op : ℕ) → IsExprWithin most room ls e → tight (next_of rest) < 1 →

@@ -14,3 +14,5 @@ pub mod Reaching
 pub mod ExpressionsComplete
 pub mod StatementsComplete
 pub mod DeclarationsComplete
+pub mod ScriptsComplete
+pub mod Answering

@@ -14,7 +14,7 @@ use Rattle.sym_parse.specs.Syntax.Scripts.{IsReport, IsScript}
 use Rattle.sym_parse.specs.Parsing.Declarations.{enum_decl, field, group, state, test, column}
 use Rattle.sym_parse.specs.Parsing.Statements.{update}
 use Rattle.sym_parse.specs.Parsing.Scripts.{enums, fields, states, tests, columns, report, script, start}
-use Rattle.sym_parse.proofs.Taking.{ended, ok_parts, after, by_test, word-ok, sign-ok, Took, took_along}
+use Rattle.sym_parse.proofs.Taking.{ended, ok_parts, after, by_test, tail_of, word-ok, sign-ok, Took, took_along}
 use Rattle.sym_parse.proofs.ExpressionsFound.{closes}
 use Rattle.sym_parse.proofs.StatementsFound.{update-found}
 use Rattle.sym_parse.proofs.DeclarationsFound.{any-found, some-found, enum-found, field-found, group-found, state-found, test-found, column-found}
@@ -54,7 +54,7 @@ module _ (most : LimitKind → ℕ) (some : (k : LimitKind) → 1 ≤ most k) wh
       took_along (IsReport most) i d.input j c.value cs d.rest
       (record {
         taken = w.lexeme ∷ o.lexeme ∷ (all.taken ++ z.lexeme ∷ []);
-        splits = rw (w.splits, o.splits, tail) refl;
+        splits = tail_of w.splits (tail_of o.splits tail);
         means = syntax.report w.lexeme o.lexeme z.lexeme w.is o.is all.means z.is;
       })
 

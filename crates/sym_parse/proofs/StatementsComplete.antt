@@ -52,11 +52,11 @@ module _ (most : LimitKind → ℕ) (room : ℕ) where
       values_from (expression most room) n (at (ls ++ rest) st 0) ≡ Ok (es, at rest st 0)
   unfolding values_from
   kept-from-reads zero ls rest es st v e enough = absurd (omega arith)
-  kept-from-reads (suc n) ls rest _ st (expressions.one {xs} {x} p) e enough =
+  kept-from-reads (suc n) ls rest _ st (expressions.one {xs} {e = x} p) e enough =
       let last : further (expression most room) (values_from (expression most room) n) (at rest st 0) ≡ Ok (End, at rest st 0) =
       no (sees_sign symbol.Comma (at rest st 0)) _ _ (sees-sign-in rest st 0 ∙ e.no_comma) in
       rw (expression-reads most room ls rest x st 0 p e.loose, last) refl
-  kept-from-reads (suc n) _ rest _ st (expressions.more {xs} {ys} {x} {es} comma p is v) e enough =
+  kept-from-reads (suc n) _ rest _ st (expressions.more {xs} {ys} {e = x} {rest = es} comma p is v) e enough =
       let first = expression-reads most room xs (comma ∷ (ys ++ rest)) x st 0 p (comma-loose comma (ys ++ rest) is) in
       let goes : further (expression most room) (values_from (expression most room) n) (at (comma ∷ (ys ++ rest)) st 0) ≡ values_from (expression most room) n (at (ys ++ rest) st 0) =
       yes (sees_sign symbol.Comma (at (comma ∷ (ys ++ rest)) st 0)) _ _ (sees-sign comma (ys ++ rest) st 0 symbol.Comma is) ∙ ap (values_from (expression most room) n) (passes comma (ys ++ rest) st 0) in
@@ -216,7 +216,7 @@ module _ (most : LimitKind → ℕ) (room : ℕ) (if_here : Parser StmtTree) (Is
 
   statements-no-else : (ls rest : List Lexeme) (ss : StmtsTree) → AreStatements most room IsIfHere ls ss → NoElse rest → NoElse (ls ++ rest)
   statements-no-else _ rest _ syntax.none o = o
-  statements-no-else _ rest _ (syntax.more {xs} {ys} {s} {ss} p q) o =
+  statements-no-else _ rest _ (syntax.more {xs} {ys} {s} {rest = ss} p q) o =
       let f = first-of xs s p in
       ap (λ (m : List Lexeme). is_this_word keyword.Else (word_of (next_of ((m ++ ys) ++ rest)))) f.splits ∙ f.no_else
 
@@ -228,7 +228,7 @@ module _ (most : LimitKind → ℕ) (room : ℕ) (if_here : Parser StmtTree) (Is
   statements-from-reads (suc n) _ rest _ st syntax.none o b few enough =
       let counted : st ≡ st + stmts_count Done = omega arith in
       no (begins_statement (at rest st 0)) _ _ (b st) ∙ ap (λ (m : ℕ). Ok (Done, at rest m 0)) counted
-  statements-from-reads (suc n) _ rest _ st (syntax.more {xs} {ys} {s} {ss} p q) o b few enough =
+  statements-from-reads (suc n) _ rest _ st (syntax.more {xs} {ys} {s} {rest = ss} p q) o b few enough =
       let f = first-of xs s p in
       let apart : (xs ++ ys) ++ rest ≡ xs ++ (ys ++ rest) = append_assoc xs ys rest in
       let begun : begins_statement (at (xs ++ (ys ++ rest)) st 0) ≡ true =
@@ -265,7 +265,7 @@ module _ (most : LimitKind → ℕ) (room : ℕ) (if_here : Parser StmtTree) (Is
   else-reads _ rest _ st syntax.none o few =
       let counted : st ≡ st + stmts_count Done = omega arith in
       no (sees_word keyword.Else (at rest st 0)) _ _ (sees-word-in keyword.Else rest st 0 ∙ o) ∙ ap (λ (m : ℕ). Ok (Done, at rest m 0)) counted
-  else-reads _ rest ss st (syntax.block {xs} {ss'} w is p) o few =
+  else-reads _ rest ss st (syntax.block {xs} w is p) o few =
       yes (sees_word keyword.Else (at (w ∷ (xs ++ rest)) st 0)) _ _ (sees-word w (xs ++ rest) st 0 keyword.Else is)
       ∙ ap (otherwise most room if_here) (passes w (xs ++ rest) st 0)
       ∙ no (sees_word keyword.If (at (xs ++ rest) st 0)) _ _ (block-no-if xs rest ss st p) ∙ block-reads xs rest ss st p few
@@ -292,13 +292,13 @@ module _ (most : LimitKind → ℕ) where
   if-starts : (room : ℕ) (ls : List Lexeme) (s : StmtTree) → IsIfWithin most room ls s → (l : Lexeme) × (xs : List Lexeme) × (ls ≡ l ∷ xs) × IsKeyword keyword.If l
   unfolding IsIfWithin
   if-starts zero ls s p = absurd p
-  if-starts (suc room) _ _ (syntax.branch {xs} {ys} {zs} {e} {a} {b} w is p q r) = (w, xs ++ (ys ++ zs), refl, is)
+  if-starts (suc room) _ _ (syntax.branch {xs} {ys} {zs} {e} {then = a} {otherwise = b} w is p q r) = (w, xs ++ (ys ++ zs), refl, is)
 
   pub if-reads : (room : ℕ) (ls rest : List Lexeme) (s : StmtTree) (st : ℕ) → IsIfWithin most room ls s → NoElse rest → st + stmt_count s ≤ most limit.Statements →
       if_statement most room (at (ls ++ rest) st 0) ≡ Ok (s, at rest (st + stmt_count s) 0)
   unfolding if_statement IsIfWithin
   if-reads zero ls rest s st p o few = absurd p
-  if-reads (suc room) _ rest _ st (syntax.branch {xs} {ys} {zs} {e} {a} {b} w is p q r) o few =
+  if-reads (suc room) _ rest _ st (syntax.branch {xs} {ys} {zs} {e} {then = a} {otherwise = b} w is p q r) o few =
       let tail : List Lexeme = (xs ++ (ys ++ zs)) ++ rest in
       let inside = branches-read most room (if_statement most room) (IsIfWithin most room) (if-reads room) (if-starts room) xs ys zs rest e a b (st + 1) p q r o (omega (arith, few)) in
       let counted : st + 1 + stmts_count a + stmts_count b ≡ st + stmt_count (If e a b) = omega arith in

@@ -20,7 +20,7 @@ use Rattle.sym_parse.specs.Syntax.Scripts.{IsUpdate}
 use Rattle.sym_parse.specs.Syntax.Scripts as scripts
 use Rattle.sym_parse.specs.Parsing.Expressions.{expression, values, values_from, further}
 use Rattle.sym_parse.specs.Parsing.Statements.{begins_statement, binding, assignment, push, kept_values, kept_cell, keep, simple, statement, statements_from, statements_turn, statements, block, otherwise, else_part, branches, if_statement, update}
-use Rattle.sym_parse.proofs.Taking.{ended, ok_parts, after, by_test, Step, bump-word, bump-sign, word-ok, sign-ok, name-ok, Took}
+use Rattle.sym_parse.proofs.Taking.{ended, ok_parts, after, by_test, tail_of, Step, bump-word, bump-sign, word-ok, sign-ok, name-ok, Took}
 use Rattle.sym_parse.proofs.ExpressionsFound.{TookExpression, expression-found, joins, closes, opening-ok}
 
 -- A statement was counted.
@@ -135,7 +135,7 @@ module _ (most : LimitKind → ℕ) (room : ℕ) (if_here : Parser StmtTree) (Is
       quiet_along Simple i f.input j (Let b.value d.value) s f.rest
       (record {
         taken = w.lexeme ∷ n.lexeme ∷ q.lexeme ∷ (e.taken ++ z.lexeme ∷ []);
-        splits = rw (w.splits, n.splits, q.splits, tail) refl;
+        splits = tail_of w.splits (tail_of n.splits (tail_of q.splits tail));
         means = (syntax.binding w.lexeme n.lexeme q.lexeme z.lexeme w.is n.is q.is e.means z.is, refl);
         statements = z.statements ∙ e.statements ∙ q.statements ∙ n.statements ∙ w.statements;
       })
@@ -155,7 +155,7 @@ module _ (most : LimitKind → ℕ) (room : ℕ) (if_here : Parser StmtTree) (Is
       quiet_along Simple i f.input j (Set b.value d.value) s f.rest
       (record {
         taken = n.lexeme ∷ q.lexeme ∷ (e.taken ++ z.lexeme ∷ []);
-        splits = rw (n.splits, q.splits, tail) refl;
+        splits = tail_of n.splits (tail_of q.splits tail);
         means = (syntax.assignment n.lexeme q.lexeme z.lexeme n.is q.is e.means z.is, refl);
         statements = z.statements ∙ e.statements ∙ q.statements ∙ n.statements;
       })
@@ -175,7 +175,7 @@ module _ (most : LimitKind → ℕ) (room : ℕ) (if_here : Parser StmtTree) (Is
       quiet_along Simple i f.input j (Push b.value d.value) s f.rest
       (record {
         taken = w.lexeme ∷ n.lexeme ∷ (e.taken ++ z.lexeme ∷ []);
-        splits = rw (w.splits, n.splits, tail) refl;
+        splits = tail_of w.splits (tail_of n.splits tail);
         means = (syntax.push w.lexeme n.lexeme z.lexeme w.is n.is e.means z.is, refl);
         statements = z.statements ∙ e.statements ∙ n.statements ∙ w.statements;
       })
@@ -198,7 +198,7 @@ module _ (most : LimitKind → ℕ) (room : ℕ) (if_here : Parser StmtTree) (Is
       quiet_along Simple i d.input j (Keep n b.value) s d.rest
       (record {
         taken = w ∷ l ∷ o.lexeme ∷ (v.taken ++ q.lexeme ∷ z.lexeme ∷ []);
-        splits = rw (splits, o.splits, tail) refl;
+        splits = splits ∙ ap (λ (r : List Lexeme). w ∷ l ∷ r) (tail_of o.splits tail);
         means = (syntax.keep w l o.lexeme q.lexeme z.lexeme is-keep is-name o.is v.means q.is z.is, refl);
         statements = z.statements ∙ q.statements ∙ v.statements ∙ o.statements ∙ same;
       })
@@ -216,7 +216,7 @@ module _ (most : LimitKind → ℕ) (room : ℕ) (if_here : Parser StmtTree) (Is
       quiet_along Simple i d.input j (KeepFrom n b.value) s d.rest
       (record {
         taken = w ∷ l ∷ f.lexeme ∷ t.lexeme ∷ z.lexeme ∷ [];
-        splits = rw (splits, f.splits, t.splits, z.splits) refl;
+        splits = splits ∙ ap (λ (r : List Lexeme). w ∷ l ∷ r) (tail_of f.splits (tail_of t.splits z.splits));
         means = (syntax.keep_from w l f.lexeme t.lexeme z.lexeme is-keep is-name f.is t.is z.is, refl);
         statements = z.statements ∙ t.statements ∙ f.statements ∙ same;
       })
@@ -228,7 +228,7 @@ module _ (most : LimitKind → ℕ) (room : ℕ) (if_here : Parser StmtTree) (Is
       let w = word-ok keyword.Keep i a.input a.value a.first in
       let b = after (name a.input) _ s j a.rest in
       let n = name-ok a.input b.input b.value b.first in
-      let splits : i.rest ≡ w.lexeme ∷ n.lexeme ∷ b.input.rest = rw (w.splits, n.splits) refl in
+      let splits : i.rest ≡ w.lexeme ∷ n.lexeme ∷ b.input.rest = tail_of w.splits n.splits in
       let same : b.input.statements ≡ i.statements = n.statements ∙ w.statements in
       by_test (sees_sign symbol.OpenParen b.input) (kept_values most room if_here b.value b.input) (kept_cell b.value b.input) (Ok (s, j)) (Quiet i s j) b.rest
       (λ t f. kept-values-found i b.input j b.value w.lexeme n.lexeme s splits w.is n.is same f)

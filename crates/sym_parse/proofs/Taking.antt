@@ -1,6 +1,6 @@
 -- What the end of a parser says of the tokens that it took: single tokens, steps one after another,
 -- and choices.
-use Rattle.std.proofs.Common.{◌≡◌, ℕ, ℤ, Bool, true, false, if◌then◌else◌, List, [], ◌∷◌, ◌++◌, Option, Some, None, Result, Ok, Err, refl, ap, sym, subst, rules}
+use Rattle.std.proofs.Common.{◌≡◌, ℕ, ℤ, Bool, true, false, if◌then◌else◌, List, [], ◌∷◌, ◌++◌, Option, Some, None, Result, Ok, Err, refl, ap, sym, ◌∙◌, subst, rules}
 use Rattle.std.proofs.lemmas.Option.{same_Some}
 use denote.Enum.Bare.{same_true}
 use Rattle.sym_base.specs.declared.tree.name.Name.{Name as NameRecord}
@@ -40,6 +40,10 @@ after (Err stop) f y k e = cc
 pub by_test : {A : Type 0} (b : Bool) (o p : Parsed A) (r : Parsed A) (P : Type 0) → (if b then o else p) ≡ r → (b ≡ true → o ≡ r → P) → (b ≡ false → p ≡ r → P) → P
 by_test true o p r P e f g = f refl e
 by_test false o p r P e f g = g refl e
+
+-- What follows a first lexeme.
+pub tail_of : {l : Lexeme} {x y z : List Lexeme} → x ≡ l ∷ y → y ≡ z → x ≡ l ∷ z
+tail_of {l} p q = p ∙ ap (λ (m : List Lexeme). l ∷ m) q
 
 -- ---- one token
 

@@ -1,8 +1,10 @@
 //! The one script of a text.
-ghost use Rattle.std.specs.Prelude.{◌≡◌, ◌<◌, ◌^◌, length, Ok, Err, true, IfOk, IfErr};
-ghost use Rattle.sym_base.specs.Trees.{script_tree};
+ghost use Rattle.std.specs.Prelude.{◌≡◌, ◌<◌, ◌^◌, length, Err, true, IfOk, IfErr, IsErrOf};
+ghost use Rattle.sym_base.specs.Trees.{ScriptTree, script_tree};
+ghost use Rattle.sym_lex.specs.declared.error.LexFault.{LexFault};
+ghost use Rattle.sym_lex.specs.Rules.{Reads};
 ghost use Rattle.sym_lex.specs.Terminals.{are_sound};
-ghost use Rattle.sym_parse.specs.Answers.{Gives, ended, parsed, place_of_left, refusal};
+ghost use Rattle.sym_parse.specs.Answers.{Gives, IsScriptOf, ended, parsed, place_of_left, refusal};
 ghost use Rattle.sym_parse.specs.Lexemes.{lexemes_of};
 ghost use Rattle.sym_parse.specs.Limits.{most};
 ghost use Rattle.sym_parse.specs.Parsing.Scripts as spec;
@@ -61,6 +63,19 @@ fn parse_tokens(alloc: Global, bytes: &[u8], tokens: &[Token]) -> Result<Script,
     }
 }
 
+#[tactic(auto, unfolding(crate::specs::Answers::parsed))]
+fn parse_text(alloc: Global, bytes: &[u8]) -> Result<Script, ParseErr>
+    requires { length bytes.now < 2 ^ 32 }
+    ensures { Gives result (parsed bytes.now) }
+{
+    let tokens = match lex(alloc, bytes) {
+        Ok(tokens) => tokens,
+        Err(LexErr::Fault(fault)) => return Err(ParseErr::Lex(fault)),
+        Err(LexErr::NoMemory) => return Err(ParseErr::NoMemory),
+    };
+    parse_tokens(alloc, bytes, tokens.as_slice())
+}
+
 /// The script of a text of fewer than 2^32 bytes, by the grammar of docs/LANGUAGE.md.
 ///
 /// # Errors
@@ -69,15 +84,22 @@ fn parse_tokens(alloc: Global, bytes: &[u8], tokens: &[Token]) -> Result<Script,
 /// which reading can't go on, or at the text's end: `Expected` where no sentence of the grammar
 /// goes on so, and `Limit` where the token begins a thing that passes its number. `NoMemory` where
 /// an allocation was refused.
-#[tactic(auto, unfolding(crate::specs::Answers::parsed))]
 pub fn parse(alloc: Global, bytes: &[u8]) -> Result<Script, ParseErr>
     requires { length bytes.now < 2 ^ 32 }
+    ensures accepted { IfOk result (λ s. IsScriptOf bytes.now (script_tree s)) }
+    ensures one {
+        IfOk result (λ s. (other : ScriptTree) → IsScriptOf bytes.now other → other ≡ script_tree s)
+    }
+    ensures complete {
+        (tree : ScriptTree) → IsScriptOf bytes.now tree → IfErr result (λ e. e ≡ ParseErr.NoMemory)
+    }
+    ensures fault {
+        (f : LexFault) → IsErrOf result (ParseErr.Lex f) → Reads 0 bytes.now (Err f)
+    }
+    ensures faults_first {
+        (f : LexFault) → Reads 0 bytes.now (Err f) → Gives result (Err (ParseErr.Lex f))
+    }
     ensures exact { Gives result (parsed bytes.now) }
 {
-    let tokens = match lex(alloc, bytes) {
-        Ok(tokens) => tokens,
-        Err(LexErr::Fault(fault)) => return Err(ParseErr::Lex(fault)),
-        Err(LexErr::NoMemory) => return Err(ParseErr::NoMemory),
-    };
-    parse_tokens(alloc, bytes, tokens.as_slice())
+    parse_text(alloc, bytes)
 }
