@@ -5,3 +5,4 @@ pub mod Syntax
 pub mod Parsing
 pub mod Views
 pub mod Answers
+pub mod Built

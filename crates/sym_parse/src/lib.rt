@@ -2,6 +2,7 @@
 #![tactic(auto)]
 
 mod build;
+mod built;
 mod cursor;
 mod declaration;
 pub mod error;
@@ -12,6 +13,9 @@ mod script;
 mod state;
 mod statement;
 mod stop;
+#[cfg(test)]
+mod tests;
 
+pub use built::is_built;
 pub use error::{LimitKind, ParseErr};
 pub use parser::parse;
