@@ -1,12 +1,14 @@
 -- What `parse` answers is what the relation says.
-use Rattle.std.proofs.Common.{◌≡◌, ◌≢◌, ℕ, ◌≤◌, List, length, Result, Ok, Err, IfOk, IfErr, IsErrOf, refl, ap, sym, ◌∙◌, subst, arith}
+use Rattle.std.proofs.Common.{◌≡◌, ◌≢◌, ℕ, ◌≤◌, List, [], length, Result, Ok, Err, IfOk, IfErr, IsErrOf, refl, ap, sym, ◌∙◌, subst, arith}
 use Rattle.sym_base.specs.declared.tree.script.Script.{Script}
+use Rattle.sym_base.specs.Lawful.{IsLawful}
 use Rattle.sym_base.specs.Trees.{ScriptTree, script_tree}
 use Rattle.sym_lex.specs.declared.error.LexFault.{LexFault}
 use Rattle.sym_lex.specs.declared.token.Token.{Token}
 use Rattle.sym_lex.specs.Rules.{LexResult, Reads}
 use Rattle.sym_lex.specs.Lexing.{lexed}
 use Rattle.sym_lex.proofs.Agreement.{reads-once}
+use Rattle.sym_lex.proofs.Callers.{reads-sound}
 use Rattle.sym_parse.specs.declared.error.LimitKind.{LimitKind}
 use Rattle.sym_parse.specs.declared.error.LimitKind.TheVariants as limit
 use Rattle.sym_parse.specs.declared.error.ParseErr.{ParseErr}
@@ -18,6 +20,8 @@ use Rattle.sym_parse.specs.Limits.{most}
 use Rattle.sym_parse.specs.Steps.{Input, Parsed}
 use Rattle.sym_parse.specs.Parsing.Scripts.{script, start}
 use Rattle.sym_parse.specs.Syntax.Scripts.{IsScript}
+use Rattle.sym_parse.proofs.LawfulExpressions.{lexemes-suit}
+use Rattle.sym_parse.proofs.LawfulScripts.{script-lawful}
 use Rattle.sym_parse.proofs.ScriptsFound.{script-found}
 use Rattle.sym_parse.proofs.ScriptsComplete.{script-reads}
 
@@ -113,3 +117,10 @@ lexical-by text (Err err) g fault e =
 
 pub first-by : (text : List ℕ) (r : Result Script ParseErr) → Gives r (parsed text) → (fault : LexFault) → Reads 0 text (Err fault) → Gives r (Err (answer.Lex fault))
 first-by text r g fault f = subst (λ (o : Result ScriptTree ParseErr). Gives r o) (parsed-fault text fault f) g
+
+pub text-lawful : (text : List ℕ) (tree : ScriptTree) → IsScriptOf text tree → IsLawful tree
+text-lawful text tree is = script-lawful (lexemes_of text is.tokens) tree (lexemes-suit text is.tokens (reads-sound 0 text (Ok is.tokens) is.lexed [] refl)) is.script
+
+pub lawful-by : (text : List ℕ) (r : Result Script ParseErr) → Gives r (parsed text) → IfOk r (λ s. IsLawful (script_tree s))
+lawful-by text (Ok s) g = text-lawful text (script_tree s) (parsed-found text (script_tree s) g)
+lawful-by text (Err e) g = tt

@@ -1,5 +1,6 @@
 //! The one script of a text.
 ghost use Rattle.std.specs.Prelude.{◌≡◌, ◌<◌, ◌^◌, length, Err, true, IfOk, IfErr, IsErrOf};
+ghost use Rattle.sym_base.specs.Lawful.{IsLawful};
 ghost use Rattle.sym_base.specs.Trees.{ScriptTree, script_tree};
 ghost use Rattle.sym_lex.specs.declared.error.LexFault.{LexFault};
 ghost use Rattle.sym_lex.specs.Rules.{Reads};
@@ -93,6 +94,7 @@ pub fn parse(alloc: Global, bytes: &[u8]) -> Result<Script, ParseErr>
     ensures complete {
         (tree : ScriptTree) → IsScriptOf bytes.now tree → IfErr result (λ e. e ≡ ParseErr.NoMemory)
     }
+    ensures lawful { IfOk result (λ s. IsLawful (script_tree s)) }
     ensures fault {
         (f : LexFault) → IsErrOf result (ParseErr.Lex f) → Reads 0 bytes.now (Err f)
     }

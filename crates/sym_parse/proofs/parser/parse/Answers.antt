@@ -1,5 +1,5 @@
 -- The answer is that of the function, and so that of the relation.
-use Rattle.sym_parse.proofs.Answering.{accepted-by, one-by, complete-by, lexical-by, first-by}
+use Rattle.sym_parse.proofs.Answering.{accepted-by, one-by, complete-by, lawful-by, lexical-by, first-by}
 use Rattle.sym_parse.proofs.parser.parse.Goals as goal
 
 pub returns-clause-accepted : goal.returns-clause-accepted
@@ -16,3 +16,6 @@ returns-clause-fault c = lexical-by c.args.bytes.now c.parse_text.result c.parse
 
 pub returns-clause-faults_first : goal.returns-clause-faults_first
 returns-clause-faults_first c = first-by c.args.bytes.now c.parse_text.result c.parse_text.ensures
+
+pub returns-clause-lawful : goal.returns-clause-lawful
+returns-clause-lawful c = lawful-by c.args.bytes.now c.parse_text.result c.parse_text.ensures
