@@ -1,8 +1,8 @@
-pub mod Lexical
-pub mod Terminals
-pub mod Lexing
-pub mod Reading
-pub mod Grammar
-pub mod Scripts
+pub mod Lexemes
+pub mod Limits
+pub mod Steps
+pub mod Syntax
+pub mod Parsing
 pub mod Views
-pub mod TokenLists
+pub mod Answers
+pub mod Built

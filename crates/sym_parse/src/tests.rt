@@ -1,260 +1,344 @@
-use crate::{ParseErr, parse};
-use std::alloc::Global;
+use crate::{LimitKind, ParseErr, is_built, parse};
+use std::alloc::{AllocError, Global};
 use std::process::Abort;
 use std::test::Fail;
-use sym_base::{BinOp, CellDecl, Expr, KindRef, Name, Stmt, Stmts};
+use sym_lex::LexFault;
 
-const COUNTER: &str =
-    "field x: num;\nstate n: int [0..3] = 0;\nupdate {\n  n = n + 1;\n}\nreport {\n  n = n;\n}\n";
-
-const SCRIPTS: [(&str, &str); 14] = [
-    (
-        "one line",
-        "field x: num; state n: int [0..3] = 0; update { n = n + 1; } report { n = n; }",
-    ),
-    (
-        "the fewest blanks",
-        "field x:num;state n:int[0..3]=0;update{n=n+1;}report{n=n;}",
-    ),
-    (
-        "CR LF at the ends",
-        "field x: num;\r\nstate n: int [0..3] = 0;\r\nupdate { n = n + 1;\r\n} report { n = n;\r\n}",
-    ),
-    (
-        "tabs",
-        "field\tx:\tnum;\tstate\tn:\tint\t[0..3]\t=\t0;\tupdate\t{\tn\t=\tn\t+\t1;\t}\treport\t{\tn\t=\tn;\t}",
-    ),
-    (
-        "comments",
-        "# a # b\nfield x: num; # ä { \n state n: int [0..3] = 0; update { n = n + 1; } report { n = n; } # the end",
-    ),
-    (
-        "the field added",
-        "field x: num; state n: int [0..3] = 0; update { n = n + x; } report { n = n; }",
-    ),
-    (
-        "negative numbers",
-        "field x: num; state n: int [-5..-3] = -4; update { n = n + 1; } report { n = n; }",
-    ),
-    (
-        "blanks behind a sign",
-        "field x: num; state n: int [- 5 .. - 3] = - 5; update { n = n + 1; } report { n = n; }",
-    ),
-    (
-        "leading zeros",
-        "field x: num; state n: int [000..00000000000000000003] = 00; update { n = n + 0001; } report { n = n; }",
-    ),
-    (
-        "the largest numbers",
-        "field x: num; state n: int [-1000000000000..1000000000000] = 1000000000000; update { n = n + 1000000000000; } report { n = n; }",
-    ),
-    (
-        "one value",
-        "field x: num; state n: int [7..7] = 7; update { n = n + 1; } report { n = n; }",
-    ),
-    (
-        "a name of 64 bytes",
-        "field x: num; state n: int [0..3] = 0; update { n = n + 1; } report { nnnnnnnnnnnnnnnnnnnnnnnnnnnnnnnnnnnnnnnnnnnnnnnnnnnnnnnnnnnnnnnn = n; }",
-    ),
-    (
-        "a name that begins as a keyword",
-        "field x: num; state n: int [0..3] = 0; update { n = n + 1; } report { fields_ = n; }",
-    ),
-    (
-        "another column name that is the field's",
-        "field x: num; state n: int [0..3] = 0; update { n = n + 1; } report { x = n; }",
-    ),
+/// Texts that no sentence of the grammar begins with, and the place up to which one does.
+const UNEXPECTED: [(&str, u32); 36] = [
+    ("", 0),
+    ("field x num;", 8),
+    ("field x: num;", 13),
+    ("field x: num; # the end", 23),
+    ("state n: words; update { } report { n = n; }", 0),
+    ("enum e { a, } field x: num; state n: words; update { } report { n = n; }", 12),
+    ("field x: num = 0; state n: words; update { } report { n = n; }", 13),
+    ("field x from x: num; state n: words; update { } report { n = n; }", 13),
+    ("field x: num else ; state n: words; update { } report { n = n; }", 18),
+    ("field x: num; group x; update { } report { n = n; }", 23),
+    ("field x: num; state n: hold(num = 0; update { } report { n = n; }", 35),
+    ("field x: num; state n: int [0 3] = 0; update { } report { n = n; }", 30),
+    ("field x: num; state n: words; test t() = 1 == 1; update { } report { n = n; }", 37),
+    ("field x: num; state n: words; update { } report { }", 50),
+    ("field x: num; state n: words; report { n = n; }", 30),
+    ("field x: num; state n: int [0..3] = 0; update { n 1; } report { n = n; }", 50),
+    ("field x: num; state n: int [0..3] = 0; update { n = ; } report { n = n; }", 52),
+    ("field x: num; state n: int [0..3] = 0; update { n = 1 } report { n = n; }", 54),
+    ("field x: num; state n: int [0..3] = 0; update { n = (1; } report { n = n; }", 54),
+    ("field x: num; state n: int [0..3] = 0; update { n = 1 + ; } report { n = n; }", 56),
+    ("field x: num; state n: int [0..3] = 0; update { n = - ; } report { n = n; }", 54),
+    ("field x: num; state n: int [0..3] = 0; update { n = a == b == c; } report { n = n; }", 59),
+    ("field x: num; state n: int [0..3] = 0; update { n = is b; } report { n = n; }", 52),
+    ("field x: num; state n: int [0..3] = 0; update { n = t(); } report { n = n; }", 54),
+    ("field x: num; state n: int [0..3] = 0; update { n = t(1, ); } report { n = n; }", 57),
+    ("field x: num; state n: int [0..3] = 0; update { if n == 1 n = 1; } report { n = n; }", 58),
+    ("field x: num; state n: int [0..3] = 0; update { if n == 1 { } else n = 1; } report { n = n; }", 67),
+    ("field x: num; state n: int [0..3] = 0; update { else { } } report { n = n; }", 48),
+    ("field x: num; state n: int [0..3] = 0; update { keep n; } report { n = n; }", 54),
+    ("field x: num; state n: int [0..3] = 0; update { keep n(1, ); } report { n = n; }", 58),
+    ("field x: num; state n: int [0..3] = 0; update { keep n from 1; } report { n = n; }", 60),
+    ("field x: num; state n: int [0..3] = 0; update { push 1; } report { n = n; }", 53),
+    ("field x: num; state n: int [0..3] = 0; update { let 1 = 1; } report { n = n; }", 52),
+    ("field x: num; state n: int [0..3] = 0; update { let n 1; } report { n = n; }", 54),
+    ("field x: num; state n: int [0..3] = 0; update { clamp } report { n = n; }", 48),
+    ("field x: num; state n: int [0..3] = 0; update { n = 1; } report { n = n; } x", 75),
 ];
 
-const OTHERS: [(&str, &str); 27] = [
-    ("no bytes", ""),
-    ("blanks alone", " \n"),
-    (
-        "a product",
-        "field x: num; state n: int [0..3] = 0; update { n = n * n; } report { n = n; }",
-    ),
-    (
-        "an unknown name",
-        "field x: num; state n: int [0..3] = 0; update { n = n + m; } report { n = n; }",
-    ),
-    (
-        "an assigned name alone",
-        "field x: num; state n: int [0..3] = 0; update { n = m; } report { n = n; }",
-    ),
-    (
-        "a range turned round",
-        "field x: num; state n: int [3..0] = 0; update { n = n + x; } report { n = n; }",
-    ),
-    (
-        "a first value above the range",
-        "field x: num; state n: int [0..3] = 4; update { n = n + 1; } report { n = n; }",
-    ),
-    (
-        "a first value below the range",
-        "field x: num; state n: int [0..3] = -1; update { n = n + 1; } report { n = n; }",
-    ),
-    (
-        "a negative amount",
-        "field x: num; state n: int [0..3] = 0; update { n = n + -1; } report { n = n; }",
-    ),
-    (
-        "the cell added",
-        "field x: num; state n: int [0..3] = 0; update { n = n + n; } report { n = n; }",
-    ),
-    (
-        "a keyword as a name",
-        "field x: num; state n: int [0..3] = 0; update { n = n + 1; } report { clamp = n; }",
-    ),
-    (
-        "a name of 65 bytes",
-        "field x: num; state n: int [0..3] = 0; update { n = n + 1; } report { nnnnnnnnnnnnnnnnnnnnnnnnnnnnnnnnnnnnnnnnnnnnnnnnnnnnnnnnnnnnnnnnn = n; }",
-    ),
-    (
-        "a number above the largest",
-        "field x: num; state n: int [0..3] = 0; update { n = n + 1000000000001; } report { n = n; }",
-    ),
-    (
-        "a digit before a letter",
-        "field x: num; state n: int [0..3] = 0; update { n = n + 1x; } report { n = n; }",
-    ),
-    (
-        "no semicolon",
-        "field x: num state n: int [0..3] = 0; update { n = n + 1; } report { n = n; }",
-    ),
-    (
-        "a token behind the report",
-        "field x: num; state n: int [0..3] = 0; update { n = n + 1; } report { n = n; } ;",
-    ),
-    (
-        "a token before the field",
-        "; field x: num; state n: int [0..3] = 0; update { n = n + 1; } report { n = n; }",
-    ),
-    (
-        "the field's name as the cell's",
-        "field n: num; state n: int [0..3] = 0; update { n = n + 1; } report { n = n; }",
-    ),
-    (
-        "another cell assigned",
-        "field x: num; state n: int [0..3] = 0; update { m = n + 1; } report { n = n; }",
-    ),
-    (
-        "another cell read",
-        "field x: num; state n: int [0..3] = 0; update { n = m + 1; } report { n = n; }",
-    ),
-    (
-        "another cell shown",
-        "field x: num; state n: int [0..3] = 0; update { n = n + 1; } report { n = m; }",
-    ),
-    (
-        "a quote",
-        "field x: num; state n: int [0..3] = 0; update { n = n + 1; } report { n = n; } \"",
-    ),
-    (
-        "a byte that begins no token",
-        "field x: num; state n: int [0..3] = 0; update { n = n + 1; $ } report { n = n; }",
-    ),
-    (
-        "one dot",
-        "field x: num; state n: int [0.3] = 0; update { n = n + 1; } report { n = n; }",
-    ),
-    (
-        "dots apart",
-        "field x: num; state n: int [0. .3] = 0; update { n = n + 1; } report { n = n; }",
-    ),
-    (
-        "two equals signs",
-        "field x: num; state n: int [0..3] = 0; update { n == n + 1; } report { n = n; }",
-    ),
-    (
-        "a comment that hides the rest",
-        "field x: num; state n: int [0..3] = 0; update { n = n + 1; # } report { n = n; }",
-    ),
-];
-
-#[derive(Clone, Copy, Debug, PartialEq, Eq)]
-enum Answer {
-    Script,
-    NotBuilt(u32),
-    NoMemory,
+/// A text of one thing of a kind after another.
+struct Counted {
+    which: LimitKind,
+    before: &'static str,
+    unit: &'static str,
+    middle: &'static str,
+    close: &'static str,
+    after: &'static str,
+    /// How many units still keep the number, and the place of the token that passes it.
+    fits: usize,
+    at: u32,
 }
 
-fn answer_to(alloc: Global, rt: &impl Abort, text: &str) -> Answer {
-    assert!(rt; text.len() < 1000);
+const COUNTED: [Counted; 17] = [
+    Counted {
+        which: LimitKind::Enums,
+        before: "",
+        unit: "enum e { a } ",
+        middle: "",
+        close: "",
+        after: "field x: num; state n: words; update { } report { n = n; }",
+        fits: 16,
+        at: 208,
+    },
+    Counted {
+        which: LimitKind::Labels,
+        before: "enum e { a",
+        unit: ", a",
+        middle: "",
+        close: "",
+        after: " } field x: num; state n: words; update { } report { n = n; }",
+        fits: 31,
+        at: 105,
+    },
+    Counted {
+        which: LimitKind::Fields,
+        before: "field x: num; ",
+        unit: "field x: num; ",
+        middle: "",
+        close: "",
+        after: "state n: words; update { } report { n = n; }",
+        fits: 31,
+        at: 448,
+    },
+    Counted {
+        which: LimitKind::Cells,
+        before: "field x: num; state n: words; ",
+        unit: "state n: words; ",
+        middle: "",
+        close: "",
+        after: "update { } report { n = n; }",
+        fits: 31,
+        at: 526,
+    },
+    Counted {
+        which: LimitKind::Tests,
+        before: "field x: num; state n: words; ",
+        unit: "test t(a: num) = 1 == 1; ",
+        middle: "",
+        close: "",
+        after: "update { } report { n = n; }",
+        fits: 32,
+        at: 830,
+    },
+    Counted {
+        which: LimitKind::Parameters,
+        before: "field x: num; state n: words; test t(a: num",
+        unit: ", a: num",
+        middle: "",
+        close: "",
+        after: ") = 1 == 1; update { } report { n = n; }",
+        fits: 7,
+        at: 101,
+    },
+    Counted {
+        which: LimitKind::Parts,
+        before: "field x: num; state n: hold(num = 0",
+        unit: ", num = 0",
+        middle: "",
+        close: "",
+        after: "); update { } report { n = n; }",
+        fits: 3,
+        at: 64,
+    },
+    Counted {
+        which: LimitKind::Statements,
+        before: "field x: num; state n: int [0..3] = 0; update { ",
+        unit: "n = 1;",
+        middle: "",
+        close: "",
+        after: " } report { n = n; }",
+        fits: 512,
+        at: 3120,
+    },
+    Counted {
+        which: LimitKind::Depth,
+        before: "field x: num; state n: int [0..3] = 0; update { n = ",
+        unit: "(",
+        middle: "1",
+        close: ")",
+        after: "; } report { n = n; }",
+        fits: 64,
+        at: 116,
+    },
+    Counted {
+        which: LimitKind::Depth,
+        before: "field x: num; state n: int [0..3] = 0; update { n = ",
+        unit: "t(",
+        middle: "1",
+        close: ")",
+        after: "; } report { n = n; }",
+        fits: 64,
+        at: 181,
+    },
+    Counted {
+        which: LimitKind::Depth,
+        before: "field x: num; state n: int [0..3] = 0; update { n = ",
+        unit: "- ",
+        middle: "1",
+        close: "",
+        after: "; } report { n = n; }",
+        fits: 64,
+        at: 180,
+    },
+    Counted {
+        which: LimitKind::Depth,
+        before: "field x: num; state n: int [0..3] = 0; update { n = ",
+        unit: "not ",
+        middle: "1",
+        close: "",
+        after: "; } report { n = n; }",
+        fits: 64,
+        at: 308,
+    },
+    Counted {
+        which: LimitKind::Depth,
+        before: "field x: num; state n: int [0..3] = 0; update { ",
+        unit: "if n == 1 { ",
+        middle: "",
+        close: "}",
+        after: " } report { n = n; }",
+        fits: 64,
+        at: 816,
+    },
+    Counted {
+        which: LimitKind::Depth,
+        before: "field x: num; state n: int [0..3] = 0; update { ",
+        unit: "if n == 1 { } else ",
+        middle: "{ }",
+        close: "",
+        after: " } report { n = n; }",
+        fits: 64,
+        at: 1264,
+    },
+    Counted {
+        which: LimitKind::Operands,
+        before: "field x: num; state n: int [0..3] = 0; update { n = n",
+        unit: " + n",
+        middle: "",
+        close: "",
+        after: "; } report { n = n; }",
+        fits: 255,
+        at: 1076,
+    },
+    Counted {
+        which: LimitKind::Operands,
+        before: "field x: num; state n: int [0..3] = 0; update { n = t(n",
+        unit: ", n",
+        middle: "",
+        close: "",
+        after: "); } report { n = n; }",
+        fits: 254,
+        at: 819,
+    },
+    Counted {
+        which: LimitKind::Columns,
+        before: "field x: num; state n: words; update { } report { n = n; ",
+        unit: "n = n; ",
+        middle: "",
+        close: "",
+        after: "}",
+        fits: 31,
+        at: 274,
+    },
+];
+
+/// One script for each part of the language.
+const SCRIPTS: [&str; 9] = [
+    "field x: num;\nstate n: int [0..3] = 0;\nupdate {\n  n = n + 1;\n}\nreport {\n  n = n;\n}\n",
+    "field ts: num;\nfield user: word;\ngroup user;\nstate last: hold(num = 0);\nstate n: int [0..1000] = 0;\nstate done: nums [0..1000];\ntest gap(h: num, t: num) = t - h > 30;\nupdate {\n  if gap(last, ts) { push done n; n = 1; } else { n = n + 1; }\n  keep last(ts);\n}\nreport { sessions = count(done); open = n; longest = max(done); }\n",
+    "enum mode { idle, busy }\nfield x: num;\nstate phase: mode = idle;\nupdate { if phase is idle { phase = busy; } else { phase = idle; } }\nreport { phase = phase; }\n",
+    "enum case { k1, k2, k3, k4, k5, k6 }\nfield x: num;\nstate c: case = k1;\nupdate { if c is k1 or c is k2 or c is k3 or c is k4 { c = k5; } }\nreport { c = c; }\n",
+    "enum mode { idle, busy }\nfield x: num;\nstate phase: mode = idle;\nstate n: int [0..10] = 0;\nupdate { if n < 5 and phase is idle { n = 0; } }\nreport { n = n; }\n",
+    "enum action { view, cart, buy }\nenum stage { fresh, carted }\nfield user from \"User ID\": word;\nfield what from \"Action\": action;\nfield cents from \"Amount\": num else 0;\ngroup user;\nstate at: stage = fresh;\nstate buys: int [0..1000000] = 0;\nstate paid: nums [0..1000000000000];\nupdate {\n  if what is cart { at = carted; }\n  else if what is buy and at is carted { buys = buys + 1; push paid cents; at = fresh; }\n}\nreport { buys = buys; paid = sum(paid); biggest = max(paid); }\n",
+    "field user: word;\ngroup user;\nstate n: int [0..1000000] = 0;\nupdate { n = n + 1; }\nreport { n = n; }\n",
+    "field user: word;\nfield x: num else 0;\ngroup user;\nstate n: int [-1000000000000..1000000000000] = 0;\nstate xs: nums [-1000000000000..1000000000000];\nupdate { n = n + x; push xs x; }\nreport { n = n; big = sum(xs) * 1000000000000; }\n",
+    "field user: word;\ngroup user;\nstate n: int [0..9] = 7;\nstate xs: nums [0..9];\nupdate { }\nreport { q = n / 0; r = n / 2 - 10; m = min(xs); k = max(xs) + 1; }\n",
+];
+
+fn answer_to(alloc: Global, rt: &impl Abort, text: &str) -> Option<ParseErr> {
+    assert!(rt; text.len() < 100_000);
     match parse(alloc, text.as_bytes()) {
-        Ok(_) => Answer::Script,
-        Err(ParseErr::NotBuilt { at }) => Answer::NotBuilt(at),
-        Err(ParseErr::NoMemory) => Answer::NoMemory,
+        Ok(_) => None,
+        Err(err) => Some(err),
     }
 }
 
 #[test]
-fn accepts_every_way_to_write_a_counter(rt: HostRuntime) {
-    for (name, text) in SCRIPTS {
-        assert_eq!(rt; answer_to(rt.alloc(), &rt, text), Answer::Script, "{name}");
-    }
-}
-
-#[test]
-fn refuses_every_other_text(rt: HostRuntime) {
-    for (name, text) in OTHERS {
+fn stops_where_no_sentence_goes_on(rt: HostRuntime) {
+    for (text, at) in UNEXPECTED {
         assert_eq!(rt;
             answer_to(rt.alloc(), &rt, text),
-            Answer::NotBuilt(0),
-            "{name}"
+            Some(ParseErr::Expected { at }),
+            "{text}"
         );
     }
 }
 
-fn is_name(name: &Name, text: &str, at: u32) -> bool {
-    name.text.as_str() == text && name.at == at
-}
-
-fn is_counting(update: &Stmts) -> bool {
-    if let Stmts::More(first, rest) = update
-        && let Stmt::Set(target, Expr::Bin(BinOp::Add, left, right, 56)) = &**first
-        && let Expr::Named(source) = &**left
-        && let Expr::Num(1, 58) = &**right
-        && let Stmts::End = &**rest
-    {
-        is_name(target, "n", 50) && is_name(source, "n", 54)
-    } else {
-        false
+fn counted(alloc: Global, row: &Counted, count: usize) -> Result<String, AllocError> {
+    let mut text = String::from_str(alloc, row.before)?;
+    for _ in 0..count {
+        text.push_str(row.unit)?;
     }
+    text.push_str(row.middle)?;
+    for _ in 0..count {
+        text.push_str(row.close)?;
+    }
+    text.push_str(row.after)?;
+    Ok(text)
 }
 
 #[test]
-fn gives_the_tree_of_a_counter_with_its_places(rt: HostRuntime) -> Result<(), Fail> {
-    let script = parse(rt.alloc(), COUNTER.as_bytes())?;
-    assert!(rt; script.enums.is_empty() && script.group.is_none() && script.tests.is_empty());
-    assert_eq!(rt;
-        (
-            script.fields.len(),
-            script.states.len(),
-            script.columns.len()
-        ),
-        (1, 1, 1)
-    );
-    let field = script.fields.get(0).ok_or("no field")?;
-    assert!(rt; is_name(&field.name, "x", 6) && field.kind == KindRef::Num);
-    assert!(rt; field.header.is_none() && field.default.is_none());
-    let state = script.states.get(0).ok_or("no state")?;
-    let range = CellDecl::Int {
-        lo: 0,
-        hi: 3,
-        first: 0,
-    };
-    assert!(rt; is_name(&state.name, "n", 20) && state.cell == range);
-    assert!(rt; is_counting(&script.update));
-    let column = script.columns.get(0).ok_or("no column")?;
-    assert!(rt; is_name(&column.name, "n", 74));
-    assert!(rt; matches!(&column.value, Expr::Named(shown) if is_name(shown, "n", 78)));
+fn stops_where_a_number_is_passed(rt: HostRuntime) -> Result<(), Fail> {
+    for row in &COUNTED {
+        let most = counted(rt.alloc(), row, row.fits)?;
+        assert_eq!(rt; answer_to(rt.alloc(), &rt, &most), None, "{most}");
+        let more = counted(rt.alloc(), row, row.fits + 1)?;
+        let passed = ParseErr::Limit {
+            at: row.at,
+            which: row.which,
+        };
+        assert_eq!(rt; answer_to(rt.alloc(), &rt, &more), Some(passed), "{more}");
+    }
     Ok(())
 }
 
 #[test]
-fn an_error_shows_its_name(rt: HostRuntime) -> Result<(), Fail> {
-    let not_built = format!(in rt.alloc(); "{}", ParseErr::NotBuilt { at: 0 })?;
-    assert_eq!(rt; not_built.as_str(), "NotBuilt");
+fn an_if_passes_the_number_of_statements_first(rt: HostRuntime) -> Result<(), Fail> {
+    let mut text = String::from_str(rt.alloc(), "field x: num; state n: int [0..3] = 0; update { ")?;
+    for _ in 0..448 {
+        text.push_str("n = 1;")?;
+    }
+    for _ in 0..65 {
+        text.push_str("if n == 1 { ")?;
+    }
+    let passed = ParseErr::Limit {
+        at: 3504,
+        which: LimitKind::Statements,
+    };
+    assert_eq!(rt; answer_to(rt.alloc(), &rt, &text), Some(passed));
+    Ok(())
+}
+
+#[test]
+fn a_lexical_fault_comes_first(rt: HostRuntime) {
+    let behind = answer_to(rt.alloc(), &rt, "field x num; 12x");
+    let fault = LexFault::BadNumber { at: 13 };
+    assert_eq!(rt; behind, Some(ParseErr::Lex(fault)));
+}
+
+#[test]
+fn reads_each_part_of_the_language(rt: HostRuntime) {
+    for text in SCRIPTS {
+        assert_eq!(rt; answer_to(rt.alloc(), &rt, text), None, "{text}");
+    }
+}
+
+#[test]
+fn counters_alone_are_built(rt: HostRuntime) -> Result<(), Fail> {
+    let counter = parse(rt.alloc(), SCRIPTS[0].as_bytes())?;
+    assert!(rt; is_built(&counter));
+    let sessions = parse(rt.alloc(), SCRIPTS[1].as_bytes())?;
+    assert!(rt; !is_built(&sessions));
+    Ok(())
+}
+
+#[test]
+fn the_text_of_an_error_is_its_variant(rt: HostRuntime) -> Result<(), Fail> {
+    let lex = format!(in rt.alloc(); "{}", ParseErr::Lex(LexFault::BadByte { at: 0 }))?;
+    assert_eq!(rt; lex.as_str(), "Lex");
+    let expected = format!(in rt.alloc(); "{}", ParseErr::Expected { at: 0 })?;
+    assert_eq!(rt; expected.as_str(), "Expected");
+    let which = LimitKind::Depth;
+    let limit = format!(in rt.alloc(); "{}", ParseErr::Limit { at: 0, which })?;
+    assert_eq!(rt; limit.as_str(), "Limit");
     let no_memory = format!(in rt.alloc(); "{}", ParseErr::NoMemory)?;
     assert_eq!(rt; no_memory.as_str(), "NoMemory");
     Ok(())

@@ -2,10 +2,8 @@
 use Rattle.std.proofs.Common.{IsSome, sym, ◌≡◌, ℕ, ◌<◌, ◌≤◌, nat_lt, Bool, true, false, cond, ℤ, List, length, Option, None, Some, refl, ap, subst, ◌∙◌, arith}
 use Rattle.std.proofs.lemmas.Bool.Decides.{nat_tests}
 use Rattle.sym_base.specs.Counters.{Counter}
-use Rattle.sym_parse.specs.Grammar.{IsText}
-use Rattle.sym_parse.specs.Reading.{counter_at}
-use Rattle.sym_parse.specs.Scripts.{Agrees}
-use Rattle.sym_parse.proofs.Agreement.{agrees}
+use Rattle.sym_top.specs.CounterTexts.{Agrees, IsCounterText, counter_at}
+use Rattle.sym_top.proofs.CountersFound.{agrees}
 use Rattle.sym_top.specs.declared.status.Status.TheVariants as status
 use Rattle.sym_top.specs.Commands.{Run, options}
 use Rattle.sym_top.specs.Promises.{TellsFiles}
@@ -32,7 +30,7 @@ none_of : {A : Type 0} (o : Option A) → ((x : A) → o ≡ Some x → ⊥) →
 none_of None h = refl
 none_of (Some x) h = absurd (h x refl)
 
-no-counter : (text : List ℕ) → ((c : Counter) → IsText text c → ⊥) → counter_at text ≡ None
+no-counter : (text : List ℕ) → ((c : Counter) → IsCounterText text c → ⊥) → counter_at text ≡ None
 no-counter text h = none_of (counter_at text) (λ c e. h c ((script-agrees text c).1 e))
 
 no-numbers : (field bytes : List ℕ) → ((ns : List ℤ) → IsPlain field bytes ns → ⊥) → numbers_of field bytes ≡ None

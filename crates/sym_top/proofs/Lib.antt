@@ -1,3 +1,4 @@
+pub mod CountersFound
 pub mod Digits
 pub mod FirstLine
 pub mod LineByLine

@@ -3,7 +3,7 @@ use Rattle.std.proofs.Common.{◌≡◌, ℕ, ◌<◌, ◌≤◌, nat_lt, true, 
 use Rattle.std.proofs.lemmas.Bool.Decides.{nat_tests}
 use Rattle.std.specs.declared.vec.Vec.{Vec}
 use Rattle.sym_base.specs.Counters.{Counter, counter_tree}
-use Rattle.sym_parse.specs.Grammar.{IsText}
+use Rattle.sym_top.specs.CounterTexts.{IsCounterText}
 use Rattle.sym_check.specs.declared.checked.Checked.{Checked}
 use Rattle.sym_check.specs.CheckedScripts.{checked_tree}
 use Rattle.sym_top.specs.declared.status.Status.{Status}
@@ -89,6 +89,6 @@ pub rose-later : (first mid last : ℕ) → first ≤ mid → Rose mid last → 
 rose-later first mid last h r = omega arith
 
 -- A text that is refused as no script is none.
-pub script-none : (o : Option (List ℕ)) → IfSome o (λ text. ScriptGives text (Err Script)) → IfSome o (λ text. (length text ≤ script_max) × ((c : Counter) → IsText text c → ⊥))
+pub script-none : (o : Option (List ℕ)) → IfSome o (λ text. ScriptGives text (Err Script)) → IfSome o (λ text. (length text ≤ script_max) × ((c : Counter) → IsCounterText text c → ⊥))
 script-none None h = tt
 script-none (Some text) h = (h.0, λ c is. let t = (script-agrees text c).0 is in cc)

@@ -1,7 +1,7 @@
 -- The end of a run, as the function that the code is proved against; None where the store doesn't tell what decides.
 use Rattle.std.specs.Prelude.{ℕ, List, length, cond, nat_lt, Option, None, Some, ℤ}
 use Rattle.sym_base.specs.Counters.{Counter}
-use Rattle.sym_parse.specs.Reading.{counter_at}
+use Rattle.sym_top.specs.CounterTexts.{counter_at}
 use Rattle.sym_top.specs.declared.status.Status.TheVariants as status
 use Rattle.sym_top.specs.Commands.{Run, options}
 use Rattle.sym_top.specs.Ends.{End, Files, script_max, file_max, refused, report_of}

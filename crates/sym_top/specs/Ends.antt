@@ -3,9 +3,10 @@
 use Rattle.std.specs.Prelude.{◌≡◌, ℕ, ◌<◌, ◌≤◌, List, [], length, cond, map, ◌∷◌, Option, None, Some, ℤ}
 use Rattle.sym_base.specs.declared.values.value.Key.{Key}
 use Rattle.sym_base.specs.declared.values.state.Outcome.{Outcome}
+use Rattle.sym_base.specs.declared.limits.TheConstants as limit
 use Rattle.sym_base.specs.Counters.{Counter}
 use Rattle.sym_check.specs.Steps.{groups}
-use Rattle.sym_parse.specs.Grammar.{IsText}
+use Rattle.sym_top.specs.CounterTexts.{IsCounterText}
 use Rattle.sym_top.specs.declared.status.Status.{Status}
 use Rattle.sym_top.specs.declared.status.Status.TheVariants as status
 use Rattle.sym_top.specs.Commands.{Run, options}
@@ -18,10 +19,10 @@ pub record End : Type 0 where
 
 -- The most bytes of a script and of a file.
 abbrev pub script_max : ℕ
-script_max = 65536
+script_max = limit.SCRIPT_MAX
 
 abbrev pub file_max : ℕ
-file_max = 67108864
+file_max = limit.FILE_MAX_DEFAULT
 
 -- A run that is refused writes nothing.
 abbrev pub refused : Status → End
@@ -52,13 +53,13 @@ pub record HasScript (words : List (List ℕ)) (holds : Files) (run : Run) (c : 
   pub asked : options words ≡ Some run
   pub held : holds run.script ≡ Some text
   pub small : length text ≤ script_max
-  pub script : IsText text c
+  pub script : IsCounterText text c
 
 -- The end of a run. The causes stand in the order in which they are tried.
 pub data IsEnd (words : List (List ℕ)) (holds : Files) : End → Type 0 where
   usage : options words ≡ None → IsEnd words holds (refused status.Usage)
   large_script : (run : Run) (text : List ℕ) → options words ≡ Some run → holds run.script ≡ Some text → script_max < length text → IsEnd words holds (refused status.TooLarge)
-  no_script : (run : Run) (text : List ℕ) → options words ≡ Some run → holds run.script ≡ Some text → length text ≤ script_max → ((c : Counter) → IsText text c → ⊥) → IsEnd words holds (refused status.Script)
+  no_script : (run : Run) (text : List ℕ) → options words ≡ Some run → holds run.script ≡ Some text → length text ≤ script_max → ((c : Counter) → IsCounterText text c → ⊥) → IsEnd words holds (refused status.Script)
   large_file : (run : Run) (c : Counter) (bytes : List ℕ) → HasScript words holds run c → holds run.file ≡ Some bytes → file_max < length bytes → IsEnd words holds (refused status.TooLarge)
   other_file : (run : Run) (c : Counter) (bytes : List ℕ) → HasScript words holds run c → holds run.file ≡ Some bytes → length bytes ≤ file_max → ((ns : List ℤ) → IsPlain c.field.text bytes ns → ⊥) → IsEnd words holds (refused status.Input)
   plain_file : (run : Run) (c : Counter) (bytes : List ℕ) (ns : List ℤ) → HasScript words holds run c → holds run.file ≡ Some bytes → length bytes ≤ file_max → IsPlain c.field.text bytes ns → IsEnd words holds (report_of c ns)

@@ -1,6 +1,7 @@
 pub mod Appending
 pub mod Commands
 pub mod EndReading
+pub mod CounterTexts
 pub mod Ends
 pub mod Folds
 pub mod Loading

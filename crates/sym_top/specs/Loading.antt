@@ -6,7 +6,7 @@ use Rattle.sym_base.specs.declared.edge.read.ReadErr.TheVariants as read
 use Rattle.sym_base.specs.Counters.{Counter, counter_tree}
 use Rattle.sym_check.specs.declared.checked.Checked.{Checked}
 use Rattle.sym_check.specs.CheckedScripts.{checked_tree}
-use Rattle.sym_parse.specs.Reading.{counter_at}
+use Rattle.sym_top.specs.CounterTexts.{counter_at}
 use Rattle.sym_top.specs.declared.compute.Report.{Report}
 use Rattle.sym_top.specs.declared.status.Status.{Status}
 use Rattle.sym_top.specs.declared.status.Status.TheVariants.{Done, Faulted, Script, Input, ReadFault, WriteFault, TooLarge, NoMemory}

@@ -2,7 +2,7 @@
 use Rattle.std.specs.Prelude.{◌≡◌, ℕ, ◌≤◌, List, Option, None, Some, IfSome, IsSome, ◌⊎◌, length}
 use Rattle.sym_base.specs.Counts.{Rose}
 use Rattle.sym_base.specs.Counters.{Counter}
-use Rattle.sym_parse.specs.Grammar.{IsText}
+use Rattle.sym_top.specs.CounterTexts.{IsCounterText}
 use Rattle.sym_top.specs.declared.status.Status.{Status}
 use Rattle.sym_top.specs.declared.status.Status.TheVariants.{Done, Faulted, ReadFault, WriteFault, NoMemory}
 use Rattle.sym_top.specs.Commands.{Run}
@@ -32,7 +32,7 @@ IsReported _ = ⊥
 -- Where the store tells the script, it is one that may be run.
 abbrev pub MayRun : Option (List ℕ) → Type 0
 MayRun None = Unit {0}
-MayRun (Some text) = (length text ≤ script_max) × ((c : Counter) × IsText text c)
+MayRun (Some text) = (length text ≤ script_max) × ((c : Counter) × IsCounterText text c)
 
 -- A read failed: that of the script, or that of the file once the script was accepted.
 abbrev pub ReadFailed : Files → (List ℕ → ℕ) → (List ℕ → ℕ) → Option Run → Type 0
@@ -55,7 +55,7 @@ IsWritten report result = result ≡ report
 -- Where the store tells the script, it is no script that may be run, and isn't too large to tell.
 abbrev pub ScriptRefused : Files → Option Run → Type 0
 ScriptRefused holds None = ⊥
-ScriptRefused holds (Some run) = IfSome (holds run.script) (λ text. (length text ≤ script_max) × ((c : Counter) → IsText text c → ⊥))
+ScriptRefused holds (Some run) = IfSome (holds run.script) (λ text. (length text ≤ script_max) × ((c : Counter) → IsCounterText text c → ⊥))
 
 -- The store tells both files that the words name.
 abbrev pub TellsFiles : Files → Option Run → Type 0

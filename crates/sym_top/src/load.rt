@@ -6,15 +6,9 @@ ghost use Rattle.sym_top.specs.Loading.{ScriptGives, FileGives, read_status_of, 
 
 use crate::status::Status;
 use std::alloc::Global;
-use sym_base::{ReadErr, Store, read_all};
+use sym_base::{FILE_MAX_DEFAULT, ReadErr, SCRIPT_MAX, Store, read_all};
 use sym_check::{CheckErr, Checked, check};
-use sym_parse::{ParseErr, parse};
-
-// The most bytes of a script.
-const SCRIPT_MAX: u64 = 65_536;
-
-// The most bytes of a file of records.
-const RECORDS_MAX: u64 = 67_108_864;
+use sym_parse::{ParseErr, is_built, parse};
 
 // What a failed read comes to.
 fn read_status(error: ReadErr) -> Status
@@ -36,9 +30,14 @@ fn accept(alloc: Global, text: &[u8]) -> Result<Checked, Status>
 {
     let script = match parse(alloc, text) {
         Ok(script) => script,
-        Err(ParseErr::NotBuilt { .. }) => return Err(Status::Script),
+        Err(ParseErr::Lex(_) | ParseErr::Expected { .. } | ParseErr::Limit { .. }) => {
+            return Err(Status::Script);
+        }
         Err(ParseErr::NoMemory) => return Err(Status::NoMemory),
     };
+    if !is_built(&script) {
+        return Err(Status::Script);
+    }
     match check(alloc, script) {
         Ok(checked) => Ok(checked),
         Err(CheckErr::NoMemory) => Err(Status::NoMemory),
@@ -79,7 +78,7 @@ pub fn load_file<F: Store>(alloc: Global, files: &mut F, name: &str) -> Result<V
     ensures same { F.holds files.new ≡ F.holds files.old }
     ensures later { (other : List ℕ) → F.faults files.old other ≤ F.faults files.new other }
 {
-    match read_all(alloc, files, name, RECORDS_MAX) {
+    match read_all(alloc, files, name, FILE_MAX_DEFAULT) {
         Ok(bytes) => Ok(bytes),
         Err(error) => Err(read_status(error)),
     }

@@ -1,0 +1,19 @@
+-- The limit of each kind.
+use Rattle.std.specs.Prelude.{ℕ}
+use Rattle.sym_base.specs.Limits.{max_enums, max_labels, max_fields, max_cells, max_tests, max_parameters, max_parts, max_statements, max_depth, max_operands, max_columns}
+use Rattle.sym_parse.specs.declared.error.LimitKind.{LimitKind}
+use Rattle.sym_parse.specs.declared.error.LimitKind.TheVariants as limit
+
+-- The most of each kind.
+abbrev pub most : LimitKind → ℕ
+most limit.Enums = max_enums
+most limit.Labels = max_labels
+most limit.Fields = max_fields
+most limit.Cells = max_cells
+most limit.Tests = max_tests
+most limit.Parameters = max_parameters
+most limit.Parts = max_parts
+most limit.Statements = max_statements
+most limit.Depth = max_depth
+most limit.Operands = max_operands
+most limit.Columns = max_columns
