@@ -16,3 +16,4 @@ pub mod StatementsComplete
 pub mod DeclarationsComplete
 pub mod ScriptsComplete
 pub mod Answering
+pub mod Printout

@@ -5,3 +5,5 @@ pub mod Syntax
 pub mod Parsing
 pub mod Views
 pub mod Answers
+pub mod Bare
+pub mod Printed

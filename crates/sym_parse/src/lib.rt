@@ -1,4 +1,4 @@
-//! Reading a script: from the bytes of its text to its syntax tree.
+//! Reading a script, from the bytes of its text to its syntax tree, and printing it back.
 #![tactic(auto)]
 
 mod build;
@@ -8,6 +8,7 @@ pub mod error;
 mod expression;
 mod operators;
 mod parser;
+mod printing;
 mod script;
 mod state;
 mod statement;
@@ -15,3 +16,4 @@ mod stop;
 
 pub use error::{LimitKind, ParseErr};
 pub use parser::parse;
+pub use printing::script::print;
