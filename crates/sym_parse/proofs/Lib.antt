@@ -19,3 +19,4 @@ pub mod Answering
 pub mod BuiltTrees
 pub mod LawfulExpressions
 pub mod LawfulScripts
+pub mod Printout

@@ -1,4 +1,4 @@
-//! Reading a script: from the bytes of its text to its syntax tree.
+//! Reading a script, from the bytes of its text to its syntax tree, and printing it back.
 #![tactic(auto)]
 
 mod build;
@@ -9,6 +9,7 @@ pub mod error;
 mod expression;
 mod operators;
 mod parser;
+mod printing;
 mod script;
 mod state;
 mod statement;
@@ -19,3 +20,4 @@ mod tests;
 pub use built::is_built;
 pub use error::{LimitKind, ParseErr};
 pub use parser::parse;
+pub use printing::script::print;

@@ -1,0 +1,11 @@
+pub mod Appended
+pub mod DeclarationsBack
+pub mod ExpressionsBack
+pub mod Pieces
+pub mod Placing
+pub mod PrintedBack
+pub mod Separated
+pub mod Spelling
+pub mod StatementsBack
+pub mod Tokenized
+pub mod Unplaced

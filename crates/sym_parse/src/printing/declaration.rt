@@ -1,0 +1,193 @@
+//! Declarations and columns.
+ghost use Rattle.std.specs.Prelude.{◌≡◌, ◌++◌, OnOk};
+ghost use Rattle.sym_base.specs.Trees.{test_tree, column_tree};
+ghost use Rattle.sym_parse.specs.Printed.{cell_text, column_text, default_text, enum_text, field_text, group_text, header_text, kind_text, literal_text, param_text, part_text, range_text, state_text, test_text};
+
+use crate::printing::expression::print_expr;
+use crate::printing::item::{Item, print_listed};
+use crate::printing::token::{put, put_number, put_text};
+use sym_base::{
+    CellDecl, ColumnDecl, EnumDecl, FieldDecl, KindRef, Literal, Name, NoMemory, Param, Part,
+    StateDecl, TestDecl, Text,
+};
+
+fn print_kind(out: &mut Vec<u8>, kind: &KindRef) -> Result<(), NoMemory>
+    ensures { OnOk result (out.new.items ≡ out.old.items ++ kind_text kind.now) }
+{
+    match kind {
+        KindRef::Num => put(out, b"num"),
+        KindRef::Word => put(out, b"word"),
+        KindRef::Named(name) => name.print(out),
+    }
+}
+
+fn print_literal(out: &mut Vec<u8>, literal: &Literal) -> Result<(), NoMemory>
+    ensures { OnOk result (out.new.items ≡ out.old.items ++ literal_text literal.now) }
+{
+    match literal {
+        Literal::Num { value, at: _ } => put_number(out, *value),
+        Literal::Text { text, at: _ } => put_text(out, text),
+        Literal::Named(name) => name.print(out),
+    }
+}
+
+impl Item for EnumDecl {
+    ghost text = { enum_text };
+
+    fn print(&self, out: &mut Vec<u8>) -> Result<(), NoMemory> {
+        put(out, b"enum ")?;
+        self.name.print(out)?;
+        put(out, b" { ")?;
+        print_listed(out, self.labels.as_slice())?;
+        put(out, b" }\n")
+    }
+}
+
+fn print_header(out: &mut Vec<u8>, header: &Option<Text>) -> Result<(), NoMemory>
+    ensures { OnOk result (out.new.items ≡ out.old.items ++ header_text header.now) }
+{
+    match header {
+        None => Ok(()),
+        Some(text) => {
+            put(out, b" from ")?;
+            put_text(out, text)
+        }
+    }
+}
+
+fn print_default(out: &mut Vec<u8>, default: &Option<Literal>) -> Result<(), NoMemory>
+    ensures { OnOk result (out.new.items ≡ out.old.items ++ default_text default.now) }
+{
+    match default {
+        None => Ok(()),
+        Some(literal) => {
+            put(out, b" else ")?;
+            print_literal(out, literal)
+        }
+    }
+}
+
+impl Item for FieldDecl {
+    ghost text = { field_text };
+
+    fn print(&self, out: &mut Vec<u8>) -> Result<(), NoMemory> {
+        put(out, b"field ")?;
+        self.name.print(out)?;
+        print_header(out, &self.header)?;
+        put(out, b": ")?;
+        print_kind(out, &self.kind)?;
+        print_default(out, &self.default)?;
+        put(out, b";\n")
+    }
+}
+
+/// Appends the line of the field whose values tell groups apart, where there is one.
+pub fn print_group(out: &mut Vec<u8>, group: &Option<Name>) -> Result<(), NoMemory>
+    ensures { OnOk result (out.new.items ≡ out.old.items ++ group_text group.now) }
+{
+    match group {
+        None => Ok(()),
+        Some(name) => {
+            put(out, b"group ")?;
+            name.print(out)?;
+            put(out, b";\n")
+        }
+    }
+}
+
+#[tactic(auto, unfolding(crate::specs::Printed::range_text))]
+fn print_range(out: &mut Vec<u8>, lo: i64, hi: i64) -> Result<(), NoMemory>
+    ensures { OnOk result (out.new.items ≡ out.old.items ++ range_text lo hi) }
+{
+    put(out, b"[")?;
+    put_number(out, lo)?;
+    put(out, b"..")?;
+    put_number(out, hi)?;
+    put(out, b"]")
+}
+
+impl Item for Part {
+    ghost text = { part_text };
+
+    fn print(&self, out: &mut Vec<u8>) -> Result<(), NoMemory> {
+        print_kind(out, &self.kind)?;
+        put(out, b" = ")?;
+        print_literal(out, &self.first)
+    }
+}
+
+fn print_cell(out: &mut Vec<u8>, cell: &CellDecl) -> Result<(), NoMemory>
+    ensures { OnOk result (out.new.items ≡ out.old.items ++ cell_text cell.now) }
+{
+    match cell {
+        CellDecl::Int { lo, hi, first } => {
+            put(out, b"int ")?;
+            print_range(out, *lo, *hi)?;
+            put(out, b" = ")?;
+            put_number(out, *first)
+        }
+        CellDecl::Nums { lo, hi } => {
+            put(out, b"nums ")?;
+            print_range(out, *lo, *hi)
+        }
+        CellDecl::Words => put(out, b"words"),
+        CellDecl::Hold(parts) => {
+            put(out, b"hold(")?;
+            print_listed(out, parts.as_slice())?;
+            put(out, b")")
+        }
+        CellDecl::Enum { of, first } => {
+            of.print(out)?;
+            put(out, b" = ")?;
+            first.print(out)
+        }
+    }
+}
+
+impl Item for StateDecl {
+    ghost text = { state_text };
+
+    fn print(&self, out: &mut Vec<u8>) -> Result<(), NoMemory> {
+        put(out, b"state ")?;
+        self.name.print(out)?;
+        put(out, b": ")?;
+        print_cell(out, &self.cell)?;
+        put(out, b";\n")
+    }
+}
+
+impl Item for Param {
+    ghost text = { param_text };
+
+    fn print(&self, out: &mut Vec<u8>) -> Result<(), NoMemory> {
+        self.name.print(out)?;
+        put(out, b": ")?;
+        print_kind(out, &self.kind)
+    }
+}
+
+impl Item for TestDecl {
+    ghost text = { λ d. test_text (test_tree d) };
+
+    fn print(&self, out: &mut Vec<u8>) -> Result<(), NoMemory> {
+        put(out, b"test ")?;
+        self.name.print(out)?;
+        put(out, b"(")?;
+        print_listed(out, self.params.as_slice())?;
+        put(out, b") = ")?;
+        print_expr(out, &self.body)?;
+        put(out, b";\n")
+    }
+}
+
+impl Item for ColumnDecl {
+    ghost text = { λ d. column_text (column_tree d) };
+
+    fn print(&self, out: &mut Vec<u8>) -> Result<(), NoMemory> {
+        put(out, b"  ")?;
+        self.name.print(out)?;
+        put(out, b" = ")?;
+        print_expr(out, &self.value)?;
+        put(out, b";\n")
+    }
+}
