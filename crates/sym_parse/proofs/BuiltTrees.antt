@@ -191,25 +191,27 @@ counter-of f s u c h =
     let states : s ≡ record { name = s.name; cell = cell.Int r.lo r.hi r.first } = ap (λ m. record { name = s.name; cell = m }) r.is in
     let updates : u ≡ Then (Set w.target (Bin Add (Named w.sum.source) (amount_tree w.sum.amount) w.sum.plus)) Done =
     w.is ∙ ap (λ (m : ExprTree). Then (Set w.target m) Done) w.sum.is in
-    let columns : c ≡ record { name = c.name; value = Named x.name } = ap (λ m. record { name = c.name; value = m }) x.is in
-    (k, record {
-      lawful = record {
-        lo_number = r.lo_number;
-        hi_number = r.hi_number;
-        above = r.above;
-        below = r.below;
-        other = λ e. not-true (same_name f.name s.name) p3.0 ((name-Decides f.name s.name).1 e);
-        target_cell = w.same;
-        source_cell = w.sum.same;
-        shown_cell = x.same;
-        amount = w.sum.lawful;
-      };
-      same =
-          ap (λ m. record { enums = []; fields = m ∷ []; group = None; states = s ∷ []; tests = []; update = u; columns = c ∷ [] }) fields
-          ∙ ap (λ m. record (counter_tree k) { states = m ∷ []; update = u; columns = c ∷ [] }) states
-          ∙ ap (λ m. record (counter_tree k) { update = m; columns = c ∷ [] }) updates
-          ∙ ap (λ m. record (counter_tree k) { columns = m ∷ [] }) columns;
-    })
+    let columns : c ≡ record { name = c.name; value = Named x.name } = ap (λ m. record { name = c.name; value = m }) x.is in (
+      k,
+      record {
+        lawful = record {
+          lo_number = r.lo_number;
+          hi_number = r.hi_number;
+          above = r.above;
+          below = r.below;
+          other = λ e. not-true (same_name f.name s.name) p3.0 ((name-Decides f.name s.name).1 e);
+          target_cell = w.same;
+          source_cell = w.sum.same;
+          shown_cell = x.same;
+          amount = w.sum.lawful;
+        };
+        same =
+            ap (λ m. record { enums = []; fields = m ∷ []; group = None; states = s ∷ []; tests = []; update = u; columns = c ∷ [] }) fields
+            ∙ ap (λ m. record (counter_tree k) { states = m ∷ []; update = u; columns = c ∷ [] }) states
+            ∙ ap (λ m. record (counter_tree k) { update = m; columns = c ∷ [] }) updates
+            ∙ ap (λ m. record (counter_tree k) { columns = m ∷ [] }) columns;
+      },
+    )
 
 only-is : {A : Type 0} (xs : List A) (o : Option A) → only xs ≡ o → (x : A) → o ≡ Some x → xs ≡ x ∷ []
 only-is [] o e x s = cc
@@ -276,6 +278,7 @@ counter-passes k h =
     ((name-Decides k.shown k.cell).1 h.shown_cell)))
 
 pub built-Decides : (tree : ScriptTree) → (is_built tree ≡ true) ↔ ((k : Counter) × IsCounterTree k tree)
-built-Decides tree =
-    (λ h. tree-built tree h,
-     λ k. ap is_built k.1.same ∙ counter-passes k.0 k.1.lawful)
+built-Decides tree = (
+  λ h. tree-built tree h,
+  λ k. ap is_built k.1.same ∙ counter-passes k.0 k.1.lawful,
+)

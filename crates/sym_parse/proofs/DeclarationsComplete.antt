@@ -157,8 +157,15 @@ field-reads _ rest _ st (syntax.declared {n} {hs} {ks} {ds} {header = h} {k} {de
     let after : List Lexeme = ks ++ (ds ++ end ∷ rest) in
     let headed : header (at tail st 0) ≡ Ok (h, at (colon ∷ after) st 0) =
     ap (λ (m : List Lexeme). header (at m st 0)) apart ∙ header-reads hs (colon ∷ after) h st hp (no-word-as keyword.From colon after (Sign symbol.Colon) c refl) in
-    rw (word-goes w (l ∷ tail) st 0 keyword.Field a, name-goes l tail st 0 n b, headed, sign-goes colon after st 0 symbol.Colon c,
-        kind-reads ks (ds ++ end ∷ rest) k st kp, default-reads ds (end ∷ rest) d st dp (no-word-as keyword.Else end rest (Sign symbol.Semicolon) z refl), sign-goes end rest st 0 symbol.Semicolon z) refl
+    rw (
+      word-goes w (l ∷ tail) st 0 keyword.Field a,
+      name-goes l tail st 0 n b,
+      headed,
+      sign-goes colon after st 0 symbol.Colon c,
+      kind-reads ks (ds ++ end ∷ rest) k st kp,
+      default-reads ds (end ∷ rest) d st dp (no-word-as keyword.Else end rest (Sign symbol.Semicolon) z refl),
+      sign-goes end rest st 0 symbol.Semicolon z,
+    ) refl
 
 range-reads : Reads range IsRange
 unfolding range
@@ -260,9 +267,16 @@ module _ (most : LimitKind → ℕ) where
       let inside : params most (at tail st 0) ≡ Ok (ps, at (close ∷ equals ∷ after) st 0) =
       ap (λ (m : List Lexeme). params most (at m st 0)) apart
       ∙ separated-reads limit.Parameters sees_name param IsParam param-reads (most limit.Parameters) xs (close ∷ equals ∷ after) ps st p (no-sign-as symbol.Comma close (equals ∷ after) (Sign symbol.CloseParen) d refl) in
-      rw (word-goes w (l ∷ begin ∷ tail) st 0 keyword.Test a, name-goes l (begin ∷ tail) st 0 n b, sign-goes begin tail st 0 symbol.OpenParen c, inside,
-          sign-goes close (equals ∷ after) st 0 symbol.CloseParen d, sign-goes equals after st 0 symbol.Assign e,
-          expression-reads most (most limit.Depth) ys (end ∷ rest) body st 0 q (semicolon-loose end rest z), sign-goes end rest st 0 symbol.Semicolon z) refl
+      rw (
+        word-goes w (l ∷ begin ∷ tail) st 0 keyword.Test a,
+        name-goes l (begin ∷ tail) st 0 n b,
+        sign-goes begin tail st 0 symbol.OpenParen c,
+        inside,
+        sign-goes close (equals ∷ after) st 0 symbol.CloseParen d,
+        sign-goes equals after st 0 symbol.Assign e,
+        expression-reads most (most limit.Depth) ys (end ∷ rest) body st 0 q (semicolon-loose end rest z),
+        sign-goes end rest st 0 symbol.Semicolon z,
+      ) refl
 
   pub column-reads : Reads (column most) (IsColumn most)
   unfolding column

@@ -269,9 +269,14 @@ module _ (most : LimitKind → ℕ) (room : ℕ) (deeper : Line → Parser ExprT
       ap (λ (m : List Lexeme). values (deeper Whole) (at m st (op + 1))) apart
       ∙ values-reads (most limit.Operands) (D Whole) (deeper Whole) (below Whole) xs (end ∷ rest) es st (op + 1) v (ends-closed end rest z) (omega (arith, few)) in
       let counted : op + 1 + operands_count es ≡ op + operand_count (Call n es) = omega arith in
-      rw (operand-goes (most limit.Operands) (l ∷ begin ∷ tail) st op (omega (arith, few)), name-goes l (begin ∷ tail) st (op + 1) n is,
-          sees-sign begin tail st (op + 1) symbol.OpenParen b, opening-goes room begin tail st (op + 1) (some_in xs es v), inside,
-          sign-goes end rest st (op + 1 + operands_count es) symbol.CloseParen z)
+      rw (
+        operand-goes (most limit.Operands) (l ∷ begin ∷ tail) st op (omega (arith, few)),
+        name-goes l (begin ∷ tail) st (op + 1) n is,
+        sees-sign begin tail st (op + 1) symbol.OpenParen b,
+        opening-goes room begin tail st (op + 1) (some_in xs es v),
+        inside,
+        sign-goes end rest st (op + 1 + operands_count es) symbol.CloseParen z,
+      )
       (ap (λ (m : ℕ). Ok (Call n es, at rest st m)) counted)
 
   parens-reads : (begin end : Lexeme) (xs rest : List Lexeme) (e : ExprTree) (st op : ℕ) → IsSign symbol.OpenParen begin → D Whole xs e → IsSign symbol.CloseParen end →

@@ -23,4 +23,3 @@ op-sign ops (Some (Number n)) s e = cc
 op-sign ops (Some (Str text)) s e = cc
 op-sign ops (Some (Word k)) s e = cc
 op-sign ops (Some (Sign other)) s e = ap (λ w. ops (Sign w)) (same_Some other s e)
-

@@ -110,17 +110,29 @@ module _ (most : LimitKind → ℕ) (room : ℕ) (if_here : Parser StmtTree) (Is
       let tail : List Lexeme = (xs ++ close ∷ end ∷ []) ++ rest in
       let kept : values (expression most room) (at tail st 0) ≡ Ok (es, at (close ∷ end ∷ rest) st 0) =
       ap (λ (m : List Lexeme). values (expression most room) (at m st 0)) (append_assoc xs (close ∷ end ∷ []) rest) ∙ kept-reads most room xs (close ∷ end ∷ rest) es st v (ends-closed close (end ∷ rest) d) in
-      rw (word-goes w (l ∷ begin ∷ tail) st 0 keyword.Keep a, name-goes l (begin ∷ tail) st 0 n b, sees-sign begin tail st 0 symbol.OpenParen c, sign-goes begin tail st 0 symbol.OpenParen c, kept,
-          sign-goes close (end ∷ rest) st 0 symbol.CloseParen d, sign-goes end rest st 0 symbol.Semicolon z) refl
+      rw (
+        word-goes w (l ∷ begin ∷ tail) st 0 keyword.Keep a,
+        name-goes l (begin ∷ tail) st 0 n b,
+        sees-sign begin tail st 0 symbol.OpenParen c,
+        sign-goes begin tail st 0 symbol.OpenParen c,
+        kept,
+        sign-goes close (end ∷ rest) st 0 symbol.CloseParen d,
+        sign-goes end rest st 0 symbol.Semicolon z,
+      ) refl
 
   keep-from-reads : (w l from m end : Lexeme) (rest : List Lexeme) (n source : NameRecord) (st : ℕ) →
       IsKeyword keyword.Keep w → IsName n l → IsKeyword keyword.From from → IsName source m → IsSign symbol.Semicolon end →
       keep most room if_here (at (w ∷ l ∷ from ∷ m ∷ end ∷ rest) st 0) ≡ Ok (KeepFrom n source, at rest st 0)
   unfolding keep kept_cell
   keep-from-reads w l from m end rest n source st a b c d z =
-      rw (word-goes w (l ∷ from ∷ m ∷ end ∷ rest) st 0 keyword.Keep a, name-goes l (from ∷ m ∷ end ∷ rest) st 0 n b,
-          sees-sign-as from (m ∷ end ∷ rest) st 0 symbol.OpenParen (Word keyword.From) c, word-goes from (m ∷ end ∷ rest) st 0 keyword.From c,
-          name-goes m (end ∷ rest) st 0 source d, sign-goes end rest st 0 symbol.Semicolon z) refl
+      rw (
+        word-goes w (l ∷ from ∷ m ∷ end ∷ rest) st 0 keyword.Keep a,
+        name-goes l (from ∷ m ∷ end ∷ rest) st 0 n b,
+        sees-sign-as from (m ∷ end ∷ rest) st 0 symbol.OpenParen (Word keyword.From) c,
+        word-goes from (m ∷ end ∷ rest) st 0 keyword.From c,
+        name-goes m (end ∷ rest) st 0 source d,
+        sign-goes end rest st 0 symbol.Semicolon z,
+      ) refl
 
   -- A statement that begins with this terminal and is no `if` counts one.
   simple-first : (l : Lexeme) (ls : List Lexeme) (st : ℕ) (t : Terminal) → l.terminal ≡ t → is_this_word keyword.If (word_of (Some t)) ≡ false → st < most limit.Statements →

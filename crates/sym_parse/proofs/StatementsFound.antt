@@ -100,7 +100,7 @@ module _ (most : LimitKind → ℕ) (room : ℕ) where
       let b = after (further (expression most room) (values_from (expression most room) n) a.input) _ es k a.rest in
       quiet_along Values i b.input k (More a.value b.value) es b.rest
       (further-kept (values_from (expression most room) n) i a.input b.input a.value b.value (λ m r q f. kept-from n m q r f)
-       (expression-found most room i a.input a.value a.first) b.first)
+      (expression-found most room i a.input a.value a.first) b.first)
 
   kept-found : (i k : Input) (es : ExprsTree) → values (expression most room) i ≡ Ok (es, k) → TookQuiet Values i es k
   unfolding values

@@ -127,12 +127,7 @@ fn is_plain(field: &FieldDecl) -> bool
     }
 }
 
-fn is_built_of(
-    field: &FieldDecl,
-    state: &StateDecl,
-    update: &Stmts,
-    column: &ColumnDecl,
-) -> bool
+fn is_built_of(field: &FieldDecl, state: &StateDecl, update: &Stmts, column: &ColumnDecl) -> bool
     ensures { result ≡ spec.is_built_of field.now state.now (stmts_tree update.now) (column_tree column.now) }
 {
     is_plain(field)

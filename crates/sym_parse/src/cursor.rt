@@ -36,10 +36,8 @@ impl Cursor<'_> {
             [] => None,
             [first, ..] => match &first.kind {
                 TokenKind::Word(keyword) => Some(*keyword),
-                TokenKind::Name
-                | TokenKind::Number(_)
-                | TokenKind::Str(_)
-                | TokenKind::Sign(_) => None,
+                TokenKind::Name | TokenKind::Number(_) | TokenKind::Str(_) | TokenKind::Sign(_) =>
+                    None,
             },
         }
     }
@@ -54,10 +52,8 @@ impl Cursor<'_> {
             [] => None,
             [first, ..] => match &first.kind {
                 TokenKind::Sign(symbol) => Some(*symbol),
-                TokenKind::Name
-                | TokenKind::Number(_)
-                | TokenKind::Str(_)
-                | TokenKind::Word(_) => None,
+                TokenKind::Name | TokenKind::Number(_) | TokenKind::Str(_) | TokenKind::Word(_) =>
+                    None,
             },
         }
     }
@@ -131,10 +127,8 @@ impl Cursor<'_> {
             [] => false,
             [first, ..] => match &first.kind {
                 TokenKind::Str(_) => true,
-                TokenKind::Name
-                | TokenKind::Number(_)
-                | TokenKind::Word(_)
-                | TokenKind::Sign(_) => false,
+                TokenKind::Name | TokenKind::Number(_) | TokenKind::Word(_) | TokenKind::Sign(_) =>
+                    false,
             },
         }
     }
@@ -397,10 +391,8 @@ impl<'a> Cursor<'a> {
             [] => None,
             [first, ..] => match &first.kind {
                 TokenKind::Str(text) => Some(text),
-                TokenKind::Name
-                | TokenKind::Number(_)
-                | TokenKind::Word(_)
-                | TokenKind::Sign(_) => None,
+                TokenKind::Name | TokenKind::Number(_) | TokenKind::Word(_) | TokenKind::Sign(_) =>
+                    None,
             },
         }
     }

@@ -224,7 +224,12 @@ fn parts_from(
         return Ok(found);
     }
     cursor.bump();
-    cursor.one_more(found.len(), PARTS_MAX, LimitKind::Parts, begins_kind(cursor))?;
+    cursor.one_more(
+        found.len(),
+        PARTS_MAX,
+        LimitKind::Parts,
+        begins_kind(cursor),
+    )?;
     let part = part(alloc, cursor)?;
     found.push(part)?;
     parts_from(alloc, cursor, found)

@@ -8,7 +8,7 @@ ghost use Rattle.sym_parse.specs.Steps.{Parses};
 ghost use Rattle.sym_parse.specs.Syntax.Expressions.{Whole};
 ghost use Rattle.sym_parse.specs.Views.{input};
 
-use crate::build::{before_exprs, binary, not_of, minus_of};
+use crate::build::{before_exprs, binary, minus_of, not_of};
 use crate::operators::Level;
 use crate::state::Cursor;
 use crate::stop::Stop;
@@ -158,12 +158,7 @@ fn unary(alloc: Global, cursor: &mut Cursor<'_>, room: usize) -> Result<Expr, St
 /// What stands between the operators of a level.
 #[cycle(expression)]
 #[tactic(auto, unfolding(crate::specs::Parsing::Levels::item_at, crate::specs::Parsing::Levels::chain_at))]
-fn item(
-    alloc: Global,
-    cursor: &mut Cursor<'_>,
-    room: usize,
-    level: Level,
-) -> Result<Expr, Stop>
+fn item(alloc: Global, cursor: &mut Cursor<'_>, room: usize, level: Level) -> Result<Expr, Stop>
     ensures reads { Parses expr_tree (item_at most room (spec.lines most room) level (input cursor.old)) result (input cursor.new) }
     ensures shorter { OnOk result (length cursor.new.rest.now < length cursor.old.rest.now) }
 {
@@ -177,12 +172,7 @@ fn item(
 
 /// The line of a level: items with its operators between them, grouped to the left.
 #[cycle(expression)]
-fn chain(
-    alloc: Global,
-    cursor: &mut Cursor<'_>,
-    room: usize,
-    level: Level,
-) -> Result<Expr, Stop>
+fn chain(alloc: Global, cursor: &mut Cursor<'_>, room: usize, level: Level) -> Result<Expr, Stop>
     ensures reads { Parses expr_tree (chain_at most room (spec.lines most room) level (input cursor.old)) result (input cursor.new) }
     ensures shorter { OnOk result (length cursor.new.rest.now < length cursor.old.rest.now) }
 {

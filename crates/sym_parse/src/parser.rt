@@ -88,19 +88,11 @@ fn parse_text(alloc: Global, bytes: &[u8]) -> Result<Script, ParseErr>
 pub fn parse(alloc: Global, bytes: &[u8]) -> Result<Script, ParseErr>
     requires { length bytes.now < 2 ^ 32 }
     ensures accepted { IfOk result (λ s. IsScriptOf bytes.now (script_tree s)) }
-    ensures one {
-        IfOk result (λ s. (other : ScriptTree) → IsScriptOf bytes.now other → other ≡ script_tree s)
-    }
-    ensures complete {
-        (tree : ScriptTree) → IsScriptOf bytes.now tree → IfErr result (λ e. e ≡ ParseErr.NoMemory)
-    }
+    ensures one { IfOk result (λ s. (other : ScriptTree) → IsScriptOf bytes.now other → other ≡ script_tree s) }
+    ensures complete { (tree : ScriptTree) → IsScriptOf bytes.now tree → IfErr result (λ e. e ≡ ParseErr.NoMemory) }
     ensures lawful { IfOk result (λ s. IsLawful (script_tree s)) }
-    ensures fault {
-        (f : LexFault) → IsErrOf result (ParseErr.Lex f) → Reads 0 bytes.now (Err f)
-    }
-    ensures faults_first {
-        (f : LexFault) → Reads 0 bytes.now (Err f) → Gives result (Err (ParseErr.Lex f))
-    }
+    ensures fault { (f : LexFault) → IsErrOf result (ParseErr.Lex f) → Reads 0 bytes.now (Err f) }
+    ensures faults_first { (f : LexFault) → Reads 0 bytes.now (Err f) → Gives result (Err (ParseErr.Lex f)) }
     ensures exact { Gives result (parsed bytes.now) }
 {
     parse_text(alloc, bytes)

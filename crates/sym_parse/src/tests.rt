@@ -11,37 +11,121 @@ const UNEXPECTED: [(&str, u32); 36] = [
     ("field x: num;", 13),
     ("field x: num; # the end", 23),
     ("state n: words; update { } report { n = n; }", 0),
-    ("enum e { a, } field x: num; state n: words; update { } report { n = n; }", 12),
-    ("field x: num = 0; state n: words; update { } report { n = n; }", 13),
-    ("field x from x: num; state n: words; update { } report { n = n; }", 13),
-    ("field x: num else ; state n: words; update { } report { n = n; }", 18),
+    (
+        "enum e { a, } field x: num; state n: words; update { } report { n = n; }",
+        12,
+    ),
+    (
+        "field x: num = 0; state n: words; update { } report { n = n; }",
+        13,
+    ),
+    (
+        "field x from x: num; state n: words; update { } report { n = n; }",
+        13,
+    ),
+    (
+        "field x: num else ; state n: words; update { } report { n = n; }",
+        18,
+    ),
     ("field x: num; group x; update { } report { n = n; }", 23),
-    ("field x: num; state n: hold(num = 0; update { } report { n = n; }", 35),
-    ("field x: num; state n: int [0 3] = 0; update { } report { n = n; }", 30),
-    ("field x: num; state n: words; test t() = 1 == 1; update { } report { n = n; }", 37),
+    (
+        "field x: num; state n: hold(num = 0; update { } report { n = n; }",
+        35,
+    ),
+    (
+        "field x: num; state n: int [0 3] = 0; update { } report { n = n; }",
+        30,
+    ),
+    (
+        "field x: num; state n: words; test t() = 1 == 1; update { } report { n = n; }",
+        37,
+    ),
     ("field x: num; state n: words; update { } report { }", 50),
     ("field x: num; state n: words; report { n = n; }", 30),
-    ("field x: num; state n: int [0..3] = 0; update { n 1; } report { n = n; }", 50),
-    ("field x: num; state n: int [0..3] = 0; update { n = ; } report { n = n; }", 52),
-    ("field x: num; state n: int [0..3] = 0; update { n = 1 } report { n = n; }", 54),
-    ("field x: num; state n: int [0..3] = 0; update { n = (1; } report { n = n; }", 54),
-    ("field x: num; state n: int [0..3] = 0; update { n = 1 + ; } report { n = n; }", 56),
-    ("field x: num; state n: int [0..3] = 0; update { n = - ; } report { n = n; }", 54),
-    ("field x: num; state n: int [0..3] = 0; update { n = a == b == c; } report { n = n; }", 59),
-    ("field x: num; state n: int [0..3] = 0; update { n = is b; } report { n = n; }", 52),
-    ("field x: num; state n: int [0..3] = 0; update { n = t(); } report { n = n; }", 54),
-    ("field x: num; state n: int [0..3] = 0; update { n = t(1, ); } report { n = n; }", 57),
-    ("field x: num; state n: int [0..3] = 0; update { if n == 1 n = 1; } report { n = n; }", 58),
-    ("field x: num; state n: int [0..3] = 0; update { if n == 1 { } else n = 1; } report { n = n; }", 67),
-    ("field x: num; state n: int [0..3] = 0; update { else { } } report { n = n; }", 48),
-    ("field x: num; state n: int [0..3] = 0; update { keep n; } report { n = n; }", 54),
-    ("field x: num; state n: int [0..3] = 0; update { keep n(1, ); } report { n = n; }", 58),
-    ("field x: num; state n: int [0..3] = 0; update { keep n from 1; } report { n = n; }", 60),
-    ("field x: num; state n: int [0..3] = 0; update { push 1; } report { n = n; }", 53),
-    ("field x: num; state n: int [0..3] = 0; update { let 1 = 1; } report { n = n; }", 52),
-    ("field x: num; state n: int [0..3] = 0; update { let n 1; } report { n = n; }", 54),
-    ("field x: num; state n: int [0..3] = 0; update { clamp } report { n = n; }", 48),
-    ("field x: num; state n: int [0..3] = 0; update { n = 1; } report { n = n; } x", 75),
+    (
+        "field x: num; state n: int [0..3] = 0; update { n 1; } report { n = n; }",
+        50,
+    ),
+    (
+        "field x: num; state n: int [0..3] = 0; update { n = ; } report { n = n; }",
+        52,
+    ),
+    (
+        "field x: num; state n: int [0..3] = 0; update { n = 1 } report { n = n; }",
+        54,
+    ),
+    (
+        "field x: num; state n: int [0..3] = 0; update { n = (1; } report { n = n; }",
+        54,
+    ),
+    (
+        "field x: num; state n: int [0..3] = 0; update { n = 1 + ; } report { n = n; }",
+        56,
+    ),
+    (
+        "field x: num; state n: int [0..3] = 0; update { n = - ; } report { n = n; }",
+        54,
+    ),
+    (
+        "field x: num; state n: int [0..3] = 0; update { n = a == b == c; } report { n = n; }",
+        59,
+    ),
+    (
+        "field x: num; state n: int [0..3] = 0; update { n = is b; } report { n = n; }",
+        52,
+    ),
+    (
+        "field x: num; state n: int [0..3] = 0; update { n = t(); } report { n = n; }",
+        54,
+    ),
+    (
+        "field x: num; state n: int [0..3] = 0; update { n = t(1, ); } report { n = n; }",
+        57,
+    ),
+    (
+        "field x: num; state n: int [0..3] = 0; update { if n == 1 n = 1; } report { n = n; }",
+        58,
+    ),
+    (
+        "field x: num; state n: int [0..3] = 0; update { if n == 1 { } else n = 1; } report { n = n; }",
+        67,
+    ),
+    (
+        "field x: num; state n: int [0..3] = 0; update { else { } } report { n = n; }",
+        48,
+    ),
+    (
+        "field x: num; state n: int [0..3] = 0; update { keep n; } report { n = n; }",
+        54,
+    ),
+    (
+        "field x: num; state n: int [0..3] = 0; update { keep n(1, ); } report { n = n; }",
+        58,
+    ),
+    (
+        "field x: num; state n: int [0..3] = 0; update { keep n from 1; } report { n = n; }",
+        60,
+    ),
+    (
+        "field x: num; state n: int [0..3] = 0; update { push 1; } report { n = n; }",
+        53,
+    ),
+    (
+        "field x: num; state n: int [0..3] = 0; update { let 1 = 1; } report { n = n; }",
+        52,
+    ),
+    (
+        "field x: num; state n: int [0..3] = 0; update { let n 1; } report { n = n; }",
+        54,
+    ),
+    (
+        "field x: num; state n: int [0..3] = 0; update { clamp } report { n = n; }",
+        48,
+    ),
+    (
+        "field x: num; state n: int [0..3] = 0; update { n = 1; } report { n = n; } x",
+        75,
+    ),
 ];
 
 /// A text of one thing of a kind after another.
@@ -292,7 +376,10 @@ fn stops_where_a_number_is_passed(rt: HostRuntime) -> Result<(), Fail> {
 
 #[test]
 fn an_if_passes_the_number_of_statements_first(rt: HostRuntime) -> Result<(), Fail> {
-    let mut text = String::from_str(rt.alloc(), "field x: num; state n: int [0..3] = 0; update { ")?;
+    let mut text = String::from_str(
+        rt.alloc(),
+        "field x: num; state n: int [0..3] = 0; update { ",
+    )?;
     for _ in 0..448 {
         text.push_str("n = 1;")?;
     }

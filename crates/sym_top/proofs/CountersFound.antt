@@ -15,9 +15,10 @@ from-result text c (Err err) p e = cc
 
 pub agrees : (text : List ℕ) → Agrees text
 unfolding counter_at
-agrees text c =
-    (λ is. ap counter_in (parsed-reads text is.tree is.script) ∙ counted is.tree c is.counter,
-     λ e. from-result text c (parsed text) refl e)
+agrees text c = (
+  λ is. ap counter_in (parsed-reads text is.tree is.script) ∙ counted is.tree c is.counter,
+  λ e. from-result text c (parsed text) refl e,
+)
 
 -- ---- what the loading code comes to
 

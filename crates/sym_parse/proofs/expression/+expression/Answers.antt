@@ -26,11 +26,12 @@ pub chain-operators-init : goal.chain-operators-init
 chain-operators-init t c =
     let ops = op_at c.args.level in
     let item = item_at most c.args.room (lines most c.args.room) c.args.level in
-    let counted : length (input c.item.new.cursor).rest ≡ length c.item.new.cursor.rest.now = length-map c.item.new.cursor.rest.now (lexeme_of c.item.new.cursor.source.now) in
-    (suc (length (input c.item.new.cursor).rest),
-     omega (arith, counted),
-     omega (arith, c.in_ok-left.ensures.shorter),
-     ap (λ p. p (input c.args.cursor.now)) (chain_is c.args.room (lines most c.args.room) c.args.level) ∙ chain_begins ops item (input c.args.cursor.now) (input c.item.new.cursor) (expr_tree c.in_ok-left.left) c.in_ok-left.ensures.reads)
+    let counted : length (input c.item.new.cursor).rest ≡ length c.item.new.cursor.rest.now = length-map c.item.new.cursor.rest.now (lexeme_of c.item.new.cursor.source.now) in (
+      suc (length (input c.item.new.cursor).rest),
+      omega (arith, counted),
+      omega (arith, c.in_ok-left.ensures.shorter),
+      ap (λ p. p (input c.args.cursor.now)) (chain_is c.args.room (lines most c.args.room) c.args.level) ∙ chain_begins ops item (input c.args.cursor.now) (input c.item.new.cursor) (expr_tree c.in_ok-left.left) c.in_ok-left.ensures.reads,
+    )
 
 pub chain-returns-in_err-right-clause-reads : goal.chain-returns-in_err-right-clause-reads
 chain-returns-in_err-right-clause-reads t c =
@@ -56,11 +57,12 @@ chain-operators-preserved t c =
     subst (λ k. item k ≡ Ok (expr_tree c.in_ok-right.right, j)) c.bump.ensures.next c.in_ok-right.ensures.reads in
     let turned = chain_goes ops item c.operators.invariant.0 (expr_tree c.operators.left) (expr_tree c.in_ok-right.right) c.in-Some.operator i j some here read in
     let built : Bin c.in-Some.operator (expr_tree c.operators.left) (expr_tree c.in_ok-right.right) (place i) ≡ expr_tree c.in_ok-left-2.left =
-    ap (λ at. Bin c.in-Some.operator (expr_tree c.operators.left) (expr_tree c.in_ok-right.right) at) (sym c.place-at.ensures) ∙ sym c.in_ok-left-2.ensures in
-    (c.operators.invariant.0 - 1,
-     omega (arith, c.operators.invariant.1, c.in_ok-right.ensures.shorter, c.bump.ensures.left, c.in-Some.ensures.some),
-     omega (arith, c.operators.invariant.2, c.in_ok-right.ensures.shorter, c.bump.ensures.left),
-     c.operators.invariant.3 ∙ turned ∙ ap (λ e. chain_from ops item (c.operators.invariant.0 - 1) e j) built)
+    ap (λ at. Bin c.in-Some.operator (expr_tree c.operators.left) (expr_tree c.in_ok-right.right) at) (sym c.place-at.ensures) ∙ sym c.in_ok-left-2.ensures in (
+      c.operators.invariant.0 - 1,
+      omega (arith, c.operators.invariant.1, c.in_ok-right.ensures.shorter, c.bump.ensures.left, c.in-Some.ensures.some),
+      omega (arith, c.operators.invariant.2, c.in_ok-right.ensures.shorter, c.bump.ensures.left),
+      c.operators.invariant.3 ∙ turned ∙ ap (λ e. chain_from ops item (c.operators.invariant.0 - 1) e j) built,
+    )
 
 pub chain-returns-clause-reads : goal.chain-returns-clause-reads
 chain-returns-clause-reads t c =

@@ -58,7 +58,7 @@ abbrev pub invariant-chain-operators : goal.invariant-chain-operators
 invariant-chain-operators l =
     (n : ℕ) × (length l.cursor.rest.now < n) × (length l.cursor.rest.now < length l.fn.cursor.rest.now)
     × (chain_at most l.room (lines most l.room) l.level (input l.fn.cursor)
-       ≡ chain_from (op_at l.level) (item_at most l.room (lines most l.room) l.level) n (expr_tree l.left) (input l.cursor))
+    ≡ chain_from (op_at l.level) (item_at most l.room (lines most l.room) l.level) n (expr_tree l.left) (input l.cursor))
 
 abbrev pub decreases-chain-operators : goal.decreases-chain-operators
 decreases-chain-operators l = length l.cursor.rest.now
