@@ -48,7 +48,8 @@ impl WideLine {
     /// The line on the span: a constant where that has one point.
     fn taken_line(&self, span: &Span) -> IntForm
         requires { (x : ℤ) → HasPoint span.now x → IsNumber (self.now.a *ℤ x +ℤ self.now.b) }
-        ensures { IsTaken (λ x. self.now.a *ℤ x +ℤ self.now.b) (Some self.now.cell) span.now result }
+        ensures { IsTaken (λ x. self.now.a *ℤ x +ℤ self.now.b)
+            (Some self.now.cell) span.now result }
     {
         if span.lo < span.hi {
             return IntForm::Line(Line {

@@ -16,7 +16,7 @@ pub enum HoldForm {
 }
 
 impl HoldForm {
-    /// The parts that the form gives at `state`; none where the cell that it copies is no hold cell.
+    /// The parts that the form gives at `state`; none where the copied cell is no hold cell.
     pub fn value(&self, alloc: Global, state: &State) -> Result<Values, NoMemory>
         ensures { IfOk result (λ parts. parts ≡ parts_value self.now state.now) }
     {

@@ -194,7 +194,8 @@ impl<E: Element> ListForm<E> {
 /// Makes each element what it becomes through the context.
 fn lead_each<E: Element>(elements: &mut [E], context: &E::Context)
     requires { All (λ element. E.can_go_through element context.now) elements.old }
-    ensures elements { AllZip (λ old new. E.goes_through_to old context.now new) elements.old elements.new }
+    ensures elements { AllZip (λ old new. E.goes_through_to old context.now new)
+        elements.old elements.new }
     ensures values { AllZip (λ old new. (state : OneState) → E.covers context.now state →
         E.value_at new state ≡ E.value_at old (E.leads_to context.now state))
         elements.old elements.new }
@@ -207,7 +208,8 @@ fn lead_each<E: Element>(elements: &mut [E], context: &E::Context)
 /// Makes each element what it becomes where the integer cell holds `value`.
 fn fix_each<E: Element>(elements: &mut [E], cell: u16, value: i64)
     requires { All (λ element. E.can_fix element cell value) elements.old }
-    ensures elements { AllZip (λ old new. E.is_fixed_to old cell value new) elements.old elements.new }
+    ensures elements { AllZip (λ old new. E.is_fixed_to old cell value new)
+        elements.old elements.new }
     ensures values { AllZip (λ old new. (state : OneState) (x : ℤ) → HoldsInt state cell x →
         E.value_at new state ≡ E.value_at old (with_int state cell value))
         elements.old elements.new }
