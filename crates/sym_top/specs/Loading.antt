@@ -6,6 +6,8 @@ use Rattle.sym_base.specs.declared.edge.read.ReadErr.TheVariants as read
 use Rattle.sym_base.specs.Counters.{Counter, counter_tree}
 use Rattle.sym_check.specs.declared.checked.Checked.{Checked}
 use Rattle.sym_check.specs.CheckedScripts.{checked_tree}
+use Rattle.sym_parse.specs.declared.error.ParseErr.{ParseErr}
+use Rattle.sym_parse.specs.declared.error.ParseErr.TheVariants as parse
 use Rattle.sym_top.specs.CounterTexts.{counter_at}
 use Rattle.sym_top.specs.declared.compute.Report.{Report}
 use Rattle.sym_top.specs.declared.status.Status.{Status}
@@ -40,6 +42,13 @@ abbrev pub read_status_of : ReadErr → Status
 read_status_of read.Failed = ReadFault
 read_status_of read.TooLarge = TooLarge
 read_status_of read.NoMemory = NoMemory
+
+-- The status of a text that isn't parsed.
+abbrev pub parse_status_of : ParseErr → Status
+parse_status_of (parse.Lex fault) = Script
+parse_status_of (parse.Expected place) = Script
+parse_status_of (parse.Limit place which) = Script
+parse_status_of parse.NoMemory = NoMemory
 
 -- The refusals that loading a script, or a file, can come to.
 abbrev pub IsFileRefusal : Status → Type 0

@@ -2,7 +2,7 @@
 ghost use Rattle.std.specs.Prelude.{◌≡◌, ℕ, ◌≤◌, List, Ok, Err, IfSome, IfOk, IfErr, IsErrOf, length};
 ghost use Rattle.sym_base.specs.Counts.{Rose};
 ghost use Rattle.sym_top.specs.Ends.{file_max, script_max};
-ghost use Rattle.sym_top.specs.Loading.{ScriptGives, FileGives, read_status_of, IsScriptRefusal, IsFileRefusal};
+ghost use Rattle.sym_top.specs.Loading.{ScriptGives, FileGives, parse_status_of, read_status_of, IsScriptRefusal, IsFileRefusal};
 
 use crate::status::Status;
 use std::alloc::Global;
@@ -21,6 +21,16 @@ fn read_status(error: ReadErr) -> Status
     }
 }
 
+// What a text that is no script comes to.
+fn parse_status(error: ParseErr) -> Status
+    ensures { result ≡ parse_status_of error }
+{
+    match error {
+        ParseErr::Lex(_) | ParseErr::Expected { .. } | ParseErr::Limit { .. } => Status::Script,
+        ParseErr::NoMemory => Status::NoMemory,
+    }
+}
+
 // The checked script of a text.
 fn accept(alloc: Global, text: &[u8]) -> Result<Checked, Status>
     requires { length text.now ≤ script_max }
@@ -30,10 +40,7 @@ fn accept(alloc: Global, text: &[u8]) -> Result<Checked, Status>
 {
     let script = match parse(alloc, text) {
         Ok(script) => script,
-        Err(ParseErr::Lex(_) | ParseErr::Expected { .. } | ParseErr::Limit { .. }) => {
-            return Err(Status::Script);
-        }
-        Err(ParseErr::NoMemory) => return Err(Status::NoMemory),
+        Err(error) => return Err(parse_status(error)),
     };
     if !is_built(&script) {
         return Err(Status::Script);
