@@ -10,6 +10,8 @@ ghost use Rattle.sym_base.specs.declared.values.state.State.{State as OneState};
 ghost use Rattle.sym_base.specs.declared.values.state.Outcome.TheVariants.{Going};
 ghost use Rattle.sym_base.specs.declared.values.value.Key.TheVariants.{Whole};
 
+pub mod plans;
+
 /// The counter that is read off a tree is the one whose tree it is.
 pub fn counters_are_read()
     ensures { (tree : ScriptTree) (c : Counter) → (counter_of tree ≡ Some c) ↔ IsCounterTree c tree }

@@ -1,12 +1,12 @@
 //! Which scripts are run, and what one means: the sequential step.
 #![tactic(auto)]
 
-pub mod checked;
-pub mod elaborate;
-pub mod evaluate;
+mod checked;
+mod elaborate;
+mod evaluate;
 pub mod laws;
-pub mod plan;
-pub mod rules;
+mod plan;
+mod rules;
 
 pub use checked::{CheckErr, Checked};
 pub use evaluate::arithmetic::Arith;

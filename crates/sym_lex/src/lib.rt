@@ -1,17 +1,17 @@
 //! The tokens of a script's text, or the first place at which no token can stand.
 #![tactic(auto)]
 
-pub mod error;
+mod error;
 mod find;
 mod found;
-pub mod keyword;
+mod keyword;
 pub mod laws;
 mod lexer;
 mod scan;
-pub mod symbol;
+mod symbol;
 #[cfg(test)]
 mod tests;
-pub mod token;
+mod token;
 
 pub use error::{LexErr, LexFault};
 pub use keyword::Keyword;

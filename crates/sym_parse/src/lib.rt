@@ -5,7 +5,7 @@ mod build;
 mod built;
 mod cursor;
 mod declaration;
-pub mod error;
+mod error;
 mod expression;
 mod operators;
 mod parser;

@@ -1,5 +1,5 @@
 use Rattle.sym_check.proofs.Fits.{key_is, valid_fits, step_fits}
-use Rattle.sym_check.proofs.plan.laws.keys_states_and_steps_fit.Goals as goal
+use Rattle.sym_check.proofs.laws.plans.keys_states_and_steps_fit.Goals as goal
 
 pub returns-clause-key : goal.returns-clause-key
 returns-clause-key c = key_is

@@ -1,5 +1,5 @@
 use Rattle.sym_check.proofs.PlanLaws.{after_more, after_append}
-use Rattle.sym_check.proofs.plan.laws.records_run_on.Goals as goal
+use Rattle.sym_check.proofs.laws.plans.records_run_on.Goals as goal
 
 pub returns-clause-one : goal.returns-clause-one
 returns-clause-one c = after_more
