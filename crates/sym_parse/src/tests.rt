@@ -137,7 +137,7 @@ struct Counted {
     close: &'static str,
     after: &'static str,
     /// How many units still keep the number, and the place of the token that passes it.
-    fits: usize,
+    fits: u16,
     at: u32,
 }
 
@@ -362,9 +362,9 @@ fn with_count(alloc: Global, row: &Counted, count: usize) -> Result<String, Allo
 #[test]
 fn stops_where_a_number_is_passed(rt: HostRuntime) -> Result<(), Fail> {
     for row in &COUNTED {
-        let most = with_count(rt.alloc(), row, row.fits)?;
+        let most = with_count(rt.alloc(), row, usize::from(row.fits))?;
         assert_eq!(rt; answer_to(rt.alloc(), &rt, &most), None, "{most}");
-        let more = with_count(rt.alloc(), row, row.fits + 1)?;
+        let more = with_count(rt.alloc(), row, usize::from(row.fits) + 1)?;
         let passed = ParseErr::Limit {
             at: row.at,
             which: row.which,
