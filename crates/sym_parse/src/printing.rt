@@ -5,4 +5,6 @@ mod expression;
 mod item;
 pub mod script;
 mod statement;
+#[cfg(test)]
+mod tests;
 mod token;

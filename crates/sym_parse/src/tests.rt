@@ -137,7 +137,7 @@ struct Counted {
     close: &'static str,
     after: &'static str,
     /// How many units still keep the number, and the place of the token that passes it.
-    fits: usize,
+    fits: u16,
     at: u32,
 }
 
@@ -346,7 +346,7 @@ fn stops_where_no_sentence_goes_on(rt: HostRuntime) {
     }
 }
 
-fn counted(alloc: Global, row: &Counted, count: usize) -> Result<String, AllocError> {
+fn with_count(alloc: Global, row: &Counted, count: usize) -> Result<String, AllocError> {
     let mut text = String::from_str(alloc, row.before)?;
     for _ in 0..count {
         text.push_str(row.unit)?;
@@ -362,9 +362,9 @@ fn counted(alloc: Global, row: &Counted, count: usize) -> Result<String, AllocEr
 #[test]
 fn stops_where_a_number_is_passed(rt: HostRuntime) -> Result<(), Fail> {
     for row in &COUNTED {
-        let most = counted(rt.alloc(), row, row.fits)?;
+        let most = with_count(rt.alloc(), row, usize::from(row.fits))?;
         assert_eq!(rt; answer_to(rt.alloc(), &rt, &most), None, "{most}");
-        let more = counted(rt.alloc(), row, row.fits + 1)?;
+        let more = with_count(rt.alloc(), row, usize::from(row.fits) + 1)?;
         let passed = ParseErr::Limit {
             at: row.at,
             which: row.which,
