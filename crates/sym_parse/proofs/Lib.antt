@@ -20,3 +20,4 @@ pub mod BuiltTrees
 pub mod LawfulExpressions
 pub mod LawfulScripts
 pub mod Printout
+pub mod Gathering

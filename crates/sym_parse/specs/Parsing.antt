@@ -5,3 +5,4 @@ pub mod Statements
 pub mod Declarations
 pub mod Scripts
 pub mod Levels
+pub mod Listed

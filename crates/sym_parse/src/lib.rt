@@ -7,6 +7,7 @@ mod cursor;
 mod declaration;
 mod error;
 mod expression;
+mod kept;
 mod operators;
 mod parser;
 mod printing;

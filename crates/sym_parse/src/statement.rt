@@ -1,20 +1,19 @@
 //! Statements. `room` is the number of levels that are free.
 ghost use Rattle.std.specs.Prelude.{◌≡◌, ℕ, ◌+◌, ◌<◌, ◌≤◌, length, OnOk};
 ghost use Rattle.std.specs.Bool.{OnTrue};
-ghost use Rattle.sym_base.specs.Trees.{exprs_tree, stmt_tree, stmts_tree};
+ghost use Rattle.sym_base.specs.Trees.{stmt_tree, stmts_tree};
 ghost use Rattle.sym_parse.specs.Limits.{most};
-ghost use Rattle.sym_parse.specs.Parsing.Expressions.{further, values, values_from};
-ghost use Rattle.sym_parse.specs.Parsing.Expressions as expressions;
 ghost use Rattle.sym_parse.specs.Parsing.Statements as spec;
 ghost use Rattle.sym_parse.specs.Steps.{Parses};
 ghost use Rattle.sym_parse.specs.Views.{input};
 
-use crate::build::{before_exprs, before_stmts};
+use crate::build::before_stmts;
 use crate::expression::expression;
+use crate::kept::values;
 use crate::state::Cursor;
 use crate::stop::Stop;
 use std::alloc::Global;
-use sym_base::{DEPTH_MAX, Exprs, Name, Stmt, Stmts};
+use sym_base::{DEPTH_MAX, Name, Stmt, Stmts};
 use sym_lex::{Keyword, Symbol};
 
 #[tactic(auto, unfolding(crate::specs::Parsing::Statements::begins_statement))]
@@ -67,38 +66,6 @@ fn push(alloc: Global, cursor: &mut Cursor<'_>, room: usize) -> Result<Stmt, Sto
     let value = expression(alloc, cursor, room)?;
     cursor.sign(Symbol::Semicolon)?;
     Ok(Stmt::Push(name, value))
-}
-
-/// Values that are kept: one, and one more after each comma.
-#[cycle(values)]
-#[tactic(auto, using(crate::proofs::Turns::turns))]
-fn values_from(alloc: Global, cursor: &mut Cursor<'_>, room: usize) -> Result<Exprs, Stop>
-    ensures reads { (n : ℕ) → length cursor.old.rest.now < n → Parses exprs_tree (values_from (expressions.expression most room) n (input cursor.old)) result (input cursor.new) }
-    ensures shorter { OnOk result (length cursor.new.rest.now < length cursor.old.rest.now) }
-{
-    let first = expression(alloc, cursor, room)?;
-    let rest = more_values(alloc, cursor, room)?;
-    Ok(before_exprs(alloc, first, rest)?)
-}
-
-#[cycle(values)]
-fn more_values(alloc: Global, cursor: &mut Cursor<'_>, room: usize) -> Result<Exprs, Stop>
-    ensures reads { (n : ℕ) → length cursor.old.rest.now ≤ n → Parses exprs_tree (further (expressions.expression most room) (values_from (expressions.expression most room) n) (input cursor.old)) result (input cursor.new) }
-    ensures shorter { OnOk result (length cursor.new.rest.now ≤ length cursor.old.rest.now) }
-{
-    if !cursor.is_sign(Symbol::Comma) {
-        return Ok(Exprs::End);
-    }
-    cursor.bump();
-    values_from(alloc, cursor, room)
-}
-
-#[tactic(auto, unfolding(crate::specs::Parsing::Expressions::values))]
-fn values(alloc: Global, cursor: &mut Cursor<'_>, room: usize) -> Result<Exprs, Stop>
-    ensures reads { Parses exprs_tree (values (expressions.expression most room) (input cursor.old)) result (input cursor.new) }
-    ensures shorter { OnOk result (length cursor.new.rest.now < length cursor.old.rest.now) }
-{
-    values_from(alloc, cursor, room)
 }
 
 /// `( expr {, expr} ) ;`
