@@ -396,9 +396,25 @@ fn an_if_passes_the_number_of_statements_first(rt: HostRuntime) -> Result<(), Fa
 
 #[test]
 fn a_lexical_fault_comes_first(rt: HostRuntime) {
-    let behind = answer_to(rt.alloc(), &rt, "field x num; 12x");
-    let fault = LexFault::BadNumber { at: 13 };
-    assert_eq!(rt; behind, Some(ParseErr::Lex(fault)));
+    let rows = [
+        ("field x num; 12x", LexFault::BadNumber { at: 13 }),
+        (
+            "field x: num; state n: int [0..3] = 0; update { n = 1000000000001; } report { n = n; }",
+            LexFault::BadNumber { at: 52 },
+        ),
+        (
+            "field x: num; state n: int [0..3] = 0; update { n = \"a; } report { n = n; }",
+            LexFault::BadText { at: 52 },
+        ),
+        (
+            "field x: num; state n: int [0..3] = 0; update { $ } report { n = n; }",
+            LexFault::BadByte { at: 48 },
+        ),
+    ];
+    for (text, fault) in rows {
+        let answer = answer_to(rt.alloc(), &rt, text);
+        assert_eq!(rt; answer, Some(ParseErr::Lex(fault)), "{text}");
+    }
 }
 
 #[test]
