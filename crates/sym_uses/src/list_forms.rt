@@ -63,10 +63,24 @@ mod tests {
         assert!(rt; form.len() == 2);
         assert!(rt; form.at(0) == Some(&pushed));
         assert!(rt; form.at(1) == Some(&IntForm::Line(later)));
-        let mut known = form.fixed(alloc, 0, 4)?;
-        assert!(rt; known.at(0) == Some(&IntForm::Const(Number { value: 9 })));
-        known.fix(0, 4);
-        assert!(rt; known.at(1) == Some(&IntForm::Const(Number { value: 11 })));
+        Ok(())
+    }
+
+    /// Where cell 0 is known to hold 4, `2x + 1` is 9.
+    #[test]
+    fn a_number_is_known_where_its_cell_is(rt: HostRuntime) -> Result<(), Fail> {
+        let alloc = rt.alloc();
+        let pushed = IntForm::Line(Line {
+            cell: 0,
+            a: 2,
+            b: 1,
+        });
+        let mut form = ListForm::same(alloc).push(alloc, pushed)?;
+        let nine = IntForm::Const(Number { value: 9 });
+        let known = form.fixed(alloc, 0, 4)?;
+        assert!(rt; known.at(0) == Some(&nine));
+        form.fix(0, 4);
+        assert!(rt; form == known);
         Ok(())
     }
 
