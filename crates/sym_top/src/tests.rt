@@ -252,8 +252,8 @@ fn a_checked_script_is_copied(rt: HostRuntime) -> Result<(), Fail> {
         Err(status) => return Err(Fail::from(format!(in rt.alloc(); "{status:?}")?)),
     };
     let copy = checked.copy(rt.alloc())?;
-    let shown = format!(in rt.alloc(); "{copy:?}")?;
-    assert_eq!(rt; shown, format!(in rt.alloc(); "{checked:?}")?);
+    assert!(rt; copy.script().fields == checked.script().fields);
+    assert!(rt; copy.script().states == checked.script().states);
     Ok(())
 }
 
