@@ -7,6 +7,8 @@ use Rattle.sym_base.specs.declared.limits.TheConstants as limit
 use Rattle.sym_check.specs.LinePlans.{TermPlan, OfNum, OfLine}
 use Rattle.sym_check.specs.CondPlans.{CondPlan, Compared, Words, CellIs, LabelIs, Test, Not, And, Or}
 use Rattle.sym_check.specs.Conditions.{is_fixed}
+use Rattle.sym_check.specs.declared.path_bound.Counts.{Counts}
+use Rattle.sym_check.specs.declared.path_bound.Ways.{Ways}
 use Rattle.sym_check.specs.DoPlans.{DoPlan, Let, SetInt, SetEnum, CopyEnum, Keep, KeepFrom, PushNum, PushWord, If, DosPlan, End, Then}
 
 abbrev pub plus : ℕ → ℕ → ℕ
@@ -14,11 +16,6 @@ plus a b = min (a + b) limit.PATHS_COUNTED
 
 abbrev pub times : ℕ → ℕ → ℕ
 times a b = min (a * b) limit.PATHS_COUNTED
-
--- How many paths a condition makes of one: where it is true, and where it is false.
-pub record Counts : Type 0 where
-  pub true_paths : ℕ
-  pub false_paths : ℕ
 
 -- A line equals a number at one value of its cell, and differs from it below and above that.
 abbrev pub compare_counts : Compare → Counts
@@ -56,11 +53,6 @@ counts (Not c) = record { true_paths = (counts c).false_paths; false_paths = (co
 counts (And c d) = and_counts (counts c) (counts d)
 counts (Or c d) = or_counts (counts c) (counts d)
 
--- How many paths statements make of one that goes on: those that go on, and those that end.
-pub record Ways : Type 0 where
-  pub going : ℕ
-  pub ended : ℕ
-
 -- A fixed condition takes the same side at each state.
 abbrev pub if_ways : CondPlan → Ways → Ways → Ways
 if_ways c a b =
@@ -70,6 +62,13 @@ if_ways c a b =
       going = plus (times (counts c).true_paths a.going) (times (counts c).false_paths b.going);
       ended = plus (times (counts c).true_paths a.ended) (times (counts c).false_paths b.ended);
     }
+
+-- One statement, and then others.
+abbrev pub then_ways : Ways → Ways → Ways
+then_ways first rest = record {
+  going = times first.going rest.going;
+  ended = plus first.ended (times first.going rest.ended);
+}
 
 abbrev mutual
   pub do_ways : DoPlan → Ways
@@ -85,10 +84,7 @@ abbrev mutual
 
   pub dos_ways : DosPlan → Ways
   dos_ways End = record { going = 1; ended = 0 }
-  dos_ways (Then d rest) = record {
-    going = times (do_ways d).going (dos_ways rest).going;
-    ended = plus (do_ways d).ended (times (do_ways d).going (dos_ways rest).ended);
-  }
+  dos_ways (Then d rest) = then_ways (do_ways d) (dos_ways rest)
 
 -- The path bound of an update.
 abbrev pub path_bound : DosPlan → ℕ

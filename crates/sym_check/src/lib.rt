@@ -5,12 +5,13 @@ mod checked;
 mod elaborate;
 mod evaluate;
 pub mod laws;
+mod path_bound;
 mod plan;
 mod rules;
 
 pub use checked::{CheckErr, Checked};
 pub use evaluate::arithmetic::Arith;
-pub use evaluate::calls::{fixed, number, pair};
+pub use evaluate::calls::{fixed, number, pair, test};
 pub use evaluate::fixed_value::FixedValue;
 pub use evaluate::pairs::Pair;
 pub use plan::condition::Cond;

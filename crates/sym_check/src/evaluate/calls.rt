@@ -1,10 +1,13 @@
 //! What the expressions of a checked script stand for at a record.
-ghost use Rattle.std.specs.Prelude.{◌≡◌, IfOk};
+ghost use Rattle.std.specs.Prelude.{◌≡◌, IfOk, IsTrue};
+ghost use Rattle.std.specs.List.{list_all};
+ghost use Rattle.sym_check.specs.Conditions.{has_fixed_body, test_truth};
 ghost use Rattle.sym_check.specs.FixedPlans.{num_plan, fixed_plan};
 ghost use Rattle.sym_check.specs.FixedValues.{number, fixed_value};
 ghost use Rattle.sym_check.specs.KnownValues.{known_values, fixed_result};
 ghost use Rattle.sym_check.specs.LinePlans.{line_plan};
 ghost use Rattle.sym_check.specs.LineValues.{pair};
+ghost use Rattle.sym_check.specs.ScriptPlans.{script_plan};
 ghost use Rattle.sym_check.specs.Updates.{environment};
 
 use crate::checked::Checked;
@@ -13,7 +16,9 @@ use crate::evaluate::fixed_value::{FixedValue, value_of};
 use crate::evaluate::known::Known;
 use crate::evaluate::numbers::{number_of, pair_of};
 use crate::evaluate::pairs::Pair;
+use crate::evaluate::truth::answer_at;
 use crate::plan::expression::{Fixed, Line, Num};
+use crate::plan::script::Plan;
 use std::alloc::Global;
 use sym_base::{NoMemory, Record, Values};
 
@@ -66,4 +71,14 @@ pub fn fixed(
         IfOk result (λ v. fixed_result v ≡ fixed_value k (fixed_plan expression.now)) }
 {
     value_of(alloc, &known_in(rec, locals), expression)
+}
+
+/// The answer of the test with this number, counted from 0, for the parts of a hold cell and the
+/// arguments: whether its body is true. A body whose arithmetic fails is false, and so is the
+/// answer where no test has this number. It takes no memory.
+pub fn test(plan: &Plan, id: u16, parts: &Values, args: &Values) -> bool
+    requires { IsTrue (list_all has_fixed_body (script_plan plan.now).tests) }
+    ensures { result ≡ test_truth (script_plan plan.now).tests id args.now parts.now }
+{
+    answer_at(&plan.tests, id, parts.as_slice(), args.as_slice())
 }
