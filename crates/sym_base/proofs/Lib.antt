@@ -1,4 +1,5 @@
 mod Appending
+pub mod ExprLists
 mod Files
 mod LawfulExamples
 mod Reading

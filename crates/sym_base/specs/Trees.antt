@@ -1,5 +1,5 @@
 -- The syntax tree as plain data: what a contract sees of a tree whose parts are boxed.
-use Rattle.std.specs.Prelude.{ℕ, ℤ, List, Option, map}
+use Rattle.std.specs.Prelude.{ℕ, ℤ, List, [], ◌∷◌, Option, map}
 use Rattle.sym_base.specs.declared.tree.name.Name.{Name}
 use Rattle.sym_base.specs.declared.tree.expression.BinOp.{BinOp}
 use Rattle.sym_base.specs.declared.tree.expression.Expr.{Expr}
@@ -45,6 +45,11 @@ abbrev mutual
   pub exprs_tree : Exprs → ExprsTree
   exprs_tree exprs.End = End
   exprs_tree (exprs.More' p e q es) = More (expr_tree e) (exprs_tree es)
+
+-- The expressions of a list before others.
+abbrev pub exprs_before : List ExprTree → ExprsTree → ExprsTree
+exprs_before [] rest = rest
+exprs_before (x ∷ xs) rest = More x (exprs_before xs rest)
 
 mutual
   pub data StmtTree : Type 0 where

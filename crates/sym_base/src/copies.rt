@@ -1,6 +1,6 @@
 //! With ample memory each type of plain values gives its copy.
 use crate::*;
-use std::alloc::Global;
+use std::alloc::{AllocError, Global};
 use std::process::Abort;
 use std::test::Fail;
 
@@ -224,5 +224,37 @@ fn a_script_is_copied(rt: HostRuntime) -> Result<(), Fail> {
     assert_eq!(rt; copy.tests.len(), 1);
     assert_eq!(rt; copy.columns.len(), 1);
     assert_eq!(rt; count(&copy.update), 5);
+    Ok(())
+}
+
+// The places of the numbers in a list, at most this many of them.
+fn places(alloc: Global, mut exprs: &Exprs, most: u32) -> Result<Vec<u32>, AllocError> {
+    let mut places = Vec::new(alloc);
+    'expressions: for _passed in 0..most {
+        match exprs {
+            Exprs::More(first, rest) => {
+                if let Expr::Num(_, at) = **first {
+                    places.push(at)?;
+                }
+                exprs = rest;
+            }
+            Exprs::End => return Ok(places),
+        }
+    }
+    Ok(places)
+}
+
+#[test]
+fn a_list_of_many_expressions_is_made_copied_and_freed(rt: HostRuntime) -> Result<(), Fail> {
+    let mut items = Vec::new(rt.alloc());
+    let mut wanted = Vec::new(rt.alloc());
+    for at in 0..20_000u32 {
+        items.push(Expr::Num(5, at))?;
+        wanted.push(at)?;
+    }
+    let list = Exprs::of(rt.alloc(), items)?;
+    let copy = list.copy(rt.alloc())?;
+    drop(list);
+    assert!(rt; places(rt.alloc(), &copy, 30_000)? == wanted);
     Ok(())
 }

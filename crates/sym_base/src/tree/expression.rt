@@ -1,7 +1,7 @@
 //! Expressions. Contracts see them as the plain data of `specs/Trees.antt`, which leaves the
 //! boxes out.
-ghost use Rattle.std.specs.Prelude.{◌≡◌, IfOk};
-ghost use Rattle.sym_base.specs.Trees.{expr_tree, exprs_tree};
+ghost use Rattle.std.specs.Prelude.{◌≡◌, IfOk, map};
+ghost use Rattle.sym_base.specs.Trees.{End, expr_tree, exprs_tree, exprs_before};
 
 use crate::tree::name::Name;
 use crate::values::memory::NoMemory;
@@ -41,12 +41,24 @@ pub enum Expr {
     Bin(BinOp, Box<Expr>, Box<Expr>, u32),
 }
 
-/// A list of expressions: its end, or the first one with the rest.
+/// A list of expressions: its end, or the first one with the rest. A `keep` may have any number of
+/// them, so what goes along a list is a loop.
 #[cycle(expression)]
-#[derive(Drop)]
 pub enum Exprs {
     End,
     More(Box<Expr>, Box<Exprs>),
+}
+
+impl Drop for Exprs {
+    #[cycle(expression)]
+    fn drop(mut self) {
+        'expressions: loop {
+            match self {
+                Exprs::End => return,
+                Exprs::More(_, rest) => self = Box::into_inner(rest),
+            }
+        }
+    }
 }
 
 impl Expr {
@@ -81,18 +93,39 @@ impl Expr {
 }
 
 impl Exprs {
+    /// The list of a vector's expressions.
+    pub fn of(alloc: Global, mut items: Vec<Expr>) -> Result<Exprs, NoMemory>
+        ensures { IfOk result (λ es. exprs_tree es ≡ exprs_before (map expr_tree items.items) End) }
+    {
+        let mut list = Exprs::End;
+        'expressions: while let Some(last) = items.pop() {
+            let first = Box::new(alloc, last)?;
+            list = Exprs::More(first, Box::new(alloc, list)?);
+        }
+        Ok(list)
+    }
+
+    // Equal expressions of their own, in order.
+    #[cycle(copy_expression)]
+    fn copies(&self, alloc: Global) -> Result<Vec<Expr>, NoMemory>
+        ensures { IfOk result (λ es. exprs_before (map expr_tree es.items) End ≡ exprs_tree self.now) }
+    {
+        let mut copied = Vec::new(alloc);
+        let mut left = self;
+        'expressions: while let Exprs::More(first, rest) = left {
+            let copy = first.copy(alloc)?;
+            copied.push(copy)?;
+            left = rest;
+        }
+        Ok(copied)
+    }
+
     /// An equal list of its own.
     #[cycle(copy_expression)]
     pub fn copy(&self, alloc: Global) -> Result<Exprs, NoMemory>
         ensures { IfOk result (λ e. exprs_tree e ≡ exprs_tree self.now) }
     {
-        match self {
-            Exprs::End => Ok(Exprs::End),
-            Exprs::More(first, rest) => {
-                let first = Box::new(alloc, first.copy(alloc)?)?;
-                let rest = rest.copy(alloc)?;
-                Ok(Exprs::More(first, Box::new(alloc, rest)?))
-            }
-        }
+        let copied = self.copies(alloc)?;
+        Exprs::of(alloc, copied)
     }
 }
