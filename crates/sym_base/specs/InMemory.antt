@@ -1,6 +1,7 @@
 -- Stores and sinks in memory, as tests make them: what they hold, which of their calls fail, and
 -- how many calls came and failed so far.
-use Rattle.std.specs.Prelude.{◌≡◌, ℕ, List, ◌++◌, Option, None, option_map, find, Contains, ◌⊎◌, map}
+use Rattle.std.specs.Prelude.{◌≡◌, ℕ, List, [], ◌++◌, Option, Some, None, option_map, find, Contains, ◌⊎◌, map}
+use Rattle.std.specs.Option.{unwrap_or}
 use Rattle.std.specs.Str.{bytes_eq}
 use Rattle.std.specs.String.{string_bytes}
 use Rattle.std.specs.declared.string.String.{String}
@@ -14,6 +15,14 @@ pub record File : Type 0 where
 -- The bytes of the file of a name, where there is one.
 abbrev pub file_at : List File → List ℕ → Option (List ℕ)
 file_at files name = option_map (λ file. file.bytes) (find (λ file. bytes_eq name file.name) files)
+
+-- The bytes of the file of a name; no bytes where there is no such file.
+abbrev pub bytes_of : List File → List ℕ → List ℕ
+bytes_of files name = unwrap_or (file_at files name) []
+
+-- A store that never fails tells of every name.
+abbrev pub told : List File → List ℕ → Option (List ℕ)
+told files name = Some (bytes_of files name)
 
 -- The files that the entries of a map from names to bytes are.
 abbrev pub files_of : {A : Type 0} → List (String A × List ℕ) → List File
@@ -62,3 +71,9 @@ after_failed_write sink = record sink { writes = counted sink.writes; faults = c
 -- The sink after a write that found no memory.
 abbrev pub after_short_write : SinkInMemory → SinkInMemory
 after_short_write sink = record sink { writes = counted sink.writes; short = counted sink.short }
+
+pub record SureSinkInMemory : Type 0 where
+  -- all bytes that were written
+  pub bytes : List ℕ
+  -- how many writes found no memory
+  pub short : ℕ

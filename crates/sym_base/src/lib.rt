@@ -12,6 +12,8 @@ pub use edge::mem_store::MemStore;
 pub use edge::read::{ReadErr, read_all};
 pub use edge::sink::{Sink, SinkErr};
 pub use edge::store::{Failed, Store};
+pub use edge::sure_sink::SureSink;
+pub use edge::sure_store::SureStore;
 pub use edge::write::write_all;
 pub use limits::{
     CELLS_MAX, CHUNK_MAX, CHUNKS_MAX, COLUMNS_MAX, DEPTH_MAX, ENUMS_MAX, FIELDS_MAX, FILE_MAX,

@@ -1,13 +1,13 @@
 //! A store in memory, whose reads can be made to fail.
-ghost use Rattle.std.specs.Prelude.{◌≡◌, ◌≢◌, ℕ, ◌-◌, ◌≤◌, ◌↔◌, List, [], ◌∷◌, ◌++◌, Some, length, drop, min, IfOk, IfSome, OnOk, OnErr, IsErr, IsTrue, Contains, option_map};
+ghost use Rattle.std.specs.Prelude.{◌≡◌, ◌≢◌, ℕ, ◌-◌, ◌≤◌, ◌↔◌, List, [], ◌∷◌, ◌++◌, Some, length, drop, min, IfOk, IfSome, OnOk, OnErr, IsErr, IsTrue, Contains};
 ghost use Rattle.sym_base.specs.Counts.{Rose};
 ghost use Rattle.sym_base.specs.Transfers.{ReadsAt};
-ghost use Rattle.sym_base.specs.InMemory.{file_at, files_of, FailsNext, after_read, after_fault};
+ghost use Rattle.sym_base.specs.InMemory.{file_at, FailsNext, after_read, after_fault};
 
+use crate::edge::files::{Files, copy_from, find, put};
 use crate::edge::store::{Failed, Store};
 use crate::limits::FILE_MAX;
 use crate::values::memory::NoMemory;
-use crate::values::sequence::Sequence;
 use std::alloc::Global;
 use std::collections::BTreeMap;
 use std::marker::Model;
@@ -17,7 +17,7 @@ use std::marker::Model;
 /// one count of faults, for every name. A contract sees the files, the numbers and the counts.
 #[derive(Drop)]
 pub struct MemStore {
-    files: BTreeMap<String, Sequence<u8>>,
+    files: Files,
     failing: Vec<u64>,
     reads: u64,
     faults: u64,
@@ -58,10 +58,7 @@ impl MemStore {
         ensures counts { OnOk result (self.new ≡ record self.old { files = self.new.files }) }
         ensures err { OnErr result (self.new ≡ self.old) }
     {
-        let name = String::from_str(alloc, name)?;
-        let bytes = Sequence::of(Vec::from_slice(alloc, bytes)?);
-        let _older = self.files.insert(name, bytes)?;
-        Ok(())
+        put(&mut self.files, alloc, name, bytes)
     }
 
     /// Makes the read of this number fail. Reads are counted from 1, over all names. After an
@@ -114,26 +111,4 @@ pub(crate) fn is_listed(failing: &[u64], call: u64) -> bool
     ensures { IsTrue result ↔ Contains failing.now call }
 {
     failing.contains(&call)
-}
-
-// The bytes of the file of this name.
-fn find<'a>(files: &'a BTreeMap<String, Sequence<u8>>, name: &str) -> Option<&'a [u8]>
-    ensures { option_map (λ bytes. bytes.now) result ≡
-        file_at (files_of files.now.entries) name.now }
-{
-    let bytes = files.get(name)?;
-    Some(bytes.as_slice())
-}
-
-// Copies the bytes from a place on to the start of a buffer, as many as it has room for.
-fn copy_from(bytes: &[u8], at: u64, into: &mut [u8]) -> usize
-    requires { at ≤ FILE_MAX }
-    ensures most { result ≡ min (length into.old) (length bytes.now - at) }
-    ensures reads { ReadsAt bytes.now at result into.old into.new }
-{
-    let start = (at as usize).min(bytes.len());
-    let rest = &bytes[start..];
-    let count = rest.len().min(into.len());
-    into[..count].copy_from_slice(&rest[..count]);
-    count
 }

@@ -1,6 +1,6 @@
 use Rattle.std.proofs.Common.{Some, ap, sym, ◌∙◌}
 use Rattle.sym_base.proofs.Files.{file_at-entries}
-use Rattle.sym_base.proofs.edge.mem_store.find.Goals as goal
+use Rattle.sym_base.proofs.edge.files.find.Goals as goal
 
 pub returns-in_err-bytes : goal.returns-in_err-bytes
 returns-in_err-bytes c =

@@ -1,0 +1,53 @@
+//! Files that a store in memory keeps.
+ghost use Rattle.std.specs.Prelude.{◌≡◌, ◌≢◌, ◌-◌, ◌≤◌, List, ℕ, Some, length, min, OnOk, OnErr, option_map};
+ghost use Rattle.sym_base.specs.InMemory.{file_at, files_of};
+ghost use Rattle.sym_base.specs.Transfers.{ReadsAt};
+
+use crate::limits::FILE_MAX;
+use crate::values::memory::NoMemory;
+use crate::values::sequence::Sequence;
+use std::alloc::Global;
+use std::collections::BTreeMap;
+
+/// The bytes of each file, by its name.
+pub(crate) type Files = BTreeMap<String, Sequence<u8>>;
+
+// Sets the file of this name to a copy of these bytes. After an `Err` the files are as before.
+pub(crate) fn put(
+    files: &mut Files,
+    alloc: Global,
+    name: &str,
+    bytes: &[u8],
+) -> Result<(), NoMemory>
+    ensures set { OnOk result (file_at (files_of files.new.entries) name.now ≡ Some bytes.now) }
+    ensures others { OnOk result ((other : List ℕ) → other ≢ name.now →
+        file_at (files_of files.new.entries) other ≡ file_at (files_of files.old.entries) other) }
+    ensures err { OnErr result (files.new.entries ≡ files.old.entries) }
+{
+    let name = String::from_str(alloc, name)?;
+    let bytes = Sequence::of(Vec::from_slice(alloc, bytes)?);
+    let _older = files.insert(name, bytes)?;
+    Ok(())
+}
+
+// The bytes of the file of this name.
+pub(crate) fn find<'a>(files: &'a Files, name: &str) -> Option<&'a [u8]>
+    ensures { option_map (λ bytes. bytes.now) result ≡
+        file_at (files_of files.now.entries) name.now }
+{
+    let bytes = files.get(name)?;
+    Some(bytes.as_slice())
+}
+
+// Copies the bytes from a place on to the start of a buffer, as many as it has room for.
+pub(crate) fn copy_from(bytes: &[u8], at: u64, into: &mut [u8]) -> usize
+    requires { at ≤ FILE_MAX }
+    ensures most { result ≡ min (length into.old) (length bytes.now - at) }
+    ensures reads { ReadsAt bytes.now at result into.old into.new }
+{
+    let start = (at as usize).min(bytes.len());
+    let rest = &bytes[start..];
+    let count = rest.len().min(into.len());
+    into[..count].copy_from_slice(&rest[..count]);
+    count
+}

@@ -1,0 +1,102 @@
+//! A store in memory whose reads never fail.
+ghost use Rattle.std.specs.Prelude.{◌≡◌, ◌≢◌, ℕ, ◌-◌, ◌≤◌, List, [], length, drop, min, IfOk, OnOk, OnErr};
+ghost use Rattle.sym_base.specs.Counts.{Rose};
+ghost use Rattle.sym_base.specs.Transfers.{ReadsAt};
+ghost use Rattle.sym_base.specs.InMemory.{bytes_of, told};
+
+use crate::edge::files::{Files, copy_from, find, put};
+use crate::edge::store::{Failed, Store};
+use crate::limits::FILE_MAX;
+use crate::values::memory::NoMemory;
+use std::alloc::Global;
+use std::collections::BTreeMap;
+use std::marker::Model;
+
+/// A store of files in memory, which tells what they hold and never fails. A name that was not
+/// added is a file of no bytes. A contract sees the files.
+#[derive(Drop)]
+pub struct SureStore {
+    files: Files,
+}
+
+impl Model for SureStore {
+    ghost use Rattle.std.specs.Prelude.{List};
+    ghost use Rattle.sym_base.specs.InMemory.{File, files_of};
+
+    ghost Value = { List File };
+
+    ghost view = { λ s. files_of s.files.entries };
+}
+
+impl SureStore {
+    /// A store with no files. It takes no memory until a file is added.
+    pub fn new(alloc: Global) -> SureStore
+        ensures { result ≡ [] }
+    {
+        SureStore {
+            files: BTreeMap::new(alloc),
+        }
+    }
+
+    /// Sets the file of this name to a copy of these bytes, in place of an older file of that
+    /// name. After an `Err` the store is as before.
+    pub fn add(&mut self, alloc: Global, name: &str, bytes: &[u8]) -> Result<(), NoMemory>
+        ensures set { OnOk result (bytes_of self.new name.now ≡ bytes.now) }
+        ensures others { OnOk result ((other : List ℕ) → other ≢ name.now →
+            bytes_of self.new other ≡ bytes_of self.old other) }
+        ensures err { OnErr result (self.new ≡ self.old) }
+    {
+        put(&mut self.files, alloc, name, bytes)
+    }
+}
+
+impl Store for SureStore {
+    ghost holds = { told };
+
+    ghost faults = { λ _ _. 0 };
+
+    /// Reads as many bytes as there are and `into` has room for.
+    fn read_at(&mut self, name: &str, at: u64, into: &mut [u8]) -> Result<usize, Failed>
+        requires { at ≤ FILE_MAX }
+        ensures bound { IfOk result (λ k. k ≤ length into.old) }
+        ensures rest { IfOk result (λ k. drop k into.new ≡ drop k into.old) }
+        ensures bytes { IfOk result (λ k.
+            ReadsAt (bytes_of self.old name.now) at k into.old into.new) }
+        ensures same { told self.new ≡ told self.old }
+        ensures later { (other : List ℕ) → 0 ≤ 0 }
+        ensures failed { OnErr result (Rose 0 0) }
+        ensures sure { OnErr result ⊥ }
+        ensures most { IfOk result (λ k.
+            k ≡ min (length into.old) (length (bytes_of self.old name.now) - at)) }
+        ensures kept { self.new ≡ self.old }
+    {
+        match find(&self.files, name) {
+            Some(bytes) => Ok(copy_from(bytes, at, into)),
+            None => Ok(copy_from(&[], at, into)),
+        }
+    }
+}
+
+#[cfg(test)]
+mod tests {
+    use super::*;
+    use crate::edge::read::read_all;
+    use std::test::Fail;
+
+    #[test]
+    fn an_absent_file_is_empty_and_one_that_is_set_again_is_replaced(
+        rt: HostRuntime,
+    ) -> Result<(), Fail> {
+        let mut store = SureStore::new(rt.alloc());
+        assert!(rt; read_all(rt.alloc(), &mut store, "a", 0)?.is_empty());
+        store.add(rt.alloc(), "a", b"first, and longer")?;
+        store.add(rt.alloc(), "b", b"other")?;
+        store.add(rt.alloc(), "a", b"second")?;
+        let read = read_all(rt.alloc(), &mut store, "a", 20)?;
+        assert_eq!(rt; read.as_slice(), b"second".as_slice());
+        let read = read_all(rt.alloc(), &mut store, "b", 20)?;
+        assert_eq!(rt; read.as_slice(), b"other".as_slice());
+        assert!(rt; read_all(rt.alloc(), &mut store, "", 20)?.is_empty());
+        Ok(())
+    }
+}
