@@ -4,7 +4,8 @@ use Rattle.sym_base.specs.declared.tree.name.Name.{Name}
 use Rattle.sym_base.specs.declared.tree.expression.BinOp.TheVariants as op
 use Rattle.sym_base.specs.declared.tree.declaration.KindRef.TheVariants as kind
 use Rattle.sym_base.specs.declared.tree.declaration.CellDecl.TheVariants as cell
-use Rattle.sym_base.specs.Lawful.{IsLawful, is_lawful_text, is_unsigned, is_number, has_lawful_leaves}
+use Rattle.sym_base.specs.Lawful.{IsLawful, is_lawful_text, is_unsigned, has_lawful_leaves}
+use Rattle.sym_base.specs.Limits.{is_number}
 use Rattle.sym_base.specs.Names.{is_name, is_keyword, keyword_texts}
 use Rattle.sym_base.specs.Precedence.{needs_parentheses, left_level, right_level, not_level, sign_level}
 use Rattle.sym_base.specs.Sizes.{expr_depth, operand_count, stmts_depth, stmts_count}

@@ -1,6 +1,6 @@
 -- Lawful scripts: those that have a text which keeps the lexical rules, the grammar and the limits.
 -- Whether their names are declared, and what of, is another question.
-use Rattle.std.specs.Prelude.{◌≡◌, ℕ, ◌≤◌, ℤ, pos, neg_ℤ, int_le, Bool, true, false, not, ◌&&◌, ◌==◌, nat_le, List, length, Option, Some, None}
+use Rattle.std.specs.Prelude.{◌≡◌, ℕ, ◌≤◌, ℤ, pos, int_le, Bool, true, false, not, ◌&&◌, ◌==◌, nat_le, List, length, Option, Some, None}
 use Rattle.std.specs.List.{list_all}
 use Rattle.std.specs.Str.{is_utf8}
 use Rattle.sym_base.specs.declared.tree.name.Name.{Name}
@@ -17,7 +17,7 @@ use Rattle.sym_base.specs.declared.tree.declaration.StateDecl.{StateDecl}
 use Rattle.sym_base.specs.declared.tree.declaration.Param.{Param}
 use Rattle.sym_base.specs.Limits.{max_enums, max_labels, max_fields, max_cells, max_tests, max_parameters, max_parts, max_statements, max_depth, max_operands, max_columns}
 use Rattle.sym_base.specs.Names.{is_name}
-use Rattle.sym_base.specs.Limits.{num_max}
+use Rattle.sym_base.specs.Limits.{num_max, is_number}
 use Rattle.sym_base.specs.Sizes.{expr_depth, operand_count, stmts_depth, stmts_count}
 use Rattle.sym_base.specs.Trees.{ScriptTree, TestTree, ColumnTree, ExprTree, Num, Words, Named, Call, Neg, Not, Bin, ExprsTree, End, More, StmtTree, Let, Set, Push, Keep, KeepFrom, If, StmtsTree, Done, Then}
 
@@ -31,13 +31,10 @@ is_lawful_name name = is_name name.text
 unfoldable pub is_lawful_text : List ℕ → Bool
 is_lawful_text text = list_all (λ b. not (b == 10)) text && is_utf8 text
 
--- A number of an expression has no sign of its own, and is at most 10^12.
+-- A number of an expression has no sign of its own, and is at most 10^12. Any other number of a
+-- script is at most 10^12 in size.
 unfoldable pub is_unsigned : ℤ → Bool
 is_unsigned n = int_le (pos 0) n && int_le n (pos num_max)
-
--- Any other number of a script is at most 10^12 in size.
-unfoldable pub is_number : ℤ → Bool
-is_number n = int_le (neg_ℤ (pos num_max)) n && int_le n (pos num_max)
 
 abbrev pub is_lawful_kind : KindRef → Bool
 is_lawful_kind kind.Num = true

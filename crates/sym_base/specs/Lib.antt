@@ -9,5 +9,6 @@ pub mod Order
 pub mod Precedence
 pub mod Sizes
 pub mod States
+pub mod Tests
 pub mod Transfers
 pub mod Trees

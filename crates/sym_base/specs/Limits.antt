@@ -1,6 +1,6 @@
 -- The limits of scripts and of their data, as contracts cite them: each is a constant of
 -- src/limits.rt.
-use Rattle.std.specs.Prelude.{ℕ, ℤ, ◌≤◌, unsigned_abs}
+use Rattle.std.specs.Prelude.{ℕ, ℤ, ◌≤◌, nat_le, Bool, unsigned_abs}
 use Rattle.sym_base.specs.declared.limits.TheConstants as limit
 
 -- The largest number; the least is its opposite.
@@ -10,6 +10,10 @@ num_max = unsigned_abs limit.NUM_MAX
 -- A whole number of at most 10^12 in size.
 abbrev pub IsNumber : ℤ → Type 0
 IsNumber x = unsigned_abs x ≤ num_max
+
+-- Whether it is one.
+unfoldable pub is_number : ℤ → Bool
+is_number x = nat_le (unsigned_abs x) num_max
 
 abbrev pub max_enums : ℕ
 max_enums = limit.ENUMS_MAX

@@ -258,3 +258,48 @@ fn a_list_of_many_expressions_is_made_copied_and_freed(rt: HostRuntime) -> Resul
     assert!(rt; places(rt.alloc(), &copy, 30_000)? == wanted);
     Ok(())
 }
+
+#[test]
+fn numbers_compare(rt: HostRuntime) -> Result<(), Fail> {
+    let answers = [
+        (Compare::Eq, [false, true, false]),
+        (Compare::Ne, [true, false, true]),
+        (Compare::Lt, [true, false, false]),
+        (Compare::Le, [true, true, false]),
+        (Compare::Gt, [false, false, true]),
+        (Compare::Ge, [false, true, true]),
+    ];
+    for (compare, wanted) in answers {
+        let found = [
+            compare.holds(-2, -1),
+            compare.holds(7, 7),
+            compare.holds(i128::MAX, i128::MIN),
+        ];
+        assert!(rt; found == wanted);
+    }
+    Ok(())
+}
+
+#[test]
+fn lists_of_a_state_are_seen_where_they_lie(rt: HostRuntime) -> Result<(), Fail> {
+    let state = state(rt.alloc())?;
+    assert!(rt; state.nums_at(3) == [-1, NUM_MAX].as_slice() && state.words_at(4).len() == 2);
+    assert!(rt; state.nums_at(4).is_empty() && state.words_at(5).is_empty());
+    let state = state.with_cell(4, Cell::Enum(1));
+    assert!(rt; state.label_at(4) == 1 && state.words_at(4).is_empty());
+    Ok(())
+}
+
+#[test]
+fn lists_of_a_state_grow(rt: HostRuntime) -> Result<(), Fail> {
+    let mut state = state(rt.alloc())?;
+    state.push_num(3, 8)?;
+    state.push_word(4, word(rt.alloc())?)?;
+    assert!(rt; state.nums_at(3) == [-1, NUM_MAX, 8].as_slice());
+    assert!(rt; state.words_at(4).len() == 3 && state.number_at(1) == -4);
+    let mut values = values(rt.alloc())?;
+    assert!(rt; values.replace(0, Value::Num(6)) == Some(Value::Num(-5)));
+    assert!(rt; values.replace(3, Value::Num(6)) == None && values.len() == 3);
+    assert!(rt; values.get(0) == Some(&Value::Num(6)));
+    Ok(())
+}

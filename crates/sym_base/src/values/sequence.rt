@@ -6,6 +6,7 @@ use crate::values::memory::NoMemory;
 use std::alloc::Global;
 use std::cmp::Ordering;
 use std::marker::Model;
+use std::mem;
 
 /// A value with no resource but memory, which can be copied.
 pub trait Plain: Sized + Drop {
@@ -100,6 +101,16 @@ impl<T: Drop> Sequence<T> {
         if let Some(place) = self.items.get_mut(index) {
             *place = item;
         }
+    }
+
+    /// Puts an item in the place of the one at `index`, counted from 0, and gives that one. Where
+    /// there are at most `index` items, the list is as before, and the item is dropped.
+    pub fn replace(&mut self, index: usize, item: T) -> Option<T>
+        ensures old { result ≡ slice_get self.old index }
+        ensures new { self.new ≡ slice_set self.old index item }
+    {
+        let place = self.items.get_mut(index)?;
+        Some(mem::replace(place, item))
     }
 }
 
