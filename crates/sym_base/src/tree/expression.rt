@@ -108,7 +108,8 @@ impl Exprs {
     // Equal expressions of their own, in order.
     #[cycle(copy_expression)]
     fn copies(&self, alloc: Global) -> Result<Vec<Expr>, NoMemory>
-        ensures { IfOk result (λ es. exprs_before (map expr_tree es.items) End ≡ exprs_tree self.now) }
+        ensures { IfOk result (λ es.
+            exprs_before (map expr_tree es.items) End ≡ exprs_tree self.now) }
     {
         let mut copied = Vec::new(alloc);
         let mut left = self;
