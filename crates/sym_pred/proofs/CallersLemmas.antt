@@ -16,7 +16,8 @@ use Rattle.sym_pred.specs.declared.literal.Literal.{Literal}
 use Rattle.sym_pred.specs.declared.form.HoldForm.{HoldForm}
 use Rattle.sym_pred.specs.Facts.{Atom, FactMap}
 use Rattle.sym_pred.specs.Literals.{atom_of, entry_of, literal_of, literals}
-use Rattle.sym_pred.specs.Meaning.{Truth, Stands, Admits}
+use Rattle.sym_base.specs.Tests.{Truth}
+use Rattle.sym_pred.specs.Meaning.{Stands, Admits}
 use Rattle.sym_pred.proofs.EntriesLemmas.{find-at, find-place}
 use Rattle.sym_pred.proofs.FactsLemmas.{atom_cmp-total, atom_cmp-IsAntisymmetric}
 use Rattle.sym_pred.proofs.DifferenceLemmas.{some_literal}

@@ -11,7 +11,8 @@ use Rattle.sym_pred.specs.declared.facts.Added.{Added}
 use Rattle.sym_pred.specs.declared.facts.Added.TheVariants.{Same, Longer, Against}
 use Rattle.sym_pred.specs.Facts.{Atom, atom_cmp, FactMap}
 use Rattle.sym_pred.specs.Literals.{atom_of}
-use Rattle.sym_pred.specs.Meaning.{Truth, Stands, Admits, Clash, DifferInOne}
+use Rattle.sym_base.specs.Tests.{Truth}
+use Rattle.sym_pred.specs.Meaning.{Stands, Admits, Clash, DifferInOne}
 use Rattle.sym_pred.specs.Answers.{IsAdded, AdmitsAdded}
 use Rattle.sym_pred.proofs.EntriesLemmas.{is_Equal}
 use Rattle.sym_pred.proofs.FactsLemmas.{atom_cmp-total, atom_cmp-IsAntisymmetric}

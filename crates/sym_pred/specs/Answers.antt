@@ -7,7 +7,8 @@ use Rattle.sym_pred.specs.declared.facts.Added.{Added}
 use Rattle.sym_pred.specs.declared.facts.Added.TheVariants.{Same, Longer, Against}
 use Rattle.sym_pred.specs.Facts.{FactMap}
 use Rattle.sym_pred.specs.Literals.{atom_of}
-use Rattle.sym_pred.specs.Meaning.{Truth, Stands, Admits}
+use Rattle.sym_base.specs.Tests.{Truth}
+use Rattle.sym_pred.specs.Meaning.{Stands, Admits}
 
 -- What adding a literal comes to: it stands already, its atom has no outcome yet and now has this
 -- one, or it stands with the other outcome.

@@ -1,12 +1,9 @@
 -- What facts say of the parts of a hold cell, and how two lots of facts stand to each other.
-use Rattle.std.specs.Prelude.{◌≡◌, ◌≢◌, ℕ, Bool, not, List, Some, ◌⊎◌}
+use Rattle.std.specs.Prelude.{◌≡◌, ◌≢◌, Bool, not, List, Some, ◌⊎◌}
 use Rattle.std.specs.FinMap.{get}
 use Rattle.sym_base.specs.declared.values.value.Value.{Value}
+use Rattle.sym_base.specs.Tests.{Truth}
 use Rattle.sym_pred.specs.Facts.{Atom, FactMap}
-
--- What each test answers, by its number, for arguments and the parts of a hold cell.
-abbrev pub Truth : Type 0
-Truth = ℕ → List Value → List Value → Bool
 
 -- The literal with this atom and outcome is one of the facts.
 abbrev pub Stands : FactMap → Atom → Bool → Type 0

@@ -1,7 +1,8 @@
 //! What is known of a hold cell after one more test on it.
 ghost use Rattle.std.specs.Prelude.{◌≡◌, ◌≢◌, ◌↔◌, List, IfOk, MatchOption};
 ghost use Rattle.sym_base.specs.declared.values.value.Value.{Value as OneValue};
-ghost use Rattle.sym_pred.specs.Meaning.{Truth, Admits};
+ghost use Rattle.sym_base.specs.Tests.{Truth};
+ghost use Rattle.sym_pred.specs.Meaning.{Admits};
 
 use sym_base::NoMemory;
 use sym_pred::{Facts, Literal};
