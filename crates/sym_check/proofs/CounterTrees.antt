@@ -1,5 +1,5 @@
 -- Reading a counter off a tree finds exactly the counter whose tree it is.
-use Rattle.std.proofs.Common.{◌≡◌, ℕ, ℤ, pos, negsuc, ◌≤ℤ◌, int_le, Bool, true, false, cond, not, ◌&&◌, List, [], ◌∷◌, Option, None, Some, refl, ap, arith, ◌∙◌, subst}
+use Rattle.std.proofs.Common.{◌≡◌, ℕ, ℤ, pos, ◌≤ℤ◌, int_le, Bool, true, false, cond, not, ◌&&◌, List, [], ◌∷◌, Option, None, Some, refl, ap, arith, ◌∙◌, subst}
 use Rattle.std.specs.Bool.{Decides}
 use Rattle.std.proofs.lemmas.Int.{ints}
 use Rattle.std.proofs.lemmas.Bool.Decides.{Decides-eqb}
@@ -16,7 +16,9 @@ use Rattle.sym_base.specs.declared.tree.declaration.KindRef.TheVariants as kind
 use Rattle.sym_base.specs.declared.tree.declaration.Literal.{Literal}
 use Rattle.sym_base.specs.Trees.{ScriptTree, TestTree, ColumnTree, ExprTree, Num, Named, Bin, StmtsTree, Set, Then, Done}
 use Rattle.sym_base.specs.Counters.{Counter, Amount, Fixed, OfField, IsAmount, IsNumber, IsCounter, IsCounterTree, counter_tree, amount_tree, num_max}
-use Rattle.sym_check.specs.CounterTrees.{counter_of, is_counter, is_number, is_amount, only_counter, same_text, amount_of, change_with, change_of, range_of, name_of, plain_field, counter_of_lists, Range, Change, counter_of_parts}
+use Rattle.sym_base.specs.Limits.{is_number}
+use Rattle.sym_base.proofs.Numbers.{number-Decides}
+use Rattle.sym_check.specs.CounterTrees.{counter_of, is_counter, is_amount, only_counter, same_text, amount_of, change_with, change_of, range_of, name_of, plain_field, counter_of_lists, Range, Change, counter_of_parts}
 
 pub le-Decides : (a b : ℤ) → Decides (int_le a b) (a ≤ℤ b)
 le-Decides a b = (λ e. grind (arith, ints), λ h. grind (arith, ints))
@@ -31,10 +33,6 @@ and-Decides false b f g = (λ e. absurd (cc), λ h. f.1 h.0)
 not-Decides : {P : Type 0} (a : Bool) → Decides a P → Decides (not a) (P → ⊥)
 not-Decides true f = (λ e. absurd (cc), λ h. absurd (h (f.0 refl)))
 not-Decides false f = (λ e p. let t = f.1 p in cc, λ h. refl)
-
-number-Decides : (n : ℤ) → Decides (is_number n) (IsNumber n)
-number-Decides (pos n) = (λ e. grind (arith, ints), λ h. grind (arith, ints))
-number-Decides (negsuc n) = (λ e. grind (arith, ints), λ h. grind (arith, ints))
 
 amount-Decides : (field : List ℕ) (a : Amount) → Decides (is_amount field a) (IsAmount field a)
 amount-Decides field (Fixed n at) = and-Decides _ _ (le-Decides (pos 0) n) (le-Decides n (pos num_max))

@@ -23,7 +23,8 @@ use Rattle.sym_check.specs.LineValues.{term_number}
 use Rattle.sym_check.specs.Conditions.{truth, test_truth}
 use Rattle.sym_check.specs.DoPlans.{DoPlan, DosPlan}
 use Rattle.sym_check.specs.ScriptPlans.{ScriptPlan}
-use Rattle.sym_check.specs.Updates.{nums_at, with_cell, in_range, or_fault, stored, environment, environment_after, do_step, dos_step, at_record, step}
+use Rattle.sym_base.specs.States.{nums_at, with_cell}
+use Rattle.sym_check.specs.Updates.{in_range, or_fault, stored, environment, environment_after, do_step, dos_step, at_record, step}
 use Rattle.sym_check.specs.Groups.{field_value, key_by, key_of}
 use Rattle.sym_check.specs.Validity.{IsOfKind, AreOfKinds, field_kinds, IsRecord, IsKeyOf, IsKey, IsValidCell, IsValid, IsValidOutcome}
 use Rattle.sym_check.specs.Validity as valid

@@ -17,7 +17,7 @@ use Rattle.sym_base.specs.declared.values.state.FaultKind.TheVariants as fault
 use Rattle.sym_base.specs.declared.values.state.Outcome.{Outcome}
 use Rattle.sym_base.specs.declared.values.state.Outcome.TheVariants.{Going, Ended}
 use Rattle.sym_base.specs.Limits.{num_max, IsNumber}
-use Rattle.sym_base.specs.States.{label_at, label_in, parts_at, parts_in}
+use Rattle.sym_base.specs.States.{label_at, label_in, parts_at, parts_in, nums_at, nums_in, words_at, with_cell}
 use Rattle.sym_check.specs.declared.evaluate.arithmetic.Arith.{Arith}
 use Rattle.sym_check.specs.declared.plan.expression.ArithOp.{ArithOp}
 use Rattle.sym_check.specs.declared.plan.expression.ArithOp.TheVariants as op
@@ -36,7 +36,7 @@ use Rattle.sym_check.specs.Arithmetic.{and_then, within, divided, calculated, fa
 use Rattle.sym_check.specs.FixedValues.{Environment, value_number, value_label, number, label_of, word_of, fixed_value, fixed_values}
 use Rattle.sym_check.specs.LineValues.{term_number}
 use Rattle.sym_check.specs.Conditions.{truth, test_truth}
-use Rattle.sym_check.specs.Updates.{first_cell, initial, nums_at, nums_in, words_at, with_cell, in_range, or_fault, stored, environment, with_local, with_result, environment_after, do_step, dos_step, at_record, step}
+use Rattle.sym_check.specs.Updates.{first_cell, initial, in_range, or_fault, stored, environment, with_local, with_result, environment_after, do_step, dos_step, at_record, step}
 use Rattle.sym_check.specs.Validity.{label_count, IsOfKind, AreOfKinds, field_kinds, IsRecord, InRange, IsValidCell, IsValid, IsValidOutcome}
 use Rattle.sym_check.specs.Validity as valid
 use Rattle.sym_check.specs.WellFormed.{Kinds, IsNum, IsLabel, IsFixed, IsKept, with_kind, IsDo, IsDos, IsCell, IsWellFormed, known_kinds}

@@ -5,6 +5,7 @@ use Rattle.sym_base.specs.declared.values.value.Value.{Value}
 use Rattle.sym_base.specs.declared.values.state.State.{State}
 use Rattle.sym_base.specs.States.{label_at, parts_at}
 use Rattle.sym_base.specs.Comparing.{compares}
+use Rattle.sym_base.specs.Tests.{Truth}
 use Rattle.sym_check.specs.declared.evaluate.arithmetic.Arith.{Arith}
 use Rattle.sym_check.specs.Arithmetic.{◌>>=◌}
 use Rattle.sym_check.specs.FixedValues.{Environment, number, word_of, label_of, fixed_values}
@@ -12,10 +13,6 @@ use Rattle.sym_check.specs.LineValues.{term_number}
 use Rattle.sym_check.specs.LinePlans.{TermPlan, OfNum, OfLine}
 use Rattle.sym_check.specs.CondPlans.{CondPlan, Compared, Words, CellIs, LabelIs, Test, Not, And, Or}
 use Rattle.sym_check.specs.ScriptPlans.{TestOf}
-
--- What each test answers, by its number, for arguments and the parts of a hold cell.
-abbrev pub Truth : Type 0
-Truth = ℕ → List Value → List Value → Bool
 
 abbrev pub same_word : List ℕ → List ℕ → Bool
 same_word = pointwise nat_eq

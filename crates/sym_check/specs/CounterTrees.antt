@@ -1,5 +1,5 @@
 -- The counter that a script's tree is, where it is one.
-use Rattle.std.specs.Prelude.{ℕ, ℤ, pos, negsuc, ◌-◌, int_le, Bool, cond, not, ◌&&◌, nat_eq, List, [], ◌∷◌, Option, None, Some}
+use Rattle.std.specs.Prelude.{ℕ, ℤ, pos, int_le, Bool, cond, not, ◌&&◌, nat_eq, List, [], ◌∷◌, Option, None, Some}
 use Rattle.std.specs.Cmp.Lexicographic.{pointwise}
 use Rattle.sym_base.specs.declared.tree.name.Name.{Name}
 use Rattle.sym_base.specs.declared.tree.expression.BinOp.TheVariants.{Add}
@@ -13,6 +13,7 @@ use Rattle.sym_base.specs.declared.tree.declaration.KindRef.TheVariants as kind
 use Rattle.sym_base.specs.declared.tree.declaration.Literal.{Literal}
 use Rattle.sym_base.specs.Trees.{ScriptTree, TestTree, ColumnTree, ExprTree, Num, Named, Bin, StmtsTree, Set, Then, Done}
 use Rattle.sym_base.specs.Counters.{Counter, Amount, Fixed, OfField, num_max}
+use Rattle.sym_base.specs.Limits.{is_number}
 
 abbrev pub same_text : List ℕ → List ℕ → Bool
 same_text = pointwise nat_eq
@@ -21,9 +22,6 @@ same_text = pointwise nat_eq
 abbrev pub is_amount : List ℕ → Amount → Bool
 is_amount field (Fixed n at) = int_le (pos 0) n && int_le n (pos num_max)
 is_amount field (OfField name) = same_text name.text field
-
-abbrev pub is_number : ℤ → Bool
-is_number n = int_le (negsuc (num_max - 1)) n && int_le n (pos num_max)
 
 -- The rules of a counter as a test.
 abbrev pub is_counter : Counter → Bool

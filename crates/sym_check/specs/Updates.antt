@@ -1,7 +1,7 @@
 -- The sequential meaning of an update: what one record does to a group, and what many do. The
 -- update, its step and the fold over records are those of the SYMPLE paper (SOSP 2015); the
 -- statements and the faults are this project's profile.
-use Rattle.std.specs.Prelude.{ℕ, ℤ, pos, int_le, ◌-◌, ◌&&◌, Bool, false, if◌then◌else◌, List, [], ◌∷◌, ◌++◌, map, replicate, length, Option, Some, None, slice_get, slice_set, Result, Ok, Err}
+use Rattle.std.specs.Prelude.{ℕ, ℤ, pos, int_le, ◌-◌, ◌&&◌, Bool, false, if◌then◌else◌, List, [], ◌∷◌, ◌++◌, map, replicate, length, Option, Some, None, slice_get, Result, Ok, Err}
 use Rattle.sym_base.specs.declared.values.value.Value.{Value}
 use Rattle.sym_base.specs.declared.values.value.Value.TheVariants as value
 use Rattle.sym_base.specs.declared.values.record.Record.{Record}
@@ -12,7 +12,7 @@ use Rattle.sym_base.specs.declared.values.state.FaultKind.{FaultKind}
 use Rattle.sym_base.specs.declared.values.state.FaultKind.TheVariants as fault
 use Rattle.sym_base.specs.declared.values.state.Outcome.{Outcome}
 use Rattle.sym_base.specs.declared.values.state.Outcome.TheVariants.{Going, Ended}
-use Rattle.sym_base.specs.States.{label_at, parts_at}
+use Rattle.sym_base.specs.States.{label_at, parts_at, nums_at, words_at, with_cell}
 use Rattle.sym_check.specs.declared.evaluate.arithmetic.Arith.{Arith}
 use Rattle.sym_check.specs.declared.plan.script.CellPlan.{CellPlan}
 use Rattle.sym_check.specs.declared.plan.script.CellPlan.TheVariants as plan
@@ -33,34 +33,6 @@ first_cell (plan.Enum enum first) = cell.Enum first
 
 abbrev pub initial : ScriptPlan → State
 initial p = record { cells = map first_cell p.cells }
-
--- The numbers of a `nums` cell; none of any other cell.
-abbrev pub nums_in : Option Cell → List ℤ
-nums_in None = []
-nums_in (Some (cell.Enum label)) = []
-nums_in (Some (cell.Int x)) = []
-nums_in (Some (cell.Hold parts)) = []
-nums_in (Some (cell.Nums xs)) = xs
-nums_in (Some (cell.Words ts)) = []
-
--- The words of a `words` cell; none of any other cell.
-abbrev pub words_in : Option Cell → List (List ℕ)
-words_in None = []
-words_in (Some (cell.Enum label)) = []
-words_in (Some (cell.Int x)) = []
-words_in (Some (cell.Hold parts)) = []
-words_in (Some (cell.Nums xs)) = []
-words_in (Some (cell.Words ts)) = ts
-
-abbrev pub nums_at : State → ℕ → List ℤ
-nums_at s c = nums_in (slice_get s.cells c)
-
-abbrev pub words_at : State → ℕ → List (List ℕ)
-words_at s c = words_in (slice_get s.cells c)
-
--- The state in which the cell with this number is this one, all others being as before.
-abbrev pub with_cell : State → ℕ → Cell → State
-with_cell s c content = record s { cells = slice_set s.cells c content }
 
 -- Whether x lies in the range of an integer cell or a `nums` cell.
 abbrev pub in_range : Option CellPlan → ℤ → Bool
