@@ -18,9 +18,10 @@ use Rattle.sym_base.specs.declared.tree.declaration.KindRef.{KindRef}
 use Rattle.sym_base.specs.declared.tree.declaration.KindRef.TheVariants as kind
 use Rattle.sym_base.specs.declared.tree.declaration.Literal.{Literal}
 use Rattle.sym_base.specs.Counters.{Counter, Amount, Fixed, OfField, IsAmount, IsCounter, IsCounterTree, counter_tree, amount_tree}
-use Rattle.sym_base.specs.Limits.{IsNumber, num_max}
+use Rattle.sym_base.specs.Limits.{IsNumber, num_max, is_number}
+use Rattle.sym_base.proofs.Numbers.{number-Decides}
 use Rattle.sym_base.specs.Trees.{ScriptTree, TestTree, ColumnTree, ExprTree, Num, Words, Named, Call, Neg, Not, Bin, StmtTree, Let, Set, Push, Keep, KeepFrom, If, StmtsTree, Then, Done}
-use Rattle.sym_parse.specs.Built.{same_name, is_number, is_cell, is_amount, is_add, is_sum, is_change, is_done, is_update, is_range, is_plain, is_built_of, is_built_by, has_built_parts, only, is_built}
+use Rattle.sym_parse.specs.Built.{same_name, is_cell, is_amount, is_add, is_sum, is_change, is_done, is_update, is_range, is_plain, is_built_of, is_built_by, has_built_parts, only, is_built}
 use Rattle.sym_parse.proofs.Letters.{both}
 
 le-Decides : (a b : ℤ) → Decides (int_le a b) (a ≤ℤ b)
@@ -28,10 +29,6 @@ le-Decides a b = (λ e. grind (arith, ints), λ h. grind (arith, ints))
 
 name-Decides : (a b : Name) → Decides (same_name a b) (a.text ≡ b.text)
 name-Decides a b = slice_eq-Decides Decides-eqb a.text b.text _ refl
-
-number-Decides : (n : ℤ) → Decides (is_number n) (IsNumber n)
-number-Decides (pos n) = (λ e. grind (arith, ints), λ h. grind (arith, ints))
-number-Decides (negsuc n) = (λ e. grind (arith, ints), λ h. grind (arith, ints))
 
 all-of : (a b : Bool) → a ≡ true → b ≡ true → (a && b) ≡ true
 all-of true b p q = q

@@ -12,8 +12,8 @@ use Rattle.sym_base.specs.declared.tree.declaration.Part.{Part}
 use Rattle.sym_base.specs.declared.tree.declaration.CellDecl.{CellDecl}
 use Rattle.sym_base.specs.declared.tree.declaration.StateDecl.{StateDecl}
 use Rattle.sym_base.specs.declared.tree.declaration.Param.{Param}
-use Rattle.sym_base.specs.Lawful.{IsLawful, is_between, is_lawful_name, is_lawful_text, is_unsigned, is_number, is_lawful_kind, is_lawful_literal, is_absent_or, is_lawful_enum, is_lawful_field, is_lawful_part, is_lawful_cell, is_lawful_state, is_lawful_param, is_lawful_expr, is_lawful_test, is_lawful_column, is_lawful_stmt, are_lawful_stmts, are_lawful_exprs, has_some}
-use Rattle.sym_base.specs.Limits.{max_labels, max_parts, max_parameters, max_depth, max_fields, max_cells, max_columns, num_max}
+use Rattle.sym_base.specs.Lawful.{IsLawful, is_between, is_lawful_name, is_lawful_text, is_unsigned, is_lawful_kind, is_lawful_literal, is_absent_or, is_lawful_enum, is_lawful_field, is_lawful_part, is_lawful_cell, is_lawful_state, is_lawful_param, is_lawful_expr, is_lawful_test, is_lawful_column, is_lawful_stmt, are_lawful_stmts, are_lawful_exprs, has_some}
+use Rattle.sym_base.specs.Limits.{max_labels, max_parts, max_parameters, max_depth, max_fields, max_cells, max_columns, num_max, is_number}
 use Rattle.sym_base.specs.Names.{is_name}
 use Rattle.sym_base.specs.Sizes.{expr_depth, exprs_depth, stmt_depth, stmts_depth, stmts_count}
 use Rattle.sym_base.specs.Trees.{ExprTree, ExprsTree, StmtTree, StmtsTree, Let, Set, Push, Keep, KeepFrom, If, Done, Then, TestTree, ColumnTree, ScriptTree}

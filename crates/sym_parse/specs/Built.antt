@@ -1,5 +1,5 @@
 -- Scripts of the form that is run today, as a test of their trees.
-use Rattle.std.specs.Prelude.{ℕ, ℤ, pos, negsuc, ◌-◌, int_le, Bool, true, false, not, ◌&&◌, ◌==◌, nat_eq, is_none, List, [], ◌∷◌, length, Option, None, Some}
+use Rattle.std.specs.Prelude.{ℕ, ℤ, pos, int_le, Bool, true, false, not, ◌&&◌, ◌==◌, nat_eq, is_none, List, [], ◌∷◌, length, Option, None, Some}
 use Rattle.std.specs.Cmp.Lexicographic.{pointwise}
 use Rattle.sym_base.specs.declared.tree.name.Name.{Name}
 use Rattle.sym_base.specs.declared.tree.expression.BinOp.{BinOp}
@@ -11,14 +11,11 @@ use Rattle.sym_base.specs.declared.tree.declaration.CellDecl.TheVariants as cell
 use Rattle.sym_base.specs.declared.tree.declaration.KindRef.{KindRef}
 use Rattle.sym_base.specs.declared.tree.declaration.KindRef.TheVariants as kind
 use Rattle.sym_base.specs.declared.tree.declaration.Literal.{Literal}
-use Rattle.sym_base.specs.Limits.{num_max}
+use Rattle.sym_base.specs.Limits.{num_max, is_number}
 use Rattle.sym_base.specs.Trees.{ScriptTree, ColumnTree, ExprTree, Num, Words, Named, Call, Neg, Not, Bin, StmtTree, Let, Set, Push, Keep, KeepFrom, If, StmtsTree, Then, Done}
 
 abbrev pub same_name : Name → Name → Bool
 same_name a b = pointwise nat_eq a.text b.text
-
-abbrev pub is_number : ℤ → Bool
-is_number n = int_le (negsuc (num_max - 1)) n && int_le n (pos num_max)
 
 -- The name of the cell.
 abbrev pub is_cell : Name → ExprTree → Bool

@@ -1,6 +1,7 @@
 //! Which scripts are of the form that is run today.
 ghost use Rattle.std.specs.Prelude.{◌≡◌, ◌↔◌, IsTrue, option_copied};
 ghost use Rattle.sym_base.specs.Counters.{Counter, IsCounterTree};
+ghost use Rattle.sym_base.specs.Limits as limits;
 ghost use Rattle.sym_base.specs.Trees.{column_tree, expr_tree, script_tree, stmt_tree, stmts_tree};
 ghost use Rattle.sym_parse.specs.Built as spec;
 
@@ -15,10 +16,11 @@ fn same_name(left: &Name, right: &Name) -> bool
     left.text == right.text
 }
 
+#[tactic(auto, unfolding(sym_base::specs::Limits::is_number))]
 fn is_number(number: i64) -> bool
-    ensures { result ≡ spec.is_number number }
+    ensures { result ≡ limits.is_number number }
 {
-    -NUM_MAX <= number && number <= NUM_MAX
+    number.unsigned_abs() <= NUM_MAX.unsigned_abs()
 }
 
 fn is_cell(cell: &Name, value: &Expr) -> bool

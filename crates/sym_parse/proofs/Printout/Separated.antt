@@ -17,8 +17,8 @@ use Rattle.sym_base.specs.declared.tree.declaration.CellDecl.{CellDecl}
 use Rattle.sym_base.specs.declared.tree.declaration.CellDecl.TheVariants as cell
 use Rattle.sym_base.specs.declared.tree.declaration.StateDecl.{StateDecl}
 use Rattle.sym_base.specs.declared.tree.declaration.Param.{Param}
-use Rattle.sym_base.specs.Lawful.{IsLawful, is_between, is_unsigned, is_number, is_lawful_name, is_lawful_text, is_lawful_enum, is_lawful_field, is_lawful_state, is_lawful_cell, is_lawful_part, is_lawful_param, is_lawful_test, is_lawful_column, is_lawful_expr, are_lawful_exprs, is_lawful_kind, is_lawful_literal, is_absent_or, has_lawful_leaves, have_lawful_leaves, has_some, is_lawful_stmt, are_lawful_stmts}
-use Rattle.sym_base.specs.Limits.{max_labels, max_parts, max_parameters, max_depth}
+use Rattle.sym_base.specs.Lawful.{IsLawful, is_between, is_unsigned, is_lawful_name, is_lawful_text, is_lawful_enum, is_lawful_field, is_lawful_state, is_lawful_cell, is_lawful_part, is_lawful_param, is_lawful_test, is_lawful_column, is_lawful_expr, are_lawful_exprs, is_lawful_kind, is_lawful_literal, is_absent_or, has_lawful_leaves, have_lawful_leaves, has_some, is_lawful_stmt, are_lawful_stmts}
+use Rattle.sym_base.specs.Limits.{max_labels, max_parts, max_parameters, max_depth, is_number}
 use Rattle.sym_base.specs.Names.{is_name}
 use Rattle.sym_base.specs.Precedence.{needs_parentheses, left_level, right_level, not_level, sign_level}
 use Rattle.sym_base.specs.Sizes.{expr_depth}
