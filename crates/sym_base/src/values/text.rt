@@ -1,5 +1,5 @@
 //! Text that owns its bytes.
-ghost use Rattle.std.specs.Prelude.{◌≡◌, IfOk, Some, refl, nat_eq};
+ghost use Rattle.std.specs.Prelude.{◌≡◌, [], IfOk, OnOk, OnErr, Some, refl, nat_eq};
 ghost use Rattle.std.specs.Ordering.{nat_cmp};
 ghost use Rattle.std.specs.String.{string_bytes};
 ghost use Rattle.std.specs.Hash as fed;
@@ -50,6 +50,24 @@ impl Text {
         ensures { result ≡ string_bytes inner }
     {
         Text { inner }
+    }
+
+    /// The text's string. It takes no memory.
+    pub fn into_string(self) -> String
+        ensures { string_bytes result ≡ self }
+    {
+        self.inner
+    }
+
+    /// Makes this a copy of these bytes, over the memory that the text has. After an `Err` the text
+    /// is empty.
+    pub fn set(&mut self, source: &str) -> Result<(), NoMemory>
+        ensures ok { OnOk result (self.new ≡ source.now) }
+        ensures err { OnErr result (self.new ≡ []) }
+    {
+        self.inner.clear();
+        self.inner.push_str(source)?;
+        Ok(())
     }
 
     /// The text as a slice of itself.
@@ -125,5 +143,26 @@ impl Hash for Text {
 
     fn hash<H: Hasher>(&self, state: &mut H) {
         self.as_str().hash(state);
+    }
+}
+
+#[cfg(test)]
+mod tests {
+    use super::*;
+    use std::test::Fail;
+
+    #[test]
+    fn a_text_that_is_set_again_holds_the_last_bytes_alone(rt: HostRuntime) -> Result<(), Fail> {
+        let mut text = Text::from_str(rt.alloc(), "a longer first text")?;
+        text.set("second")?;
+        assert_eq!(rt; text.as_str(), "second");
+        text.set("")?;
+        assert_eq!(rt; text.as_str(), "");
+        text.set("third, which is longer than the first")?;
+        assert_eq!(rt;
+            text.into_string().as_str(),
+            "third, which is longer than the first"
+        );
+        Ok(())
     }
 }
