@@ -7,3 +7,5 @@ mod TestAnswers
 mod PlanLaws
 mod CheckedExamples
 mod Fits
+mod ScopeLaws
+mod Done

@@ -36,3 +36,4 @@ pub mod BreaksReports
 pub mod ElaborateReports
 pub mod Scripts
 pub mod TypedPlans
+pub mod Declaring

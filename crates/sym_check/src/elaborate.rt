@@ -1,4 +1,11 @@
 //! From a syntax tree to its plan: the rules are tried in the order of the script's text.
 pub mod error;
+pub mod field;
+pub mod label;
+pub mod literal;
+pub mod names;
+pub mod naming;
+pub mod part;
 pub mod scope;
+pub mod state;
 pub mod typed;
