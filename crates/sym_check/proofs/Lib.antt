@@ -7,3 +7,12 @@ mod TestAnswers
 mod PlanLaws
 mod CheckedExamples
 mod Fits
+mod SameKinds
+mod OperandOutcomes
+mod CallOutcomes
+mod ExpressionsComplete
+mod OperatorsFound
+mod ValuesFound
+mod ExpressionsFound
+mod ExpressionFaults
+mod ExpressionsAgree
