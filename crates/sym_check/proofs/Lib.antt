@@ -9,3 +9,12 @@ mod CheckedExamples
 mod Fits
 mod ScopeLaws
 mod Done
+mod SameKinds
+mod OperandOutcomes
+mod CallOutcomes
+mod ExpressionsComplete
+mod OperatorsFound
+mod ValuesFound
+mod ExpressionsFound
+mod ExpressionFaults
+mod ExpressionsAgree
