@@ -1,5 +1,9 @@
 pub mod CounterTrees
 pub mod Steps
+pub mod Agreements
+pub mod ListsAgree
+pub mod DeclarationsAgree
+pub mod StatesAgree
 mod Examples
 mod ZippedLists
 mod ValidSteps
