@@ -58,11 +58,11 @@ enum_kind s x k (n, (m, t, e), i) = subst (IsKindOf s (ref.Named x)) i (is.label
 kind_enum : (s : Scope) (x : Name) (k : KindPlan) → IsKindOf s (ref.Named x) k → (n : ℕ) × ((m : Meaning) × Stands s x m × (m ≡ meaning.Enum n)) × (kind.Label n ≡ k)
 kind_enum s _ _ (is.label_kind x n t) = (n, (meaning.Enum n, t, refl), refl)
 
-no_enum : (s : Scope) (x : Name) (f : RuleErr) → Unmeant s x (λ m (n : ℕ). m ≡ meaning.Enum n) f → BreaksKind s (ref.Named x) f
+pub no_enum : (s : Scope) (x : Name) (f : RuleErr) → Unmeant s x (λ m (n : ℕ). m ≡ meaning.Enum n) f → BreaksKind s (ref.Named x) f
 no_enum s x f (inl (t, e)) = subst (BreaksKind s (ref.Named x)) e (breaks.unknown_kind x t)
 no_enum s x f (inr (m, t, (none, e))) = subst (BreaksKind s (ref.Named x)) e (breaks.no_enum x m t none)
 
-enum_not : (s : Scope) (x : Name) (f : RuleErr) → BreaksKind s (ref.Named x) f → Unmeant s x (λ m (n : ℕ). m ≡ meaning.Enum n) f
+pub enum_not : (s : Scope) (x : Name) (f : RuleErr) → BreaksKind s (ref.Named x) f → Unmeant s x (λ m (n : ℕ). m ≡ meaning.Enum n) f
 enum_not s _ _ (breaks.unknown_kind x t) = inl (t, refl)
 enum_not s _ _ (breaks.no_enum x m t none) = inr (m, t, (none, refl))
 
@@ -127,6 +127,9 @@ is_no_label s k x _ (breaks.other_kind _ (m, t) none) = inr (m, t, ((λ v i. non
 literal_named : (s : Scope) (k : KindPlan) (x : Name) (g : Option Meaning → Result Value RuleErr) → g None ≡ Err (broken.Name x.at) → ((m : Meaning) → IsKinded (Labels k m) x.at (g (Some m))) → Agrees (IsLiteral s k (literal.Named x)) (BreaksLiteral s k (literal.Named x)) (g (find s x.text))
 literal_named s k x g unknown h = in_words (named_agrees s x g unknown h) (label_is s k x) (is_label s k x) (no_label_is s k x) (is_no_label s k x)
 
+labelled_by : (wanted : ℕ) (m : Meaning) (v : Value) → (i : Labels (kind.Label wanted) m v) → m ≡ meaning.Label wanted i.1
+labelled_by wanted m v (enum, l, i, j, e) = cc
+
 labelled : (wanted at : ℕ) (m : Meaning) → IsKinded (Labels (kind.Label wanted) m) at (and_then (λ l. Ok (value.Label l)) (label_named wanted at (Some m)))
 labelled wanted at m = in_words (then_made value.Label (label_kinded wanted at m)) (λ v i. (wanted, i.0, refl, i.1, i.2)) back blames blamed
   where
@@ -149,6 +152,18 @@ literal_agrees s kind.Word (literal.Named x) = literal_named s kind.Word x (λ o
 literal_agrees s (kind.Label enum) (literal.Num n at) = literal_refused s (kind.Label enum) (literal.Num n at) tt (λ v i. elim i [ ])
 literal_agrees s (kind.Label enum) (literal.Text t at) = literal_refused s (kind.Label enum) (literal.Text t at) tt (λ v i. elim i [ ])
 literal_agrees s (kind.Label enum) (literal.Named x) = literal_named s (kind.Label enum) x (λ o. and_then (λ l. Ok (value.Label l)) (label_named enum x.at o)) refl (λ m. labelled enum x.at m)
+
+-- A name that stands for no label of the enum.
+pub other_label : (s : Scope) (enum : ℕ) (x : Name) (f : RuleErr) → Unmeant s x (λ m (l : ℕ). m ≡ meaning.Label enum l) f → BreaksLiteral s (kind.Label enum) (literal.Named x) f
+other_label s enum x f (inl b) = no_label_is s (kind.Label enum) x f (inl b)
+other_label s enum x f (inr (m, t, (none, e))) = no_label_is s (kind.Label enum) x f (inr (m, t, ((λ v i. none i.1 (labelled_by enum m v i)), e)))
+
+pub label_not : (s : Scope) (enum : ℕ) (x : Name) (f : RuleErr) → BreaksLiteral s (kind.Label enum) (literal.Named x) f → Unmeant s x (λ m (l : ℕ). m ≡ meaning.Label enum l) f
+label_not s enum x f b = go (is_no_label s (kind.Label enum) x f b)
+  where
+    go : Unmeant s x (Labels (kind.Label enum)) f → Unmeant s x (λ m (l : ℕ). m ≡ meaning.Label enum l) f
+    go (inl i) = inl i
+    go (inr (m, t, (none, e))) = inr (m, t, ((λ l i. none (value.Label l) (enum, l, refl, i, refl)), e))
 
 -- The value of an empty text.
 abbrev pub BreaksDefault : Scope → KindPlan → Option Literal → RuleErr → Type 0

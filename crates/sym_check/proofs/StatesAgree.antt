@@ -1,6 +1,7 @@
 -- The declarations of enums, fields and states agree with what is so of them and with their first
 -- broken rule.
-use Rattle.std.proofs.Common.{◌≡◌, refl, sym, subst, ap, ℕ, ℤ, ◌≤ℤ◌, ◌&&◌, ◌⊎◌, inl, inr, ◌++◌, List, [], ◌∷◌, Option, Some, None, Result, Ok, Err}
+use Rattle.std.proofs.lemmas.Int.{ints}
+use Rattle.std.proofs.Common.{arith, true, ◌≡◌, refl, sym, subst, ap, ℕ, ℤ, ◌≤ℤ◌, ◌&&◌, ◌⊎◌, inl, inr, ◌++◌, List, [], ◌∷◌, Option, Some, None, Result, Ok, Err}
 use Rattle.std.specs.Prelude.{int_le}
 use Rattle.std.specs.Option.{unwrap_or}
 use Rattle.std.specs.Bool.{Decides}
@@ -39,7 +40,7 @@ use Rattle.sym_check.specs.BreaksDeclarations as breaks
 use Rattle.sym_check.specs.ElaborateDeclarations.{enum_named, label_named, kind_of, literal_of, default_of, label_decl, enum_decl, field_decl, PlannedParts, parts_of, PlannedCell, cell_of, state_decl}
 use Rattle.sym_check.proofs.Agreements.{Agrees, in_words, only_value, only_fault, then_agrees, then_made, where_true, free_agrees, ok_agrees, named_agrees}
 use Rattle.sym_check.proofs.ListsAgree.{Plans, each_agrees}
-use Rattle.sym_check.proofs.DeclarationsAgree.{kind_agrees, literal_agrees, BreaksDefault, default_agrees, enum_kinded, label_kinded, Unmeant}
+use Rattle.sym_check.proofs.DeclarationsAgree.{kind_agrees, literal_agrees, BreaksDefault, default_agrees, enum_kinded, label_kinded, Unmeant, no_enum, enum_not, other_label, label_not}
 
 -- A name that is taken, or free and then a later fault.
 abbrev pub TakenOr : Scope → Name → (RuleErr → Type 0) → RuleErr → Type 0
@@ -162,3 +163,118 @@ parts_agree s [] = only_value _ is.no_parts (λ p i. no_parts_alone s p.kinds p.
 parts_agree s (d ∷ rest) =
     in_words (then_agrees (kind_agrees s d.kind) (λ k i. then_agrees (literal_agrees s k d.first) (λ v j. then_made (one_part k v) (parts_agree s rest))))
     (parts_joined s d rest) (λ p. parts_parted s d rest p.kinds p.firsts) (parts_blamed s d rest) (parts_blames s d rest)
+
+-- Cells.
+int_le_tells : (a b : ℤ) → int_le a b ≡ true → a ≤ℤ b
+int_le_tells a b e = grind (arith, ints, e)
+
+int_le_holds : (a b : ℤ) → a ≤ℤ b → int_le a b ≡ true
+int_le_holds a b h = grind (arith, ints, h)
+
+int_le_decides : (a b : ℤ) → Decides (int_le a b) (a ≤ℤ b)
+int_le_decides a b = (int_le_tells a b, int_le_holds a b)
+
+abbrev int_planned : ℕ → ℤ → ℤ → ℤ → PlannedCell
+int_planned n lo hi first = record { plan = plan.Int lo hi first; meaning = meaning.IntCell n }
+
+int_alone : (s : Scope) (n : ℕ) (lo hi first : ℤ) (p : CellPlan) (m : Meaning) → IsCellDecl s n (cell.Int lo hi first) p m → ◌≡◌ {A = PlannedCell} (int_planned n lo hi first) (record { plan = p; meaning = m })
+int_alone s n _ _ _ _ _ (is.int lo hi first i) = refl
+
+int_ranged : (s : Scope) (n : ℕ) (lo hi first : ℤ) (p : CellPlan) (m : Meaning) → IsCellDecl s n (cell.Int lo hi first) p m → InRange lo hi first
+int_ranged s n _ _ _ _ _ (is.int lo hi first i) = i
+
+int_unranged : (s : Scope) (at : ℕ) (lo hi first : ℤ) (f : RuleErr) → BreaksCell s at (cell.Int lo hi first) f → (InRange lo hi first → ⊥) × (broken.Range at ≡ f)
+int_unranged s at _ _ _ _ (breaks.no_int_range lo hi first none) = (none, refl)
+
+nums_alone : (s : Scope) (n : ℕ) (lo hi : ℤ) (p : CellPlan) (m : Meaning) → IsCellDecl s n (cell.Nums lo hi) p m → ◌≡◌ {A = PlannedCell} (record { plan = plan.Nums lo hi; meaning = meaning.NumsCell n }) (record { plan = p; meaning = m })
+nums_alone s n _ _ _ _ (is.nums lo hi i) = refl
+
+nums_ranged : (s : Scope) (n : ℕ) (lo hi : ℤ) (p : CellPlan) (m : Meaning) → IsCellDecl s n (cell.Nums lo hi) p m → lo ≤ℤ hi
+nums_ranged s n _ _ _ _ (is.nums lo hi i) = i
+
+nums_unranged : (s : Scope) (at : ℕ) (lo hi : ℤ) (f : RuleErr) → BreaksCell s at (cell.Nums lo hi) f → (lo ≤ℤ hi → ⊥) × (broken.Range at ≡ f)
+nums_unranged s at _ _ _ (breaks.no_nums_range lo hi none) = (none, refl)
+
+words_alone : (s : Scope) (n : ℕ) (p : CellPlan) (m : Meaning) → IsCellDecl s n cell.Words p m → ◌≡◌ {A = PlannedCell} (record { plan = plan.Words; meaning = meaning.WordsCell n }) (record { plan = p; meaning = m })
+words_alone s n _ _ is.words = refl
+
+abbrev hold_planned : ℕ → PlannedParts → PlannedCell
+hold_planned n p = record { plan = plan.Hold p.kinds p.firsts; meaning = meaning.HoldCell n p.kinds }
+
+hold_joined : (s : Scope) (n : ℕ) (parts : List Part) (p : PlannedCell) → (q : PlannedParts) × AreParts s parts q.kinds q.firsts × (hold_planned n q ≡ p) → IsCellDecl s n (cell.Hold parts) p.plan p.meaning
+hold_joined s n parts p (q, are, e) = subst (λ (o : PlannedCell). IsCellDecl s n (cell.Hold parts) o.plan o.meaning) e (is.hold parts q.kinds q.firsts are)
+
+hold_parted : (s : Scope) (n : ℕ) (parts : List Part) (p : CellPlan) (m : Meaning) → IsCellDecl s n (cell.Hold parts) p m → (q : PlannedParts) × AreParts s parts q.kinds q.firsts × (hold_planned n q ≡ record { plan = p; meaning = m })
+hold_parted s n _ _ _ (is.hold parts ks vs are) = (record { kinds = ks; firsts = vs }, are, refl)
+
+hold_blames : (s : Scope) (at : ℕ) (parts : List Part) (f : RuleErr) → BreaksCell s at (cell.Hold parts) f → BreaksParts s parts f
+hold_blames s at _ _ (breaks.in_parts parts f b) = b
+
+abbrev enum_cell_planned : ℕ → ℕ → ℕ → PlannedCell
+enum_cell_planned n enum l = record { plan = plan.Enum enum l; meaning = meaning.EnumCell n enum }
+
+abbrev Means : Scope → Name → Meaning → Type 0
+Means s x wanted = (m : Meaning) × Stands s x m × (m ≡ wanted)
+
+abbrev IsEnumCell : Scope → ℕ → Name → Name → PlannedCell → Type 0
+IsEnumCell s n of first p = (enum : ℕ) × Means s of (meaning.Enum enum) × ((l : ℕ) × Means s first (meaning.Label enum l) × (enum_cell_planned n enum l ≡ p))
+
+enum_cell_joined : (s : Scope) (n : ℕ) (of first : Name) (p : PlannedCell) → IsEnumCell s n of first p → IsCellDecl s n (cell.Enum of first) p.plan p.meaning
+enum_cell_joined s n of first p (enum, (m, t, i), (l, (k, u, j), e)) = subst (λ (o : PlannedCell). IsCellDecl s n (cell.Enum of first) o.plan o.meaning) e (is.enum_cell of first enum l (subst (Stands s of) i t) (subst (Stands s first) j u))
+
+enum_cell_parted : (s : Scope) (n : ℕ) (of first : Name) (p : CellPlan) (m : Meaning) → IsCellDecl s n (cell.Enum of first) p m → IsEnumCell s n of first (record { plan = p; meaning = m })
+enum_cell_parted s n _ _ _ _ (is.enum_cell of first enum l t u) = (enum, (meaning.Enum enum, t, refl), (l, (meaning.Label enum l, u, refl), refl))
+
+abbrev EnumCellFaults : Scope → Name → Name → RuleErr → Type 0
+EnumCellFaults s of first f = Unmeant s of (λ m (n : ℕ). m ≡ meaning.Enum n) f ⊎ ((enum : ℕ) × Means s of (meaning.Enum enum) × Unmeant s first (λ m (l : ℕ). m ≡ meaning.Label enum l) f)
+
+enum_cell_blamed : (s : Scope) (at : ℕ) (of first : Name) (f : RuleErr) → EnumCellFaults s of first f → BreaksCell s at (cell.Enum of first) f
+enum_cell_blamed s at of first f (inl b) = breaks.in_enum of first f (no_enum s of f b)
+enum_cell_blamed s at of first f (inr (enum, (m, t, i), b)) = breaks.in_label of first enum f (subst (Stands s of) i t) (other_label s enum first f b)
+
+enum_cell_blames : (s : Scope) (at : ℕ) (of first : Name) (f : RuleErr) → BreaksCell s at (cell.Enum of first) f → EnumCellFaults s of first f
+enum_cell_blames s at _ _ _ (breaks.in_enum of first f b) = inl (enum_not s of f b)
+enum_cell_blames s at _ _ _ (breaks.in_label of first enum f t b) = inr (enum, (meaning.Enum enum, t, refl), label_not s enum first f b)
+
+pub cell_agrees : (s : Scope) (n at : ℕ) (d : CellDecl) → Agrees (λ (p : PlannedCell). IsCellDecl s n d p.plan p.meaning) (BreaksCell s at d) (cell_of s n at d)
+cell_agrees s n at (cell.Int lo hi first) =
+    where_true (int_le lo first && int_le first hi) (Decides-and (int_le lo first) (int_le first hi) (int_le_decides lo first) (int_le_decides first hi))
+    (λ i. only_value _ (is.int lo hi first i) (λ p j. int_alone s n lo hi first p.plan p.meaning j) (λ f b. (int_unranged s at lo hi first f b).0 i))
+    (λ none. only_fault _ (breaks.no_int_range lo hi first none) (λ f b. (int_unranged s at lo hi first f b).1) (λ p j. none (int_ranged s n lo hi first p.plan p.meaning j)))
+cell_agrees s n at (cell.Nums lo hi) =
+    where_true (int_le lo hi) (int_le_decides lo hi)
+    (λ i. only_value _ (is.nums lo hi i) (λ p j. nums_alone s n lo hi p.plan p.meaning j) (λ f b. (nums_unranged s at lo hi f b).0 i))
+    (λ none. only_fault _ (breaks.no_nums_range lo hi none) (λ f b. (nums_unranged s at lo hi f b).1) (λ p j. none (nums_ranged s n lo hi p.plan p.meaning j)))
+cell_agrees s n at cell.Words = only_value _ is.words (λ p i. words_alone s n p.plan p.meaning i) (λ f b. elim b [ ])
+cell_agrees s n at (cell.Hold parts) =
+    in_words (then_made (hold_planned n) (parts_agree s parts))
+    (hold_joined s n parts) (λ p. hold_parted s n parts p.plan p.meaning) (λ f b. breaks.in_parts parts f b) (hold_blames s at parts)
+cell_agrees s n at (cell.Enum of first) =
+    in_words (then_agrees (named_agrees s of (λ o. enum_named of.at o) refl (enum_kinded of.at)) (λ enum i. then_made (enum_cell_planned n enum) (named_agrees s first (λ o. label_named enum first.at o) refl (label_kinded enum first.at))))
+    (enum_cell_joined s n of first) (λ p. enum_cell_parted s n of first p.plan p.meaning) (enum_cell_blamed s at of first) (enum_cell_blames s at of first)
+
+-- States.
+abbrev state_planned : Scope → StateDecl → PlannedCell → Planned CellPlan
+state_planned s d c = record { plan = c.plan; scope = s ++ entry d.name c.meaning ∷ [] }
+
+abbrev IsStateOf : Scope → ℕ → StateDecl → Planned CellPlan → Type 0
+IsStateOf s n d p = IsFree s d.name × ((c : PlannedCell) × IsCellDecl (unfinished s d.name) n d.cell c.plan c.meaning × (state_planned s d c ≡ p))
+
+state_joined : (s : Scope) (n : ℕ) (d : StateDecl) (p : Planned CellPlan) → IsStateOf s n d p → IsStateDecl s n d p.plan p.scope
+state_joined s n d p (t, (c, i, e)) = subst (λ (q : Planned CellPlan). IsStateDecl s n d q.plan q.scope) e (is.state s n d c.plan c.meaning t i)
+
+state_parted : (s : Scope) (n : ℕ) (d : StateDecl) (p : CellPlan) (later : Scope) → IsStateDecl s n d p later → IsStateOf s n d (record { plan = p; scope = later })
+state_parted _ _ _ _ _ (is.state s n d p m t i) = (t, (record { plan = p; meaning = m }, i, refl))
+
+state_blamed : (s : Scope) (n : ℕ) (d : StateDecl) (f : RuleErr) → TakenOr s d.name (BreaksCell (unfinished s d.name) d.name.at d.cell) f → BreaksState s n d f
+state_blamed s n d f (inl (m, t, e)) = subst (BreaksState s n d) e (breaks.state_taken d m t)
+state_blamed s n d f (inr (t, b)) = breaks.in_cell d f t b
+
+state_blames : (s : Scope) (n : ℕ) (d : StateDecl) (f : RuleErr) → BreaksState s n d f → TakenOr s d.name (BreaksCell (unfinished s d.name) d.name.at d.cell) f
+state_blames s n _ _ (breaks.state_taken d m t) = inl (m, t, refl)
+state_blames s n _ _ (breaks.in_cell d f t b) = inr (t, b)
+
+pub state_agrees : Plans IsStateDecl BreaksState state_decl
+state_agrees s n d =
+    in_words (free_agrees s d.name (then_made (state_planned s d) (cell_agrees (unfinished s d.name) n d.name.at d.cell)))
+    (state_joined s n d) (λ p. state_parted s n d p.plan p.scope) (state_blamed s n d) (state_blames s n d)
