@@ -4,6 +4,7 @@ pub mod Agreements
 pub mod ListsAgree
 pub mod DeclarationsAgree
 pub mod StatesAgree
+pub mod TestsAgree
 mod Examples
 mod ZippedLists
 mod ValidSteps
