@@ -2,7 +2,7 @@
 -- exactly where it is one.
 use Rattle.std.specs.Bool.{Decides}
 use Rattle.std.proofs.lemmas.Bool.Decides.{not_from_Decides}
-use Rattle.std.proofs.Common.{Bool, true, false, if◌then◌else◌, ◌≡◌, refl, sym, ap, subst, ℕ, ◌⊎◌, inl, inr, ⊎_elim, Option, Some, None, Result, Ok, Err}
+use Rattle.std.proofs.Common.{Bool, true, false, if◌then◌else◌, ◌≡◌, refl, sym, ap, subst, ◌∙◌, ℕ, ◌⊎◌, inl, inr, ⊎_elim, Option, Some, None, Result, Ok, Err}
 use Rattle.sym_base.specs.declared.tree.name.Name.{Name}
 use Rattle.sym_check.specs.Arithmetic.{and_then}
 use Rattle.sym_check.specs.declared.elaborate.error.RuleErr.{RuleErr}
@@ -119,6 +119,25 @@ of_kind at a is one = only_value a is one (λ f b. b.0 a is)
 
 pub of_no_kind : {A : Type 0} {Is : A → Type 0} (at : ℕ) → ((a : A) → Is a → ⊥) → IsKinded Is at (kind_at at)
 of_no_kind at none = only_fault (broken.Kind at) (none, refl) (λ g b. b.1) none
+
+-- Two steps that are refused at one place.
+pub kinded_then : {A B : Type 0} {Is : A → Type 0} {Next : A → B → Type 0} {r : Result A RuleErr} {k : A → Result B RuleErr} (at : ℕ) → IsKinded Is at r → ((a : A) → Is a → IsKinded (Next a) at (k a)) → IsKinded (λ b. (a : A) × Is a × Next a b) at (and_then k r)
+kinded_then {A} {B} {Is} {Next} {r} {k} at h next = in_words (then_agrees h next) (λ b t. t) (λ b t. t) blames (go r h)
+  where
+    blames : (f : RuleErr) → (((a : A) → Is a → ⊥) × (broken.Kind at ≡ f)) ⊎ ((a : A) × Is a × (((b : B) → Next a b → ⊥) × (broken.Kind at ≡ f))) → ((b : B) → (a : A) × Is a × Next a b → ⊥) × (broken.Kind at ≡ f)
+    blames f (inl (none, e)) = (λ b t. none t.0 t.1, e)
+    blames f (inr (a, i, (none, e))) = (λ b t. let same : t.0 ≡ a = once t.0 a t.1 i in none b (subst (λ c. Next c b) same t.2), e)
+      where
+        once : (b c : A) → Is b → Is c → b ≡ c
+        once b c i j = let p : r ≡ Ok b = h.complete b i in let q : r ≡ Ok c = h.complete c j in ok_same b c (sym p ∙ q)
+
+    go : (o : Result A RuleErr) → IsKinded Is at o → (f : RuleErr) → ((b : B) → (a : A) × Is a × Next a b → ⊥) × (broken.Kind at ≡ f) → (((a : A) → Is a → ⊥) × (broken.Kind at ≡ f)) ⊎ ((a : A) × Is a × (((b : B) → Next a b → ⊥) × (broken.Kind at ≡ f)))
+    go (Ok a) h f (none, e) = let is : Is a = h.sound a refl in inr (a, is, ((λ b n. none b (a, is, n)), e))
+    go (Err g) h f (none, e) = let b : ((a : A) → Is a → ⊥) × (broken.Kind at ≡ g) = h.breaks g refl in inl (b.0, e)
+
+-- Two values of one result are the same.
+pub one_value : {A : Type 0} {Is : A → Type 0} {Broken : RuleErr → Type 0} {r : Result A RuleErr} → Agrees Is Broken r → (a b : A) → Is a → Is b → a ≡ b
+one_value {A} {Is} {Broken} {r} h a b i j = let p : r ≡ Ok a = h.complete a i in let q : r ≡ Ok b = h.complete b j in ok_same a b (sym p ∙ q)
 
 -- Goes on where a name is free.
 pub free_agrees : {A : Type 0} {Is : A → Type 0} {Broken : RuleErr → Type 0} {r : Result A RuleErr} (s : Scope) (x : Name) → Agrees Is Broken r → Agrees (λ a. IsFree s x × Is a) (λ f. ((m : Meaning) × Stands s x m × (broken.Twice x.at ≡ f)) ⊎ (IsFree s x × Broken f)) (unless_taken x.at (find s x.text) r)

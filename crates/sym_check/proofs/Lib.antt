@@ -5,6 +5,9 @@ pub mod ListsAgree
 pub mod DeclarationsAgree
 pub mod StatesAgree
 pub mod TestsAgree
+pub mod ReportsSeen
+pub mod ReportsAgree
+pub mod ReportCallsAgree
 mod Examples
 mod ZippedLists
 mod ValidSteps
