@@ -1,5 +1,13 @@
 pub mod CounterTrees
 pub mod Steps
+pub mod Agreements
+pub mod ListsAgree
+pub mod DeclarationsAgree
+pub mod StatesAgree
+pub mod TestsAgree
+pub mod ReportsSeen
+pub mod ReportsAgree
+pub mod ReportCallsAgree
 mod Examples
 mod ZippedLists
 mod ValidSteps
