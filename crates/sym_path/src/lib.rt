@@ -2,6 +2,7 @@
 //! before them and what they make of it; a segment is a list of paths.
 #![tactic(auto)]
 
+mod admitting;
 mod form;
 pub mod laws;
 mod part;
