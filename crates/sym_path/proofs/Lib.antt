@@ -1,0 +1,5 @@
+mod Admits
+pub mod Decided
+mod Examples
+pub mod Lists
+pub mod OnlyOutcomes

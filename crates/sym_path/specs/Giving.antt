@@ -1,0 +1,62 @@
+-- What paths make of the states that they admit. Paths with a constraint and a transfer are those of
+-- the SYMPLE paper (SOSP 2015).
+use Rattle.std.specs.Prelude.{◌≡◌, ℕ, List, [], ◌∷◌, ◌++◌, map, if◌then◌else◌, Some, slice_get}
+use Rattle.sym_base.specs.declared.values.state.Cell.{Cell}
+use Rattle.sym_base.specs.declared.values.state.Cell.TheVariants as cell
+use Rattle.sym_base.specs.declared.values.state.State.{State}
+use Rattle.sym_base.specs.declared.values.state.Outcome.{Outcome}
+use Rattle.sym_base.specs.declared.values.state.Outcome.TheVariants.{Going}
+use Rattle.sym_base.specs.declared.values.state.Outcome.TheVariants as outcome
+use Rattle.sym_check.specs.Updates.{nums_in, words_in}
+use Rattle.sym_enum.specs.Labels.{label_value}
+use Rattle.sym_int.specs.Lines.{form_value}
+use Rattle.sym_pred.specs.HoldForms.{parts_value}
+use Rattle.sym_pred.specs.Meaning.{Truth}
+use Rattle.sym_path.specs.declared.form.Form.{Form}
+use Rattle.sym_path.specs.declared.form.Form.TheVariants as form
+use Rattle.sym_path.specs.declared.path.PathEnd.{PathEnd}
+use Rattle.sym_path.specs.declared.path.PathEnd.TheVariants.{Next, Ended}
+use Rattle.sym_path.specs.declared.path.Path.{Path}
+use Rattle.sym_path.specs.Admitting.{Admits, admits}
+
+-- What a cell holds by its form at a state, in which it holds `old`: a constant, the label, number or
+-- parts that the form takes from the state, or the old list with the added elements' values after
+-- it.
+abbrev pub cell_at : Form → State → Cell → Cell
+cell_at (form.Enum f) s old = cell.Enum (label_value f s)
+cell_at (form.Int f) s old = cell.Int (form_value f s)
+cell_at (form.Hold f) s old = cell.Hold (parts_value f s)
+cell_at (form.Nums added) s old = cell.Nums (nums_in (Some old) ++ map (λ f. form_value f s) added)
+cell_at (form.Words added) s old = cell.Words (words_in (Some old) ++ added)
+
+-- What the cells hold by their forms.
+abbrev pub cells_at : List Form → State → List Cell → List Cell
+cells_at [] s cells = []
+cells_at (f ∷ forms) s [] = []
+cells_at (f ∷ forms) s (c ∷ cells) = cell_at f s c ∷ cells_at forms s cells
+
+abbrev pub state_at : List Form → State → State
+state_at forms s = record { cells = cells_at forms s s.cells }
+
+-- What a path makes of a state that it admits.
+abbrev pub end_at : PathEnd → State → Outcome
+end_at (Next forms) s = Going (state_at forms s)
+end_at (Ended fault) s = outcome.Ended fault
+
+-- What a path gives at a state: one outcome where it admits the state, else none.
+abbrev pub given : Truth → Path → State → List Outcome
+given truth p s = if admits truth p.when s.cells then end_at p.end s ∷ [] else []
+
+-- What those of the paths give that admit the state, in order.
+abbrev pub outcomes : Truth → List Path → State → List Outcome
+outcomes truth [] s = []
+outcomes truth (p ∷ paths) s = given truth p s ++ outcomes truth paths s
+
+-- One of the paths admits the state and gives this outcome, and no other admits it.
+pub record IsOnlyOutcome (truth : Truth) (paths : List Path) (s : State) (o : Outcome) : Type 0 where
+  pub index : ℕ
+  pub path : Path
+  pub is : slice_get paths index ≡ Some path
+  pub admitted : Admits truth path.when s
+  pub gives : end_at path.end s ≡ o
+  pub no_other : (i : ℕ) (other : Path) → slice_get paths i ≡ Some other → Admits truth other.when s → i ≡ index

@@ -1,0 +1,7 @@
+pub mod Admitting
+pub mod Fitting
+pub mod Giving
+pub mod Joining
+pub mod Possible
+pub mod Standing
+pub mod Taking

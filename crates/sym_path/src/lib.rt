@@ -1,0 +1,15 @@
+//! Paths: what some records do to a state that isn't known. A path is a constraint on the state
+//! before them and what they make of it; a segment is a list of paths.
+#![tactic(auto)]
+
+mod admitting;
+mod form;
+pub mod laws;
+mod part;
+mod path;
+mod segment;
+
+pub use form::{Form, Forms};
+pub use part::{Constraint, Part};
+pub use path::{Path, PathEnd};
+pub use segment::Segment;
