@@ -7,7 +7,7 @@ use Rattle.std.specs.FinMap as map
 use Rattle.sym_base.specs.declared.values.state.Cell.{Cell}
 use Rattle.sym_pred.specs.Facts.{FactMap}
 use Rattle.sym_pred.specs.Literals.{literals, literal_of}
-use Rattle.sym_pred.specs.Meaning.{Truth}
+use Rattle.sym_base.specs.Tests.{Truth}
 use Rattle.sym_path.specs.declared.part.Part.{Part}
 use Rattle.sym_path.specs.Admitting.{admits, part_admits}
 

@@ -15,7 +15,7 @@ use Rattle.sym_pred.proofs.CallersLemmas.{Admits-literals}
 use Rattle.sym_pred.specs.Facts.{FactMap}
 use Rattle.sym_pred.specs.Literals.{literals}
 use Rattle.sym_pred.specs.declared.literal.Literal.{Literal}
-use Rattle.sym_pred.specs.Meaning.{Truth}
+use Rattle.sym_base.specs.Tests.{Truth}
 use Rattle.sym_pred.specs.Meaning as facts
 use Rattle.sym_path.specs.declared.part.Part.{Part}
 use Rattle.sym_path.specs.declared.part.Part.TheVariants as part

@@ -15,7 +15,7 @@ use Rattle.sym_enum.specs.declared.label_set.LabelSet.{LabelSet}
 use Rattle.sym_int.specs.declared.form.IntForm.{IntForm}
 use Rattle.sym_int.specs.declared.form.IntForm.TheVariants as number
 use Rattle.sym_int.specs.declared.span.Span.{Span}
-use Rattle.sym_pred.specs.Meaning.{Truth}
+use Rattle.sym_base.specs.Tests.{Truth}
 use Rattle.sym_path.specs.declared.part.Part.TheVariants as part
 use Rattle.sym_path.specs.declared.form.Form.TheVariants as form
 use Rattle.sym_path.specs.declared.path.PathEnd.TheVariants.{Next, Ended}

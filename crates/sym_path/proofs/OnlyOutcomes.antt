@@ -4,7 +4,7 @@ use Rattle.std.proofs.Common.{◌≡◌, ◌↔◌, ℕ, zero, suc, Bool, true, 
 use Rattle.std.specs.Prelude.{if◌then◌else◌, slice_get}
 use Rattle.sym_base.specs.declared.values.state.State.{State}
 use Rattle.sym_base.specs.declared.values.state.Outcome.{Outcome}
-use Rattle.sym_pred.specs.Meaning.{Truth}
+use Rattle.sym_base.specs.Tests.{Truth}
 use Rattle.sym_path.specs.declared.path.Path.{Path}
 use Rattle.sym_path.specs.Admitting.{admits}
 use Rattle.sym_path.specs.Giving.{end_at, outcomes, IsOnlyOutcome}

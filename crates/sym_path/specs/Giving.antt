@@ -7,11 +7,11 @@ use Rattle.sym_base.specs.declared.values.state.State.{State}
 use Rattle.sym_base.specs.declared.values.state.Outcome.{Outcome}
 use Rattle.sym_base.specs.declared.values.state.Outcome.TheVariants.{Going}
 use Rattle.sym_base.specs.declared.values.state.Outcome.TheVariants as outcome
-use Rattle.sym_check.specs.Updates.{nums_in, words_in}
+use Rattle.sym_base.specs.States.{nums_in, words_in}
 use Rattle.sym_enum.specs.Labels.{label_value}
 use Rattle.sym_int.specs.Lines.{form_value}
 use Rattle.sym_pred.specs.HoldForms.{parts_value}
-use Rattle.sym_pred.specs.Meaning.{Truth}
+use Rattle.sym_base.specs.Tests.{Truth}
 use Rattle.sym_path.specs.declared.form.Form.{Form}
 use Rattle.sym_path.specs.declared.form.Form.TheVariants as form
 use Rattle.sym_path.specs.declared.path.PathEnd.{PathEnd}

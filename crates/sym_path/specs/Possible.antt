@@ -12,7 +12,8 @@ use Rattle.sym_int.specs.declared.form.IntForm.TheVariants as number
 use Rattle.sym_int.specs.declared.form.Number.{Number}
 use Rattle.sym_int.specs.declared.span.Span.{Span}
 use Rattle.sym_pred.specs.Facts.{Atom, FactMap}
-use Rattle.sym_pred.specs.Meaning.{Truth, Stands}
+use Rattle.sym_base.specs.Tests.{Truth}
+use Rattle.sym_pred.specs.Meaning.{Stands}
 use Rattle.sym_pred.specs.Meaning as facts
 use Rattle.sym_pred.specs.declared.form.HoldForm.TheVariants as hold
 use Rattle.sym_path.specs.declared.part.Part.{Part}

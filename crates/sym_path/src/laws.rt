@@ -4,7 +4,7 @@ ghost use Rattle.sym_base.specs.declared.values.record.Record.{Record as OneReco
 ghost use Rattle.sym_base.specs.declared.values.state.State.{State as OneState};
 ghost use Rattle.sym_base.specs.declared.values.state.Outcome.{Outcome as OneOutcome};
 ghost use Rattle.sym_check.specs.ScriptPlans.{ScriptPlan};
-ghost use Rattle.sym_pred.specs.Meaning.{Truth};
+ghost use Rattle.sym_base.specs.Tests.{Truth};
 ghost use Rattle.sym_path.specs.declared.part.Part.{Part as OnePart};
 ghost use Rattle.sym_path.specs.declared.path.Path.{Path as OnePath};
 ghost use Rattle.sym_path.specs.Admitting.{Admits, admits};
