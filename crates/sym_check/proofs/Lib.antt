@@ -8,6 +8,7 @@ pub mod TestsAgree
 pub mod ReportsSeen
 pub mod ReportsAgree
 pub mod ReportCallsAgree
+pub mod ColumnsAgree
 mod Examples
 mod ZippedLists
 mod ValidSteps
