@@ -9,6 +9,7 @@ pub mod ReportsSeen
 pub mod ReportsAgree
 pub mod ReportCallsAgree
 pub mod ColumnsAgree
+pub mod ScriptAgreements
 mod Examples
 mod ZippedLists
 mod ValidSteps
