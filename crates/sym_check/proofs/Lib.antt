@@ -8,6 +8,8 @@ pub mod TestsAgree
 pub mod ReportsSeen
 pub mod ReportsAgree
 pub mod ReportCallsAgree
+pub mod ColumnsAgree
+pub mod ScriptAgreements
 mod Examples
 mod ZippedLists
 mod ValidSteps

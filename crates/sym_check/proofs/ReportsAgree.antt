@@ -73,7 +73,7 @@ number_shown s e p i = let t = shown_seen s e as_number p i in (t.0, t.1, gives_
 abbrev pub Sights : Scope → ExprTree → Type 0
 Sights s e = Agrees (Sees s e) (BreaksShown s e) (see s e)
 
-numeral_once : (s : Scope) (n : ℤ) (at : ℕ) (v : Seen) → Sees s (Num n at) v → Numeral n at ≡ v
+pub numeral_once : (s : Scope) (n : ℤ) (at : ℕ) (v : Seen) → Sees s (Num n at) v → Numeral n at ≡ v
 numeral_once s n at (Numeral m place) e = cc
 numeral_once s n at (Number p) (i, none) = absurd (none n at refl)
 numeral_once s n at (Word p) i = elim i [ ]
@@ -99,7 +99,7 @@ pub text_sights : (s : Scope) (t : List ℕ) (at : ℕ) → Sights s (Words t at
 text_sights s t at = only_value (Word (show.Text t)) (is.text t at) (text_once s t at) (λ f b. elim b [ ])
 
 -- Names of cells.
-abbrev NamedSeen : Meaning → Seen → Type 0
+abbrev pub NamedSeen : Meaning → Seen → Type 0
 NamedSeen meaning.Unfinished v = ⊥
 NamedSeen (meaning.Enum enum) v = ⊥
 NamedSeen (meaning.Label enum l) v = ⊥
@@ -144,7 +144,7 @@ word_named s _ _ (is.enum_cell x c enum t) = (meaning.EnumCell c enum, t, refl)
 same_name : (s : Scope) (x y : Name) (m : Meaning) → Named x ≡ Named y → Stands s y m → Stands s x m
 same_name s x y m e t = let same : y ≡ x = cc in subst (λ z. Stands s z m) same t
 
-sees_name : (s : Scope) (x : Name) (v : Seen) → Sees s (Named x) v → (m : Meaning) × Stands s x m × NamedSeen m v
+pub sees_name : (s : Scope) (x : Name) (v : Seen) → Sees s (Named x) v → (m : Meaning) × Stands s x m × NamedSeen m v
 sees_name s x (Numeral n at) e = absurd (cc)
 sees_name s x (Number p) (i, none) = number_named s x p i
 sees_name s x (Word p) i = word_named s x p i
