@@ -28,3 +28,7 @@ mod ValuesFound
 mod ExpressionsFound
 mod ExpressionFaults
 mod ExpressionsAgree
+mod BlocksComplete
+mod BlocksFound
+mod BlockFaults
+mod BlocksAgree
