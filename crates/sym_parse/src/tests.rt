@@ -87,7 +87,8 @@ const UNEXPECTED: [(&str, u32); 36] = [
         58,
     ),
     (
-        "field x: num; state n: int [0..3] = 0; update { if n == 1 { } else n = 1; } report { n = n; }",
+        "field x: num; state n: int [0..3] = 0; update { if n == 1 { } else n = 1; } \
+         report { n = n; }",
         67,
     ),
     (
@@ -434,7 +435,8 @@ fn a_lexical_fault_comes_first(rt: HostRuntime) {
     let rows = [
         ("field x num; 12x", LexFault::BadNumber { at: 13 }),
         (
-            "field x: num; state n: int [0..3] = 0; update { n = 1000000000001; } report { n = n; }",
+            "field x: num; state n: int [0..3] = 0; update { n = 1000000000001; } \
+             report { n = n; }",
             LexFault::BadNumber { at: 52 },
         ),
         (

@@ -334,7 +334,14 @@ fn assert_printed(alloc: Global, rt: &impl Abort, read: &str, wanted: &str) -> R
     )?;
     let text = printed(alloc, rt, source.as_bytes())?;
     let form = format!(in alloc;
-        "field x: num;\nstate n: int [0..3] = 0;\nupdate {{\n  n = {wanted};\n}}\nreport {{\n  n = n;\n}}\n"
+        "field x: num;\n\
+         state n: int [0..3] = 0;\n\
+         update {{\n\
+         \x20 n = {wanted};\n\
+         }}\n\
+         report {{\n\
+         \x20 n = n;\n\
+         }}\n"
     )?;
     assert!(rt; text.as_slice() == form.as_bytes(), "{read}");
     Ok(())
