@@ -14,10 +14,10 @@ use Rattle.sym_parse.specs.declared.error.LimitKind.TheVariants as limit
 use Rattle.sym_parse.specs.declared.error.ParseErr.{ParseErr}
 use Rattle.sym_parse.specs.declared.error.ParseErr.TheVariants as answer
 use Rattle.sym_parse.specs.declared.stop.Stop.TheVariants as stop
-use Rattle.sym_parse.specs.Answers.{IsScriptOf, Gives, by_tokens, ended, parsed, refusal}
+use Rattle.sym_parse.specs.Answers.{IsScriptOf, Gives, by_tokens, ended, parsed}
 use Rattle.sym_parse.specs.Lexemes.{lexemes_of}
 use Rattle.sym_parse.specs.Limits.{most}
-use Rattle.sym_parse.specs.Steps.{Input, Parsed}
+use Rattle.sym_parse.specs.Steps.{Parsed}
 use Rattle.sym_parse.specs.Parsing.Scripts.{script, start}
 use Rattle.sym_parse.specs.Syntax.Scripts.{IsScript}
 use Rattle.sym_parse.proofs.LawfulExpressions.{lexemes-suit}

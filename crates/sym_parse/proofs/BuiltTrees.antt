@@ -9,7 +9,6 @@ use Rattle.std.proofs.lemmas.Slice.Eq.{slice_eq-Decides}
 use Rattle.sym_base.specs.declared.tree.name.Name.{Name}
 use Rattle.sym_base.specs.declared.tree.expression.BinOp.{BinOp}
 use Rattle.sym_base.specs.declared.tree.expression.BinOp.TheVariants.{Add}
-use Rattle.sym_base.specs.declared.tree.declaration.EnumDecl.{EnumDecl}
 use Rattle.sym_base.specs.declared.tree.declaration.FieldDecl.{FieldDecl}
 use Rattle.sym_base.specs.declared.tree.declaration.StateDecl.{StateDecl}
 use Rattle.sym_base.specs.declared.tree.declaration.CellDecl.{CellDecl}
@@ -20,7 +19,7 @@ use Rattle.sym_base.specs.declared.tree.declaration.Literal.{Literal}
 use Rattle.sym_base.specs.Counters.{Counter, Amount, Fixed, OfField, IsAmount, IsCounter, IsCounterTree, counter_tree, amount_tree}
 use Rattle.sym_base.specs.Limits.{IsNumber, num_max, is_number}
 use Rattle.sym_base.proofs.Numbers.{number-Decides}
-use Rattle.sym_base.specs.Trees.{ScriptTree, TestTree, ColumnTree, ExprTree, Num, Words, Named, Call, Neg, Not, Bin, StmtTree, Let, Set, Push, Keep, KeepFrom, If, StmtsTree, Then, Done}
+use Rattle.sym_base.specs.Trees.{ScriptTree, ColumnTree, ExprTree, Num, Words, Named, Call, Neg, Not, Bin, Let, Set, Push, Keep, KeepFrom, If, StmtsTree, Then, Done}
 use Rattle.sym_parse.specs.Built.{same_name, is_cell, is_amount, is_add, is_sum, is_change, is_done, is_update, is_range, is_plain, is_built_of, is_built_by, has_built_parts, only, is_built}
 use Rattle.sym_parse.proofs.Letters.{both}
 

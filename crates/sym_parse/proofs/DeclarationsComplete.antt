@@ -1,17 +1,10 @@
 -- Declarations and lists of items are read where they stand.
-use Rattle.std.proofs.Common.{◌≡◌, ℕ, zero, suc, ◌+◌, ◌-◌, ◌<◌, ◌≤◌, ℤ, neg_ℤ, Bool, true, false, ◌||◌, if◌then◌else◌, List, [], ◌∷◌, ◌++◌, length, Option, None, Some, Result, Ok, Err, refl, ap, sym, ◌∙◌, subst, arith, append_assoc}
+use Rattle.std.proofs.Common.{◌≡◌, ℕ, zero, suc, ◌-◌, ◌≤◌, ℤ, Bool, true, false, List, [], ◌∷◌, ◌++◌, length, Option, Some, Ok, refl, ap, sym, ◌∙◌, arith, append_assoc}
 use Rattle.std.proofs.lemmas.List.{append-nil}
 use Rattle.sym_base.specs.declared.tree.name.Name.{Name as NameRecord}
-use Rattle.sym_base.specs.declared.tree.declaration.EnumDecl.{EnumDecl}
-use Rattle.sym_base.specs.declared.tree.declaration.FieldDecl.{FieldDecl}
-use Rattle.sym_base.specs.declared.tree.declaration.KindRef.{KindRef}
 use Rattle.sym_base.specs.declared.tree.declaration.Literal.{Literal}
 use Rattle.sym_base.specs.declared.tree.declaration.Part.{Part}
-use Rattle.sym_base.specs.declared.tree.declaration.CellDecl.{CellDecl}
 use Rattle.sym_base.specs.declared.tree.declaration.CellDecl.TheVariants as cell
-use Rattle.sym_base.specs.declared.tree.declaration.StateDecl.{StateDecl}
-use Rattle.sym_base.specs.declared.tree.declaration.Param.{Param}
-use Rattle.sym_base.specs.Trees.{TestTree, ColumnTree}
 use Rattle.sym_lex.specs.declared.keyword.Keyword.{Keyword}
 use Rattle.sym_lex.specs.declared.keyword.Keyword.TheVariants as keyword
 use Rattle.sym_lex.specs.declared.symbol.Symbol.{Symbol}
@@ -19,7 +12,7 @@ use Rattle.sym_lex.specs.declared.symbol.Symbol.TheVariants as symbol
 use Rattle.sym_parse.specs.declared.error.LimitKind.{LimitKind}
 use Rattle.sym_parse.specs.declared.error.LimitKind.TheVariants as limit
 use Rattle.sym_parse.specs.Lexemes.{Terminal, Name, Number, Str, Word, Sign, Lexeme, IsKeyword, IsSign, IsName}
-use Rattle.sym_parse.specs.Steps.{Input, Parsed, Parser, ◌>>=◌, pure, next, next_of, passed, word_of, sign_of, name_of, text_of, is_there, is_this_word, is_this_sign, sees_word, sees_sign, sees_name, sees_text, name, number, text, repeated, separated}
+use Rattle.sym_parse.specs.Steps.{Input, Parser, ◌>>=◌, next, next_of, passed, word_of, sign_of, is_this_word, is_this_sign, sees_word, sees_sign, sees_name, sees_text, name, repeated, separated}
 use Rattle.sym_parse.specs.Syntax.Declarations as syntax
 use Rattle.sym_parse.specs.Syntax.Declarations.{AreItems, AreFurther, AreAtMost, AreSome, AreSeparated, IsOneName, IsNum, IsLiteral, IsKind, IsEnum, IsHeader, IsDefault, IsField, IsGroup, IsRange, IsPart, IsCell, IsState, IsParam, IsTest, IsColumn}
 use Rattle.sym_parse.specs.Parsing.Expressions.{expression}

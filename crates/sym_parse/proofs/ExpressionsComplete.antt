@@ -1,5 +1,5 @@
 -- An expression is read where it stands, if the token after it binds no tighter.
-use Rattle.std.proofs.Common.{◌≡◌, ℕ, zero, suc, ℤ, ◌+◌, ◌-◌, ◌<◌, ◌≤◌, Bool, true, false, nat_lt, if◌then◌else◌, List, [], ◌∷◌, ◌++◌, length, Option, Some, None, Result, Ok, Err, refl, ap, sym, ◌∙◌, subst, arith, append_assoc, length-append}
+use Rattle.std.proofs.Common.{◌≡◌, ℕ, zero, suc, ℤ, ◌+◌, ◌-◌, ◌<◌, ◌≤◌, false, List, [], ◌∷◌, ◌++◌, length, Option, Some, None, Ok, refl, ap, ◌∙◌, arith, append_assoc, length-append}
 use Rattle.sym_base.specs.declared.tree.name.Name.{Name as NameRecord}
 use Rattle.sym_base.specs.declared.tree.expression.BinOp.{BinOp}
 use Rattle.sym_base.specs.Trees.{ExprTree, ExprsTree, Num, Words, Named, Call, Neg, Not, Bin, End, More}
@@ -10,11 +10,11 @@ use Rattle.sym_lex.specs.declared.symbol.Symbol.{Symbol}
 use Rattle.sym_lex.specs.declared.symbol.Symbol.TheVariants as symbol
 use Rattle.sym_parse.specs.declared.error.LimitKind.{LimitKind}
 use Rattle.sym_parse.specs.declared.error.LimitKind.TheVariants as limit
-use Rattle.sym_parse.specs.Lexemes.{Terminal, Name, Number, Str, Word, Sign, Lexeme, IsKeyword, IsSign, IsNumeral, IsText, IsName}
-use Rattle.sym_parse.specs.Steps.{Input, Parsed, Parser, and_then, pure, refuse, next, next_of, place, passed, is_this_sign, sign_of, sees_word, sees_sign, sees_name, sees_number, sees_text}
+use Rattle.sym_parse.specs.Lexemes.{Terminal, Name, Number, Str, Word, Sign, Lexeme, IsSign, IsNumeral, IsText, IsName}
+use Rattle.sym_parse.specs.Steps.{Input, Parser, next, next_of, place, passed, is_this_sign, sign_of, sees_word, sees_sign, sees_name, sees_number, sees_text}
 use Rattle.sym_parse.specs.Syntax.Expressions as syntax
 use Rattle.sym_parse.specs.Syntax.Expressions.{Line, Whole, Negation, Signed, IsGrouped, IsValues, IsPrimary, IsUnary, IsProduct, IsSum, IsRelation, IsNegation, IsConjunction, IsExpression, IsLine, Within, IsExprWithin, product_op, sum_op, compare_op, and_op, or_op}
-use Rattle.sym_parse.specs.Parsing.Expressions.{op_in, chain, chain_from, values, values_from, values_turn, further, call, call_or_name, number_leaf, text_leaf, named, parens, primary, minus, unary, product, sum, relation, relation_turn, not_line, negation, conjunction, expr, line, lines, expression}
+use Rattle.sym_parse.specs.Parsing.Expressions.{op_in, chain, chain_from, values, values_from, further, call, call_or_name, number_leaf, text_leaf, named, parens, primary, minus, unary, product, sum, relation, not_line, negation, conjunction, expr, line, lines, expression}
 use Rattle.sym_parse.proofs.Chains.{chain_begins, chain_goes, chain_ends}
 use Rattle.sym_parse.proofs.Reaching.{at, yes, no, sees-word, sees-sign, sees-word-as, sees-sign-as, sees-name-as, sees-number-as, sees-text-as, passes, stands, sign-goes, name-goes, number-goes, text-goes, operand-goes, opening-goes}
 

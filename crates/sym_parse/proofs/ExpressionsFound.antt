@@ -1,5 +1,5 @@
 -- What is read as an expression is one, and its operands are counted.
-use Rattle.std.proofs.Common.{◌≡◌, ℕ, zero, suc, ◌+◌, ◌<◌, ◌≤◌, Bool, true, false, nat_lt, if◌then◌else◌, List, [], ◌∷◌, ◌++◌, length, Option, Some, None, Result, Ok, Err, refl, ap, sym, ◌∙◌, subst, arith, append_assoc}
+use Rattle.std.proofs.Common.{◌≡◌, ℕ, zero, suc, ◌+◌, ◌<◌, ◌≤◌, true, nat_lt, List, [], ◌∷◌, ◌++◌, length, Option, Some, None, Ok, Err, refl, ap, sym, ◌∙◌, subst, arith, append_assoc}
 use Rattle.std.proofs.lemmas.Bool.Decides.{nat_tests}
 use Rattle.sym_base.specs.declared.tree.name.Name.{Name as NameRecord}
 use Rattle.sym_base.specs.declared.tree.expression.BinOp.{BinOp}
@@ -10,12 +10,12 @@ use Rattle.sym_lex.specs.declared.symbol.Symbol.TheVariants as symbol
 use Rattle.sym_parse.specs.declared.error.LimitKind.{LimitKind}
 use Rattle.sym_parse.specs.declared.error.LimitKind.TheVariants as limit
 use Rattle.sym_parse.specs.declared.stop.Stop.TheVariants as stop
-use Rattle.sym_parse.specs.Lexemes.{Terminal, Lexeme, IsKeyword, IsSign, IsNumeral, IsText, IsName}
-use Rattle.sym_parse.specs.Steps.{Input, Parsed, Parser, and_then, choose, pure, refuse, here, bump, next, next_of, after_first, place, place_of, passed, sees_word, sees_sign, sees_name, sees_number, sees_text, sign, name, number, text, opening, one_operand}
+use Rattle.sym_parse.specs.Lexemes.{Terminal, Lexeme, IsName}
+use Rattle.sym_parse.specs.Steps.{Input, Parser, pure, refuse, next, next_of, after_first, place, place_of, passed, sees_word, sees_sign, sees_name, sees_number, sees_text, sign, name, number, text, opening, one_operand}
 use Rattle.sym_parse.specs.Syntax.Expressions as syntax
 use Rattle.sym_parse.specs.Syntax.Expressions.{Line, Whole, Negation, Signed, IsGrouped, IsValues, IsPrimary, IsUnary, IsProduct, IsSum, IsRelation, IsNegation, IsConjunction, IsExpression, IsLine, Within, IsExprWithin, product_op, sum_op, compare_op, and_op, or_op}
-use Rattle.sym_parse.specs.Parsing.Expressions.{op_in, chain, chain_from, chain_turn, values, values_from, values_turn, further, call, call_or_name, number_leaf, text_leaf, named, parens, primary, minus, unary, product, sum, relation, relation_turn, not_line, negation, conjunction, expr, line, lines, expression}
-use Rattle.sym_parse.proofs.Taking.{ended, ok_parts, after, by_test, Step, bump-word, bump-sign, sign-ok, name-ok, number-ok, text-ok}
+use Rattle.sym_parse.specs.Parsing.Expressions.{op_in, chain, chain_from, chain_turn, values, values_from, further, call, call_or_name, number_leaf, text_leaf, named, parens, primary, minus, unary, product, sum, relation, relation_turn, not_line, negation, conjunction, expr, line, lines, expression}
+use Rattle.sym_parse.proofs.Taking.{ended, ok_parts, after, by_test, bump-word, bump-sign, sign-ok, name-ok, number-ok, text-ok}
 
 -- The place of the next token is that of the lexeme.
 pub place-is : (i : Input) (l : Lexeme) (rest : List Lexeme) → i.rest ≡ l ∷ rest → place i ≡ l.at

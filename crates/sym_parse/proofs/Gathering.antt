@@ -1,5 +1,5 @@
 -- Values that are gathered one by one are those that are read.
-use Rattle.std.proofs.Common.{◌≡◌, ℕ, zero, suc, ◌+◌, ◌-◌, ◌<◌, true, false, if◌then◌else◌, List, [], ◌∷◌, ◌++◌, length, Result, Ok, Err, refl, ap, sym, ◌∙◌, arith}
+use Rattle.std.proofs.Common.{◌≡◌, ℕ, zero, suc, ◌-◌, ◌<◌, true, false, List, [], ◌∷◌, ◌++◌, length, Ok, Err, refl, ap, sym, ◌∙◌, arith}
 use Rattle.sym_base.specs.Trees.{ExprTree, ExprsTree, End, More}
 use Rattle.sym_lex.specs.declared.symbol.Symbol.TheVariants.{Comma}
 use Rattle.sym_parse.specs.declared.stop.Stop.{Stop}

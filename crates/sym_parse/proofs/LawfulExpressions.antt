@@ -1,5 +1,5 @@
 -- An expression that is read from the tokens of a text is lawful.
-use Rattle.std.proofs.Common.{◌≡◌, ℕ, zero, suc, ℤ, ◌+◌, ◌<◌, ◌≤◌, max, Bool, true, false, ◌&&◌, nat_lt, nat_le, if◌then◌else◌, List, [], ◌∷◌, ◌++◌, length, Option, Some, None, refl, ap, sym, ◌∙◌, subst, arith}
+use Rattle.std.proofs.Common.{◌≡◌, ℕ, zero, suc, ℤ, ◌+◌, ◌≤◌, max, Bool, true, false, ◌&&◌, nat_lt, nat_le, if◌then◌else◌, List, [], ◌∷◌, ◌++◌, length, Option, Some, refl, ap, sym, ◌∙◌, subst, arith}
 use Rattle.std.proofs.lemmas.Bool.Decides.{nat_tests}
 use Rattle.std.specs.List.{list_all}
 use Rattle.sym_base.specs.declared.tree.name.Name.{Name as NameRecord}
@@ -10,7 +10,7 @@ use Rattle.sym_base.specs.Limits.{max_operands}
 use Rattle.sym_base.specs.Names.{is_name}
 use Rattle.sym_base.specs.Precedence.{expr_level, op_level, left_level, right_level}
 use Rattle.sym_base.specs.Sizes.{expr_depth, exprs_depth, operand_depth, operand_count}
-use Rattle.sym_base.specs.Trees.{ExprTree, ExprsTree, Num, Words, Named, Call, Neg, Not, Bin, End, More}
+use Rattle.sym_base.specs.Trees.{ExprTree, ExprsTree, Bin}
 use Rattle.sym_lex.specs.declared.token.Token.{Token}
 use Rattle.sym_lex.specs.declared.token.TokenKind.{TokenKind}
 use Rattle.sym_lex.specs.declared.token.TokenKind.TheVariants as kind

@@ -1,5 +1,5 @@
 -- A script that is read from the tokens of a text is lawful.
-use Rattle.std.proofs.Common.{◌≡◌, ℕ, zero, suc, ◌+◌, ◌<◌, ◌≤◌, ℤ, pos, neg_ℤ, ◌≤ℤ◌, int_le, max, Bool, true, false, ◌&&◌, nat_le, List, [], ◌∷◌, ◌++◌, length, Option, Some, None, refl, ap, sym, ◌∙◌, subst, arith}
+use Rattle.std.proofs.Common.{◌≡◌, ℕ, zero, suc, ◌≤◌, ℤ, pos, neg_ℤ, int_le, Bool, true, ◌&&◌, nat_le, List, [], ◌∷◌, ◌++◌, length, Option, refl, arith}
 use Rattle.std.proofs.lemmas.Bool.Decides.{nat_tests}
 use Rattle.std.proofs.lemmas.Int.{ints}
 use Rattle.std.specs.List.{list_all}
@@ -13,10 +13,10 @@ use Rattle.sym_base.specs.declared.tree.declaration.CellDecl.{CellDecl}
 use Rattle.sym_base.specs.declared.tree.declaration.StateDecl.{StateDecl}
 use Rattle.sym_base.specs.declared.tree.declaration.Param.{Param}
 use Rattle.sym_base.specs.Lawful.{IsLawful, is_between, is_lawful_name, is_lawful_text, is_unsigned, is_lawful_kind, is_lawful_literal, is_absent_or, is_lawful_enum, is_lawful_field, is_lawful_part, is_lawful_cell, is_lawful_state, is_lawful_param, is_lawful_expr, is_lawful_test, is_lawful_column, is_lawful_stmt, are_lawful_stmts, are_lawful_exprs, has_some}
-use Rattle.sym_base.specs.Limits.{max_labels, max_parts, max_parameters, max_depth, max_fields, max_cells, max_columns, num_max, is_number}
+use Rattle.sym_base.specs.Limits.{max_labels, max_parts, max_parameters, max_depth, num_max, is_number}
 use Rattle.sym_base.specs.Names.{is_name}
-use Rattle.sym_base.specs.Sizes.{expr_depth, exprs_depth, stmt_depth, stmts_depth, stmts_count}
-use Rattle.sym_base.specs.Trees.{ExprTree, ExprsTree, StmtTree, StmtsTree, Let, Set, Push, Keep, KeepFrom, If, Done, Then, TestTree, ColumnTree, ScriptTree}
+use Rattle.sym_base.specs.Sizes.{expr_depth, stmt_depth, stmts_depth, stmts_count}
+use Rattle.sym_base.specs.Trees.{StmtTree, StmtsTree, TestTree, ColumnTree, ScriptTree}
 use Rattle.sym_parse.specs.declared.error.LimitKind.TheVariants as limit
 use Rattle.sym_parse.specs.Lexemes.{Lexeme}
 use Rattle.sym_parse.specs.Limits.{most}
@@ -27,7 +27,7 @@ use Rattle.sym_parse.specs.Syntax.Declarations.{AreItems, AreFurther, AreAtMost,
 use Rattle.sym_parse.specs.Syntax.Scripts as scripts
 use Rattle.sym_parse.specs.Syntax.Scripts.{IsUpdate, IsReport, IsScript}
 use Rattle.sym_parse.proofs.Letters.{both}
-use Rattle.sym_parse.proofs.LawfulExpressions.{suits, AllSuit, join, apart, first-suits, rest-suits, name-lawful, number-lawful, text-lawful, Lawful, expr-lawful, AllLawful, exprs-lawful}
+use Rattle.sym_parse.proofs.LawfulExpressions.{AllSuit, join, apart, first-suits, rest-suits, name-lawful, number-lawful, text-lawful, expr-lawful, exprs-lawful}
 
 -- ---- statements
 

@@ -21,3 +21,8 @@ pub mod LawfulExpressions
 pub mod LawfulScripts
 pub mod Printout
 pub mod Gathering
+pub mod Keeping
+pub mod KeepingExpressions
+pub mod KeepingStatements
+pub mod KeepingScripts
+pub mod Refusing

@@ -1,12 +1,11 @@
 -- Lists of items of which some number may stand: one turn, by how many were found.
-use Rattle.std.proofs.Common.{◌≡◌, ℕ, zero, suc, ◌+◌, ◌-◌, ◌<◌, ◌≤◌, Bool, true, false, nat_lt, if◌then◌else◌, List, [], ◌∷◌, ◌++◌, length, map, length-append, refl, ap, ◌∙◌, arith, Result, Ok, Err}
+use Rattle.std.proofs.Common.{◌≡◌, ℕ, zero, suc, ◌-◌, Bool, true, false, nat_lt, if◌then◌else◌, List, [], ◌∷◌, ◌++◌, length, map, length-append, refl, ap, ◌∙◌, arith, Ok, Err}
 use Rattle.std.proofs.lemmas.Bool.Decides.{nat_tests}
 use Rattle.std.proofs.lemmas.List.{length-map, map-append}
 use Rattle.sym_lex.specs.declared.symbol.Symbol.TheVariants.{Comma}
-use Rattle.sym_parse.specs.declared.stop.Stop.{Stop}
 use Rattle.sym_parse.specs.declared.stop.Stop.TheVariants.{Expected, Limit}
 use Rattle.sym_parse.specs.declared.error.LimitKind.{LimitKind}
-use Rattle.sym_parse.specs.Steps.{Input, Parsed, Parser, and_then, ◌>>=◌, ◌>>◌, pure, choose, full, refuse, bump, passed, sees_sign, one_more, repeated, separated}
+use Rattle.sym_parse.specs.Steps.{Input, Parsed, Parser, and_then, ◌>>=◌, ◌>>◌, pure, choose, bump, passed, sees_sign, one_more, repeated, separated}
 
 pub and_then_same : {A B : Type 0} (o : Parsed A) (f g : A → Parser B) → ((x : A) (j : Input) → f x j ≡ g x j) → and_then o f ≡ and_then o g
 and_then_same (Ok p) f g h = h p.0 p.1

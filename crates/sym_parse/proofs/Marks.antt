@@ -1,5 +1,5 @@
 -- The operator of a token whose keyword or symbol is known.
-use Rattle.std.proofs.Common.{◌≡◌, ap, sym, Option, Some, None}
+use Rattle.std.proofs.Common.{◌≡◌, ap, Option, Some, None}
 use Rattle.std.proofs.lemmas.Option.{same_Some}
 use Rattle.sym_base.specs.declared.tree.expression.BinOp.{BinOp}
 use Rattle.sym_lex.specs.declared.keyword.Keyword.{Keyword}

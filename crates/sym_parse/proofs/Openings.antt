@@ -1,5 +1,5 @@
 -- Opening a level where some are free, and where none is.
-use Rattle.std.proofs.Common.{◌≡◌, ℕ, zero, suc, ◌<◌, ◌-◌, length, Ok, Err, refl, arith}
+use Rattle.std.proofs.Common.{◌≡◌, ℕ, zero, suc, ◌<◌, length, Ok, Err, refl, arith}
 use Rattle.sym_parse.specs.declared.stop.Stop.TheVariants.{Limit}
 use Rattle.sym_parse.specs.declared.error.LimitKind.TheVariants.{Depth}
 use Rattle.sym_parse.specs.Steps.{Input, opening, passed}

@@ -1,5 +1,5 @@
 -- Single tokens are read where they stand next.
-use Rattle.std.proofs.Common.{◌≡◌, ℕ, zero, suc, ℤ, ◌+◌, ◌<◌, Bool, true, false, nat_lt, if◌then◌else◌, List, [], ◌∷◌, ◌++◌, length, Option, Some, None, Result, Ok, Err, refl, ap, sym, ◌∙◌, rules, arith}
+use Rattle.std.proofs.Common.{◌≡◌, ℕ, zero, suc, ℤ, ◌+◌, ◌<◌, Bool, true, false, nat_lt, if◌then◌else◌, List, ◌∷◌, Some, Ok, refl, ap, ◌∙◌, arith}
 use Rattle.std.proofs.lemmas.Bool.Decides.{nat_tests}
 use denote.Enum.Bare.{true_same}
 use Rattle.sym_base.specs.declared.tree.name.Name.{Name as NameRecord}
@@ -7,8 +7,8 @@ use Rattle.sym_lex.specs.declared.keyword.Keyword.{Keyword}
 use Rattle.sym_lex.specs.declared.symbol.Symbol.{Symbol}
 use Rattle.sym_lex.specs.contracts.keyword.Keyword as keywords
 use Rattle.sym_lex.specs.contracts.symbol.Symbol as symbols
-use Rattle.sym_parse.specs.Lexemes.{Terminal, Name, Number, Str, Word, Sign, Lexeme, IsKeyword, IsSign, IsNumeral, IsText, IsName}
-use Rattle.sym_parse.specs.Steps.{Input, Parsed, Parser, pure, bump, refuse, next, place, passed, word_of, sign_of, name_of, number_of, text_of, is_this_word, is_this_sign, is_there, named, taken, sees_word, sees_sign, sees_name, sees_number, sees_text, word, sign, name, number, text, opening, one_operand, one_statement}
+use Rattle.sym_parse.specs.Lexemes.{Terminal, Word, Sign, Lexeme, IsKeyword, IsSign, IsNumeral, IsText, IsName}
+use Rattle.sym_parse.specs.Steps.{Input, refuse, next, place, passed, word_of, sign_of, name_of, number_of, text_of, is_this_word, is_this_sign, is_there, named, taken, sees_word, sees_sign, sees_name, sees_number, sees_text, word, sign, name, number, text, opening, one_operand, one_statement}
 
 -- An input before these lexemes, with these counts.
 abbrev pub at : List Lexeme → ℕ → ℕ → Input

@@ -1,5 +1,5 @@
 -- A script is read where its tokens stand.
-use Rattle.std.proofs.Common.{◌≡◌, ℕ, ◌≤◌, Bool, true, false, if◌then◌else◌, List, [], ◌∷◌, ◌++◌, Option, None, Some, Ok, refl, ap, sym, ◌∙◌, subst, append_assoc}
+use Rattle.std.proofs.Common.{◌≡◌, ℕ, true, false, List, [], ◌∷◌, ◌++◌, Option, Some, Ok, refl, ap, sym, ◌∙◌, append_assoc}
 use Rattle.std.proofs.lemmas.List.{append-nil}
 use Rattle.sym_base.specs.declared.tree.name.Name.{Name as NameRecord}
 use Rattle.sym_base.specs.declared.tree.declaration.EnumDecl.{EnumDecl}
@@ -12,16 +12,15 @@ use Rattle.sym_lex.specs.declared.keyword.Keyword.TheVariants as keyword
 use Rattle.sym_lex.specs.declared.symbol.Symbol.TheVariants as symbol
 use Rattle.sym_parse.specs.declared.error.LimitKind.{LimitKind}
 use Rattle.sym_parse.specs.declared.error.LimitKind.TheVariants as limit
-use Rattle.sym_parse.specs.Lexemes.{Terminal, Name, Word, Sign, Lexeme, IsKeyword, IsSign, IsName}
-use Rattle.sym_parse.specs.Steps.{Input, Parsed, Parser, pure, next, next_of, word_of, is_this_word, is_there, is_done, done, sees_word, sees_name, word, sign}
+use Rattle.sym_parse.specs.Lexemes.{Name, Word, Sign, Lexeme, IsKeyword}
+use Rattle.sym_parse.specs.Steps.{Input, next, next_of, word_of, is_this_word, is_done, done, sees_word, sees_name}
 use Rattle.sym_parse.specs.Syntax.Declarations as items
 use Rattle.sym_parse.specs.Syntax.Declarations.{AreItems, AreAtMost, AreSome, IsEnum, IsField, IsGroup, IsState, IsTest, IsColumn}
 use Rattle.sym_parse.specs.Syntax.Scripts as syntax
 use Rattle.sym_parse.specs.Syntax.Scripts.{IsUpdate, IsReport, IsScript}
-use Rattle.sym_parse.specs.Parsing.Declarations.{enum_decl, field, group, state, test, column}
-use Rattle.sym_parse.specs.Parsing.Statements.{update}
+use Rattle.sym_parse.specs.Parsing.Declarations.{enum_decl, field, state, test, column}
 use Rattle.sym_parse.specs.Parsing.Scripts.{enums, fields, states, tests, columns, report, script, start}
-use Rattle.sym_parse.proofs.Reaching.{at, yes, no, sees-word, sees-word-as, sees-name-as, word-goes, sign-goes}
+use Rattle.sym_parse.proofs.Reaching.{at, sees-word, sees-name-as, word-goes, sign-goes}
 use Rattle.sym_parse.proofs.StatementsComplete.{update-reads}
 use Rattle.sym_parse.proofs.DeclarationsComplete.{NoWord, no-word-as, word-in, any-reads, some-reads, enum-reads, field-reads, group-reads, state-reads, test-reads, column-reads}
 

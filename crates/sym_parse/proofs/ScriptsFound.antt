@@ -1,5 +1,5 @@
 -- What is read as a script is one.
-use Rattle.std.proofs.Common.{◌≡◌, ℕ, ◌≤◌, Bool, true, false, if◌then◌else◌, List, [], ◌∷◌, ◌++◌, Option, Ok, refl, ap, sym, ◌∙◌, subst}
+use Rattle.std.proofs.Common.{◌≡◌, ℕ, ◌≤◌, Bool, true, false, if◌then◌else◌, List, [], ◌∷◌, ◌++◌, Ok, refl, ap, sym, ◌∙◌, subst}
 use Rattle.std.proofs.lemmas.List.{append-nil}
 use Rattle.sym_base.specs.Trees.{ColumnTree, ScriptTree}
 use Rattle.sym_lex.specs.declared.keyword.Keyword.TheVariants as keyword
@@ -7,14 +7,14 @@ use Rattle.sym_lex.specs.declared.symbol.Symbol.TheVariants as symbol
 use Rattle.sym_parse.specs.declared.error.LimitKind.{LimitKind}
 use Rattle.sym_parse.specs.declared.error.LimitKind.TheVariants as limit
 use Rattle.sym_parse.specs.Lexemes.{Lexeme}
-use Rattle.sym_parse.specs.Steps.{Input, Parsed, Parser, and_then, pure, refuse, next, next_of, is_there, is_done, done, sees_word, sees_name, word, sign}
-use Rattle.sym_parse.specs.Syntax.Declarations.{AreAtMost, AreSome, IsEnum, IsField, IsState, IsTest, IsColumn}
+use Rattle.sym_parse.specs.Steps.{Input, next, next_of, is_there, is_done, done, sees_word, sees_name, word, sign}
+use Rattle.sym_parse.specs.Syntax.Declarations.{IsEnum, IsField, IsState, IsTest, IsColumn}
 use Rattle.sym_parse.specs.Syntax.Scripts as syntax
 use Rattle.sym_parse.specs.Syntax.Scripts.{IsReport, IsScript}
 use Rattle.sym_parse.specs.Parsing.Declarations.{enum_decl, field, group, state, test, column}
 use Rattle.sym_parse.specs.Parsing.Statements.{update}
 use Rattle.sym_parse.specs.Parsing.Scripts.{enums, fields, states, tests, columns, report, script, start}
-use Rattle.sym_parse.proofs.Taking.{ended, ok_parts, after, by_test, tail_of, word-ok, sign-ok, Took, took_along}
+use Rattle.sym_parse.proofs.Taking.{ok_parts, after, by_test, tail_of, word-ok, sign-ok, Took, took_along}
 use Rattle.sym_parse.proofs.ExpressionsFound.{closes}
 use Rattle.sym_parse.proofs.StatementsFound.{update-found}
 use Rattle.sym_parse.proofs.DeclarationsFound.{any-found, some-found, enum-found, field-found, group-found, state-found, test-found, column-found}

@@ -1,10 +1,10 @@
 -- Statements by turns, and an `if` by levels, where some are left.
-use Rattle.std.proofs.Common.{◌≡◌, ℕ, zero, suc, ◌<◌, ◌-◌, refl, ap, arith}
-use Rattle.sym_base.specs.Trees.{StmtTree, StmtsTree, Then, Done}
+use Rattle.std.proofs.Common.{◌≡◌, ℕ, zero, suc, ◌<◌, ◌-◌, refl, arith}
+use Rattle.sym_base.specs.Trees.{StmtTree}
 use Rattle.sym_parse.specs.declared.error.LimitKind.TheVariants as limit
 use Rattle.sym_parse.specs.Limits.{most}
-use Rattle.sym_parse.specs.Steps.{Input, Parser, and_then, choose, pure, ◌>>=◌, one_statement, opening}
-use Rattle.sym_parse.specs.Parsing.Statements.{begins_statement, branches, if_statement, statement, statements_from, statements_turn}
+use Rattle.sym_parse.specs.Steps.{Input, Parser, ◌>>=◌, one_statement, opening}
+use Rattle.sym_parse.specs.Parsing.Statements.{branches, if_statement, statements_from, statements_turn}
 use Rattle.sym_parse.proofs.Turns.{some}
 
 pub goes : (room : ℕ) (inner : Parser StmtTree) (n : ℕ) (i : Input) → 0 < n → statements_from most room inner n i ≡ statements_turn most room inner (statements_from most room inner (n - 1)) i

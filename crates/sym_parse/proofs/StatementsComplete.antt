@@ -1,7 +1,7 @@
 -- Statements are read where they stand.
-use Rattle.std.proofs.Common.{◌≡◌, ℕ, zero, suc, ◌+◌, ◌-◌, ◌<◌, ◌≤◌, Bool, true, false, ◌||◌, if◌then◌else◌, List, [], ◌∷◌, ◌++◌, length, Option, Some, None, Result, Ok, Err, refl, ap, sym, ◌∙◌, subst, arith, append_assoc, length-append}
+use Rattle.std.proofs.Common.{◌≡◌, ℕ, zero, suc, ◌+◌, ◌<◌, ◌≤◌, true, false, ◌||◌, List, [], ◌∷◌, ◌++◌, length, Some, Ok, refl, ap, sym, ◌∙◌, subst, arith, append_assoc, length-append}
 use Rattle.sym_base.specs.declared.tree.name.Name.{Name as NameRecord}
-use Rattle.sym_base.specs.Trees.{ExprTree, ExprsTree, End, More, StmtTree, StmtsTree, Let, Set, Push, Keep, KeepFrom, If, Done, Then}
+use Rattle.sym_base.specs.Trees.{ExprTree, ExprsTree, End, StmtTree, StmtsTree, Let, Set, Push, Keep, KeepFrom, If, Done, Then}
 use Rattle.sym_base.specs.Sizes.{stmt_count, stmts_count}
 use Rattle.sym_lex.specs.declared.keyword.Keyword.{Keyword}
 use Rattle.sym_lex.specs.declared.keyword.Keyword.TheVariants as keyword
@@ -9,7 +9,7 @@ use Rattle.sym_lex.specs.declared.symbol.Symbol.TheVariants as symbol
 use Rattle.sym_parse.specs.declared.error.LimitKind.{LimitKind}
 use Rattle.sym_parse.specs.declared.error.LimitKind.TheVariants as limit
 use Rattle.sym_parse.specs.Lexemes.{Terminal, Name, Word, Sign, Lexeme, IsKeyword, IsSign, IsName}
-use Rattle.sym_parse.specs.Steps.{Input, Parsed, Parser, pure, next, next_of, passed, word_of, sign_of, name_of, is_there, is_this_word, is_this_sign, sees_word, sees_sign, sees_name}
+use Rattle.sym_parse.specs.Steps.{Parser, next, next_of, word_of, sign_of, name_of, is_there, is_this_word, is_this_sign, sees_word, sees_sign}
 use Rattle.sym_parse.specs.Syntax.Expressions.{IsExprWithin, IsValues}
 use Rattle.sym_parse.specs.Syntax.Expressions as expressions
 use Rattle.sym_parse.specs.Syntax.Statements as syntax

@@ -1,17 +1,17 @@
 -- What is read as statements is that, and they are counted.
-use Rattle.std.proofs.Common.{◌≡◌, ℕ, zero, suc, ◌+◌, ◌<◌, ◌≤◌, Bool, true, false, nat_lt, if◌then◌else◌, List, [], ◌∷◌, ◌++◌, length, Result, Ok, Err, refl, ap, sym, ◌∙◌, subst, arith, append_assoc}
+use Rattle.std.proofs.Common.{◌≡◌, ℕ, zero, suc, ◌+◌, ◌<◌, ◌≤◌, true, nat_lt, List, [], ◌∷◌, ◌++◌, length, Ok, Err, refl, ap, sym, ◌∙◌, subst, arith, append_assoc}
 use Rattle.std.proofs.lemmas.Bool.Decides.{nat_tests}
 use Rattle.sym_base.specs.declared.tree.name.Name.{Name as NameRecord}
 use Rattle.sym_base.specs.Trees.{ExprTree, ExprsTree, End, More, StmtTree, StmtsTree, Let, Set, Push, Keep, KeepFrom, If, Done, Then}
-use Rattle.sym_base.specs.Sizes.{operand_count, operands_count, stmt_count, stmts_count}
+use Rattle.sym_base.specs.Sizes.{stmt_count, stmts_count}
 use Rattle.sym_lex.specs.declared.keyword.Keyword.{Keyword}
 use Rattle.sym_lex.specs.declared.keyword.Keyword.TheVariants as keyword
 use Rattle.sym_lex.specs.declared.symbol.Symbol.TheVariants as symbol
 use Rattle.sym_parse.specs.declared.error.LimitKind.{LimitKind}
 use Rattle.sym_parse.specs.declared.error.LimitKind.TheVariants as limit
 use Rattle.sym_parse.specs.declared.stop.Stop.TheVariants as stop
-use Rattle.sym_parse.specs.Lexemes.{Lexeme, IsKeyword, IsSign, IsName}
-use Rattle.sym_parse.specs.Steps.{Input, Parsed, Parser, and_then, choose, pure, refuse, bump, next, next_of, word_of, is_this_word, passed, sees_word, sees_sign, word, sign, name, one_statement, opening}
+use Rattle.sym_parse.specs.Lexemes.{Lexeme, IsKeyword, IsName}
+use Rattle.sym_parse.specs.Steps.{Input, Parser, refuse, next, next_of, word_of, is_this_word, passed, sees_word, sees_sign, word, sign, name, one_statement, opening}
 use Rattle.sym_parse.specs.Syntax.Statements as syntax
 use Rattle.sym_parse.specs.Syntax.Expressions.{IsExprWithin, IsValues}
 use Rattle.sym_parse.specs.Syntax.Expressions as expressions
@@ -19,8 +19,8 @@ use Rattle.sym_parse.specs.Syntax.Statements.{IsStatement, AreStatements, IsBloc
 use Rattle.sym_parse.specs.Syntax.Scripts.{IsUpdate}
 use Rattle.sym_parse.specs.Syntax.Scripts as scripts
 use Rattle.sym_parse.specs.Parsing.Expressions.{expression, values, values_from, further}
-use Rattle.sym_parse.specs.Parsing.Statements.{begins_statement, binding, assignment, push, kept_values, kept_cell, keep, simple, statement, statements_from, statements_turn, statements, block, otherwise, else_part, branches, if_statement, update}
-use Rattle.sym_parse.proofs.Taking.{ended, ok_parts, after, by_test, tail_of, Step, bump-word, bump-sign, word-ok, sign-ok, name-ok, Took}
+use Rattle.sym_parse.specs.Parsing.Statements.{begins_statement, binding, assignment, push, kept_values, kept_cell, keep, simple, statement, statements_from, statements, block, otherwise, else_part, branches, if_statement, update}
+use Rattle.sym_parse.proofs.Taking.{ended, ok_parts, after, by_test, tail_of, bump-word, bump-sign, word-ok, sign-ok, name-ok, Took}
 use Rattle.sym_parse.proofs.ExpressionsFound.{TookExpression, expression-found, joins, closes, opening-ok}
 
 -- A statement was counted.
@@ -244,7 +244,7 @@ module _ (most : LimitKind → ℕ) (room : ℕ) (if_here : Parser StmtTree) (Is
       by_test (sees_word keyword.Keep i) (keep most room if_here i) (assignment most room if_here i) (Ok (s, j)) (Quiet i s j) h (λ t f. keep-found i j s f)
       (λ t f. assignment-found i j s f)))
 
-  statement-found : (i j : Input) (s : StmtTree) → statement most room if_here i ≡ Ok (s, j) → TookStmt i s j
+  pub statement-found : (i j : Input) (s : StmtTree) → statement most room if_here i ≡ Ok (s, j) → TookStmt i s j
   unfolding statement
   statement-found i j s h =
       by_test (sees_word keyword.If i) (if_here i) _ (Ok (s, j)) (TookStmt i s j) h

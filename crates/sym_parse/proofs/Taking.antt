@@ -1,6 +1,6 @@
 -- What the end of a parser says of the tokens that it took: single tokens, steps one after another,
 -- and choices.
-use Rattle.std.proofs.Common.{◌≡◌, ℕ, ℤ, Bool, true, false, if◌then◌else◌, List, [], ◌∷◌, ◌++◌, Option, Some, None, Result, Ok, Err, refl, ap, sym, ◌∙◌, subst, rules}
+use Rattle.std.proofs.Common.{◌≡◌, ℕ, ℤ, Bool, true, false, if◌then◌else◌, List, [], ◌∷◌, ◌++◌, Option, Some, None, Ok, Err, refl, ap, ◌∙◌, subst, rules}
 use Rattle.std.proofs.lemmas.Option.{same_Some}
 use denote.Enum.Bare.{same_true}
 use Rattle.sym_base.specs.declared.tree.name.Name.{Name as NameRecord}
@@ -8,9 +8,8 @@ use Rattle.sym_lex.specs.declared.keyword.Keyword.{Keyword}
 use Rattle.sym_lex.specs.declared.symbol.Symbol.{Symbol}
 use Rattle.sym_lex.specs.contracts.keyword.Keyword as keywords
 use Rattle.sym_lex.specs.contracts.symbol.Symbol as symbols
-use Rattle.sym_parse.specs.declared.stop.Stop.{Stop}
 use Rattle.sym_parse.specs.Lexemes.{Terminal, Name, Number, Str, Word, Sign, Lexeme, IsKeyword, IsSign, IsNumeral, IsText, IsName}
-use Rattle.sym_parse.specs.Steps.{Input, Parsed, Parser, and_then, pure, bump, refuse, next, next_of, after_first, place, place_of, passed, word_of, sign_of, name_of, number_of, text_of, is_this_word, is_this_sign, is_there, named, taken, sees_word, sees_sign, sees_name, sees_number, sees_text, word, sign, name, number, text}
+use Rattle.sym_parse.specs.Steps.{Input, Parsed, Parser, and_then, bump, refuse, next, next_of, after_first, place, place_of, passed, word_of, sign_of, name_of, number_of, text_of, is_this_word, is_this_sign, named, taken, sees_word, sees_sign, word, sign, name, number, text}
 
 -- ---- outcomes
 

@@ -1,9 +1,8 @@
 -- A function by levels or by turns, where some are left.
-use Rattle.std.proofs.Common.{◌≡◌, ℕ, zero, suc, ◌<◌, ◌-◌, refl, ap, arith}
-use Rattle.sym_base.specs.Trees.{ExprTree, ExprsTree}
+use Rattle.std.proofs.Common.{◌≡◌, ℕ, suc, ◌<◌, ◌-◌, refl, ap, arith}
+use Rattle.sym_base.specs.Trees.{ExprTree}
 use Rattle.sym_parse.specs.declared.operators.Level.{Level}
 use Rattle.sym_parse.specs.declared.operators.Level.TheVariants.{Or, And, Sum, Product}
-use Rattle.sym_parse.specs.declared.error.LimitKind.{LimitKind}
 use Rattle.sym_parse.specs.Limits.{most}
 use Rattle.sym_parse.specs.Steps.{Input, Parser}
 use Rattle.sym_parse.specs.Syntax.Expressions.{Line, Whole, Negation, Signed}

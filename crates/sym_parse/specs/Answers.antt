@@ -7,12 +7,11 @@ use Rattle.sym_lex.specs.Rules.{LexResult, Reads}
 use Rattle.sym_lex.specs.Lexing.{lexed}
 use Rattle.sym_parse.specs.declared.error.ParseErr.{ParseErr}
 use Rattle.sym_parse.specs.declared.error.ParseErr.TheVariants as answer
-use Rattle.sym_parse.specs.declared.error.LimitKind.{LimitKind}
 use Rattle.sym_parse.specs.declared.stop.Stop.{Stop}
 use Rattle.sym_parse.specs.declared.stop.Stop.TheVariants as stop
 use Rattle.sym_parse.specs.Lexemes.{lexemes_of}
 use Rattle.sym_parse.specs.Limits.{most}
-use Rattle.sym_parse.specs.Steps.{Input, Parsed}
+use Rattle.sym_parse.specs.Steps.{Parsed}
 use Rattle.sym_parse.specs.Syntax.Scripts.{IsScript}
 use Rattle.sym_parse.specs.Parsing.Scripts.{script, start}
 
@@ -42,7 +41,8 @@ ended end tokens (Ok read) = Ok read.0
 ended end tokens (Err stopped) = Err (refusal end tokens stopped)
 
 abbrev pub by_tokens : List ℕ → LexResult → Result ScriptTree ParseErr
-by_tokens text (Ok tokens) = ended (length text) tokens (script most (start (lexemes_of text tokens)))
+by_tokens text (Ok tokens) =
+    ended (length text) tokens (script most (start (lexemes_of text tokens)))
 by_tokens text (Err fault) = Err (answer.Lex fault)
 
 -- The script of a text, or why it has none: a lexical fault anywhere in it, or the place at which

@@ -68,7 +68,8 @@ is_update field cell_name (Then s rest) = is_change field cell_name s && is_done
 
 -- An integer cell with numbers as ends, and its first value between them.
 abbrev pub is_range : CellDecl → Bool
-is_range (cell.Int lo hi first) = is_number lo && (is_number hi && (int_le lo first && int_le first hi))
+is_range (cell.Int lo hi first) =
+    is_number lo && (is_number hi && (int_le lo first && int_le first hi))
 is_range (cell.Nums lo hi) = false
 is_range cell.Words = false
 is_range (cell.Hold parts) = false
@@ -104,4 +105,5 @@ has_built_parts t = is_built_by (only t.fields) (only t.states) t.update (only t
 
 -- One field, one cell and one column, and nothing else.
 abbrev pub is_built : ScriptTree → Bool
-is_built t = (length t.enums == 0) && (is_none t.group && ((length t.tests == 0) && has_built_parts t))
+is_built t =
+    (length t.enums == 0) && (is_none t.group && ((length t.tests == 0) && has_built_parts t))

@@ -205,8 +205,8 @@ one_operand most = λ i.
     if nat_lt i.operands most then Ok (tt, record i { operands = i.operands + 1 })
     else Err (Limit (length i.rest) limit.Operands)
 
--- One more of a kind may stand next, where fewer than the most were found. The test says whether the
--- next token begins one.
+-- One more of a kind may stand next, where fewer than the most were found. The test says whether
+-- the next token begins one.
 unfoldable pub one_more : ℕ → ℕ → LimitKind → Bool → Parser (Unit {0})
 one_more found most which begins = λ i.
     if nat_lt found most then Ok (tt, i)
@@ -218,12 +218,16 @@ module _ {A : Type 0} (which : LimitKind) (begins : Input → Bool) (item : Pars
   -- Item after item, as long as the next token begins one. So many are free.
   unfoldable pub repeated : ℕ → List A → Parser (List A)
   repeated zero found = choose begins (full which) (pure found)
-  repeated (suc free) found = choose begins (item >>= (λ x. repeated free (found ++ x ∷ []))) (pure found)
+  repeated (suc free) found =
+      choose begins (item >>= (λ x. repeated free (found ++ x ∷ []))) (pure found)
 
   -- Further items, each after a comma.
   unfoldable pub separated : ℕ → List A → Parser (List A)
-  separated zero found = choose (sees_sign symbol.Comma) (bump >> choose begins (full which) refuse) (pure found)
-  separated (suc free) found = choose (sees_sign symbol.Comma) (bump >> (item >>= (λ x. separated free (found ++ x ∷ [])))) (pure found)
+  separated zero found =
+      choose (sees_sign symbol.Comma) (bump >> choose begins (full which) refuse) (pure found)
+  separated (suc free) found =
+      choose (sees_sign symbol.Comma) (bump >> (item >>= (λ x. separated free (found ++ x ∷ []))))
+      (pure found)
 
 -- ---- what a function that parses ensures: the parser's outcome, unless an allocation was refused
 

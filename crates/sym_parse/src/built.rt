@@ -130,7 +130,8 @@ fn is_plain(field: &FieldDecl) -> bool
 }
 
 fn is_built_of(field: &FieldDecl, state: &StateDecl, update: &Stmts, column: &ColumnDecl) -> bool
-    ensures { result ≡ spec.is_built_of field.now state.now (stmts_tree update.now) (column_tree column.now) }
+    ensures { result ≡ spec.is_built_of field.now state.now (stmts_tree update.now)
+        (column_tree column.now) }
 {
     is_plain(field)
         && is_range(&state.cell)

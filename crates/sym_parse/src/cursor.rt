@@ -181,7 +181,8 @@ impl Cursor<'_> {
     /// This keyword, which is taken.
     #[tactic(auto, unfolding(crate::specs::Steps::word))]
     pub fn word(&mut self, keyword: Keyword) -> Result<(), Stop>
-        ensures reads { Parses (λ _. tt) (spec.word keyword (input self.old)) result (input self.new) }
+        ensures reads { Parses (λ _. tt) (spec.word keyword (input self.old))
+            result (input self.new) }
         ensures shorter { OnOk result (length self.new.rest.now < length self.old.rest.now) }
     {
         if !self.is_word(keyword) {
@@ -194,7 +195,8 @@ impl Cursor<'_> {
     /// This symbol, which is taken.
     #[tactic(auto, unfolding(crate::specs::Steps::sign))]
     pub fn sign(&mut self, symbol: Symbol) -> Result<(), Stop>
-        ensures reads { Parses (λ _. tt) (spec.sign symbol (input self.old)) result (input self.new) }
+        ensures reads { Parses (λ _. tt) (spec.sign symbol (input self.old))
+            result (input self.new) }
         ensures shorter { OnOk result (length self.new.rest.now < length self.old.rest.now) }
     {
         if !self.is_sign(symbol) {
@@ -218,7 +220,8 @@ impl Cursor<'_> {
     /// The token that opens a level, of which `room` are free. It is taken.
     #[tactic(auto, using(crate::proofs::Openings::openings))]
     pub fn open(&mut self, room: usize) -> Result<(), Stop>
-        ensures reads { Parses (λ _. tt) (spec.opening room (input self.old)) result (input self.new) }
+        ensures reads { Parses (λ _. tt) (spec.opening room (input self.old))
+            result (input self.new) }
         ensures left { OnOk result (length self.new.rest.now ≡ length self.old.rest.now - 1) }
         ensures free { OnOk result (0 < room) }
     {
@@ -232,7 +235,8 @@ impl Cursor<'_> {
     /// Counts the statement that the next token begins.
     #[tactic(auto, unfolding(crate::specs::Steps::one_statement))]
     pub fn count_statement(&mut self) -> Result<(), Stop>
-        ensures reads { Parses (λ _. tt) (spec.one_statement STATEMENTS_MAX (input self.old)) result (input self.new) }
+        ensures reads { Parses (λ _. tt) (spec.one_statement STATEMENTS_MAX (input self.old))
+            result (input self.new) }
         ensures rest { self.new.rest.now ≡ self.old.rest.now }
     {
         if self.statements >= STATEMENTS_MAX {
@@ -245,7 +249,8 @@ impl Cursor<'_> {
     /// Counts the operand that the next token is.
     #[tactic(auto, unfolding(crate::specs::Steps::one_operand))]
     pub fn count_operand(&mut self) -> Result<(), Stop>
-        ensures reads { Parses (λ _. tt) (spec.one_operand OPERANDS_MAX (input self.old)) result (input self.new) }
+        ensures reads { Parses (λ _. tt) (spec.one_operand OPERANDS_MAX (input self.old))
+            result (input self.new) }
         ensures rest { self.new.rest.now ≡ self.old.rest.now }
     {
         if self.operands >= OPERANDS_MAX {
@@ -255,8 +260,8 @@ impl Cursor<'_> {
         Ok(())
     }
 
-    /// That one more of a kind may stand next, after `found` of them. `begins` says whether the next
-    /// token begins one.
+    /// That one more of a kind may stand next, after `found` of them. `begins` says whether the
+    /// next token begins one.
     #[tactic(auto, unfolding(crate::specs::Steps::one_more))]
     pub fn one_more(
         &self,
@@ -265,7 +270,8 @@ impl Cursor<'_> {
         which: LimitKind,
         begins: bool,
     ) -> Result<(), Stop>
-        ensures { Parses (λ _. tt) (spec.one_more found most which begins (input self.now)) result (input self.now) }
+        ensures { Parses (λ _. tt) (spec.one_more found most which begins (input self.now))
+            result (input self.now) }
     {
         if found < most {
             return Ok(());

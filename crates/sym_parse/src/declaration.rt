@@ -37,7 +37,8 @@ fn num(cursor: &mut Cursor<'_>) -> Result<i64, Stop>
 /// A number, a text or a label.
 #[tactic(auto, unfolding(crate::specs::Parsing::Declarations::literal_value))]
 fn literal(alloc: Global, cursor: &mut Cursor<'_>) -> Result<Literal, Stop>
-    ensures reads { Parses (λ v. v) (spec.literal_value (input cursor.old)) result (input cursor.new) }
+    ensures reads { Parses (λ v. v) (spec.literal_value (input cursor.old))
+        result (input cursor.new) }
     ensures shorter { OnOk result (length cursor.new.rest.now < length cursor.old.rest.now) }
 {
     let at = cursor.place();
@@ -83,7 +84,9 @@ fn labels_from(
     cursor: &mut Cursor<'_>,
     mut found: Vec<Name>,
 ) -> Result<Vec<Name>, Stop>
-    ensures reads { Parses (λ v. v.items) (separated limit.Labels sees_name steps.name (LABELS_MAX - length found.items) found.items (input cursor.old)) result (input cursor.new) }
+    ensures reads { Parses (λ v. v.items)
+        (separated limit.Labels sees_name steps.name (LABELS_MAX - length found.items) found.items
+        (input cursor.old)) result (input cursor.new) }
     ensures shorter { OnOk result (length cursor.new.rest.now ≤ length cursor.old.rest.now) }
 {
     if !cursor.is_sign(Symbol::Comma) {
@@ -99,7 +102,8 @@ fn labels_from(
 /// `NAME {, NAME}`
 #[tactic(auto, unfolding(crate::specs::Parsing::Declarations::labels))]
 fn labels(alloc: Global, cursor: &mut Cursor<'_>) -> Result<Vec<Name>, Stop>
-    ensures reads { Parses (λ v. v.items) (spec.labels most (input cursor.old)) result (input cursor.new) }
+    ensures reads { Parses (λ v. v.items) (spec.labels most (input cursor.old))
+        result (input cursor.new) }
     ensures shorter { OnOk result (length cursor.new.rest.now < length cursor.old.rest.now) }
 {
     let mut found = Vec::new(alloc);
@@ -111,7 +115,8 @@ fn labels(alloc: Global, cursor: &mut Cursor<'_>) -> Result<Vec<Name>, Stop>
 /// `enum NAME { NAME {, NAME} }`
 #[tactic(auto, unfolding(crate::specs::Parsing::Declarations::enum_decl))]
 pub fn enum_decl(alloc: Global, cursor: &mut Cursor<'_>) -> Result<EnumDecl, Stop>
-    ensures reads { Parses (λ d. d) (spec.enum_decl most (input cursor.old)) result (input cursor.new) }
+    ensures reads { Parses (λ d. d) (spec.enum_decl most (input cursor.old))
+        result (input cursor.new) }
     ensures shorter { OnOk result (length cursor.new.rest.now < length cursor.old.rest.now) }
 {
     cursor.word(Keyword::Enum)?;
@@ -138,7 +143,8 @@ fn header(alloc: Global, cursor: &mut Cursor<'_>) -> Result<Option<Text>, Stop>
 /// `else literal`, or nothing.
 #[tactic(auto, unfolding(crate::specs::Parsing::Declarations::default_value))]
 fn default(alloc: Global, cursor: &mut Cursor<'_>) -> Result<Option<Literal>, Stop>
-    ensures reads { Parses (λ d. d) (spec.default_value (input cursor.old)) result (input cursor.new) }
+    ensures reads { Parses (λ d. d) (spec.default_value (input cursor.old))
+        result (input cursor.new) }
     ensures shorter { OnOk result (length cursor.new.rest.now ≤ length cursor.old.rest.now) }
 {
     if !cursor.is_word(Keyword::Else) {
@@ -187,7 +193,8 @@ pub fn group(alloc: Global, cursor: &mut Cursor<'_>) -> Result<Option<Name>, Sto
 /// `[ num .. num ]`
 #[tactic(auto, unfolding(crate::specs::Parsing::Declarations::range))]
 fn range(cursor: &mut Cursor<'_>) -> Result<(i64, i64), Stop>
-    ensures reads { Parses (λ r. (r.0, r.1)) (spec.range (input cursor.old)) result (input cursor.new) }
+    ensures reads { Parses (λ r. (r.0, r.1)) (spec.range (input cursor.old))
+        result (input cursor.new) }
     ensures shorter { OnOk result (length cursor.new.rest.now < length cursor.old.rest.now) }
 {
     cursor.sign(Symbol::OpenBracket)?;
@@ -217,7 +224,9 @@ fn parts_from(
     cursor: &mut Cursor<'_>,
     mut found: Vec<Part>,
 ) -> Result<Vec<Part>, Stop>
-    ensures reads { Parses (λ v. v.items) (separated limit.Parts spec.begins_kind spec.part (PARTS_MAX - length found.items) found.items (input cursor.old)) result (input cursor.new) }
+    ensures reads { Parses (λ v. v.items)
+        (separated limit.Parts spec.begins_kind spec.part (PARTS_MAX - length found.items)
+        found.items (input cursor.old)) result (input cursor.new) }
     ensures shorter { OnOk result (length cursor.new.rest.now ≤ length cursor.old.rest.now) }
 {
     if !cursor.is_sign(Symbol::Comma) {
@@ -238,7 +247,8 @@ fn parts_from(
 /// `kind = literal {, kind = literal}`
 #[tactic(auto, unfolding(crate::specs::Parsing::Declarations::parts))]
 fn parts(alloc: Global, cursor: &mut Cursor<'_>) -> Result<Vec<Part>, Stop>
-    ensures reads { Parses (λ v. v.items) (spec.parts most (input cursor.old)) result (input cursor.new) }
+    ensures reads { Parses (λ v. v.items) (spec.parts most (input cursor.old))
+        result (input cursor.new) }
     ensures shorter { OnOk result (length cursor.new.rest.now < length cursor.old.rest.now) }
 {
     let mut found = Vec::new(alloc);
@@ -249,7 +259,8 @@ fn parts(alloc: Global, cursor: &mut Cursor<'_>) -> Result<Vec<Part>, Stop>
 
 #[tactic(auto, unfolding(crate::specs::Parsing::Declarations::int_cell))]
 fn int_cell(cursor: &mut Cursor<'_>) -> Result<CellDecl, Stop>
-    ensures reads { Parses (λ c. c) (spec.int_cell most (input cursor.old)) result (input cursor.new) }
+    ensures reads { Parses (λ c. c) (spec.int_cell most (input cursor.old))
+        result (input cursor.new) }
     ensures shorter { OnOk result (length cursor.new.rest.now < length cursor.old.rest.now) }
 {
     cursor.word(Keyword::Int)?;
@@ -261,7 +272,8 @@ fn int_cell(cursor: &mut Cursor<'_>) -> Result<CellDecl, Stop>
 
 #[tactic(auto, unfolding(crate::specs::Parsing::Declarations::nums_cell))]
 fn nums_cell(cursor: &mut Cursor<'_>) -> Result<CellDecl, Stop>
-    ensures reads { Parses (λ c. c) (spec.nums_cell most (input cursor.old)) result (input cursor.new) }
+    ensures reads { Parses (λ c. c) (spec.nums_cell most (input cursor.old))
+        result (input cursor.new) }
     ensures shorter { OnOk result (length cursor.new.rest.now < length cursor.old.rest.now) }
 {
     cursor.word(Keyword::Nums)?;
@@ -271,7 +283,8 @@ fn nums_cell(cursor: &mut Cursor<'_>) -> Result<CellDecl, Stop>
 
 #[tactic(auto, unfolding(crate::specs::Parsing::Declarations::hold_cell))]
 fn hold_cell(alloc: Global, cursor: &mut Cursor<'_>) -> Result<CellDecl, Stop>
-    ensures reads { Parses (λ c. c) (spec.hold_cell most (input cursor.old)) result (input cursor.new) }
+    ensures reads { Parses (λ c. c) (spec.hold_cell most (input cursor.old))
+        result (input cursor.new) }
     ensures shorter { OnOk result (length cursor.new.rest.now < length cursor.old.rest.now) }
 {
     cursor.word(Keyword::Hold)?;
@@ -283,7 +296,8 @@ fn hold_cell(alloc: Global, cursor: &mut Cursor<'_>) -> Result<CellDecl, Stop>
 
 #[tactic(auto, unfolding(crate::specs::Parsing::Declarations::label_cell))]
 fn label_cell(alloc: Global, cursor: &mut Cursor<'_>) -> Result<CellDecl, Stop>
-    ensures reads { Parses (λ c. c) (spec.label_cell most (input cursor.old)) result (input cursor.new) }
+    ensures reads { Parses (λ c. c) (spec.label_cell most (input cursor.old))
+        result (input cursor.new) }
     ensures shorter { OnOk result (length cursor.new.rest.now < length cursor.old.rest.now) }
 {
     let of = cursor.name(alloc)?;
@@ -295,7 +309,8 @@ fn label_cell(alloc: Global, cursor: &mut Cursor<'_>) -> Result<CellDecl, Stop>
 /// What a cell holds.
 #[tactic(auto, unfolding(crate::specs::Parsing::Declarations::cell_decl))]
 fn cell(alloc: Global, cursor: &mut Cursor<'_>) -> Result<CellDecl, Stop>
-    ensures reads { Parses (λ c. c) (spec.cell_decl most (input cursor.old)) result (input cursor.new) }
+    ensures reads { Parses (λ c. c) (spec.cell_decl most (input cursor.old))
+        result (input cursor.new) }
     ensures shorter { OnOk result (length cursor.new.rest.now < length cursor.old.rest.now) }
 {
     if cursor.is_word(Keyword::Int) {
@@ -347,7 +362,9 @@ fn params_from(
     cursor: &mut Cursor<'_>,
     mut found: Vec<Param>,
 ) -> Result<Vec<Param>, Stop>
-    ensures reads { Parses (λ v. v.items) (separated limit.Parameters sees_name spec.param (PARAMETERS_MAX - length found.items) found.items (input cursor.old)) result (input cursor.new) }
+    ensures reads { Parses (λ v. v.items)
+        (separated limit.Parameters sees_name spec.param (PARAMETERS_MAX - length found.items)
+        found.items (input cursor.old)) result (input cursor.new) }
     ensures shorter { OnOk result (length cursor.new.rest.now ≤ length cursor.old.rest.now) }
 {
     if !cursor.is_sign(Symbol::Comma) {
@@ -368,7 +385,8 @@ fn params_from(
 /// `NAME : kind {, NAME : kind}`
 #[tactic(auto, unfolding(crate::specs::Parsing::Declarations::params))]
 fn params(alloc: Global, cursor: &mut Cursor<'_>) -> Result<Vec<Param>, Stop>
-    ensures reads { Parses (λ v. v.items) (spec.params most (input cursor.old)) result (input cursor.new) }
+    ensures reads { Parses (λ v. v.items) (spec.params most (input cursor.old))
+        result (input cursor.new) }
     ensures shorter { OnOk result (length cursor.new.rest.now < length cursor.old.rest.now) }
 {
     let mut found = Vec::new(alloc);
@@ -397,7 +415,8 @@ pub fn test(alloc: Global, cursor: &mut Cursor<'_>) -> Result<TestDecl, Stop>
 /// `NAME = expr ;`
 #[tactic(auto, unfolding(crate::specs::Parsing::Declarations::column))]
 pub fn column(alloc: Global, cursor: &mut Cursor<'_>) -> Result<ColumnDecl, Stop>
-    ensures reads { Parses column_tree (spec.column most (input cursor.old)) result (input cursor.new) }
+    ensures reads { Parses column_tree (spec.column most (input cursor.old))
+        result (input cursor.new) }
     ensures shorter { OnOk result (length cursor.new.rest.now < length cursor.old.rest.now) }
 {
     let name = cursor.name(alloc)?;

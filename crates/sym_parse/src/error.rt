@@ -3,8 +3,8 @@
 use sym_lex::LexFault;
 use thiserror::Error;
 
-/// What may be counted too high. Where one token passes two numbers, the kind that stands first here
-/// is answered.
+/// What may be counted too high. Where one token passes two numbers, the kind that stands first
+/// here is answered.
 #[derive(Clone, Copy, Debug, PartialEq, Eq)]
 pub enum LimitKind {
     /// The enums of a script.

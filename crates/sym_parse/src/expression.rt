@@ -18,7 +18,9 @@ use sym_lex::{Keyword, Symbol};
 
 #[tactic(auto, unfolding(crate::specs::Parsing::Expressions::number_leaf))]
 fn number_leaf(cursor: &mut Cursor<'_>) -> Result<Expr, Stop>
-    ensures reads { (room : ℕ) → Parses expr_tree (spec.number_leaf most room (spec.lines most room) (input cursor.old)) result (input cursor.new) }
+    ensures reads { (room : ℕ) →
+        Parses expr_tree (spec.number_leaf most room (spec.lines most room) (input cursor.old))
+        result (input cursor.new) }
     ensures shorter { OnOk result (length cursor.new.rest.now < length cursor.old.rest.now) }
 {
     cursor.count_operand()?;
@@ -29,7 +31,9 @@ fn number_leaf(cursor: &mut Cursor<'_>) -> Result<Expr, Stop>
 
 #[tactic(auto, unfolding(crate::specs::Parsing::Expressions::text_leaf))]
 fn text_leaf(alloc: Global, cursor: &mut Cursor<'_>) -> Result<Expr, Stop>
-    ensures reads { (room : ℕ) → Parses expr_tree (spec.text_leaf most room (spec.lines most room) (input cursor.old)) result (input cursor.new) }
+    ensures reads { (room : ℕ) →
+        Parses expr_tree (spec.text_leaf most room (spec.lines most room) (input cursor.old))
+        result (input cursor.new) }
     ensures shorter { OnOk result (length cursor.new.rest.now < length cursor.old.rest.now) }
 {
     cursor.count_operand()?;
@@ -43,7 +47,9 @@ fn text_leaf(alloc: Global, cursor: &mut Cursor<'_>) -> Result<Expr, Stop>
 #[tactic(auto, using(crate::proofs::Turns::turns))]
 fn arguments(alloc: Global, cursor: &mut Cursor<'_>, room: usize) -> Result<Exprs, Stop>
     requires { 0 < room }
-    ensures reads { (n : ℕ) → length cursor.old.rest.now < n → Parses exprs_tree (spec.values_from (spec.lines most room Whole) n (input cursor.old)) result (input cursor.new) }
+    ensures reads { (n : ℕ) → length cursor.old.rest.now < n →
+        Parses exprs_tree (spec.values_from (spec.lines most room Whole) n (input cursor.old))
+        result (input cursor.new) }
     ensures shorter { OnOk result (length cursor.new.rest.now < length cursor.old.rest.now) }
 {
     let first = expr(alloc, cursor, room - 1)?;
@@ -55,7 +61,10 @@ fn arguments(alloc: Global, cursor: &mut Cursor<'_>, room: usize) -> Result<Expr
 #[tactic(auto, using(crate::proofs::Turns::turns))]
 fn more_arguments(alloc: Global, cursor: &mut Cursor<'_>, room: usize) -> Result<Exprs, Stop>
     requires { 0 < room }
-    ensures reads { (n : ℕ) → length cursor.old.rest.now ≤ n → Parses exprs_tree (spec.further (spec.lines most room Whole) (spec.values_from (spec.lines most room Whole) n) (input cursor.old)) result (input cursor.new) }
+    ensures reads { (n : ℕ) → length cursor.old.rest.now ≤ n →
+        Parses exprs_tree
+        (spec.further (spec.lines most room Whole) (spec.values_from (spec.lines most room Whole) n)
+        (input cursor.old)) result (input cursor.new) }
     ensures shorter { OnOk result (length cursor.new.rest.now ≤ length cursor.old.rest.now) }
 {
     if !cursor.is_sign(Symbol::Comma) {
@@ -70,7 +79,8 @@ fn more_arguments(alloc: Global, cursor: &mut Cursor<'_>, room: usize) -> Result
 #[tactic(auto, unfolding(crate::specs::Parsing::Expressions::values))]
 fn values(alloc: Global, cursor: &mut Cursor<'_>, room: usize) -> Result<Exprs, Stop>
     requires { 0 < room }
-    ensures reads { Parses exprs_tree (spec.values (spec.lines most room Whole) (input cursor.old)) result (input cursor.new) }
+    ensures reads { Parses exprs_tree (spec.values (spec.lines most room Whole) (input cursor.old))
+        result (input cursor.new) }
     ensures shorter { OnOk result (length cursor.new.rest.now < length cursor.old.rest.now) }
 {
     arguments(alloc, cursor, room)
@@ -81,7 +91,9 @@ fn values(alloc: Global, cursor: &mut Cursor<'_>, room: usize) -> Result<Exprs, 
 #[tactic(auto, unfolding(crate::specs::Parsing::Expressions::call))]
 fn call(alloc: Global, cursor: &mut Cursor<'_>, room: usize, name: Name) -> Result<Expr, Stop>
     requires { 0 < length cursor.old.rest.now }
-    ensures reads { Parses expr_tree (spec.call most room (spec.lines most room) name (input cursor.old)) result (input cursor.new) }
+    ensures reads { Parses expr_tree
+        (spec.call most room (spec.lines most room) name (input cursor.old))
+        result (input cursor.new) }
     ensures shorter { OnOk result (length cursor.new.rest.now < length cursor.old.rest.now) }
 {
     cursor.open(room)?;
@@ -92,9 +104,10 @@ fn call(alloc: Global, cursor: &mut Cursor<'_>, room: usize, name: Name) -> Resu
 
 /// A name, or a call where a parenthesis follows it.
 #[cycle(expression)]
-#[tactic(auto, unfolding(crate::specs::Parsing::Expressions::named, crate::specs::Parsing::Expressions::call_or_name))]
+#[tactic(auto, unfolding(crate::specs::Parsing::Expressions::named, crate::specs::Parsing::Expressions::call_or_name,))]
 fn named(alloc: Global, cursor: &mut Cursor<'_>, room: usize) -> Result<Expr, Stop>
-    ensures reads { Parses expr_tree (spec.named most room (spec.lines most room) (input cursor.old)) result (input cursor.new) }
+    ensures reads { Parses expr_tree
+        (spec.named most room (spec.lines most room) (input cursor.old)) result (input cursor.new) }
     ensures shorter { OnOk result (length cursor.new.rest.now < length cursor.old.rest.now) }
 {
     cursor.count_operand()?;
@@ -110,7 +123,9 @@ fn named(alloc: Global, cursor: &mut Cursor<'_>, room: usize) -> Result<Expr, St
 #[tactic(auto, using(crate::proofs::Turns::turns), unfolding(crate::specs::Parsing::Expressions::parens))]
 fn parens(alloc: Global, cursor: &mut Cursor<'_>, room: usize) -> Result<Expr, Stop>
     requires { 0 < length cursor.old.rest.now }
-    ensures reads { Parses expr_tree (spec.parens most room (spec.lines most room) (input cursor.old)) result (input cursor.new) }
+    ensures reads { Parses expr_tree
+        (spec.parens most room (spec.lines most room) (input cursor.old))
+        result (input cursor.new) }
     ensures shorter { OnOk result (length cursor.new.rest.now < length cursor.old.rest.now) }
 {
     cursor.open(room)?;
@@ -122,7 +137,9 @@ fn parens(alloc: Global, cursor: &mut Cursor<'_>, room: usize) -> Result<Expr, S
 #[cycle(expression)]
 #[tactic(auto, unfolding(crate::specs::Parsing::Expressions::primary))]
 fn primary(alloc: Global, cursor: &mut Cursor<'_>, room: usize) -> Result<Expr, Stop>
-    ensures reads { Parses expr_tree (spec.primary most room (spec.lines most room) (input cursor.old)) result (input cursor.new) }
+    ensures reads { Parses expr_tree
+        (spec.primary most room (spec.lines most room) (input cursor.old))
+        result (input cursor.new) }
     ensures shorter { OnOk result (length cursor.new.rest.now < length cursor.old.rest.now) }
 {
     if cursor.is_number() {
@@ -141,9 +158,10 @@ fn primary(alloc: Global, cursor: &mut Cursor<'_>, room: usize) -> Result<Expr, 
 }
 
 #[cycle(expression)]
-#[tactic(auto, using(crate::proofs::Turns::turns), unfolding(crate::specs::Parsing::Expressions::unary, crate::specs::Parsing::Expressions::minus))]
+#[tactic(auto, using(crate::proofs::Turns::turns), unfolding(crate::specs::Parsing::Expressions::unary, crate::specs::Parsing::Expressions::minus,))]
 fn unary(alloc: Global, cursor: &mut Cursor<'_>, room: usize) -> Result<Expr, Stop>
-    ensures reads { Parses expr_tree (spec.unary most room (spec.lines most room) (input cursor.old)) result (input cursor.new) }
+    ensures reads { Parses expr_tree
+        (spec.unary most room (spec.lines most room) (input cursor.old)) result (input cursor.new) }
     ensures shorter { OnOk result (length cursor.new.rest.now < length cursor.old.rest.now) }
 {
     if !cursor.is_sign(Symbol::Minus) {
@@ -159,7 +177,9 @@ fn unary(alloc: Global, cursor: &mut Cursor<'_>, room: usize) -> Result<Expr, St
 #[cycle(expression)]
 #[tactic(auto, unfolding(crate::specs::Parsing::Levels::item_at, crate::specs::Parsing::Levels::chain_at))]
 fn item(alloc: Global, cursor: &mut Cursor<'_>, room: usize, level: Level) -> Result<Expr, Stop>
-    ensures reads { Parses expr_tree (item_at most room (spec.lines most room) level (input cursor.old)) result (input cursor.new) }
+    ensures reads { Parses expr_tree
+        (item_at most room (spec.lines most room) level (input cursor.old))
+        result (input cursor.new) }
     ensures shorter { OnOk result (length cursor.new.rest.now < length cursor.old.rest.now) }
 {
     match level {
@@ -173,7 +193,9 @@ fn item(alloc: Global, cursor: &mut Cursor<'_>, room: usize, level: Level) -> Re
 /// The line of a level: items with its operators between them, grouped to the left.
 #[cycle(expression)]
 fn chain(alloc: Global, cursor: &mut Cursor<'_>, room: usize, level: Level) -> Result<Expr, Stop>
-    ensures reads { Parses expr_tree (chain_at most room (spec.lines most room) level (input cursor.old)) result (input cursor.new) }
+    ensures reads { Parses expr_tree
+        (chain_at most room (spec.lines most room) level (input cursor.old))
+        result (input cursor.new) }
     ensures shorter { OnOk result (length cursor.new.rest.now < length cursor.old.rest.now) }
 {
     let mut left = item(alloc, cursor, room, level)?;
@@ -187,9 +209,11 @@ fn chain(alloc: Global, cursor: &mut Cursor<'_>, room: usize, level: Level) -> R
 }
 
 #[cycle(expression)]
-#[tactic(auto, unfolding(crate::specs::Parsing::Expressions::relation, crate::specs::Parsing::Levels::chain_at))]
+#[tactic(auto, unfolding(crate::specs::Parsing::Expressions::relation, crate::specs::Parsing::Levels::chain_at,))]
 fn relation(alloc: Global, cursor: &mut Cursor<'_>, room: usize) -> Result<Expr, Stop>
-    ensures reads { Parses expr_tree (spec.relation most room (spec.lines most room) (input cursor.old)) result (input cursor.new) }
+    ensures reads { Parses expr_tree
+        (spec.relation most room (spec.lines most room) (input cursor.old))
+        result (input cursor.new) }
     ensures shorter { OnOk result (length cursor.new.rest.now < length cursor.old.rest.now) }
 {
     let left = chain(alloc, cursor, room, Level::Sum)?;
@@ -203,9 +227,11 @@ fn relation(alloc: Global, cursor: &mut Cursor<'_>, room: usize) -> Result<Expr,
 }
 
 #[cycle(expression)]
-#[tactic(auto, using(crate::proofs::Turns::turns), unfolding(crate::specs::Parsing::Expressions::negation, crate::specs::Parsing::Expressions::not_line))]
+#[tactic(auto, using(crate::proofs::Turns::turns), unfolding(crate::specs::Parsing::Expressions::negation, crate::specs::Parsing::Expressions::not_line,))]
 fn negation(alloc: Global, cursor: &mut Cursor<'_>, room: usize) -> Result<Expr, Stop>
-    ensures reads { Parses expr_tree (spec.negation most room (spec.lines most room) (input cursor.old)) result (input cursor.new) }
+    ensures reads { Parses expr_tree
+        (spec.negation most room (spec.lines most room) (input cursor.old))
+        result (input cursor.new) }
     ensures shorter { OnOk result (length cursor.new.rest.now < length cursor.old.rest.now) }
 {
     if !cursor.is_word(Keyword::Not) {
@@ -220,7 +246,8 @@ fn negation(alloc: Global, cursor: &mut Cursor<'_>, room: usize) -> Result<Expr,
 #[cycle(expression)]
 #[tactic(auto, unfolding(crate::specs::Parsing::Levels::chain_at))]
 fn expr(alloc: Global, cursor: &mut Cursor<'_>, room: usize) -> Result<Expr, Stop>
-    ensures reads { Parses expr_tree (spec.expr most room (spec.lines most room) (input cursor.old)) result (input cursor.new) }
+    ensures reads { Parses expr_tree (spec.expr most room (spec.lines most room) (input cursor.old))
+        result (input cursor.new) }
     ensures shorter { OnOk result (length cursor.new.rest.now < length cursor.old.rest.now) }
 {
     chain(alloc, cursor, room, Level::Or)
@@ -229,7 +256,8 @@ fn expr(alloc: Global, cursor: &mut Cursor<'_>, room: usize) -> Result<Expr, Sto
 /// A whole expression. Its operands are counted from 0, and none counts after it.
 #[tactic(auto, unfolding(crate::specs::Parsing::Expressions::expression))]
 pub fn expression(alloc: Global, cursor: &mut Cursor<'_>, room: usize) -> Result<Expr, Stop>
-    ensures reads { Parses expr_tree (spec.expression most room (input cursor.old)) result (input cursor.new) }
+    ensures reads { Parses expr_tree (spec.expression most room (input cursor.old))
+        result (input cursor.new) }
     ensures shorter { OnOk result (length cursor.new.rest.now < length cursor.old.rest.now) }
 {
     cursor.reset_operands();

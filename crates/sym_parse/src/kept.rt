@@ -45,8 +45,8 @@ fn gathered(alloc: Global, cursor: &mut Cursor<'_>, room: usize) -> Result<Vec<E
 
 /// The values that are kept: one, and one more after each comma.
 pub fn values(alloc: Global, cursor: &mut Cursor<'_>, room: usize) -> Result<Exprs, Stop>
-    ensures reads { Parses exprs_tree (spec.values (spec.expression most room) (input cursor.old)) result
-        (input cursor.new) }
+    ensures reads { Parses exprs_tree (spec.values (spec.expression most room) (input cursor.old))
+        result (input cursor.new) }
     ensures shorter { OnOk result (length cursor.new.rest.now < length cursor.old.rest.now) }
 {
     let found = gathered(alloc, cursor, room)?;

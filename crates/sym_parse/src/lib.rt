@@ -8,6 +8,7 @@ mod declaration;
 mod error;
 mod expression;
 mod kept;
+mod laws;
 mod operators;
 mod parser;
 mod printing;
@@ -20,5 +21,6 @@ mod tests;
 
 pub use built::is_built;
 pub use error::{LimitKind, ParseErr};
+pub use laws::limits_change_nothing_before_them;
 pub use parser::parse;
 pub use printing::script::print;

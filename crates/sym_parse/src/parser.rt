@@ -1,5 +1,5 @@
 //! The one script of a text.
-ghost use Rattle.std.specs.Prelude.{◌≡◌, ◌<◌, ◌^◌, length, Err, true, IfOk, IfErr, IsErrOf};
+ghost use Rattle.std.specs.Prelude.{◌≡◌, ◌<◌, ◌^◌, ℕ, length, Err, true, IfOk, IfErr, IsErrOf};
 ghost use Rattle.sym_base.specs.Lawful.{IsLawful};
 ghost use Rattle.sym_base.specs.Trees.{ScriptTree, script_tree};
 ghost use Rattle.sym_lex.specs.declared.error.LexFault.{LexFault};
@@ -9,6 +9,8 @@ ghost use Rattle.sym_parse.specs.Answers.{Gives, IsScriptOf, ended, parsed, plac
 ghost use Rattle.sym_parse.specs.Lexemes.{lexemes_of};
 ghost use Rattle.sym_parse.specs.Limits.{most};
 ghost use Rattle.sym_parse.specs.Parsing.Scripts as spec;
+ghost use Rattle.sym_parse.specs.Sentences.{IsReached, IsUnexpected};
+ghost use Rattle.sym_parse.specs.declared.error.LimitKind.{LimitKind};
 
 use crate::error::ParseErr;
 use crate::script::script;
@@ -50,7 +52,9 @@ fn refused(bytes: &[u8], tokens: &[Token], stop: Stop) -> ParseErr
 fn parse_tokens(alloc: Global, bytes: &[u8], tokens: &[Token]) -> Result<Script, ParseErr>
     requires small { length bytes.now < 2 ^ 32 }
     requires sound { are_sound bytes.now tokens.now ≡ true }
-    ensures { Gives result (ended (length bytes.now) tokens.now (spec.script most (spec.start (lexemes_of bytes.now tokens.now)))) }
+    ensures { Gives result
+        (ended (length bytes.now) tokens.now
+        (spec.script most (spec.start (lexemes_of bytes.now tokens.now)))) }
 {
     let mut cursor = Cursor {
         source: bytes,
@@ -88,11 +92,18 @@ fn parse_text(alloc: Global, bytes: &[u8]) -> Result<Script, ParseErr>
 pub fn parse(alloc: Global, bytes: &[u8]) -> Result<Script, ParseErr>
     requires { length bytes.now < 2 ^ 32 }
     ensures accepted { IfOk result (λ s. IsScriptOf bytes.now (script_tree s)) }
-    ensures one { IfOk result (λ s. (other : ScriptTree) → IsScriptOf bytes.now other → other ≡ script_tree s) }
-    ensures complete { (tree : ScriptTree) → IsScriptOf bytes.now tree → IfErr result (λ e. e ≡ ParseErr.NoMemory) }
+    ensures one { IfOk result
+        (λ s. (other : ScriptTree) → IsScriptOf bytes.now other → other ≡ script_tree s) }
+    ensures complete { (tree : ScriptTree) → IsScriptOf bytes.now tree →
+        IfErr result (λ e. e ≡ ParseErr.NoMemory) }
     ensures lawful { IfOk result (λ s. IsLawful (script_tree s)) }
     ensures fault { (f : LexFault) → IsErrOf result (ParseErr.Lex f) → Reads 0 bytes.now (Err f) }
-    ensures faults_first { (f : LexFault) → Reads 0 bytes.now (Err f) → Gives result (Err (ParseErr.Lex f)) }
+    ensures faults_first { (f : LexFault) → Reads 0 bytes.now (Err f) →
+        Gives result (Err (ParseErr.Lex f)) }
+    ensures unexpected { (at : ℕ) → IsErrOf result (ParseErr.Expected at) →
+        IsUnexpected bytes.now at }
+    ensures reached { (at : ℕ) (which : LimitKind) → IsErrOf result (ParseErr.Limit at which) →
+        IsReached bytes.now at }
     ensures exact { Gives result (parsed bytes.now) }
 {
     parse_text(alloc, bytes)

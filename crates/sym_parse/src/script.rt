@@ -28,7 +28,9 @@ fn enums_from(
     cursor: &mut Cursor<'_>,
     mut found: Vec<EnumDecl>,
 ) -> Result<Vec<EnumDecl>, Stop>
-    ensures reads { Parses (λ v. v.items) (repeated limit.Enums (sees_word keyword.Enum) (declarations.enum_decl most) (ENUMS_MAX - length found.items) found.items (input cursor.old)) result (input cursor.new) }
+    ensures reads { Parses (λ v. v.items)
+        (repeated limit.Enums (sees_word keyword.Enum) (declarations.enum_decl most)
+        (ENUMS_MAX - length found.items) found.items (input cursor.old)) result (input cursor.new) }
     ensures shorter { OnOk result (length cursor.new.rest.now ≤ length cursor.old.rest.now) }
 {
     if !cursor.is_word(Keyword::Enum) {
@@ -42,7 +44,8 @@ fn enums_from(
 
 #[tactic(auto, unfolding(crate::specs::Parsing::Scripts::enums))]
 fn enums(alloc: Global, cursor: &mut Cursor<'_>) -> Result<Vec<EnumDecl>, Stop>
-    ensures reads { Parses (λ v. v.items) (spec.enums most (input cursor.old)) result (input cursor.new) }
+    ensures reads { Parses (λ v. v.items) (spec.enums most (input cursor.old))
+        result (input cursor.new) }
     ensures shorter { OnOk result (length cursor.new.rest.now ≤ length cursor.old.rest.now) }
 {
     enums_from(alloc, cursor, Vec::new(alloc))
@@ -55,7 +58,10 @@ fn fields_from(
     cursor: &mut Cursor<'_>,
     mut found: Vec<FieldDecl>,
 ) -> Result<Vec<FieldDecl>, Stop>
-    ensures reads { Parses (λ v. v.items) (repeated limit.Fields (sees_word keyword.Field) declarations.field (FIELDS_MAX - length found.items) found.items (input cursor.old)) result (input cursor.new) }
+    ensures reads { Parses (λ v. v.items)
+        (repeated limit.Fields (sees_word keyword.Field) declarations.field
+        (FIELDS_MAX - length found.items) found.items (input cursor.old))
+        result (input cursor.new) }
     ensures shorter { OnOk result (length cursor.new.rest.now ≤ length cursor.old.rest.now) }
 {
     if !cursor.is_word(Keyword::Field) {
@@ -69,7 +75,8 @@ fn fields_from(
 
 #[tactic(auto, unfolding(crate::specs::Parsing::Scripts::fields))]
 fn fields(alloc: Global, cursor: &mut Cursor<'_>) -> Result<Vec<FieldDecl>, Stop>
-    ensures reads { Parses (λ v. v.items) (spec.fields most (input cursor.old)) result (input cursor.new) }
+    ensures reads { Parses (λ v. v.items) (spec.fields most (input cursor.old))
+        result (input cursor.new) }
     ensures shorter { OnOk result (length cursor.new.rest.now < length cursor.old.rest.now) }
 {
     let mut found = Vec::new(alloc);
@@ -85,7 +92,9 @@ fn states_from(
     cursor: &mut Cursor<'_>,
     mut found: Vec<StateDecl>,
 ) -> Result<Vec<StateDecl>, Stop>
-    ensures reads { Parses (λ v. v.items) (repeated limit.Cells (sees_word keyword.State) (declarations.state most) (CELLS_MAX - length found.items) found.items (input cursor.old)) result (input cursor.new) }
+    ensures reads { Parses (λ v. v.items)
+        (repeated limit.Cells (sees_word keyword.State) (declarations.state most)
+        (CELLS_MAX - length found.items) found.items (input cursor.old)) result (input cursor.new) }
     ensures shorter { OnOk result (length cursor.new.rest.now ≤ length cursor.old.rest.now) }
 {
     if !cursor.is_word(Keyword::State) {
@@ -99,7 +108,8 @@ fn states_from(
 
 #[tactic(auto, unfolding(crate::specs::Parsing::Scripts::states))]
 fn states(alloc: Global, cursor: &mut Cursor<'_>) -> Result<Vec<StateDecl>, Stop>
-    ensures reads { Parses (λ v. v.items) (spec.states most (input cursor.old)) result (input cursor.new) }
+    ensures reads { Parses (λ v. v.items) (spec.states most (input cursor.old))
+        result (input cursor.new) }
     ensures shorter { OnOk result (length cursor.new.rest.now < length cursor.old.rest.now) }
 {
     let mut found = Vec::new(alloc);
@@ -115,7 +125,10 @@ fn tests_from(
     cursor: &mut Cursor<'_>,
     mut found: Vec<TestDecl>,
 ) -> Result<Vec<TestDecl>, Stop>
-    ensures reads { Parses (λ v. map test_tree v.items) (repeated limit.Tests (sees_word keyword.Test) (declarations.test most) (TESTS_MAX - length (map test_tree found.items)) (map test_tree found.items) (input cursor.old)) result (input cursor.new) }
+    ensures reads { Parses (λ v. map test_tree v.items)
+        (repeated limit.Tests (sees_word keyword.Test) (declarations.test most)
+        (TESTS_MAX - length (map test_tree found.items)) (map test_tree found.items)
+        (input cursor.old)) result (input cursor.new) }
     ensures shorter { OnOk result (length cursor.new.rest.now ≤ length cursor.old.rest.now) }
 {
     if !cursor.is_word(Keyword::Test) {
@@ -129,7 +142,8 @@ fn tests_from(
 
 #[tactic(auto, unfolding(crate::specs::Parsing::Scripts::tests))]
 fn tests(alloc: Global, cursor: &mut Cursor<'_>) -> Result<Vec<TestDecl>, Stop>
-    ensures reads { Parses (λ v. map test_tree v.items) (spec.tests most (input cursor.old)) result (input cursor.new) }
+    ensures reads { Parses (λ v. map test_tree v.items) (spec.tests most (input cursor.old))
+        result (input cursor.new) }
     ensures shorter { OnOk result (length cursor.new.rest.now ≤ length cursor.old.rest.now) }
 {
     tests_from(alloc, cursor, Vec::new(alloc))
@@ -142,7 +156,10 @@ fn columns_from(
     cursor: &mut Cursor<'_>,
     mut found: Vec<ColumnDecl>,
 ) -> Result<Vec<ColumnDecl>, Stop>
-    ensures reads { Parses (λ v. map column_tree v.items) (repeated limit.Columns sees_name (declarations.column most) (COLUMNS_MAX - length (map column_tree found.items)) (map column_tree found.items) (input cursor.old)) result (input cursor.new) }
+    ensures reads { Parses (λ v. map column_tree v.items)
+        (repeated limit.Columns sees_name (declarations.column most)
+        (COLUMNS_MAX - length (map column_tree found.items)) (map column_tree found.items)
+        (input cursor.old)) result (input cursor.new) }
     ensures shorter { OnOk result (length cursor.new.rest.now ≤ length cursor.old.rest.now) }
 {
     if !cursor.is_name() {
@@ -156,7 +173,8 @@ fn columns_from(
 
 #[tactic(auto, unfolding(crate::specs::Parsing::Scripts::columns))]
 fn columns(alloc: Global, cursor: &mut Cursor<'_>) -> Result<Vec<ColumnDecl>, Stop>
-    ensures reads { Parses (λ v. map column_tree v.items) (spec.columns most (input cursor.old)) result (input cursor.new) }
+    ensures reads { Parses (λ v. map column_tree v.items) (spec.columns most (input cursor.old))
+        result (input cursor.new) }
     ensures shorter { OnOk result (length cursor.new.rest.now < length cursor.old.rest.now) }
 {
     let mut found = Vec::new(alloc);
@@ -168,7 +186,8 @@ fn columns(alloc: Global, cursor: &mut Cursor<'_>) -> Result<Vec<ColumnDecl>, St
 /// `report { column {column} }`
 #[tactic(auto, unfolding(crate::specs::Parsing::Scripts::report))]
 fn report(alloc: Global, cursor: &mut Cursor<'_>) -> Result<Vec<ColumnDecl>, Stop>
-    ensures reads { Parses (λ v. map column_tree v.items) (spec.report most (input cursor.old)) result (input cursor.new) }
+    ensures reads { Parses (λ v. map column_tree v.items) (spec.report most (input cursor.old))
+        result (input cursor.new) }
     ensures shorter { OnOk result (length cursor.new.rest.now < length cursor.old.rest.now) }
 {
     cursor.word(Keyword::Report)?;

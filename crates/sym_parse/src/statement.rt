@@ -31,7 +31,9 @@ fn begins_statement(cursor: &Cursor<'_>) -> bool
 /// `let NAME = expr ;`
 #[tactic(auto, unfolding(crate::specs::Parsing::Statements::binding))]
 fn binding(alloc: Global, cursor: &mut Cursor<'_>, room: usize) -> Result<Stmt, Stop>
-    ensures reads { Parses stmt_tree (spec.binding most room (spec.if_statement most room) (input cursor.old)) result (input cursor.new) }
+    ensures reads { Parses stmt_tree
+        (spec.binding most room (spec.if_statement most room) (input cursor.old))
+        result (input cursor.new) }
     ensures shorter { OnOk result (length cursor.new.rest.now < length cursor.old.rest.now) }
 {
     cursor.word(Keyword::Let)?;
@@ -45,7 +47,9 @@ fn binding(alloc: Global, cursor: &mut Cursor<'_>, room: usize) -> Result<Stmt, 
 /// `NAME = expr ;`
 #[tactic(auto, unfolding(crate::specs::Parsing::Statements::assignment))]
 fn assignment(alloc: Global, cursor: &mut Cursor<'_>, room: usize) -> Result<Stmt, Stop>
-    ensures reads { Parses stmt_tree (spec.assignment most room (spec.if_statement most room) (input cursor.old)) result (input cursor.new) }
+    ensures reads { Parses stmt_tree
+        (spec.assignment most room (spec.if_statement most room) (input cursor.old))
+        result (input cursor.new) }
     ensures shorter { OnOk result (length cursor.new.rest.now < length cursor.old.rest.now) }
 {
     let name = cursor.name(alloc)?;
@@ -58,7 +62,9 @@ fn assignment(alloc: Global, cursor: &mut Cursor<'_>, room: usize) -> Result<Stm
 /// `push NAME expr ;`
 #[tactic(auto, unfolding(crate::specs::Parsing::Statements::push))]
 fn push(alloc: Global, cursor: &mut Cursor<'_>, room: usize) -> Result<Stmt, Stop>
-    ensures reads { Parses stmt_tree (spec.push most room (spec.if_statement most room) (input cursor.old)) result (input cursor.new) }
+    ensures reads { Parses stmt_tree
+        (spec.push most room (spec.if_statement most room) (input cursor.old))
+        result (input cursor.new) }
     ensures shorter { OnOk result (length cursor.new.rest.now < length cursor.old.rest.now) }
 {
     cursor.word(Keyword::Push)?;
@@ -76,7 +82,9 @@ fn kept_values(
     room: usize,
     name: Name,
 ) -> Result<Stmt, Stop>
-    ensures reads { Parses stmt_tree (spec.kept_values most room (spec.if_statement most room) name (input cursor.old)) result (input cursor.new) }
+    ensures reads { Parses stmt_tree
+        (spec.kept_values most room (spec.if_statement most room) name (input cursor.old))
+        result (input cursor.new) }
     ensures shorter { OnOk result (length cursor.new.rest.now < length cursor.old.rest.now) }
 {
     cursor.sign(Symbol::OpenParen)?;
@@ -89,7 +97,8 @@ fn kept_values(
 /// `from NAME ;`
 #[tactic(auto, unfolding(crate::specs::Parsing::Statements::kept_cell))]
 fn kept_cell(alloc: Global, cursor: &mut Cursor<'_>, name: Name) -> Result<Stmt, Stop>
-    ensures reads { Parses stmt_tree (spec.kept_cell name (input cursor.old)) result (input cursor.new) }
+    ensures reads { Parses stmt_tree (spec.kept_cell name (input cursor.old))
+        result (input cursor.new) }
     ensures shorter { OnOk result (length cursor.new.rest.now < length cursor.old.rest.now) }
 {
     cursor.word(Keyword::From)?;
@@ -101,7 +110,9 @@ fn kept_cell(alloc: Global, cursor: &mut Cursor<'_>, name: Name) -> Result<Stmt,
 /// `keep NAME ( expr {, expr} ) ;` or `keep NAME from NAME ;`
 #[tactic(auto, unfolding(crate::specs::Parsing::Statements::keep))]
 fn keep(alloc: Global, cursor: &mut Cursor<'_>, room: usize) -> Result<Stmt, Stop>
-    ensures reads { Parses stmt_tree (spec.keep most room (spec.if_statement most room) (input cursor.old)) result (input cursor.new) }
+    ensures reads { Parses stmt_tree
+        (spec.keep most room (spec.if_statement most room) (input cursor.old))
+        result (input cursor.new) }
     ensures shorter { OnOk result (length cursor.new.rest.now < length cursor.old.rest.now) }
 {
     cursor.word(Keyword::Keep)?;
@@ -115,7 +126,9 @@ fn keep(alloc: Global, cursor: &mut Cursor<'_>, room: usize) -> Result<Stmt, Sto
 /// A statement that is no `if`.
 #[tactic(auto, unfolding(crate::specs::Parsing::Statements::simple))]
 fn simple(alloc: Global, cursor: &mut Cursor<'_>, room: usize) -> Result<Stmt, Stop>
-    ensures reads { Parses stmt_tree (spec.simple most room (spec.if_statement most room) (input cursor.old)) result (input cursor.new) }
+    ensures reads { Parses stmt_tree
+        (spec.simple most room (spec.if_statement most room) (input cursor.old))
+        result (input cursor.new) }
     ensures shorter { OnOk result (length cursor.new.rest.now < length cursor.old.rest.now) }
 {
     if cursor.is_word(Keyword::Let) {
@@ -134,7 +147,9 @@ fn simple(alloc: Global, cursor: &mut Cursor<'_>, room: usize) -> Result<Stmt, S
 #[tactic(auto, unfolding(crate::specs::Parsing::Statements::statement))]
 fn statement(alloc: Global, cursor: &mut Cursor<'_>, room: usize) -> Result<Stmt, Stop>
     requires { 0 < length cursor.old.rest.now }
-    ensures reads { Parses stmt_tree (spec.statement most room (spec.if_statement most room) (input cursor.old)) result (input cursor.new) }
+    ensures reads { Parses stmt_tree
+        (spec.statement most room (spec.if_statement most room) (input cursor.old))
+        result (input cursor.new) }
     ensures shorter { OnOk result (length cursor.new.rest.now < length cursor.old.rest.now) }
 {
     if cursor.is_word(Keyword::If) {
@@ -148,7 +163,10 @@ fn statement(alloc: Global, cursor: &mut Cursor<'_>, room: usize) -> Result<Stmt
 #[cycle(statement)]
 #[tactic(auto, using(crate::proofs::Statements::goes))]
 fn statements_from(alloc: Global, cursor: &mut Cursor<'_>, room: usize) -> Result<Stmts, Stop>
-    ensures reads { (n : ℕ) → length cursor.old.rest.now < n → Parses stmts_tree (spec.statements_from most room (spec.if_statement most room) n (input cursor.old)) result (input cursor.new) }
+    ensures reads { (n : ℕ) → length cursor.old.rest.now < n →
+        Parses stmts_tree
+        (spec.statements_from most room (spec.if_statement most room) n (input cursor.old))
+        result (input cursor.new) }
     ensures shorter { OnOk result (length cursor.new.rest.now ≤ length cursor.old.rest.now) }
 {
     if !begins_statement(cursor) {
@@ -162,7 +180,9 @@ fn statements_from(alloc: Global, cursor: &mut Cursor<'_>, room: usize) -> Resul
 #[cycle(statement)]
 #[tactic(auto, unfolding(crate::specs::Parsing::Statements::statements))]
 fn statements(alloc: Global, cursor: &mut Cursor<'_>, room: usize) -> Result<Stmts, Stop>
-    ensures reads { Parses stmts_tree (spec.statements most room (spec.if_statement most room) (input cursor.old)) result (input cursor.new) }
+    ensures reads { Parses stmts_tree
+        (spec.statements most room (spec.if_statement most room) (input cursor.old))
+        result (input cursor.new) }
     ensures shorter { OnOk result (length cursor.new.rest.now ≤ length cursor.old.rest.now) }
 {
     statements_from(alloc, cursor, room)
@@ -172,7 +192,9 @@ fn statements(alloc: Global, cursor: &mut Cursor<'_>, room: usize) -> Result<Stm
 #[cycle(statement)]
 #[tactic(auto, unfolding(crate::specs::Parsing::Statements::block))]
 fn block(alloc: Global, cursor: &mut Cursor<'_>, room: usize) -> Result<Stmts, Stop>
-    ensures reads { Parses stmts_tree (spec.block most room (spec.if_statement most room) (input cursor.old)) result (input cursor.new) }
+    ensures reads { Parses stmts_tree
+        (spec.block most room (spec.if_statement most room) (input cursor.old))
+        result (input cursor.new) }
     ensures shorter { OnOk result (length cursor.new.rest.now < length cursor.old.rest.now) }
 {
     cursor.sign(Symbol::OpenBrace)?;
@@ -185,7 +207,9 @@ fn block(alloc: Global, cursor: &mut Cursor<'_>, room: usize) -> Result<Stmts, S
 #[cycle(statement)]
 #[tactic(auto, unfolding(crate::specs::Parsing::Statements::otherwise))]
 fn otherwise(alloc: Global, cursor: &mut Cursor<'_>, room: usize) -> Result<Stmts, Stop>
-    ensures reads { Parses stmts_tree (spec.otherwise most room (spec.if_statement most room) (input cursor.old)) result (input cursor.new) }
+    ensures reads { Parses stmts_tree
+        (spec.otherwise most room (spec.if_statement most room) (input cursor.old))
+        result (input cursor.new) }
     ensures shorter { OnOk result (length cursor.new.rest.now < length cursor.old.rest.now) }
 {
     if !cursor.is_word(Keyword::If) {
@@ -198,7 +222,9 @@ fn otherwise(alloc: Global, cursor: &mut Cursor<'_>, room: usize) -> Result<Stmt
 #[cycle(statement)]
 #[tactic(auto, unfolding(crate::specs::Parsing::Statements::else_part))]
 fn else_part(alloc: Global, cursor: &mut Cursor<'_>, room: usize) -> Result<Stmts, Stop>
-    ensures reads { Parses stmts_tree (spec.else_part most room (spec.if_statement most room) (input cursor.old)) result (input cursor.new) }
+    ensures reads { Parses stmts_tree
+        (spec.else_part most room (spec.if_statement most room) (input cursor.old))
+        result (input cursor.new) }
     ensures shorter { OnOk result (length cursor.new.rest.now ≤ length cursor.old.rest.now) }
 {
     if !cursor.is_word(Keyword::Else) {
@@ -212,7 +238,9 @@ fn else_part(alloc: Global, cursor: &mut Cursor<'_>, room: usize) -> Result<Stmt
 #[cycle(statement)]
 #[tactic(auto, unfolding(crate::specs::Parsing::Statements::branches))]
 fn branches(alloc: Global, cursor: &mut Cursor<'_>, room: usize) -> Result<Stmt, Stop>
-    ensures reads { Parses stmt_tree (spec.branches most room (spec.if_statement most room) (input cursor.old)) result (input cursor.new) }
+    ensures reads { Parses stmt_tree
+        (spec.branches most room (spec.if_statement most room) (input cursor.old))
+        result (input cursor.new) }
     ensures shorter { OnOk result (length cursor.new.rest.now < length cursor.old.rest.now) }
 {
     let condition = expression(alloc, cursor, room)?;
@@ -226,7 +254,8 @@ fn branches(alloc: Global, cursor: &mut Cursor<'_>, room: usize) -> Result<Stmt,
 #[tactic(auto, using(crate::proofs::Statements::ifs))]
 fn if_statement(alloc: Global, cursor: &mut Cursor<'_>, room: usize) -> Result<Stmt, Stop>
     requires { 0 < length cursor.old.rest.now }
-    ensures reads { Parses stmt_tree (spec.if_statement most room (input cursor.old)) result (input cursor.new) }
+    ensures reads { Parses stmt_tree (spec.if_statement most room (input cursor.old))
+        result (input cursor.new) }
     ensures shorter { OnOk result (length cursor.new.rest.now < length cursor.old.rest.now) }
 {
     cursor.count_statement()?;
@@ -237,7 +266,8 @@ fn if_statement(alloc: Global, cursor: &mut Cursor<'_>, room: usize) -> Result<S
 /// `update { {stmt} }`
 #[tactic(auto, unfolding(crate::specs::Parsing::Statements::update))]
 pub fn update(alloc: Global, cursor: &mut Cursor<'_>) -> Result<Stmts, Stop>
-    ensures reads { Parses stmts_tree (spec.update most (input cursor.old)) result (input cursor.new) }
+    ensures reads { Parses stmts_tree (spec.update most (input cursor.old))
+        result (input cursor.new) }
     ensures shorter { OnOk result (length cursor.new.rest.now < length cursor.old.rest.now) }
 {
     cursor.word(Keyword::Update)?;

@@ -87,7 +87,8 @@ const UNEXPECTED: [(&str, u32); 36] = [
         58,
     ),
     (
-        "field x: num; state n: int [0..3] = 0; update { if n == 1 { } else n = 1; } report { n = n; }",
+        "field x: num; state n: int [0..3] = 0; update { if n == 1 { } else n = 1; } \
+         report { n = n; }",
         67,
     ),
     (
@@ -141,7 +142,7 @@ struct Counted {
     at: u32,
 }
 
-const COUNTED: [Counted; 17] = [
+const COUNTED: [Counted; 19] = [
     Counted {
         which: LimitKind::Enums,
         before: "",
@@ -303,6 +304,26 @@ const COUNTED: [Counted; 17] = [
         at: 819,
     },
     Counted {
+        which: LimitKind::Operands,
+        before: "field x: num; state n: int [0..3] = 0; update { n = 1",
+        unit: " + 1",
+        middle: "",
+        close: "",
+        after: "; } report { n = n; }",
+        fits: 255,
+        at: 1076,
+    },
+    Counted {
+        which: LimitKind::Operands,
+        before: "field x: num; state n: int [0..3] = 0; update { n = t(\"a\"",
+        unit: ", \"a\"",
+        middle: "",
+        close: "",
+        after: "); } report { n = n; }",
+        fits: 254,
+        at: 1329,
+    },
+    Counted {
         which: LimitKind::Columns,
         before: "field x: num; state n: words; update { } report { n = n; ",
         unit: "n = n; ",
@@ -312,19 +333,6 @@ const COUNTED: [Counted; 17] = [
         fits: 31,
         at: 274,
     },
-];
-
-/// One script for each part of the language.
-const SCRIPTS: [&str; 9] = [
-    "field x: num;\nstate n: int [0..3] = 0;\nupdate {\n  n = n + 1;\n}\nreport {\n  n = n;\n}\n",
-    "field ts: num;\nfield user: word;\ngroup user;\nstate last: hold(num = 0);\nstate n: int [0..1000] = 0;\nstate done: nums [0..1000];\ntest gap(h: num, t: num) = t - h > 30;\nupdate {\n  if gap(last, ts) { push done n; n = 1; } else { n = n + 1; }\n  keep last(ts);\n}\nreport { sessions = count(done); open = n; longest = max(done); }\n",
-    "enum mode { idle, busy }\nfield x: num;\nstate phase: mode = idle;\nupdate { if phase is idle { phase = busy; } else { phase = idle; } }\nreport { phase = phase; }\n",
-    "enum case { k1, k2, k3, k4, k5, k6 }\nfield x: num;\nstate c: case = k1;\nupdate { if c is k1 or c is k2 or c is k3 or c is k4 { c = k5; } }\nreport { c = c; }\n",
-    "enum mode { idle, busy }\nfield x: num;\nstate phase: mode = idle;\nstate n: int [0..10] = 0;\nupdate { if n < 5 and phase is idle { n = 0; } }\nreport { n = n; }\n",
-    "enum action { view, cart, buy }\nenum stage { fresh, carted }\nfield user from \"User ID\": word;\nfield what from \"Action\": action;\nfield cents from \"Amount\": num else 0;\ngroup user;\nstate at: stage = fresh;\nstate buys: int [0..1000000] = 0;\nstate paid: nums [0..1000000000000];\nupdate {\n  if what is cart { at = carted; }\n  else if what is buy and at is carted { buys = buys + 1; push paid cents; at = fresh; }\n}\nreport { buys = buys; paid = sum(paid); biggest = max(paid); }\n",
-    "field user: word;\ngroup user;\nstate n: int [0..1000000] = 0;\nupdate { n = n + 1; }\nreport { n = n; }\n",
-    "field user: word;\nfield x: num else 0;\ngroup user;\nstate n: int [-1000000000000..1000000000000] = 0;\nstate xs: nums [-1000000000000..1000000000000];\nupdate { n = n + x; push xs x; }\nreport { n = n; big = sum(xs) * 1000000000000; }\n",
-    "field user: word;\ngroup user;\nstate n: int [0..9] = 7;\nstate xs: nums [0..9];\nupdate { }\nreport { q = n / 0; r = n / 2 - 10; m = min(xs); k = max(xs) + 1; }\n",
 ];
 
 fn answer_to(alloc: Global, rt: &impl Abort, text: &str) -> Option<ParseErr> {
@@ -374,6 +382,34 @@ fn stops_where_a_number_is_passed(rt: HostRuntime) -> Result<(), Fail> {
     Ok(())
 }
 
+/// Whether the kind's items stand between commas, so that one has to follow a comma.
+fn is_separated(which: LimitKind) -> bool {
+    matches!(
+        which,
+        LimitKind::Labels | LimitKind::Parameters | LimitKind::Parts
+    )
+}
+
+#[test]
+fn what_begins_no_item_is_unexpected_after_the_last_one(rt: HostRuntime) -> Result<(), Fail> {
+    for row in &COUNTED {
+        if is_separated(row.which) {
+            let mut text = String::from_str(rt.alloc(), row.before)?;
+            for _ in 0..row.fits {
+                text.push_str(row.unit)?;
+            }
+            text.push_str(", ;")?;
+            let unexpected = ParseErr::Expected { at: row.at };
+            assert_eq!(rt;
+                answer_to(rt.alloc(), &rt, &text),
+                Some(unexpected),
+                "{text}"
+            );
+        }
+    }
+    Ok(())
+}
+
 #[test]
 fn an_if_passes_the_number_of_statements_first(rt: HostRuntime) -> Result<(), Fail> {
     let mut text = String::from_str(
@@ -399,7 +435,8 @@ fn a_lexical_fault_comes_first(rt: HostRuntime) {
     let rows = [
         ("field x num; 12x", LexFault::BadNumber { at: 13 }),
         (
-            "field x: num; state n: int [0..3] = 0; update { n = 1000000000001; } report { n = n; }",
+            "field x: num; state n: int [0..3] = 0; update { n = 1000000000001; } \
+             report { n = n; }",
             LexFault::BadNumber { at: 52 },
         ),
         (
@@ -418,18 +455,17 @@ fn a_lexical_fault_comes_first(rt: HostRuntime) {
 }
 
 #[test]
-fn reads_each_part_of_the_language(rt: HostRuntime) {
-    for text in SCRIPTS {
-        assert_eq!(rt; answer_to(rt.alloc(), &rt, text), None, "{text}");
-    }
-}
-
-#[test]
 fn counters_alone_are_built(rt: HostRuntime) -> Result<(), Fail> {
-    let counter = parse(rt.alloc(), SCRIPTS[0].as_bytes())?;
+    let counter = parse(
+        rt.alloc(),
+        b"field x: num; state n: int [0..3] = 0; update { n = n + 1; } report { n = n; }",
+    )?;
     assert!(rt; is_built(&counter));
-    let sessions = parse(rt.alloc(), SCRIPTS[1].as_bytes())?;
-    assert!(rt; !is_built(&sessions));
+    let list = parse(
+        rt.alloc(),
+        b"field x: num; state n: nums [0..3]; update { push n 1; } report { n = count(n); }",
+    )?;
+    assert!(rt; !is_built(&list));
     Ok(())
 }
 

@@ -1,5 +1,5 @@
 -- Declarations and the report's columns.
-use Rattle.std.specs.Prelude.{ℕ, ◌-◌, ℤ, neg_ℤ, Bool, ◌||◌, if◌then◌else◌, List, [], ◌∷◌, Option, None, Some}
+use Rattle.std.specs.Prelude.{ℕ, ◌-◌, ℤ, neg_ℤ, Bool, ◌||◌, List, [], ◌∷◌, Option, None, Some}
 use Rattle.sym_base.specs.declared.tree.name.Name.{Name}
 use Rattle.sym_base.specs.declared.tree.declaration.EnumDecl.{EnumDecl}
 use Rattle.sym_base.specs.declared.tree.declaration.FieldDecl.{FieldDecl}
@@ -17,7 +17,7 @@ use Rattle.sym_lex.specs.declared.keyword.Keyword.TheVariants as keyword
 use Rattle.sym_lex.specs.declared.symbol.Symbol.TheVariants as symbol
 use Rattle.sym_parse.specs.declared.error.LimitKind.{LimitKind}
 use Rattle.sym_parse.specs.declared.error.LimitKind.TheVariants as limit
-use Rattle.sym_parse.specs.Steps.{Input, Parser, ◌>>=◌, ◌>>◌, pure, choose, refuse, here, bump, sees_word, sees_sign, sees_name, sees_text, word, sign, name, number, text, repeated, separated}
+use Rattle.sym_parse.specs.Steps.{Input, Parser, ◌>>=◌, ◌>>◌, pure, choose, here, bump, sees_word, sees_sign, sees_name, sees_text, word, sign, name, number, text, separated}
 use Rattle.sym_parse.specs.Parsing.Expressions.{expression}
 
 -- num = ["-"] NUMBER
@@ -48,7 +48,8 @@ header = choose (sees_word keyword.From) (do bump; t ← text; pure (Some t)) (p
 
 -- ["else" literal]
 unfoldable pub default_value : Parser (Option Literal)
-default_value = choose (sees_word keyword.Else) (do bump; v ← literal_value; pure (Some v)) (pure None)
+default_value =
+    choose (sees_word keyword.Else) (do bump; v ← literal_value; pure (Some v)) (pure None)
 
 -- field = "field" NAME ["from" TEXT] ":" kind ["else" literal] ";"
 unfoldable pub field : Parser FieldDecl
@@ -64,7 +65,10 @@ field = do
 
 -- group = "group" NAME ";", or none
 unfoldable pub group : Parser (Option Name)
-group = choose (sees_word keyword.Group) (do bump; n ← name; sign symbol.Semicolon; pure (Some n)) (pure None)
+group =
+    choose (sees_word keyword.Group)
+    (do bump; n ← name; sign symbol.Semicolon; pure (Some n))
+    (pure None)
 
 -- range = "[" num ".." num "]"
 unfoldable pub range : Parser (ℤ × ℤ)
@@ -95,7 +99,9 @@ param = do
 module _ (most : LimitKind → ℕ) where
   -- NAME {"," NAME}
   unfoldable pub labels : Parser (List Name)
-  labels = name >>= (λ n. separated limit.Labels sees_name name (most limit.Labels - 1) (n ∷ []))
+  labels = do
+    n ← name
+    separated limit.Labels sees_name name (most limit.Labels - 1) (n ∷ [])
 
   -- enum = "enum" NAME "{" NAME {"," NAME} "}"
   unfoldable pub enum_decl : Parser EnumDecl
@@ -109,7 +115,9 @@ module _ (most : LimitKind → ℕ) where
 
   -- kind "=" literal {"," kind "=" literal}
   unfoldable pub parts : Parser (List Part)
-  parts = part >>= (λ p. separated limit.Parts begins_kind part (most limit.Parts - 1) (p ∷ []))
+  parts = do
+    p ← part
+    separated limit.Parts begins_kind part (most limit.Parts - 1) (p ∷ [])
 
   unfoldable pub int_cell : Parser CellDecl
   int_cell = do
@@ -162,7 +170,9 @@ module _ (most : LimitKind → ℕ) where
 
   -- param {"," param}
   unfoldable pub params : Parser (List Param)
-  params = param >>= (λ p. separated limit.Parameters sees_name param (most limit.Parameters - 1) (p ∷ []))
+  params = do
+    p ← param
+    separated limit.Parameters sees_name param (most limit.Parameters - 1) (p ∷ [])
 
   -- test = "test" NAME "(" param {"," param} ")" "=" expr ";"
   unfoldable pub test : Parser TestTree

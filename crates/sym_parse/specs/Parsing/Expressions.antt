@@ -1,5 +1,5 @@
 -- Expressions.
-use Rattle.std.specs.Prelude.{ℕ, zero, suc, Bool, true, false, if◌then◌else◌, List, [], ◌∷◌, length, Option, None, Some, Ok}
+use Rattle.std.specs.Prelude.{ℕ, zero, suc, length, Option, None, Some, Ok}
 use Rattle.sym_base.specs.declared.tree.name.Name.{Name}
 use Rattle.sym_base.specs.declared.tree.expression.BinOp.{BinOp}
 use Rattle.sym_base.specs.Trees.{ExprTree, ExprsTree, Num, Words, Named, Call, Neg, Not, Bin, End, More}
@@ -9,14 +9,15 @@ use Rattle.sym_parse.specs.declared.error.LimitKind.{LimitKind}
 use Rattle.sym_parse.specs.declared.error.LimitKind.TheVariants as limit
 use Rattle.sym_parse.specs.Lexemes.{Terminal}
 use Rattle.sym_parse.specs.Syntax.Expressions.{Line, Whole, Negation, Signed, or_op, and_op, compare_op, sum_op, product_op}
-use Rattle.sym_parse.specs.Steps.{Input, Parser, and_then, ◌>>=◌, ◌>>◌, pure, choose, refuse, here, bump, next, sees_word, sees_sign, sees_name, sees_number, sees_text, sign, name, number, text, opening, one_operand}
+use Rattle.sym_parse.specs.Steps.{Parser, and_then, ◌>>=◌, ◌>>◌, pure, choose, refuse, here, bump, next, sees_word, sees_sign, sees_name, sees_number, sees_text, sign, name, number, text, opening, one_operand}
 
 -- The operator of the next token, if it is one of a line's.
 abbrev pub op_in : (Terminal → Option BinOp) → Option Terminal → Option BinOp
 op_in ops None = None
 op_in ops (Some t) = ops t
 
--- {operator item}, grouped to the left. Each turn takes a token, so the number of tokens bounds the turns.
+-- {operator item}, grouped to the left. Each turn takes a token, so the number of tokens bounds the
+-- turns.
 module _ (ops : Terminal → Option BinOp) (item : Parser ExprTree) where
   abbrev pub chain_turn : (ExprTree → Parser ExprTree) → ExprTree → Option BinOp → Parser ExprTree
   chain_turn more left None = pure left
@@ -170,4 +171,6 @@ module _ (most : LimitKind → ℕ) where
   -- A whole expression, with so many levels free. Its operands are counted from 0, and none counts
   -- after it.
   unfoldable pub expression : ℕ → Parser ExprTree
-  expression room = λ i. and_then (expr most room (lines room) (record i { operands = 0 })) (λ e j. Ok (e, record j { operands = 0 }))
+  expression room = λ i.
+      and_then (expr most room (lines room) (record i { operands = 0 }))
+      (λ e j. Ok (e, record j { operands = 0 }))

@@ -1,5 +1,5 @@
 -- Whole scripts.
-use Rattle.std.specs.Prelude.{ℕ, ◌-◌, List, [], ◌∷◌, length, drop, Result, Ok, Err}
+use Rattle.std.specs.Prelude.{ℕ, ◌-◌, List, [], ◌∷◌}
 use Rattle.sym_base.specs.declared.tree.declaration.EnumDecl.{EnumDecl}
 use Rattle.sym_base.specs.declared.tree.declaration.FieldDecl.{FieldDecl}
 use Rattle.sym_base.specs.declared.tree.declaration.StateDecl.{StateDecl}
@@ -8,9 +8,8 @@ use Rattle.sym_lex.specs.declared.keyword.Keyword.TheVariants as keyword
 use Rattle.sym_lex.specs.declared.symbol.Symbol.TheVariants as symbol
 use Rattle.sym_parse.specs.declared.error.LimitKind.{LimitKind}
 use Rattle.sym_parse.specs.declared.error.LimitKind.TheVariants as limit
-use Rattle.sym_parse.specs.declared.stop.Stop.{Stop}
 use Rattle.sym_parse.specs.Lexemes.{Lexeme}
-use Rattle.sym_parse.specs.Steps.{Input, Parsed, Parser, ◌>>=◌, ◌>>◌, pure, sees_word, sees_name, word, sign, done, repeated}
+use Rattle.sym_parse.specs.Steps.{Input, Parser, ◌>>=◌, ◌>>◌, pure, sees_word, sees_name, word, sign, done, repeated}
 use Rattle.sym_parse.specs.Parsing.Statements.{update}
 use Rattle.sym_parse.specs.Parsing.Declarations.{enum_decl, field, group, state, test, column}
 
@@ -21,11 +20,15 @@ module _ (most : LimitKind → ℕ) where
 
   -- field {field}
   unfoldable pub fields : Parser (List FieldDecl)
-  fields = field >>= (λ f. repeated limit.Fields (sees_word keyword.Field) field (most limit.Fields - 1) (f ∷ []))
+  fields = do
+    f ← field
+    repeated limit.Fields (sees_word keyword.Field) field (most limit.Fields - 1) (f ∷ [])
 
   -- state {state}
   unfoldable pub states : Parser (List StateDecl)
-  states = state most >>= (λ s. repeated limit.Cells (sees_word keyword.State) (state most) (most limit.Cells - 1) (s ∷ []))
+  states = do
+    s ← state most
+    repeated limit.Cells (sees_word keyword.State) (state most) (most limit.Cells - 1) (s ∷ [])
 
   -- {test}
   unfoldable pub tests : Parser (List TestTree)
@@ -33,7 +36,9 @@ module _ (most : LimitKind → ℕ) where
 
   -- column {column}
   unfoldable pub columns : Parser (List ColumnTree)
-  columns = column most >>= (λ c. repeated limit.Columns sees_name (column most) (most limit.Columns - 1) (c ∷ []))
+  columns = do
+    c ← column most
+    repeated limit.Columns sees_name (column most) (most limit.Columns - 1) (c ∷ [])
 
   -- report = "report" "{" column {column} "}"
   unfoldable pub report : Parser (List ColumnTree)
@@ -55,7 +60,15 @@ module _ (most : LimitKind → ℕ) where
     u ← update most
     cs ← report
     done
-    pure (record { enums = es; fields = fs; group = g; states = ss; tests = ts; update = u; columns = cs })
+    pure (record {
+      enums = es;
+      fields = fs;
+      group = g;
+      states = ss;
+      tests = ts;
+      update = u;
+      columns = cs;
+    })
 
 -- From the first lexeme on.
 abbrev pub start : List Lexeme → Input

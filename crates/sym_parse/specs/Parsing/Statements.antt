@@ -1,7 +1,7 @@
 -- Statements.
-use Rattle.std.specs.Prelude.{ℕ, zero, suc, Bool, ◌||◌, if◌then◌else◌, List, length}
+use Rattle.std.specs.Prelude.{ℕ, zero, suc, Bool, ◌||◌, length}
 use Rattle.sym_base.specs.declared.tree.name.Name.{Name}
-use Rattle.sym_base.specs.Trees.{ExprTree, StmtTree, StmtsTree, Let, Set, Push, Keep, KeepFrom, If, Done, Then}
+use Rattle.sym_base.specs.Trees.{StmtTree, StmtsTree, Let, Set, Push, Keep, KeepFrom, If, Done, Then}
 use Rattle.sym_lex.specs.declared.keyword.Keyword.TheVariants as keyword
 use Rattle.sym_lex.specs.declared.symbol.Symbol.TheVariants as symbol
 use Rattle.sym_parse.specs.declared.error.LimitKind.{LimitKind}
@@ -11,7 +11,12 @@ use Rattle.sym_parse.specs.Parsing.Expressions.{expression, values}
 
 -- The next token can begin a statement.
 unfoldable pub begins_statement : Input → Bool
-begins_statement i = sees_name i || (sees_word keyword.Let i || (sees_word keyword.Push i || (sees_word keyword.Keep i || sees_word keyword.If i)))
+begins_statement i =
+    sees_name i
+    || (sees_word keyword.Let i
+    || (sees_word keyword.Push i
+    || (sees_word keyword.Keep i
+    || sees_word keyword.If i)))
 
 -- "from" NAME ";", after the name of the cell that keeps
 unfoldable pub kept_cell : Name → Parser StmtTree
@@ -73,7 +78,8 @@ module _ (most : LimitKind → ℕ) (room : ℕ) (if_here : Parser StmtTree) whe
   -- stmt = "let" NAME "=" expr ";" | NAME "=" expr ";" | "push" NAME expr ";"
   --      | "keep" NAME ( "(" expr {"," expr} ")" | "from" NAME ) ";" | if
   unfoldable pub statement : Parser StmtTree
-  statement = choose (sees_word keyword.If) if_here (one_statement (most limit.Statements) >> simple)
+  statement =
+      choose (sees_word keyword.If) if_here (one_statement (most limit.Statements) >> simple)
 
   abbrev pub one_more : Parser StmtsTree → Parser StmtsTree
   one_more more = do
@@ -134,4 +140,6 @@ module _ (most : LimitKind → ℕ) where
   unfoldable pub update : Parser StmtsTree
   update = do
     word keyword.Update
-    (λ i. block most (most limit.Depth) (if_statement (most limit.Depth)) (record i { statements = 0 }))
+    (λ i.
+        block most (most limit.Depth) (if_statement (most limit.Depth))
+        (record i { statements = 0 }))

@@ -81,7 +81,8 @@ abbrev pub product_op : Terminal → Option BinOp
 product_op = op_by no_op product_sign
 
 -- item {operator item}
-pub data IsGrouped (ops : Terminal → Option BinOp) (Item : List Lexeme → ExprTree → Type 0) : List Lexeme → ExprTree → Type 0 where
+pub data IsGrouped (ops : Terminal → Option BinOp) (Item : List Lexeme → ExprTree → Type 0) :
+    List Lexeme → ExprTree → Type 0 where
   one : {xs : List Lexeme} {e : ExprTree} → Item xs e → IsGrouped ops Item xs e
   more : {xs ys : List Lexeme} {left right : ExprTree} (b : BinOp) (l : Lexeme) →
       IsGrouped ops Item xs left → ops l.terminal ≡ Some b → Item ys right →
@@ -101,7 +102,8 @@ module _ (Deeper : Line → List Lexeme → ExprTree → Type 0) where
     text : {t : List ℕ} (l : Lexeme) → IsText t l → IsPrimary (l ∷ []) (Words t l.at)
     name : {n : NameRecord} (l : Lexeme) → IsName n l → IsPrimary (l ∷ []) (Named n)
     call : {n : NameRecord} {xs : List Lexeme} {es : ExprsTree} (l begin end : Lexeme) →
-        IsName n l → IsSign symbol.OpenParen begin → IsValues (Deeper Whole) xs es → IsSign symbol.CloseParen end →
+        IsName n l → IsSign symbol.OpenParen begin → IsValues (Deeper Whole) xs es →
+        IsSign symbol.CloseParen end →
         IsPrimary (l ∷ begin ∷ (xs ++ end ∷ [])) (Call n es)
     parens : {xs : List Lexeme} {e : ExprTree} (begin end : Lexeme) →
         IsSign symbol.OpenParen begin → Deeper Whole xs e → IsSign symbol.CloseParen end →
@@ -109,7 +111,8 @@ module _ (Deeper : Line → List Lexeme → ExprTree → Type 0) where
 
   -- unary = "-" unary | primary
   pub data IsUnary : List Lexeme → ExprTree → Type 0 where
-    minus : {xs : List Lexeme} {e : ExprTree} (l : Lexeme) → IsSign symbol.Minus l → Deeper Signed xs e → IsUnary (l ∷ xs) (Neg e l.at)
+    minus : {xs : List Lexeme} {e : ExprTree} (l : Lexeme) → IsSign symbol.Minus l →
+        Deeper Signed xs e → IsUnary (l ∷ xs) (Neg e l.at)
     plain : {xs : List Lexeme} {e : ExprTree} → IsPrimary xs e → IsUnary xs e
 
   -- prod = unary {("*" | "/" | "%") unary}
@@ -129,7 +132,8 @@ module _ (Deeper : Line → List Lexeme → ExprTree → Type 0) where
 
   -- neg = "not" neg | rel
   pub data IsNegation : List Lexeme → ExprTree → Type 0 where
-    not : {xs : List Lexeme} {e : ExprTree} (l : Lexeme) → IsKeyword keyword.Not l → Deeper Negation xs e → IsNegation (l ∷ xs) (Not e l.at)
+    not : {xs : List Lexeme} {e : ExprTree} (l : Lexeme) → IsKeyword keyword.Not l →
+        Deeper Negation xs e → IsNegation (l ∷ xs) (Not e l.at)
     plain : {xs : List Lexeme} {e : ExprTree} → IsRelation xs e → IsNegation xs e
 
   -- conj = neg {"and" neg}
@@ -152,6 +156,7 @@ Within (suc room) x ls e = IsLine (Within room) x ls e
 
 -- A whole expression in which at most so many levels are open at once, and whose operands keep
 -- their number.
-pub record IsExprWithin (most : LimitKind → ℕ) (room : ℕ) (ls : List Lexeme) (e : ExprTree) : Type 0 where
+pub record IsExprWithin (most : LimitKind → ℕ) (room : ℕ) (ls : List Lexeme) (e : ExprTree) :
+    Type 0 where
   pub whole : Within (suc room) Whole ls e
   pub few : operand_count e ≤ most limit.Operands

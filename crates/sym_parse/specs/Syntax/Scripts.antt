@@ -19,7 +19,8 @@ module _ (most : LimitKind → ℕ) where
   -- update = "update" block
   pub data IsUpdate : List Lexeme → StmtsTree → Type 0 where
     update : {xs : List Lexeme} {ss : StmtsTree} (w : Lexeme) →
-        IsKeyword keyword.Update w → IsBlockWithin most (most limit.Depth) xs ss → stmts_count ss ≤ most limit.Statements →
+        IsKeyword keyword.Update w → IsBlockWithin most (most limit.Depth) xs ss →
+        stmts_count ss ≤ most limit.Statements →
         IsUpdate (w ∷ xs) ss
 
   -- report = "report" "{" column {column} "}"
@@ -34,9 +35,11 @@ module _ (most : LimitKind → ℕ) where
     script : {es fs gs ss ts us rs : List Lexeme} {enums : List EnumDecl} {fields : List FieldDecl}
         {group : Option Name} {states : List StateDecl} {tests : List TestTree} {update : StmtsTree}
         {columns : List ColumnTree} →
-        AreAtMost (most limit.Enums) (IsEnum most) es enums → AreSome (most limit.Fields) IsField fs fields →
+        AreAtMost (most limit.Enums) (IsEnum most) es enums →
+        AreSome (most limit.Fields) IsField fs fields →
         IsGroup gs group → AreSome (most limit.Cells) (IsState most) ss states →
-        AreAtMost (most limit.Tests) (IsTest most) ts tests → IsUpdate us update → IsReport rs columns →
+        AreAtMost (most limit.Tests) (IsTest most) ts tests → IsUpdate us update →
+        IsReport rs columns →
         IsScript (es ++ (fs ++ (gs ++ (ss ++ (ts ++ (us ++ rs))))))
         (record {
           enums = enums;

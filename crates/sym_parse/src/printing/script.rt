@@ -66,8 +66,8 @@ fn print_script(alloc: Global, script: &Script) -> Result<Vec<u8>, NoMemory>
 }
 
 /// The script's text in its one printed form: a declaration a line, parentheses exactly where the
-/// tree needs them. It is the text of a script that is the same, places aside, so where it has fewer
-/// than 2^32 bytes, `parse` of it gives that script.
+/// tree needs them. It is the text of a script that is the same, places aside, so where it has
+/// fewer than 2^32 bytes, `parse` of it gives that script.
 pub fn print(alloc: Global, script: &Script) -> Result<Vec<u8>, NoMemory>
     requires { IsLawful (script_tree script.now) }
     ensures text { IfOk result (λ printed. printed.items ≡ script_text (script_tree script.now)) }

@@ -1,22 +1,10 @@
 use crate::{parse, print};
-use std::alloc::Global;
+use std::alloc::{AllocError, Global};
 use std::process::Abort;
 use std::test::Fail;
 
-/// Expressions as they are read, and as they are printed.
-const EXPRESSIONS: [(&str, &str); 46] = [
-    ("(a - b) - c", "a - b - c"),
-    ("a - (b - c)", "a - (b - c)"),
-    ("a - (b + c)", "a - (b + c)"),
-    ("a + (b - c)", "a + (b - c)"),
-    ("(a * b) / c", "a * b / c"),
-    ("a * (b / c)", "a * (b / c)"),
-    ("(a % b) % c", "a % b % c"),
-    ("a % (b % c)", "a % (b % c)"),
-    ("(a + b) * c", "(a + b) * c"),
-    ("a * (b - c)", "a * (b - c)"),
-    ("a + (b * c)", "a + b * c"),
-    ("(a / b) - c", "a / b - c"),
+/// Expressions with more than operators of two operands, as they are read and as they are printed.
+const EXPRESSIONS: [(&str, &str); 24] = [
     ("-(a + b)", "-(a + b)"),
     ("-(a * b)", "-(a * b)"),
     ("(-a) * b", "-a * b"),
@@ -34,46 +22,301 @@ const EXPRESSIONS: [(&str, &str); 46] = [
     ("(not a) and b", "not a and b"),
     ("a and (not b)", "a and not b"),
     ("a + (not b)", "a + (not b)"),
-    ("(a or b) or c", "a or b or c"),
-    ("a or (b or c)", "a or (b or c)"),
-    ("(a and b) and c", "a and b and c"),
-    ("a and (b and c)", "a and (b and c)"),
-    ("(a and b) or c", "a and b or c"),
-    ("a or (b and c)", "a or b and c"),
-    ("(a or b) and c", "(a or b) and c"),
-    ("a and (b or c)", "a and (b or c)"),
-    ("(a < b) is c", "(a < b) is c"),
-    ("a == (b != c)", "a == (b != c)"),
     ("(a + b) <= (c * d)", "a + b <= c * d"),
     ("(a > b) and (c >= d)", "a > b and c >= d"),
-    ("(a == b) + c", "(a == b) + c"),
     ("f((a), b or c,((1)))", "f(a, b or c, 1)"),
     ("f(f(-1))", "f(f(-1))"),
     ("\"a \\\" \\\\ b\"", "\"a \\\" \\\\ b\""),
+    ("\"\"", "\"\""),
     ("00012", "12"),
 ];
 
+/// The operators of two operands, and how tightly each binds.
+const OPERATORS: [(&str, u8); 14] = [
+    ("or", 1),
+    ("and", 2),
+    ("==", 3),
+    ("!=", 3),
+    ("<", 3),
+    ("<=", 3),
+    (">", 3),
+    (">=", 3),
+    ("is", 3),
+    ("+", 4),
+    ("-", 4),
+    ("*", 5),
+    ("/", 5),
+    ("%", 5),
+];
+
+/// How tightly a comparison binds. It takes no other comparison as an operand.
+const COMPARISON: u8 = 3;
+
 /// Scripts as they are read, and as they are printed.
-const SCRIPTS: [(&str, &str); 5] = [
+const SCRIPTS: [(&str, &str); 11] = [
     (
         "field x: num; state n: int [0..3] = 0; update { n = n + 1; } report { n = n; }",
-        "field x: num;\nstate n: int [0..3] = 0;\nupdate {\n  n = n + 1;\n}\nreport {\n  n = n;\n}\n",
+        "field x: num;\n\
+         state n: int [0..3] = 0;\n\
+         update {\n\
+         \x20 n = n + 1;\n\
+         }\n\
+         report {\n\
+         \x20 n = n;\n\
+         }\n",
     ),
     (
-        "field ts: num; field user: word; group user; state last: hold(num = 0); state n: int [0..1000] = 0; state done: nums [0..1000]; test gap(h: num, t: num) = t - h > 30; update { if gap(last, ts) { push done n; n = 1; } else { n = n + 1; } keep last(ts); } report { sessions = count(done); open = n; longest = max(done); }",
-        "field ts: num;\nfield user: word;\ngroup user;\nstate last: hold(num = 0);\nstate n: int [0..1000] = 0;\nstate done: nums [0..1000];\ntest gap(h: num, t: num) = t - h > 30;\nupdate {\n  if gap(last, ts) {\n    push done n;\n    n = 1;\n  } else {\n    n = n + 1;\n  }\n  keep last(ts);\n}\nreport {\n  sessions = count(done);\n  open = n;\n  longest = max(done);\n}\n",
+        "field ts: num;\n\
+         field user: word;\n\
+         group user;\n\
+         state last: hold(num = 0);\n\
+         state n: int [0..1000] = 0;\n\
+         state done: nums [0..1000];\n\
+         test gap(h: num, t: num) = t - h > 30;\n\
+         update {\n\
+         \x20 if gap(last, ts) { push done n; n = 1; } else { n = n + 1; }\n\
+         \x20 keep last(ts);\n\
+         }\n\
+         report { sessions = count(done); open = n; longest = max(done); }\n",
+        "field ts: num;\n\
+         field user: word;\n\
+         group user;\n\
+         state last: hold(num = 0);\n\
+         state n: int [0..1000] = 0;\n\
+         state done: nums [0..1000];\n\
+         test gap(h: num, t: num) = t - h > 30;\n\
+         update {\n\
+         \x20 if gap(last, ts) {\n\
+         \x20   push done n;\n\
+         \x20   n = 1;\n\
+         \x20 } else {\n\
+         \x20   n = n + 1;\n\
+         \x20 }\n\
+         \x20 keep last(ts);\n\
+         }\n\
+         report {\n\
+         \x20 sessions = count(done);\n\
+         \x20 open = n;\n\
+         \x20 longest = max(done);\n\
+         }\n",
     ),
     (
-        "enum action { view, cart, buy } enum stage { fresh, carted } field user from \"User \\\"ID\\\\\": word; field what from \"Action\": action else view; field cents: num else -007; group user; state at: stage = fresh; state buys: int [-3..1000000] = -0; state seen: words; state kept: hold(word = \"\", stage = fresh); update { if what is cart { at = carted; } else if what is buy and at is carted { at = fresh; } else { if at is fresh { } let a = -cents; } keep kept from kept; } report { buys = (buys); }",
-        "enum action { view, cart, buy }\nenum stage { fresh, carted }\nfield user from \"User \\\"ID\\\\\": word;\nfield what from \"Action\": action else view;\nfield cents: num else -7;\ngroup user;\nstate at: stage = fresh;\nstate buys: int [-3..1000000] = 0;\nstate seen: words;\nstate kept: hold(word = \"\", stage = fresh);\nupdate {\n  if what is cart {\n    at = carted;\n  } else if what is buy and at is carted {\n    at = fresh;\n  } else {\n    if at is fresh {\n    }\n    let a = -cents;\n  }\n  keep kept from kept;\n}\nreport {\n  buys = buys;\n}\n",
+        "enum mode { idle, busy }\n\
+         field x: num;\n\
+         state phase: mode = idle;\n\
+         update { if phase is idle { phase = busy; } else { phase = idle; } }\n\
+         report { phase = phase; }\n",
+        "enum mode { idle, busy }\n\
+         field x: num;\n\
+         state phase: mode = idle;\n\
+         update {\n\
+         \x20 if phase is idle {\n\
+         \x20   phase = busy;\n\
+         \x20 } else {\n\
+         \x20   phase = idle;\n\
+         \x20 }\n\
+         }\n\
+         report {\n\
+         \x20 phase = phase;\n\
+         }\n",
     ),
     (
-        "field user: word; group user; state n: int [0..9] = 7; state xs: nums [0..9]; update { } report { q = n / 0; r = n / 2 - 10; m = min(xs); k = max(xs) + 1; }",
-        "field user: word;\ngroup user;\nstate n: int [0..9] = 7;\nstate xs: nums [0..9];\nupdate {\n}\nreport {\n  q = n / 0;\n  r = n / 2 - 10;\n  m = min(xs);\n  k = max(xs) + 1;\n}\n",
+        "enum case { k1, k2, k3, k4, k5, k6 }\n\
+         field x: num;\n\
+         state c: case = k1;\n\
+         update { if c is k1 or c is k2 or c is k3 or c is k4 { c = k5; } }\n\
+         report { c = c; }\n",
+        "enum case { k1, k2, k3, k4, k5, k6 }\n\
+         field x: num;\n\
+         state c: case = k1;\n\
+         update {\n\
+         \x20 if c is k1 or c is k2 or c is k3 or c is k4 {\n\
+         \x20   c = k5;\n\
+         \x20 }\n\
+         }\n\
+         report {\n\
+         \x20 c = c;\n\
+         }\n",
     ),
     (
-        "field x: num; state n: int [0..3] = 0; update { if n == 0 { } else { if n == 1 { n = 0; } else { } } } report { n = n; }",
-        "field x: num;\nstate n: int [0..3] = 0;\nupdate {\n  if n == 0 {\n  } else if n == 1 {\n    n = 0;\n  }\n}\nreport {\n  n = n;\n}\n",
+        "enum mode { idle, busy }\n\
+         field x: num;\n\
+         state phase: mode = idle;\n\
+         state n: int [0..10] = 0;\n\
+         update { if n < 5 and phase is idle { n = 0; } }\n\
+         report { n = n; }\n",
+        "enum mode { idle, busy }\n\
+         field x: num;\n\
+         state phase: mode = idle;\n\
+         state n: int [0..10] = 0;\n\
+         update {\n\
+         \x20 if n < 5 and phase is idle {\n\
+         \x20   n = 0;\n\
+         \x20 }\n\
+         }\n\
+         report {\n\
+         \x20 n = n;\n\
+         }\n",
+    ),
+    (
+        "enum action { view, cart, buy }\n\
+         enum stage { fresh, carted }\n\
+         field user from \"User ID\": word;\n\
+         field what from \"Action\": action;\n\
+         field cents from \"Amount\": num else 0;\n\
+         group user;\n\
+         state at: stage = fresh;\n\
+         state buys: int [0..1000000] = 0;\n\
+         state paid: nums [0..1000000000000];\n\
+         update {\n\
+         \x20 if what is cart { at = carted; }\n\
+         \x20 else if what is buy and at is carted {\n\
+         \x20   buys = buys + 1; push paid cents; at = fresh;\n\
+         \x20 }\n\
+         }\n\
+         report { buys = buys; paid = sum(paid); biggest = max(paid); }\n",
+        "enum action { view, cart, buy }\n\
+         enum stage { fresh, carted }\n\
+         field user from \"User ID\": word;\n\
+         field what from \"Action\": action;\n\
+         field cents from \"Amount\": num else 0;\n\
+         group user;\n\
+         state at: stage = fresh;\n\
+         state buys: int [0..1000000] = 0;\n\
+         state paid: nums [0..1000000000000];\n\
+         update {\n\
+         \x20 if what is cart {\n\
+         \x20   at = carted;\n\
+         \x20 } else if what is buy and at is carted {\n\
+         \x20   buys = buys + 1;\n\
+         \x20   push paid cents;\n\
+         \x20   at = fresh;\n\
+         \x20 }\n\
+         }\n\
+         report {\n\
+         \x20 buys = buys;\n\
+         \x20 paid = sum(paid);\n\
+         \x20 biggest = max(paid);\n\
+         }\n",
+    ),
+    (
+        "field user: word;\n\
+         group user;\n\
+         state n: int [0..1000000] = 0;\n\
+         update { n = n + 1; }\n\
+         report { n = n; }\n",
+        "field user: word;\n\
+         group user;\n\
+         state n: int [0..1000000] = 0;\n\
+         update {\n\
+         \x20 n = n + 1;\n\
+         }\n\
+         report {\n\
+         \x20 n = n;\n\
+         }\n",
+    ),
+    (
+        "field user: word;\n\
+         field x: num else 0;\n\
+         group user;\n\
+         state n: int [-1000000000000..1000000000000] = 0;\n\
+         state xs: nums [-1000000000000..1000000000000];\n\
+         update { n = n + x; push xs x; }\n\
+         report { n = n; big = sum(xs) * 1000000000000; }\n",
+        "field user: word;\n\
+         field x: num else 0;\n\
+         group user;\n\
+         state n: int [-1000000000000..1000000000000] = 0;\n\
+         state xs: nums [-1000000000000..1000000000000];\n\
+         update {\n\
+         \x20 n = n + x;\n\
+         \x20 push xs x;\n\
+         }\n\
+         report {\n\
+         \x20 n = n;\n\
+         \x20 big = sum(xs) * 1000000000000;\n\
+         }\n",
+    ),
+    (
+        "field user: word;\n\
+         group user;\n\
+         state n: int [0..9] = 7;\n\
+         state xs: nums [0..9];\n\
+         update { }\n\
+         report { q = n / 0; r = n / 2 - 10; m = min(xs); k = max(xs) + 1; }\n",
+        "field user: word;\n\
+         group user;\n\
+         state n: int [0..9] = 7;\n\
+         state xs: nums [0..9];\n\
+         update {\n\
+         }\n\
+         report {\n\
+         \x20 q = n / 0;\n\
+         \x20 r = n / 2 - 10;\n\
+         \x20 m = min(xs);\n\
+         \x20 k = max(xs) + 1;\n\
+         }\n",
+    ),
+    (
+        "enum stage { fresh, carted }\n\
+         field user from \"User \\\"ID\\\\\": word;\n\
+         field what: stage else carted;\n\
+         field cents: num else -007;\n\
+         field note: word else \"\";\n\
+         group user;\n\
+         state buys: int [-3..1000000] = -0;\n\
+         state seen: words;\n\
+         state kept: hold(word = \"\", stage = fresh, num = -1);\n\
+         update {\n\
+         \x20 if what is carted { push seen \"a\\\"\"; }\n\
+         \x20 else if cents > 1 { let a = -cents; }\n\
+         \x20 else { if what is fresh { } let a = -cents; }\n\
+         \x20 keep kept from kept;\n\
+         \x20 keep kept ( note , what , (cents) ) ;\n\
+         }\n\
+         report { buys = (buys); }\n",
+        "enum stage { fresh, carted }\n\
+         field user from \"User \\\"ID\\\\\": word;\n\
+         field what: stage else carted;\n\
+         field cents: num else -7;\n\
+         field note: word else \"\";\n\
+         group user;\n\
+         state buys: int [-3..1000000] = 0;\n\
+         state seen: words;\n\
+         state kept: hold(word = \"\", stage = fresh, num = -1);\n\
+         update {\n\
+         \x20 if what is carted {\n\
+         \x20   push seen \"a\\\"\";\n\
+         \x20 } else if cents > 1 {\n\
+         \x20   let a = -cents;\n\
+         \x20 } else {\n\
+         \x20   if what is fresh {\n\
+         \x20   }\n\
+         \x20   let a = -cents;\n\
+         \x20 }\n\
+         \x20 keep kept from kept;\n\
+         \x20 keep kept(note, what, cents);\n\
+         }\n\
+         report {\n\
+         \x20 buys = buys;\n\
+         }\n",
+    ),
+    (
+        "field x: num;\n\
+         state n: int [0..3] = 0;\n\
+         update { if n == 0 { } else { if n == 1 { n = 0; } else { } } }\n\
+         report { n = n; }\n",
+        "field x: num;\n\
+         state n: int [0..3] = 0;\n\
+         update {\n\
+         \x20 if n == 0 {\n\
+         \x20 } else if n == 1 {\n\
+         \x20   n = 0;\n\
+         \x20 }\n\
+         }\n\
+         report {\n\
+         \x20 n = n;\n\
+         }\n",
     ),
 ];
 
@@ -84,17 +327,65 @@ fn printed(alloc: Global, rt: &impl Abort, text: &[u8]) -> Result<Vec<u8>, Fail>
     Ok(print(alloc, &script)?)
 }
 
+/// That an expression is printed so within a script.
+fn assert_printed(alloc: Global, rt: &impl Abort, read: &str, wanted: &str) -> Result<(), Fail> {
+    let source = format!(in alloc;
+        "field x: num; state n: int [0..3] = 0; update {{ n = {read}; }} report {{ n = n; }}"
+    )?;
+    let text = printed(alloc, rt, source.as_bytes())?;
+    let form = format!(in alloc;
+        "field x: num;\n\
+         state n: int [0..3] = 0;\n\
+         update {{\n\
+         \x20 n = {wanted};\n\
+         }}\n\
+         report {{\n\
+         \x20 n = n;\n\
+         }}\n"
+    )?;
+    assert!(rt; text.as_slice() == form.as_bytes(), "{read}");
+    Ok(())
+}
+
 #[test]
-fn parentheses_are_printed_where_the_tree_needs_them(rt: HostRuntime) -> Result<(), Fail> {
+fn expressions_are_printed_in_their_one_form(rt: HostRuntime) -> Result<(), Fail> {
     for (read, wanted) in EXPRESSIONS {
-        let source = format!(in rt.alloc();
-            "field x: num; state n: int [0..3] = 0; update {{ n = {read}; }} report {{ n = n; }}"
-        )?;
-        let text = printed(rt.alloc(), &rt, source.as_bytes())?;
-        let form = format!(in rt.alloc();
-            "field x: num;\nstate n: int [0..3] = 0;\nupdate {{\n  n = {wanted};\n}}\nreport {{\n  n = n;\n}}\n"
-        )?;
-        assert!(rt; text.as_slice() == form.as_bytes(), "{read}");
+        assert_printed(rt.alloc(), &rt, read, wanted)?;
+    }
+    Ok(())
+}
+
+/// An operand, in parentheses unless it stands without.
+fn operand(alloc: Global, bare: bool, text: &str) -> Result<String, AllocError> {
+    if bare {
+        String::from_str(alloc, text)
+    } else {
+        format!(in alloc; "({text})")
+    }
+}
+
+/// That each operator is printed as it must be on both sides of this one.
+fn assert_nested(alloc: Global, rt: &impl Abort, outer: &str, level: u8) -> Result<(), Fail> {
+    for (inner, binds) in OPERATORS {
+        let text = format!(in alloc; "a {inner} b")?;
+        let tighter = binds > level;
+        let grouped = binds == level && level != COMPARISON;
+        let left = operand(alloc, tighter || grouped, &text)?;
+        let right = operand(alloc, tighter, &text)?;
+        let read = format!(in alloc; "({text}) {outer} c")?;
+        let wanted = format!(in alloc; "{left} {outer} c")?;
+        assert_printed(alloc, rt, &read, &wanted)?;
+        let read = format!(in alloc; "c {outer} ({text})")?;
+        let wanted = format!(in alloc; "c {outer} {right}")?;
+        assert_printed(alloc, rt, &read, &wanted)?;
+    }
+    Ok(())
+}
+
+#[test]
+fn parentheses_are_printed_where_an_operator_needs_them(rt: HostRuntime) -> Result<(), Fail> {
+    for (outer, level) in OPERATORS {
+        assert_nested(rt.alloc(), &rt, outer, level)?;
     }
     Ok(())
 }

@@ -1,13 +1,13 @@
 -- A chain's loop goes on as the chain of the tokens that are left.
-use Rattle.std.proofs.Common.{◌≡◌, ℕ, suc, ◌-◌, ◌<◌, length, ◌∙◌, sym, ap, subst, rules, arith, Result, Ok, Err, Option, None, Some, refl}
+use Rattle.std.proofs.Common.{◌≡◌, suc, ◌-◌, ◌<◌, length, ◌∙◌, sym, ap, subst, rules, arith, Ok, Err, Some}
 use Rattle.std.proofs.lemmas.List.{length-map}
 use Rattle.std.proofs.lemmas.Result.{err_from_is_err_and}
-use Rattle.sym_base.specs.Trees.{ExprTree, Bin, expr_tree}
+use Rattle.sym_base.specs.Trees.{Bin, expr_tree}
 use Rattle.sym_parse.specs.Lexemes.{lexeme_of}
 use Rattle.sym_parse.specs.Limits.{most}
-use Rattle.sym_parse.specs.Parsing.Expressions.{chain, chain_from, lines, op_in}
-use Rattle.sym_parse.specs.Parsing.Levels.{chain_at, item_at, op_at}
-use Rattle.sym_parse.specs.Steps.{Input, next, passed, place}
+use Rattle.sym_parse.specs.Parsing.Expressions.{chain_from, lines, op_in}
+use Rattle.sym_parse.specs.Parsing.Levels.{item_at, op_at}
+use Rattle.sym_parse.specs.Steps.{next, passed, place}
 use Rattle.sym_parse.specs.Views.{input}
 use Rattle.sym_parse.proofs.Chains.{chain_begins, chain_refused, chain_ends, chain_goes, chain_stops}
 use Rattle.sym_parse.proofs.Turns.{chain_is}

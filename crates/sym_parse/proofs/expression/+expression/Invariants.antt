@@ -1,5 +1,5 @@
 -- Each call takes a token, or comes to a line further down.
-use Rattle.std.proofs.Common.{◌≡◌, ℕ, suc, ◌+◌, ◌*◌, ◌<◌, length}
+use Rattle.std.proofs.Common.{◌≡◌, ℕ, ◌+◌, ◌*◌, ◌<◌, length}
 use Rattle.sym_base.specs.Trees.{expr_tree}
 use Rattle.sym_parse.specs.declared.operators.Level.{Level}
 use Rattle.sym_parse.specs.declared.operators.Level.TheVariants.{Or, And, Sum, Product}

@@ -1,5 +1,5 @@
 -- Each call takes a token, or comes to a function further down.
-use Rattle.std.proofs.Common.{ℕ, ◌+◌, ◌*◌, length}
+use Rattle.std.proofs.Common.{◌+◌, ◌*◌, length}
 use Rattle.sym_parse.proofs.statement.+statement.Given as goal
 
 abbrev pub decreases-block : goal.decreases-block
