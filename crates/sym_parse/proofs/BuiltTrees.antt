@@ -1,5 +1,5 @@
 -- The test of the form that is run today says exactly whether a tree is a counter's.
-use Rattle.std.proofs.Common.{◌≡◌, ◌≢◌, ◌↔◌, ℕ, ℤ, pos, ◌≤ℤ◌, int_le, Bool, true, false, not, ◌&&◌, IsTrue, ◌==◌, is_none, List, [], ◌∷◌, length, map, Option, None, Some, option_map, refl, ap, sym, ◌∙◌, subst, arith}
+use Rattle.std.proofs.Common.{◌≡◌, ◌↔◌, ℕ, ℤ, pos, ◌≤ℤ◌, int_le, Bool, true, false, not, ◌&&◌, ◌==◌, is_none, List, [], ◌∷◌, length, map, Option, None, Some, option_map, refl, ap, sym, ◌∙◌, arith}
 use Rattle.std.specs.Bool.{Decides}
 use Rattle.std.proofs.lemmas.Int.{ints}
 use Rattle.std.proofs.lemmas.Bool.Decides.{Decides-eqb, nat_tests}
