@@ -8,6 +8,7 @@ use Rattle.sym_check.specs.Scopes.{Scope}
 use Rattle.sym_check.specs.Statements.{IsStmt, IsBlock}
 use Rattle.sym_check.specs.BreaksStatements.{BreaksStmt, BreaksBlock}
 use Rattle.sym_check.specs.ElaborateStatements.{PlannedDo, PlannedDos, statement, block}
+use Rattle.sym_check.proofs.Agreements.{Agrees}
 use Rattle.sym_check.proofs.BlocksComplete as complete
 use Rattle.sym_check.proofs.BlocksFound.{StmtOutcome, planned, unplanned, stmt_outcome, BlockOutcome, block_is, block_breaks, block_outcome}
 use Rattle.sym_check.proofs.BlockFaults as faults
@@ -68,6 +69,22 @@ pub planned_breaks_block : (hidden s : Scope) (n : ℕ) (b : StmtsTree) (f : Rul
     → block hidden s n b ≡ Err f
     → BreaksBlock hidden s n b f
 planned_breaks_block hidden s n b f p = block_fault_of hidden s n b f p (block_outcome hidden s n b)
+
+pub stmt_agrees : (hidden s : Scope) (n : ℕ) (d : StmtTree) → Agrees (λ (r : PlannedDo). IsStmt hidden s n d r.plan r.scope r.next) (BreaksStmt hidden s n d) (statement hidden s n d)
+stmt_agrees hidden s n d = record {
+  complete = λ r h. stmt_planned hidden s n d r.plan r.scope r.next h;
+  sound = planned_stmt hidden s n d;
+  finds = breaks_stmt_planned hidden s n d;
+  breaks = planned_breaks_stmt hidden s n d;
+}
+
+pub block_agrees : (hidden s : Scope) (n : ℕ) (b : StmtsTree) → Agrees (λ (r : PlannedDos). IsBlock hidden s n b r.plan r.next) (BreaksBlock hidden s n b) (block hidden s n b)
+block_agrees hidden s n b = record {
+  complete = λ r h. block_planned hidden s n b r.plan r.next h;
+  sound = planned_block hidden s n b;
+  finds = breaks_block_planned hidden s n b;
+  breaks = planned_breaks_block hidden s n b;
+}
 
 -- So a block has a plan or a first broken rule,
 pub always : (hidden s : Scope) (n : ℕ) (b : StmtsTree) → ((p : DosPlan) × (m : ℕ) × IsBlock hidden s n b p m) ⊎ ((f : RuleErr) × BreaksBlock hidden s n b f)

@@ -8,6 +8,7 @@ use Rattle.sym_check.specs.Scopes.{Scope}
 use Rattle.sym_check.specs.Typing.{Typed, Truth, Means, HasMeaning, IsCondition}
 use Rattle.sym_check.specs.Breaks.{AreOperands, Breaks, BreaksOperands}
 use Rattle.sym_check.specs.Elaborate.{Located, infer, operands}
+use Rattle.sym_check.proofs.Agreements.{Agrees}
 use Rattle.sym_check.proofs.ExpressionsComplete as complete
 use Rattle.sym_check.proofs.OperatorsFound.{is_condition}
 use Rattle.sym_check.proofs.ValuesFound.{found_inferred, found_operands, operands_found, OperandsFound}
@@ -33,6 +34,14 @@ fault_of s e f p (breaks g q b) = let P : RuleErr → Type 0 = Breaks s e in let
 
 pub inferred_breaks : (s : Scope) (e : ExprTree) (f : RuleErr) → infer s e ≡ Err f → Breaks s e f
 inferred_breaks s e f p = fault_of s e f p (outcome s e)
+
+pub infer_agrees : (s : Scope) (e : ExprTree) → Agrees (Means s e) (Breaks s e) (infer s e)
+infer_agrees s e = record {
+  complete = means_inferred s e;
+  sound = inferred_means s e;
+  finds = breaks_inferred s e;
+  breaks = inferred_breaks s e;
+}
 
 pub condition_inferred : (s : Scope) (e : ExprTree) (c : CondPlan) → IsCondition s e c → infer s e ≡ Ok (Truth c)
 condition_inferred = complete.condition_inferred
