@@ -10,6 +10,7 @@ pub mod ReportsAgree
 pub mod ReportCallsAgree
 pub mod ColumnsAgree
 pub mod ScriptAgreements
+pub mod ScriptsAgree
 mod Examples
 mod ZippedLists
 mod ValidSteps
