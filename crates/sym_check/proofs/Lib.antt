@@ -32,3 +32,5 @@ mod BlocksComplete
 mod BlocksFound
 mod BlockFaults
 mod BlocksAgree
+mod Gathered
+mod Called
