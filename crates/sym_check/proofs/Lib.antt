@@ -33,3 +33,5 @@ mod BlocksComplete
 mod BlocksFound
 mod BlockFaults
 mod BlocksAgree
+mod Gathered
+mod Called

@@ -37,3 +37,6 @@ pub mod ElaborateReports
 pub mod Scripts
 pub mod TypedPlans
 pub mod Declaring
+pub mod Operators
+pub mod BlockPlans
+pub mod CalledTests

@@ -2,7 +2,7 @@
 ghost use Rattle.std.specs.Prelude.{◌≡◌};
 ghost use Rattle.sym_check.specs.declared.elaborate.error.RuleErr.TheVariants as rule_err;
 
-use std::alloc::AllocError;
+use std::alloc::{AllocError, AllocFailed};
 use sym_base::NoMemory;
 use thiserror::Error;
 
@@ -44,6 +44,14 @@ impl From<AllocError> for RuleErr {
     ghost from_gives = { λ _ e. e ≡ rule_err.NoMemory };
 
     fn from(_refused: AllocError) -> RuleErr {
+        RuleErr::NoMemory
+    }
+}
+
+impl<T: Drop> From<AllocFailed<T>> for RuleErr {
+    ghost from_gives = { λ _ e. e ≡ rule_err.NoMemory };
+
+    fn from(_refused: AllocFailed<T>) -> RuleErr {
         RuleErr::NoMemory
     }
 }
