@@ -1,5 +1,7 @@
 mod Admits
 pub mod Decided
 mod Examples
+pub mod Fitted
+pub mod Given
 pub mod Lists
 pub mod OnlyOutcomes

@@ -1,5 +1,6 @@
 -- Lists from an index on, and lists item by item.
-use Rattle.std.proofs.Common.{◌≡◌, ◌≢◌, ◌<◌, ◌+◌, ℕ, zero, suc, Bool, true, false, List, [], ◌∷◌, ◌++◌, Option, Some, None, length, take, drop, refl, sym, ap, ◌∙◌, subst, arith, add-one}
+use Rattle.std.proofs.Common.{get_or, ◌≡◌, ◌≢◌, ◌<◌, ◌+◌, ℕ, zero, suc, Bool, true, false, List, [], ◌∷◌, ◌++◌, Option, Some, None, length, take, drop, refl, sym, ap, ◌∙◌, subst, arith, add-one}
+use Rattle.std.proofs.lemmas.Option.{slice_get-get_or, get_or_from_slice_get, slice_get_within}
 use Rattle.std.specs.Prelude.{slice_get, slice_set}
 use Rattle.std.specs.List.{All, AllZip, list_all}
 
@@ -68,3 +69,21 @@ pub no_gap : {A : Type 0} (xs : List A) (i : ℕ) → i < length xs → slice_ge
 no_gap [] i h e = omega arith
 no_gap (x ∷ xs) zero h e = cc
 no_gap (x ∷ xs) (suc i) h e = no_gap xs i (omega arith) e
+
+pub take_get : {A : Type 0} (xs : List A) (i : ℕ) (x : A) → slice_get xs i ≡ Some x → take (i + 1) xs ≡ take i xs ++ x ∷ []
+take_get [] i x e = absurd (cc)
+take_get (y ∷ xs) zero x e = let same : y ≡ x = cc in ap (λ z. z ∷ []) same
+take_get (y ∷ xs) (suc i) x e = rw add-one (ap (λ zs. y ∷ zs) (rw add-one at (take_get xs i x e)))
+
+-- All items, by their indices.
+pub all_from : {A : Type 0} (P : A → Type 0) (xs : List A) → ((i : ℕ) (x : A) → slice_get xs i ≡ Some x → P x) → All P xs
+all_from P xs h k d l = h k (get_or xs k d) (slice_get-get_or xs k d l)
+
+pub all_at : {A : Type 0} (P : A → Type 0) (xs : List A) (i : ℕ) (x : A) → All P xs → slice_get xs i ≡ Some x → P x
+all_at {A} P xs i x h e = let same = get_or_from_slice_get xs i x x e in let Q : A → Type 0 = λ v. P v in subst Q same (h i x (slice_get_within xs i x e))
+
+-- The item at an index within the list.
+pub get_within : {A : Type 0} (xs : List A) (i : ℕ) → i < length xs → (x : A) × (slice_get xs i ≡ Some x)
+get_within [] i h = absurd (omega arith)
+get_within (x ∷ xs) zero h = (x, refl)
+get_within (x ∷ xs) (suc i) h = get_within xs i (omega arith)

@@ -1,6 +1,8 @@
 -- What paths make of the states that they admit. Paths with a constraint and a transfer are those of
 -- the SYMPLE paper (SOSP 2015).
-use Rattle.std.specs.Prelude.{◌≡◌, ℕ, List, [], ◌∷◌, ◌++◌, map, if◌then◌else◌, Some, slice_get}
+use Rattle.std.specs.Prelude.{◌≡◌, ℕ, ℤ, List, [], ◌∷◌, ◌++◌, map, if◌then◌else◌, Some, slice_get}
+use Rattle.std.specs.List.{All}
+use Rattle.sym_base.specs.Limits.{IsNumber}
 use Rattle.sym_base.specs.declared.values.state.Cell.{Cell}
 use Rattle.sym_base.specs.declared.values.state.Cell.TheVariants as cell
 use Rattle.sym_base.specs.declared.values.state.State.{State}
@@ -10,6 +12,7 @@ use Rattle.sym_base.specs.declared.values.state.Outcome.TheVariants as outcome
 use Rattle.sym_base.specs.States.{nums_in, words_in}
 use Rattle.sym_enum.specs.Labels.{label_value}
 use Rattle.sym_int.specs.Lines.{form_value}
+use Rattle.sym_int.specs.declared.form.IntForm.{IntForm}
 use Rattle.sym_pred.specs.HoldForms.{parts_value}
 use Rattle.sym_base.specs.Tests.{Truth}
 use Rattle.sym_path.specs.declared.form.Form.{Form}
@@ -19,15 +22,29 @@ use Rattle.sym_path.specs.declared.path.PathEnd.TheVariants.{Next, Ended}
 use Rattle.sym_path.specs.declared.path.Path.{Path}
 use Rattle.sym_path.specs.Admitting.{Admits, admits}
 
+-- The old list of a cell with the added elements' values after it.
+abbrev pub nums_after : List IntForm → State → Cell → List ℤ
+nums_after added s old = nums_in (Some old) ++ map (λ f. form_value f s) added
+
+abbrev pub words_after : List (List ℕ) → Cell → List (List ℕ)
+words_after added old = words_in (Some old) ++ added
+
 -- What a cell holds by its form at a state, in which it holds `old`: a constant, the label, number or
--- parts that the form takes from the state, or the old list with the added elements' values after
--- it.
+-- parts that the form takes from the state, or a list with elements added.
 abbrev pub cell_at : Form → State → Cell → Cell
 cell_at (form.Enum f) s old = cell.Enum (label_value f s)
 cell_at (form.Int f) s old = cell.Int (form_value f s)
 cell_at (form.Hold f) s old = cell.Hold (parts_value f s)
-cell_at (form.Nums added) s old = cell.Nums (nums_in (Some old) ++ map (λ f. form_value f s) added)
-cell_at (form.Words added) s old = cell.Words (words_in (Some old) ++ added)
+cell_at (form.Nums added) s old = cell.Nums (nums_after added s old)
+cell_at (form.Words added) s old = cell.Words (words_after added old)
+
+-- The numbers that a form needs to be numbers of a script are so at the state.
+abbrev pub HasNumbers : State → Form → Type 0
+HasNumbers s (form.Enum f) = Unit {0}
+HasNumbers s (form.Int f) = IsNumber (form_value f s)
+HasNumbers s (form.Hold f) = Unit {0}
+HasNumbers s (form.Nums added) = All (λ f. IsNumber (form_value f s)) added
+HasNumbers s (form.Words added) = Unit {0}
 
 -- What the cells hold by their forms.
 abbrev pub cells_at : List Form → State → List Cell → List Cell

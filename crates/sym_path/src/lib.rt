@@ -4,6 +4,7 @@
 
 mod admitting;
 mod form;
+mod giving;
 pub mod laws;
 mod part;
 mod path;
