@@ -1,6 +1,5 @@
 -- What running a part of an update comes to, against what the part means.
-use Rattle.std.specs.Prelude.{◌≡◌, List, Result, Ok, Err}
-use Rattle.sym_base.specs.declared.values.state.Cell.{Cell}
+use Rattle.std.specs.Prelude.{◌≡◌, Result, Ok, Err}
 use Rattle.sym_base.specs.declared.values.state.State.{State}
 use Rattle.sym_base.specs.declared.values.state.FaultKind.{FaultKind}
 use Rattle.sym_check.specs.DoPlans.{DoPlan, Let, SetInt, SetEnum, CopyEnum, Keep, KeepFrom, PushNum, PushWord, If}
@@ -13,14 +12,11 @@ Gives (Ok x) meaning = meaning ≡ Ok x
 Gives (Err (stop.Fault kind)) meaning = meaning ≡ Err kind
 Gives (Err stop.NoMemory) meaning = Unit {0}
 
-abbrev pub state_of : List Cell → State
-state_of cells = record { cells = cells }
-
 -- The state that statements mean, or their fault; where memory is out, anything.
-abbrev pub Runs : {A : Type 0} → Result A Stop → List Cell → Result State FaultKind → Type 0
-Runs (Ok x) cells meaning = meaning ≡ Ok (state_of cells)
-Runs (Err (stop.Fault kind)) cells meaning = meaning ≡ Err kind
-Runs (Err stop.NoMemory) cells meaning = Unit {0}
+abbrev pub Runs : {A : Type 0} → Result A Stop → State → Result State FaultKind → Type 0
+Runs (Ok x) s meaning = meaning ≡ Ok s
+Runs (Err (stop.Fault kind)) s meaning = meaning ≡ Err kind
+Runs (Err stop.NoMemory) s meaning = Unit {0}
 
 -- A statement that changes cells alone.
 abbrev pub IsAssignment : DoPlan → Type 0

@@ -1,7 +1,6 @@
 //! The truth of conditions at a state.
 ghost use Rattle.std.specs.Prelude.{◌≡◌, IsTrue, map, Ok};
 ghost use Rattle.std.specs.List.{list_all};
-ghost use Rattle.sym_base.specs.Comparing.{compares};
 ghost use Rattle.sym_check.specs.CondPlans.{cond_plan};
 ghost use Rattle.sym_check.specs.Conditions.{has_fixed_body, test_truth, truth};
 ghost use Rattle.sym_check.specs.FixedPlans.{fixed_plan, num_plan};
@@ -9,26 +8,13 @@ ghost use Rattle.sym_check.specs.FixedValues.{fixed_value, fixed_values};
 ghost use Rattle.sym_check.specs.KnownValues.{known_values};
 ghost use Rattle.sym_check.specs.ScriptPlans.{script_plan};
 ghost use Rattle.sym_check.specs.Updates.{or_fault};
-ghost use Rattle.sym_plain.specs.Running.{Gives, state_of};
+ghost use Rattle.sym_plain.specs.Running.{Gives};
 
 use crate::update::stop::Stop;
-use crate::update::terms::{label_at, parts_at, term_number};
+use crate::update::terms::term_number;
 use std::alloc::Global;
-use sym_base::{Cell, Compare, FaultKind, Value, Values};
+use sym_base::{FaultKind, State, Value, Values};
 use sym_check::{Cond, Fixed, FixedList, FixedValue, Known, Plan, answer_at, number_of, value_of};
-
-fn compared(compare: Compare, x: i128, y: i128) -> bool
-    ensures { result ≡ compares compare x y }
-{
-    match compare {
-        Compare::Eq => x == y,
-        Compare::Ne => x != y,
-        Compare::Lt => x < y,
-        Compare::Le => x <= y,
-        Compare::Gt => x > y,
-        Compare::Ge => x >= y,
-    }
-}
 
 /// The value of a fixed expression; arithmetic that fails ends the group.
 pub(crate) fn fixed_value(alloc: Global, known: &Known, expression: &Fixed) -> Result<Value, Stop>
@@ -64,39 +50,39 @@ pub(crate) fn truth_of(
     plan: &Plan,
     known: &Known,
     condition: &Cond,
-    cells: &[Cell],
+    state: &State,
 ) -> Result<bool, Stop>
     requires { IsTrue (list_all has_fixed_body (script_plan plan.now).tests) }
     ensures { let tests = test_truth (script_plan plan.now).tests in
         let meaning = truth tests (known_values known.now) (cond_plan condition.now) in
-        Gives result (or_fault (meaning (state_of cells.now))) }
+        Gives result (or_fault (meaning state.now)) }
 {
     match condition {
         Cond::Compare(compare, term, right) => {
-            let left = term_number(known, term, cells)?;
+            let left = term_number(known, term, state)?;
             let right = number_of(known, right)?;
-            Ok(compared(*compare, left, right as i128))
+            Ok(compare.holds(left, right as i128))
         }
         Cond::Words(left, right) => Ok(known.word(left) == known.word(right)),
-        Cond::CellIs(cell, label) => Ok(label_at(cells, *cell) == known.label(label)),
+        Cond::CellIs(cell, label) => Ok(state.label_at(*cell) == known.label(label)),
         Cond::LabelIs(left, right) => Ok(known.label(left) == known.label(right)),
         Cond::Test { test, cell, args } => {
             let args = fixed_values(alloc, known, args)?;
-            Ok(answer_at(&plan.tests, *test, parts_at(cells, *cell), args.as_slice()))
+            Ok(answer_at(&plan.tests, *test, state.parts_at(*cell), args.as_slice()))
         }
-        Cond::Not(condition) => Ok(!truth_of(alloc, plan, known, condition, cells)?),
+        Cond::Not(condition) => Ok(!truth_of(alloc, plan, known, condition, state)?),
         Cond::And(left, right) => {
-            if truth_of(alloc, plan, known, left, cells)? {
-                truth_of(alloc, plan, known, right, cells)
+            if truth_of(alloc, plan, known, left, state)? {
+                truth_of(alloc, plan, known, right, state)
             } else {
                 Ok(false)
             }
         }
         Cond::Or(left, right) => {
-            if truth_of(alloc, plan, known, left, cells)? {
+            if truth_of(alloc, plan, known, left, state)? {
                 Ok(true)
             } else {
-                truth_of(alloc, plan, known, right, cells)
+                truth_of(alloc, plan, known, right, state)
             }
         }
     }

@@ -1,24 +1,21 @@
 //! Statements of the update, run on a state's cells where they lie.
-ghost use Rattle.std.specs.Prelude.{◌≡◌, ◌++◌, ◌∷◌, [], ℤ, IsTrue, IfOk, OnOk, Some, length, map, pos, replicate, slice_set, take, ◌-◌, if◌then◌else◌};
+ghost use Rattle.std.specs.Prelude.{◌≡◌, ◌++◌, ◌∷◌, [], ◌-◌, IsTrue, IfOk, OnOk, length, pos, replicate, take};
 ghost use Rattle.std.specs.List.{list_all};
 ghost use Rattle.sym_check.specs.Conditions.{has_fixed_body};
-ghost use Rattle.sym_check.specs.DoPlans.{do_plan, dos_plan, Keep, KeepFrom, Let, PushNum, PushWord, SetInt, If};
-ghost use Rattle.sym_check.specs.CondPlans.{cond_plan};
-ghost use Rattle.sym_check.specs.FixedPlans.{fixed_plan};
+ghost use Rattle.sym_check.specs.DoPlans.{do_plan, dos_plan};
 ghost use Rattle.sym_check.specs.KnownValues.{known_values};
-ghost use Rattle.sym_check.specs.LinePlans.{term_plan};
 ghost use Rattle.sym_check.specs.ScriptPlans.{script_plan};
-ghost use Rattle.sym_check.specs.Updates.{nums_in, nums_at, words_in, words_at, environment, environment_after, with_local, do_step, dos_step};
-ghost use Rattle.sym_base.specs.States.{parts_at};
-ghost use Rattle.sym_plain.specs.Running.{Runs, IsAssignment, state_of};
+ghost use Rattle.sym_check.specs.Updates.{environment, environment_after, do_step, dos_step};
+ghost use Rattle.sym_base.specs.States.{nums_in, words_in, with_num, with_word};
+ghost use Rattle.sym_plain.specs.Running.{Runs, IsAssignment};
 
 use crate::update::conditions::{fixed_value, fixed_values, truth_of};
 use crate::update::stop::Stop;
-use crate::update::terms::{in_range, label_at, parts_at, term_number};
+use crate::update::terms::{in_range, term_number};
 use std::alloc::Global;
 use std::mem;
-use sym_base::{Cell, NoMemory, Nums, Record, Text, Value, Values, Words};
-use sym_check::{Do, Dos, Fixed, FixedList, Known, Plan, Term, WordOf};
+use sym_base::{Cell, NoMemory, Nums, Record, State, Text, Value, Values, Words};
+use sym_check::{Do, Dos, Known, Plan};
 
 fn known_in<'a>(rec: &'a Record, locals: &'a Values) -> Known<'a>
     ensures { known_values result ≡ environment rec.now locals.now }
@@ -31,66 +28,43 @@ fn known_in<'a>(rec: &'a Record, locals: &'a Values) -> Known<'a>
     }
 }
 
-// Where no cell has this number, the cells are as before.
-fn set_cell(cells: &mut [Cell], cell: u16, content: Cell)
-    ensures { cells.new ≡ slice_set cells.old cell content }
+fn nums_of(alloc: Global, cell: Option<Cell>) -> Nums
+    ensures { result ≡ nums_in cell }
 {
-    let index = usize::from(cell);
-    if index < cells.len() {
-        cells[index] = content;
+    match cell {
+        Some(Cell::Nums(numbers)) => numbers,
+        _ => Nums::new(alloc),
     }
 }
 
 // A cell of another kind becomes a list of this number.
-fn push_to_nums(alloc: Global, cell: &mut Cell, number: i64) -> Result<(), NoMemory>
-    ensures { OnOk result (cell.new ≡ Cell.Nums (nums_in (Some cell.old) ++ number ∷ [])) }
+fn push_num(alloc: Global, state: &mut State, cell: u16, number: i64) -> Result<(), NoMemory>
+    ensures { OnOk result (state.new ≡ with_num state.old cell number) }
 {
-    match cell {
-        Cell::Nums(numbers) => numbers.push(number),
-        _ => {
-            let mut numbers = Nums::new(alloc);
-            numbers.push(number)?;
-            *cell = Cell::Nums(numbers);
-            Ok(())
-        }
-    }
-}
-
-fn push_num(alloc: Global, cells: &mut [Cell], cell: u16, number: i64) -> Result<(), NoMemory>
-    ensures { let numbers = nums_at (state_of cells.old) cell ++ number ∷ [] in
-        OnOk result (cells.new ≡ slice_set cells.old cell (Cell.Nums numbers)) }
-{
-    let index = usize::from(cell);
-    if index < cells.len() {
-        push_to_nums(alloc, &mut cells[index], number)?;
-    }
+    let cell = usize::from(cell);
+    let mut numbers = nums_of(alloc, state.cells.replace(cell, Cell::Enum(0)));
+    numbers.push(number)?;
+    state.cells.set(cell, Cell::Nums(numbers));
     Ok(())
 }
 
-// A cell of another kind becomes a list of this word.
-fn push_to_words(alloc: Global, cell: &mut Cell, word: Text) -> Result<(), NoMemory>
-    ensures { OnOk result (cell.new ≡ Cell.Words (words_in (Some cell.old) ++ word ∷ [])) }
+fn words_of(alloc: Global, cell: Option<Cell>) -> Words
+    ensures { result ≡ words_in cell }
 {
     match cell {
-        Cell::Words(words) => words.push(word),
-        _ => {
-            let mut words = Words::new(alloc);
-            words.push(word)?;
-            *cell = Cell::Words(words);
-            Ok(())
-        }
+        Some(Cell::Words(words)) => words,
+        _ => Words::new(alloc),
     }
 }
 
-fn push_word(alloc: Global, cells: &mut [Cell], cell: u16, word: &str) -> Result<(), NoMemory>
-    ensures { let words = words_at (state_of cells.old) cell ++ word.now ∷ [] in
-        OnOk result (cells.new ≡ slice_set cells.old cell (Cell.Words words)) }
+// A cell of another kind becomes a list of this word.
+fn push_word(alloc: Global, state: &mut State, cell: u16, word: &str) -> Result<(), NoMemory>
+    ensures { OnOk result (state.new ≡ with_word state.old cell word.now) }
 {
-    let word = Text::from_str(alloc, word)?;
-    let index = usize::from(cell);
-    if index < cells.len() {
-        push_to_words(alloc, &mut cells[index], word)?;
-    }
+    let cell = usize::from(cell);
+    let mut words = words_of(alloc, state.cells.replace(cell, Cell::Enum(0)));
+    words.push(Text::from_str(alloc, word)?)?;
+    state.cells.set(cell, Cell::Words(words));
     Ok(())
 }
 
@@ -140,38 +114,38 @@ fn assign(
     plan: &Plan,
     known: &Known,
     statement: &Do,
-    cells: &mut [Cell],
+    state: &mut State,
 ) -> Result<(), Stop>
     requires { IsAssignment (do_plan statement.now) }
     ensures { let p = script_plan plan.now in
-        Runs result cells.new
-            (do_step p (known_values known.now) (do_plan statement.now) (state_of cells.old)) }
+        Runs result state.new
+            (do_step p (known_values known.now) (do_plan statement.now) state.old) }
 {
     match statement {
         Do::SetInt(cell, term) => {
-            let number = term_number(known, term, cells)?;
+            let number = term_number(known, term, state)?;
             let number = in_range(plan, *cell, number)?;
-            set_cell(cells, *cell, Cell::Int(number));
+            state.cells.set(usize::from(*cell), Cell::Int(number));
         }
-        Do::SetEnum(cell, label) => set_cell(cells, *cell, Cell::Enum(known.label(label))),
+        Do::SetEnum(cell, label) => state.cells.set(usize::from(*cell), Cell::Enum(known.label(label))),
         Do::CopyEnum(cell, from) => {
-            let label = label_at(cells, *from);
-            set_cell(cells, *cell, Cell::Enum(label));
+            let label = state.label_at(*from);
+            state.cells.set(usize::from(*cell), Cell::Enum(label));
         }
         Do::Keep(cell, values) => {
             let parts = fixed_values(alloc, known, values)?;
-            set_cell(cells, *cell, Cell::Hold(parts));
+            state.cells.set(usize::from(*cell), Cell::Hold(parts));
         }
         Do::KeepFrom(cell, from) => {
-            let parts = copy_parts(alloc, parts_at(cells, *from))?;
-            set_cell(cells, *cell, Cell::Hold(parts));
+            let parts = copy_parts(alloc, state.parts_at(*from))?;
+            state.cells.set(usize::from(*cell), Cell::Hold(parts));
         }
         Do::PushNum(cell, term) => {
-            let number = term_number(known, term, cells)?;
+            let number = term_number(known, term, state)?;
             let number = in_range(plan, *cell, number)?;
-            push_num(alloc, cells, *cell, number)?;
+            push_num(alloc, state, *cell, number)?;
         }
-        Do::PushWord(cell, word) => push_word(alloc, cells, *cell, known.word(word))?,
+        Do::PushWord(cell, word) => push_word(alloc, state, *cell, known.word(word))?,
         Do::Let(..) | Do::If(..) => unreachable!(),
     }
     Ok(())
@@ -185,19 +159,19 @@ pub(crate) fn run_all(
     rec: &Record,
     statements: &Dos,
     locals: &mut Values,
-    cells: &mut [Cell],
+    state: &mut State,
 ) -> Result<(), Stop>
     requires { IsTrue (list_all has_fixed_body (script_plan plan.now).tests) }
-    ensures cells { let p = script_plan plan.now in
+    ensures state { let p = script_plan plan.now in
         let k = environment rec.now locals.old in
-        Runs result cells.new (dos_step p k (dos_plan statements.now) (state_of cells.old)) }
+        Runs result state.new (dos_step p k (dos_plan statements.now) state.old) }
     ensures locals { OnOk result (take (length locals.old) locals.new ≡ locals.old) }
 {
     match statements {
         Dos::End => Ok(()),
         Dos::More(first, rest) => {
-            run(alloc, plan, rec, first, locals, cells)?;
-            run_all(alloc, plan, rec, rest, locals, cells)
+            run(alloc, plan, rec, first, locals, state)?;
+            run_all(alloc, plan, rec, rest, locals, state)
         }
     }
 }
@@ -210,16 +184,16 @@ fn run_block(
     rec: &Record,
     statements: &Dos,
     locals: &mut Values,
-    cells: &mut [Cell],
+    state: &mut State,
 ) -> Result<(), Stop>
     requires { IsTrue (list_all has_fixed_body (script_plan plan.now).tests) }
-    ensures cells { let p = script_plan plan.now in
+    ensures state { let p = script_plan plan.now in
         let k = environment rec.now locals.old in
-        Runs result cells.new (dos_step p k (dos_plan statements.now) (state_of cells.old)) }
+        Runs result state.new (dos_step p k (dos_plan statements.now) state.old) }
     ensures locals { OnOk result (locals.new ≡ locals.old) }
 {
     let count = locals.len();
-    run_all(alloc, plan, rec, statements, locals, cells)?;
+    run_all(alloc, plan, rec, statements, locals, state)?;
     drop_locals(alloc, locals, count);
     Ok(())
 }
@@ -231,12 +205,12 @@ fn run(
     rec: &Record,
     statement: &Do,
     locals: &mut Values,
-    cells: &mut [Cell],
+    state: &mut State,
 ) -> Result<(), Stop>
     requires { IsTrue (list_all has_fixed_body (script_plan plan.now).tests) }
-    ensures cells { let p = script_plan plan.now in
+    ensures state { let p = script_plan plan.now in
         let k = environment rec.now locals.old in
-        Runs result cells.new (do_step p k (do_plan statement.now) (state_of cells.old)) }
+        Runs result state.new (do_step p k (do_plan statement.now) state.old) }
     ensures locals { let k = environment rec.now locals.old in
         OnOk result (environment rec.now locals.new ≡ environment_after k (do_plan statement.now)) }
 {
@@ -247,12 +221,12 @@ fn run(
             Ok(())
         }
         Do::If(condition, then, otherwise) => {
-            if truth_of(alloc, plan, &known_in(rec, locals), condition, cells)? {
-                run_block(alloc, plan, rec, then, locals, cells)
+            if truth_of(alloc, plan, &known_in(rec, locals), condition, state)? {
+                run_block(alloc, plan, rec, then, locals, state)
             } else {
-                run_block(alloc, plan, rec, otherwise, locals, cells)
+                run_block(alloc, plan, rec, otherwise, locals, state)
             }
         }
-        _ => assign(alloc, plan, &known_in(rec, locals), statement, cells),
+        _ => assign(alloc, plan, &known_in(rec, locals), statement, state),
     }
 }

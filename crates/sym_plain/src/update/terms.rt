@@ -1,46 +1,14 @@
 //! Numbers that may depend on a cell, and the ranges of cells.
 ghost use Rattle.std.specs.Prelude.{◌≡◌, ◌≤◌, ◌^◌, ◌*ℤ◌, unsigned_abs, option_copied, slice_get, if◌then◌else◌, Some, None, Ok, Err};
-ghost use Rattle.sym_base.specs.States.{number_in, number_at, label_at, parts_at};
 ghost use Rattle.sym_check.specs.KnownValues.{known_values};
 ghost use Rattle.sym_check.specs.LinePlans.{term_plan};
 ghost use Rattle.sym_check.specs.LineValues.{pair_at, term_number};
 ghost use Rattle.sym_check.specs.ScriptPlans.{script_plan};
 ghost use Rattle.sym_check.specs.Updates.{in_range};
-ghost use Rattle.sym_plain.specs.Running.{state_of};
 
 use crate::update::stop::Stop;
-use sym_base::{Cell, FaultKind, Value};
+use sym_base::{FaultKind, State};
 use sym_check::{Arith, CellPlan, Known, Pair, Plan, Term, number_of, pair_of};
-
-// The number that the cell with this number holds.
-fn number_at(cells: &[Cell], cell: u16) -> i64
-    ensures { result ≡ number_at (state_of cells.now) cell }
-{
-    match cells.get(usize::from(cell)) {
-        Some(Cell::Int(number)) => *number,
-        _ => 0,
-    }
-}
-
-/// The label that the cell with this number holds.
-pub(crate) fn label_at(cells: &[Cell], cell: u16) -> u8
-    ensures { result ≡ label_at (state_of cells.now) cell }
-{
-    match cells.get(usize::from(cell)) {
-        Some(Cell::Enum(label)) => *label,
-        _ => 0,
-    }
-}
-
-/// The parts that the cell with this number holds.
-pub(crate) fn parts_at(cells: &[Cell], cell: u16) -> &[Value]
-    ensures { result.now ≡ parts_at (state_of cells.now) cell }
-{
-    match cells.get(usize::from(cell)) {
-        Some(Cell::Hold(parts)) => parts.as_slice(),
-        _ => &[],
-    }
-}
 
 fn product(x: i64, y: i64) -> i128
     ensures value { result ≡ x *ℤ y }
@@ -57,8 +25,8 @@ fn line_at(pair: &Pair, number: i64) -> i128
 }
 
 /// The number of a term at a state.
-pub(crate) fn term_number(known: &Known, term: &Term, cells: &[Cell]) -> Result<i128, Arith>
-    ensures { result ≡ term_number (known_values known.now) (term_plan term.now) (state_of cells.now) }
+pub(crate) fn term_number(known: &Known, term: &Term, state: &State) -> Result<i128, Arith>
+    ensures { result ≡ term_number (known_values known.now) (term_plan term.now) state.now }
 {
     match term {
         Term::Fixed(number) => {
@@ -67,7 +35,7 @@ pub(crate) fn term_number(known: &Known, term: &Term, cells: &[Cell]) -> Result<
         }
         Term::Line(line) => {
             let pair = pair_of(known, line)?;
-            Ok(line_at(&pair, number_at(cells, pair.cell)))
+            Ok(line_at(&pair, state.number_at(pair.cell)))
         }
     }
 }
