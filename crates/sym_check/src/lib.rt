@@ -12,8 +12,11 @@ mod rules;
 pub use checked::{CheckErr, Checked};
 pub use evaluate::arithmetic::Arith;
 pub use evaluate::calls::{fixed, number, pair, test};
-pub use evaluate::fixed_value::FixedValue;
+pub use evaluate::fixed_value::{FixedValue, value_of};
+pub use evaluate::known::Known;
+pub use evaluate::numbers::{number_of, pair_of};
 pub use evaluate::pairs::Pair;
+pub use evaluate::truth::answer_at;
 pub use plan::condition::Cond;
 pub use plan::expression::{
     ArithOp, Fixed, FixedList, LabelOf, Line, Num, Term, WordOf, copy_fixed_list,

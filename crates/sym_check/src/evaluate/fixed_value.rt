@@ -30,12 +30,9 @@ impl FixedValue {
     }
 }
 
-/// The value of a fixed expression. A word is copied.
-pub(crate) fn value_of(
-    alloc: Global,
-    known: &Known,
-    expression: &Fixed,
-) -> Result<FixedValue, NoMemory>
+/// The value of a fixed expression; `FixedValue::Arith` is returned exactly where a step of it
+/// leaves `-NUM_MAX` to `NUM_MAX` or divides by zero. A word is copied.
+pub fn value_of(alloc: Global, known: &Known, expression: &Fixed) -> Result<FixedValue, NoMemory>
     ensures { let k = known_values known.now in
         IfOk result (λ v. fixed_result v ≡ fixed_value k (fixed_plan expression.now)) }
 {

@@ -9,11 +9,11 @@ use sym_base::Value;
 /// The fields of a record, the locals so far, and in the body of a test its parameters: the parts
 /// of a hold cell and the arguments behind them.
 #[derive(Drop)]
-pub(crate) struct Known<'a> {
-    pub(crate) fields: &'a [Value],
-    pub(crate) locals: &'a [Value],
-    pub(crate) parts: &'a [Value],
-    pub(crate) args: &'a [Value],
+pub struct Known<'a> {
+    pub fields: &'a [Value],
+    pub locals: &'a [Value],
+    pub parts: &'a [Value],
+    pub args: &'a [Value],
 }
 
 fn number_in(value: Option<&Value>) -> i64
@@ -89,7 +89,7 @@ impl<'a> Known<'a> {
     }
 
     /// The word of an expression.
-    pub(crate) fn word(&self, word: &'a WordOf) -> &'a str
+    pub fn word(&self, word: &'a WordOf) -> &'a str
         ensures { result.now ≡ word_of (known_values self.now) word.now }
     {
         match word {
@@ -101,7 +101,7 @@ impl<'a> Known<'a> {
     }
 
     /// The label of an expression.
-    pub(crate) fn label(&self, label: &LabelOf) -> u8
+    pub fn label(&self, label: &LabelOf) -> u8
         ensures { result ≡ label_of (known_values self.now) label.now }
     {
         match label {

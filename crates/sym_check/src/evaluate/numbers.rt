@@ -12,8 +12,9 @@ use crate::evaluate::known::Known;
 use crate::evaluate::pairs::Pair;
 use crate::plan::expression::{Line, Num};
 
-/// The number of a fixed expression.
-pub(crate) fn number_of(known: &Known, expression: &Num) -> Result<i64, Arith>
+/// The number of a fixed expression. `Arith` is returned exactly where a step of it leaves
+/// `-NUM_MAX` to `NUM_MAX` or divides by zero. It takes no memory.
+pub fn number_of(known: &Known, expression: &Num) -> Result<i64, Arith>
     ensures { result ≡ number (known_values known.now) (num_plan expression.now) }
 {
     match expression {
@@ -69,8 +70,10 @@ fn scaled(pair: &Pair, by: i64) -> Result<Pair, Arith>
     })
 }
 
-/// The pair of a line.
-pub(crate) fn pair_of(known: &Known, line: &Line) -> Result<Pair, Arith>
+/// The pair of a line: where its cell holds x, the line's number is `a * x + b`. `Arith` is
+/// returned exactly where a step of the pair leaves `-NUM_MAX` to `NUM_MAX` or divides by zero. It
+/// takes no memory.
+pub fn pair_of(known: &Known, line: &Line) -> Result<Pair, Arith>
     ensures { result ≡ pair (known_values known.now) (line_plan line.now) }
 {
     match line {

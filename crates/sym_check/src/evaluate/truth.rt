@@ -80,9 +80,10 @@ pub(crate) fn answer_of(test: &TestPlan, parts: &[Value], args: &[Value]) -> boo
     }
 }
 
-/// The answer of the test with this number, counted from 0; false where there is none.
+/// The answer of the test with this number, counted from 0, for the parts of a hold cell and the
+/// arguments; false where there is none, and where its arithmetic fails. It takes no memory.
 #[tactic(auto, using(crate::proofs::TestAnswers::found_body, crate::proofs::TestAnswers::found_answer))]
-pub(crate) fn answer_at(tests: &TestPlans, test: u16, parts: &[Value], args: &[Value]) -> bool
+pub fn answer_at(tests: &TestPlans, test: u16, parts: &[Value], args: &[Value]) -> bool
     requires { IsTrue (list_all has_fixed_body (map test_plan tests.now)) }
     ensures { result ≡ test_truth (map test_plan tests.now) test args.now parts.now }
 {

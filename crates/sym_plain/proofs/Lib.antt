@@ -1,0 +1,2 @@
+pub mod FixedLists
+pub mod Locals

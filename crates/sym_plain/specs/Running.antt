@@ -1,0 +1,31 @@
+-- What running a part of an update comes to, against what the part means.
+use Rattle.std.specs.Prelude.{◌≡◌, Result, Ok, Err}
+use Rattle.sym_base.specs.declared.values.state.State.{State}
+use Rattle.sym_base.specs.declared.values.state.FaultKind.{FaultKind}
+use Rattle.sym_check.specs.DoPlans.{DoPlan, Let, SetInt, SetEnum, CopyEnum, Keep, KeepFrom, PushNum, PushWord, If}
+use Rattle.sym_plain.specs.declared.update.stop.Stop.{Stop}
+use Rattle.sym_plain.specs.declared.update.stop.Stop.TheVariants as stop
+
+-- The value that the part means, or its fault; where memory is out, anything.
+abbrev pub Gives : {A : Type 0} → Result A Stop → Result A FaultKind → Type 0
+Gives (Ok x) meaning = meaning ≡ Ok x
+Gives (Err (stop.Fault kind)) meaning = meaning ≡ Err kind
+Gives (Err stop.NoMemory) meaning = Unit {0}
+
+-- The state that statements mean, or their fault; where memory is out, anything.
+abbrev pub Runs : {A : Type 0} → Result A Stop → State → Result State FaultKind → Type 0
+Runs (Ok x) s meaning = meaning ≡ Ok s
+Runs (Err (stop.Fault kind)) s meaning = meaning ≡ Err kind
+Runs (Err stop.NoMemory) s meaning = Unit {0}
+
+-- A statement that changes cells alone.
+abbrev pub IsAssignment : DoPlan → Type 0
+IsAssignment (Let n e) = ⊥
+IsAssignment (SetInt c t) = Unit {0}
+IsAssignment (SetEnum c l) = Unit {0}
+IsAssignment (CopyEnum c d) = Unit {0}
+IsAssignment (Keep c es) = Unit {0}
+IsAssignment (KeepFrom c d) = Unit {0}
+IsAssignment (PushNum c t) = Unit {0}
+IsAssignment (PushWord c w) = Unit {0}
+IsAssignment (If c a b) = ⊥

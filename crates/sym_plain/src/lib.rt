@@ -1,0 +1,10 @@
+//! The plain sequential program: each record makes one step of its group, in order. Its contracts
+//! are the definitions of the sequential meaning.
+#![tactic(auto)]
+
+mod keys;
+mod states;
+mod update;
+
+pub use keys::key_of;
+pub use states::initial;

@@ -1,0 +1,89 @@
+//! The truth of conditions at a state.
+ghost use Rattle.std.specs.Prelude.{◌≡◌, IsTrue, map, Ok};
+ghost use Rattle.std.specs.List.{list_all};
+ghost use Rattle.sym_check.specs.CondPlans.{cond_plan};
+ghost use Rattle.sym_check.specs.Conditions.{has_fixed_body, test_truth, truth};
+ghost use Rattle.sym_check.specs.FixedPlans.{fixed_plan, num_plan};
+ghost use Rattle.sym_check.specs.FixedValues.{fixed_value, fixed_values};
+ghost use Rattle.sym_check.specs.KnownValues.{known_values};
+ghost use Rattle.sym_check.specs.ScriptPlans.{script_plan};
+ghost use Rattle.sym_check.specs.Updates.{or_fault};
+ghost use Rattle.sym_plain.specs.Running.{Gives};
+
+use crate::update::stop::Stop;
+use crate::update::terms::term_number;
+use std::alloc::Global;
+use sym_base::{FaultKind, State, Value, Values};
+use sym_check::{Cond, Fixed, FixedList, FixedValue, Known, Plan, answer_at, number_of, value_of};
+
+/// The value of a fixed expression; arithmetic that fails ends the group.
+pub(crate) fn fixed_value(alloc: Global, known: &Known, expression: &Fixed) -> Result<Value, Stop>
+    ensures { let k = known_values known.now in
+        Gives result (or_fault (fixed_value k (fixed_plan expression.now))) }
+{
+    match value_of(alloc, known, expression)? {
+        FixedValue::Is(value) => Ok(value),
+        FixedValue::Arith => Err(Stop::Fault(FaultKind::Arith)),
+    }
+}
+
+/// The values of fixed expressions, in order.
+pub(crate) fn fixed_values(
+    alloc: Global,
+    known: &Known,
+    expressions: &FixedList,
+) -> Result<Values, Stop>
+    ensures { let meaning = fixed_values (known_values known.now) (map fixed_plan expressions.now) in
+        Gives result (or_fault meaning) }
+{
+    let mut values = Values::new(alloc);
+    'values: for expression in expressions.as_slice() {
+        let value = fixed_value(alloc, known, expression)?;
+        values.push(value)?;
+    }
+    Ok(values)
+}
+
+/// The truth of a condition at a state.
+pub(crate) fn truth_of(
+    alloc: Global,
+    plan: &Plan,
+    known: &Known,
+    condition: &Cond,
+    state: &State,
+) -> Result<bool, Stop>
+    requires { IsTrue (list_all has_fixed_body (script_plan plan.now).tests) }
+    ensures { let tests = test_truth (script_plan plan.now).tests in
+        let meaning = truth tests (known_values known.now) (cond_plan condition.now) in
+        Gives result (or_fault (meaning state.now)) }
+{
+    match condition {
+        Cond::Compare(compare, term, right) => {
+            let left = term_number(known, term, state)?;
+            let right = number_of(known, right)?;
+            Ok(compare.holds(left, right as i128))
+        }
+        Cond::Words(left, right) => Ok(known.word(left) == known.word(right)),
+        Cond::CellIs(cell, label) => Ok(state.label_at(*cell) == known.label(label)),
+        Cond::LabelIs(left, right) => Ok(known.label(left) == known.label(right)),
+        Cond::Test { test, cell, args } => {
+            let args = fixed_values(alloc, known, args)?;
+            Ok(answer_at(&plan.tests, *test, state.parts_at(*cell), args.as_slice()))
+        }
+        Cond::Not(condition) => Ok(!truth_of(alloc, plan, known, condition, state)?),
+        Cond::And(left, right) => {
+            if truth_of(alloc, plan, known, left, state)? {
+                truth_of(alloc, plan, known, right, state)
+            } else {
+                Ok(false)
+            }
+        }
+        Cond::Or(left, right) => {
+            if truth_of(alloc, plan, known, left, state)? {
+                Ok(true)
+            } else {
+                truth_of(alloc, plan, known, right, state)
+            }
+        }
+    }
+}

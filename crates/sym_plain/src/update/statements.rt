@@ -1,0 +1,232 @@
+//! Statements of the update, run on a state's cells where they lie.
+ghost use Rattle.std.specs.Prelude.{◌≡◌, ◌++◌, ◌∷◌, [], ◌-◌, IsTrue, IfOk, OnOk, length, pos, replicate, take};
+ghost use Rattle.std.specs.List.{list_all};
+ghost use Rattle.sym_check.specs.Conditions.{has_fixed_body};
+ghost use Rattle.sym_check.specs.DoPlans.{do_plan, dos_plan};
+ghost use Rattle.sym_check.specs.KnownValues.{known_values};
+ghost use Rattle.sym_check.specs.ScriptPlans.{script_plan};
+ghost use Rattle.sym_check.specs.Updates.{environment, environment_after, do_step, dos_step};
+ghost use Rattle.sym_base.specs.States.{nums_in, words_in, with_num, with_word};
+ghost use Rattle.sym_plain.specs.Running.{Runs, IsAssignment};
+
+use crate::update::conditions::{fixed_value, fixed_values, truth_of};
+use crate::update::stop::Stop;
+use crate::update::terms::{in_range, term_number};
+use std::alloc::Global;
+use std::mem;
+use sym_base::{Cell, NoMemory, Nums, Record, State, Text, Value, Values, Words};
+use sym_check::{Do, Dos, Known, Plan};
+
+fn known_in<'a>(rec: &'a Record, locals: &'a Values) -> Known<'a>
+    ensures { known_values result ≡ environment rec.now locals.now }
+{
+    Known {
+        fields: rec.fields.as_slice(),
+        locals: locals.as_slice(),
+        parts: &[],
+        args: &[],
+    }
+}
+
+fn nums_of(alloc: Global, cell: Option<Cell>) -> Nums
+    ensures { result ≡ nums_in cell }
+{
+    match cell {
+        Some(Cell::Nums(numbers)) => numbers,
+        _ => Nums::new(alloc),
+    }
+}
+
+// A cell of another kind becomes a list of this number.
+fn push_num(alloc: Global, state: &mut State, cell: u16, number: i64) -> Result<(), NoMemory>
+    ensures { OnOk result (state.new ≡ with_num state.old cell number) }
+{
+    let cell = usize::from(cell);
+    let mut numbers = nums_of(alloc, state.cells.replace(cell, Cell::Enum(0)));
+    numbers.push(number)?;
+    state.cells.set(cell, Cell::Nums(numbers));
+    Ok(())
+}
+
+fn words_of(alloc: Global, cell: Option<Cell>) -> Words
+    ensures { result ≡ words_in cell }
+{
+    match cell {
+        Some(Cell::Words(words)) => words,
+        _ => Words::new(alloc),
+    }
+}
+
+// A cell of another kind becomes a list of this word.
+fn push_word(alloc: Global, state: &mut State, cell: u16, word: &str) -> Result<(), NoMemory>
+    ensures { OnOk result (state.new ≡ with_word state.old cell word.now) }
+{
+    let cell = usize::from(cell);
+    let mut words = words_of(alloc, state.cells.replace(cell, Cell::Enum(0)));
+    words.push(Text::from_str(alloc, word)?)?;
+    state.cells.set(cell, Cell::Words(words));
+    Ok(())
+}
+
+fn copy_parts(alloc: Global, parts: &[Value]) -> Result<Values, NoMemory>
+    ensures { IfOk result (λ v. v ≡ parts.now) }
+{
+    let mut copied = Values::new(alloc);
+    'parts: for part in parts {
+        copied.push(part.copy(alloc)?)?;
+    }
+    Ok(copied)
+}
+
+fn push_zeros(locals: &mut Values, count: usize) -> Result<(), NoMemory>
+    ensures { OnOk result (locals.new ≡ locals.old ++ replicate count (Value.Num (pos 0))) }
+{
+    'zeros: for _ in 0..count {
+        locals.push(Value::Num(0))?;
+    }
+    Ok(())
+}
+
+// The numbers between the last local and this one are those of locals that are gone; they hold 0.
+fn name_local(locals: &mut Values, local: u16, value: Value) -> Result<(), NoMemory>
+    ensures { let gap = replicate (local - length locals.old) (Value.Num (pos 0)) in
+        OnOk result (locals.new ≡ locals.old ++ (gap ++ value ∷ [])) }
+{
+    push_zeros(locals, usize::from(local).saturating_sub(locals.len()))?;
+    locals.push(value)?;
+    Ok(())
+}
+
+// The first locals stay, those of a block that has ended are gone.
+fn drop_locals(alloc: Global, locals: &mut Values, count: usize)
+    ensures { locals.new ≡ take count locals.old }
+{
+    if count < locals.len() {
+        let mut items = mem::replace(locals, Values::new(alloc)).into_vec();
+        items.truncate(count);
+        *locals = Values::of(items);
+    }
+}
+
+// A statement that changes cells alone.
+fn assign(
+    alloc: Global,
+    plan: &Plan,
+    known: &Known,
+    statement: &Do,
+    state: &mut State,
+) -> Result<(), Stop>
+    requires { IsAssignment (do_plan statement.now) }
+    ensures { let p = script_plan plan.now in
+        Runs result state.new
+            (do_step p (known_values known.now) (do_plan statement.now) state.old) }
+{
+    match statement {
+        Do::SetInt(cell, term) => {
+            let number = term_number(known, term, state)?;
+            let number = in_range(plan, *cell, number)?;
+            state.cells.set(usize::from(*cell), Cell::Int(number));
+        }
+        Do::SetEnum(cell, label) => state.cells.set(usize::from(*cell), Cell::Enum(known.label(label))),
+        Do::CopyEnum(cell, from) => {
+            let label = state.label_at(*from);
+            state.cells.set(usize::from(*cell), Cell::Enum(label));
+        }
+        Do::Keep(cell, values) => {
+            let parts = fixed_values(alloc, known, values)?;
+            state.cells.set(usize::from(*cell), Cell::Hold(parts));
+        }
+        Do::KeepFrom(cell, from) => {
+            let parts = copy_parts(alloc, state.parts_at(*from))?;
+            state.cells.set(usize::from(*cell), Cell::Hold(parts));
+        }
+        Do::PushNum(cell, term) => {
+            let number = term_number(known, term, state)?;
+            let number = in_range(plan, *cell, number)?;
+            push_num(alloc, state, *cell, number)?;
+        }
+        Do::PushWord(cell, word) => push_word(alloc, state, *cell, known.word(word))?,
+        Do::Let(..) | Do::If(..) => unreachable!(),
+    }
+    Ok(())
+}
+
+// The statements of a block. Locals that were there before it are there after it.
+#[cycle(running)]
+pub(crate) fn run_all(
+    alloc: Global,
+    plan: &Plan,
+    rec: &Record,
+    statements: &Dos,
+    locals: &mut Values,
+    state: &mut State,
+) -> Result<(), Stop>
+    requires { IsTrue (list_all has_fixed_body (script_plan plan.now).tests) }
+    ensures state { let p = script_plan plan.now in
+        let k = environment rec.now locals.old in
+        Runs result state.new (dos_step p k (dos_plan statements.now) state.old) }
+    ensures locals { OnOk result (take (length locals.old) locals.new ≡ locals.old) }
+{
+    match statements {
+        Dos::End => Ok(()),
+        Dos::More(first, rest) => {
+            run(alloc, plan, rec, first, locals, state)?;
+            run_all(alloc, plan, rec, rest, locals, state)
+        }
+    }
+}
+
+// The locals of a block are gone after it.
+#[cycle(running)]
+fn run_block(
+    alloc: Global,
+    plan: &Plan,
+    rec: &Record,
+    statements: &Dos,
+    locals: &mut Values,
+    state: &mut State,
+) -> Result<(), Stop>
+    requires { IsTrue (list_all has_fixed_body (script_plan plan.now).tests) }
+    ensures state { let p = script_plan plan.now in
+        let k = environment rec.now locals.old in
+        Runs result state.new (dos_step p k (dos_plan statements.now) state.old) }
+    ensures locals { OnOk result (locals.new ≡ locals.old) }
+{
+    let count = locals.len();
+    run_all(alloc, plan, rec, statements, locals, state)?;
+    drop_locals(alloc, locals, count);
+    Ok(())
+}
+
+#[cycle(running)]
+fn run(
+    alloc: Global,
+    plan: &Plan,
+    rec: &Record,
+    statement: &Do,
+    locals: &mut Values,
+    state: &mut State,
+) -> Result<(), Stop>
+    requires { IsTrue (list_all has_fixed_body (script_plan plan.now).tests) }
+    ensures state { let p = script_plan plan.now in
+        let k = environment rec.now locals.old in
+        Runs result state.new (do_step p k (do_plan statement.now) state.old) }
+    ensures locals { let k = environment rec.now locals.old in
+        OnOk result (environment rec.now locals.new ≡ environment_after k (do_plan statement.now)) }
+{
+    match statement {
+        Do::Let(local, value) => {
+            let value = fixed_value(alloc, &known_in(rec, locals), value)?;
+            name_local(locals, *local, value)?;
+            Ok(())
+        }
+        Do::If(condition, then, otherwise) => {
+            if truth_of(alloc, plan, &known_in(rec, locals), condition, state)? {
+                run_block(alloc, plan, rec, then, locals, state)
+            } else {
+                run_block(alloc, plan, rec, otherwise, locals, state)
+            }
+        }
+        _ => assign(alloc, plan, &known_in(rec, locals), statement, state),
+    }
+}
