@@ -174,18 +174,17 @@ pub fn print_exprs(out: &mut Vec<u8>, exprs: &Exprs) -> Result<(), NoMemory>
     }
 }
 
-// Appends expressions, each after a `, `.
+// Appends expressions, each after a `, `. There may be any number of them.
 #[cycle(print_expression)]
 fn print_further(out: &mut Vec<u8>, exprs: &Exprs) -> Result<(), NoMemory>
     ensures { OnOk result
         (out.new.items ≡ out.old.items ++ further_exprs_text (exprs_tree exprs.now)) }
 {
-    match exprs {
-        Exprs::End => Ok(()),
-        Exprs::More(first, rest) => {
-            put(out, b", ")?;
-            print_expr(out, first)?;
-            print_further(out, rest)
-        }
+    let mut left = exprs;
+    'expressions: while let Exprs::More(first, rest) = left {
+        put(out, b", ")?;
+        print_expr(out, first)?;
+        left = rest;
     }
+    Ok(())
 }
