@@ -11,6 +11,7 @@ pub mod ReportCallsAgree
 pub mod ColumnsAgree
 pub mod ScriptAgreements
 pub mod ScriptsAgree
+pub mod ScopesNamed
 mod Examples
 mod ZippedLists
 mod ValidSteps
