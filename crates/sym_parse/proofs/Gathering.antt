@@ -1,16 +1,12 @@
 -- Values that are gathered one by one are those that are read.
 use Rattle.std.proofs.Common.{◌≡◌, ℕ, zero, suc, ◌-◌, ◌<◌, true, false, List, [], ◌∷◌, ◌++◌, length, Ok, Err, refl, ap, sym, ◌∙◌, arith}
-use Rattle.sym_base.specs.Trees.{ExprTree, ExprsTree, End, More}
+use Rattle.sym_base.specs.Trees.{ExprTree, ExprsTree, End, More, exprs_before}
+use Rattle.sym_base.proofs.ExprLists.{before-last}
 use Rattle.sym_lex.specs.declared.symbol.Symbol.TheVariants.{Comma}
 use Rattle.sym_parse.specs.declared.stop.Stop.{Stop}
 use Rattle.sym_parse.specs.Parsing.Expressions.{values, values_from, further}
-use Rattle.sym_parse.specs.Parsing.Listed.{exprs_before}
 use Rattle.sym_parse.specs.Steps.{Input, Parsed, Parser, and_then, passed, sees_sign}
 use Rattle.sym_parse.proofs.Lists.{and_then_same}
-
-pub before-last : (xs : List ExprTree) (x : ExprTree) (rest : ExprsTree) → exprs_before (xs ++ x ∷ []) rest ≡ exprs_before xs (More x rest)
-before-last [] x rest = refl
-before-last (y ∷ xs) x rest = ap (More y) (before-last xs x rest)
 
 -- These expressions, before those that are read next.
 abbrev pub gathered : List ExprTree → ExprsTree → Input → Parsed ExprsTree

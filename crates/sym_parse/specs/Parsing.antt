@@ -5,4 +5,3 @@ pub mod Statements
 pub mod Declarations
 pub mod Scripts
 pub mod Levels
-pub mod Listed

@@ -1,30 +1,17 @@
 //! The values that a hold cell keeps. There may be any number of them, so they are read in a loop.
-ghost use Rattle.std.specs.Prelude.{◌≡◌, ◌<◌, length, map, IfOk, OnOk};
-ghost use Rattle.sym_base.specs.Trees.{End, expr_tree, exprs_tree};
+ghost use Rattle.std.specs.Prelude.{◌≡◌, ◌<◌, length, map, OnOk};
+ghost use Rattle.sym_base.specs.Trees.{End, expr_tree, exprs_tree, exprs_before};
 ghost use Rattle.sym_parse.specs.Limits.{most};
 ghost use Rattle.sym_parse.specs.Parsing.Expressions as spec;
-ghost use Rattle.sym_parse.specs.Parsing.Listed.{exprs_before};
 ghost use Rattle.sym_parse.specs.Steps.{Parses};
 ghost use Rattle.sym_parse.specs.Views.{input};
 
-use crate::build::before_exprs;
 use crate::expression::expression;
 use crate::state::Cursor;
 use crate::stop::Stop;
-use std::alloc::{AllocError, Global};
+use std::alloc::Global;
 use sym_base::{Expr, Exprs};
 use sym_lex::Symbol;
-
-/// The expressions as a list.
-fn list_of(alloc: Global, mut found: Vec<Expr>) -> Result<Exprs, AllocError>
-    ensures { IfOk result (λ es. exprs_tree es ≡ exprs_before (map expr_tree found.items) End) }
-{
-    let mut list = Exprs::End;
-    'expressions: while let Some(last) = found.pop() {
-        list = before_exprs(alloc, last, list)?;
-    }
-    Ok(list)
-}
 
 /// `expr {, expr}`
 fn gathered(alloc: Global, cursor: &mut Cursor<'_>, room: usize) -> Result<Vec<Expr>, Stop>
@@ -50,5 +37,5 @@ pub fn values(alloc: Global, cursor: &mut Cursor<'_>, room: usize) -> Result<Exp
     ensures shorter { OnOk result (length cursor.new.rest.now < length cursor.old.rest.now) }
 {
     let found = gathered(alloc, cursor, room)?;
-    Ok(list_of(alloc, found)?)
+    Ok(Exprs::of(alloc, found)?)
 }

@@ -400,3 +400,27 @@ fn scripts_are_printed_in_their_one_form(rt: HostRuntime) -> Result<(), Fail> {
     }
     Ok(())
 }
+
+#[test]
+fn a_keep_of_many_values_is_read_printed_and_freed(rt: HostRuntime) -> Result<(), Fail> {
+    let mut text = String::from_str(
+        rt.alloc(),
+        "field x: num;\n\
+         state h: hold(num = 0);\n\
+         update {\n\
+         \x20 keep h(1",
+    )?;
+    for _value in 1..16_000u32 {
+        text.push_str(", 1")?;
+    }
+    text.push_str(
+        ");\n\
+         }\n\
+         report {\n\
+         \x20 n = x;\n\
+         }\n",
+    )?;
+    let again = printed(rt.alloc(), &rt, text.as_bytes())?;
+    assert!(rt; again.as_slice() == text.as_bytes());
+    Ok(())
+}
