@@ -12,6 +12,7 @@ pub mod ColumnsAgree
 pub mod ScriptAgreements
 pub mod ScriptsAgree
 pub mod ScopesNamed
+pub mod BlocksNamed
 mod Examples
 mod ZippedLists
 mod ValidSteps
