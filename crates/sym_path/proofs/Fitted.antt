@@ -16,7 +16,7 @@ use Rattle.sym_check.specs.declared.plan.script.CellPlan.{CellPlan}
 use Rattle.sym_check.specs.declared.plan.script.CellPlan.TheVariants as plan
 use Rattle.sym_check.specs.CellKinds.{IsEnumCell, IsHoldCell}
 use Rattle.sym_check.specs.ScriptPlans.{ScriptPlan}
-use Rattle.sym_check.specs.Updates.{nums_in, words_in}
+use Rattle.sym_base.specs.States.{nums_in, words_in}
 use Rattle.sym_check.specs.Validity.{label_count, AreOfKinds, InRange, IsValidCell, IsValid, IsValidOutcome}
 use Rattle.sym_check.specs.Validity as valid
 use Rattle.sym_check.specs.WellFormed.{IsCell, IsWellFormed}
@@ -27,7 +27,7 @@ use Rattle.sym_int.specs.declared.form.IntForm.{IntForm}
 use Rattle.sym_int.specs.declared.form.IntForm.TheVariants as number
 use Rattle.sym_int.specs.declared.form.Line.{Line}
 use Rattle.sym_int.specs.declared.span.Span.{Span}
-use Rattle.sym_pred.specs.Meaning.{Truth}
+use Rattle.sym_base.specs.Tests.{Truth}
 use Rattle.sym_pred.specs.declared.form.HoldForm.TheVariants as hold
 use Rattle.sym_path.specs.declared.part.Part.{Part}
 use Rattle.sym_path.specs.declared.part.Part.TheVariants as part
@@ -42,7 +42,7 @@ use Rattle.sym_path.specs.Fitting as fitting
 use Rattle.sym_path.specs.Giving.{cell_at, cells_at, state_at, end_at, HasNumbers, nums_after}
 use Rattle.sym_path.proofs.Lists.{zip_get, zip_get_right, all_from, all_at}
 
-number_between : (lo hi x : ℤ) → IsNumber lo → IsNumber hi → InRange lo hi x → IsNumber x
+pub number_between : (lo hi x : ℤ) → IsNumber lo → IsNumber hi → InRange lo hi x → IsNumber x
 number_between lo hi x l h r = let a = r.0 in let b = r.1 in omega (arith, ints)
 
 -- What an admitted integer cell holds.

@@ -4,4 +4,6 @@ mod Examples
 pub mod Fitted
 pub mod Given
 pub mod Lists
+pub mod Narrowed
+pub mod NarrowedFits
 pub mod OnlyOutcomes

@@ -1,5 +1,5 @@
 -- Lists from an index on, and lists item by item.
-use Rattle.std.proofs.Common.{get_or, ◌≡◌, ◌≢◌, ◌<◌, ◌+◌, ℕ, zero, suc, Bool, true, false, List, [], ◌∷◌, ◌++◌, Option, Some, None, length, take, drop, refl, sym, ap, ◌∙◌, subst, arith, add-one}
+use Rattle.std.proofs.Common.{get_or, ◌≡◌, ◌≢◌, ◌<◌, ◌+◌, ℕ, zero, suc, Bool, true, false, List, [], ◌∷◌, ◌++◌, Option, Some, None, ◌⊎◌, inl, inr, map, length, take, drop, refl, sym, ap, ◌∙◌, subst, arith, add-one}
 use Rattle.std.proofs.lemmas.Option.{slice_get-get_or, get_or_from_slice_get, slice_get_within}
 use Rattle.std.specs.Prelude.{slice_get, slice_set}
 use Rattle.std.specs.List.{All, AllZip, list_all}
@@ -87,3 +87,58 @@ pub get_within : {A : Type 0} (xs : List A) (i : ℕ) → i < length xs → (x :
 get_within [] i h = absurd (omega arith)
 get_within (x ∷ xs) zero h = (x, refl)
 get_within (x ∷ xs) (suc i) h = get_within xs i (omega arith)
+
+-- What stands in a list in which one item is replaced.
+pub set_cases : {A : Type 0} (xs : List A) (k i : ℕ) (v y : A) → slice_get (slice_set xs k v) i ≡ Some y → ((i ≡ k) × (y ≡ v)) ⊎ ((i ≢ k) × (slice_get xs i ≡ Some y))
+set_cases [] k i v y e = absurd (cc)
+set_cases (x ∷ xs) zero zero v y e = inl (refl, cc)
+set_cases (x ∷ xs) zero (suc i) v y e = inr (λ p. cc, e)
+set_cases (x ∷ xs) (suc k) zero v y e = inr (λ p. cc, e)
+set_cases (x ∷ xs) (suc k) (suc i) v y e = elim (set_cases xs k i v y e) [ inl h ↦ inl (ap suc h.0, h.1) | inr h ↦ inr (λ p. h.0 (cc), h.1) ]
+
+pub set_same : {A : Type 0} (xs : List A) (k : ℕ) (v x : A) → slice_get xs k ≡ Some x → slice_get (slice_set xs k v) k ≡ Some v
+set_same [] k v x e = absurd (cc)
+set_same (y ∷ xs) zero v x e = refl
+set_same (y ∷ xs) (suc k) v x e = set_same xs k v x e
+
+pub set_other : {A : Type 0} (xs : List A) (k i : ℕ) (v : A) → i ≢ k → slice_get (slice_set xs k v) i ≡ slice_get xs i
+set_other [] k i v e = refl
+set_other (x ∷ xs) zero zero v e = absurd (e refl)
+set_other (x ∷ xs) zero (suc i) v e = refl
+set_other (x ∷ xs) (suc k) zero v e = refl
+set_other (x ∷ xs) (suc k) (suc i) v e = set_other xs k i v (λ p. e (ap suc p))
+
+pub zip_set : {A B : Type 0} (R : A → B → Type 0) (xs : List A) (ys : List B) (i : ℕ) (x : A) (y : B) → AllZip R xs ys → slice_get xs i ≡ Some x → R x y → AllZip R xs (slice_set ys i y)
+zip_set R [] [] i x y h e r = tt
+zip_set R [] (b ∷ ys) i x y h e r = absurd h
+zip_set R (a ∷ xs) [] i x y h e r = absurd h
+zip_set {A} R (a ∷ xs) (b ∷ ys) zero x y h e r = let same : x ≡ a = cc in let P : A → Type 0 = λ v. R v y in (subst P same r, h.1)
+zip_set R (a ∷ xs) (b ∷ ys) (suc i) x y h e r = (h.0, zip_set R xs ys i x y h.1 e r)
+
+pub zip_weak : {A B : Type 0} (R S : A → B → Type 0) (xs : List A) (ys : List B) → ((x : A) (y : B) → R x y → S x y) → AllZip R xs ys → AllZip S xs ys
+zip_weak R S [] [] step h = tt
+zip_weak R S [] (b ∷ ys) step h = absurd h
+zip_weak R S (a ∷ xs) [] step h = absurd h
+zip_weak R S (a ∷ xs) (b ∷ ys) step h = (step a b h.0, zip_weak R S xs ys step h.1)
+
+-- What holds of the items of one list, carried over to those beside them.
+pub zip_all : {A B : Type 0} (R : A → B → Type 0) (P : A → Type 0) (Q : B → Type 0) (xs : List A) (ys : List B) → ((x : A) (y : B) → R x y → P x → Q y) → AllZip R xs ys → All P xs → All Q ys
+zip_all {A} {B} R P Q xs ys step h all = all_from Q ys each
+  where
+    each : (i : ℕ) (y : B) → slice_get ys i ≡ Some y → Q y
+    each i y e = let found = zip_get_right R xs ys i y h e in step found.0 y found.2 (all_at P xs i found.0 all found.1)
+
+-- A relation between one list and a second, carried over to a third beside that.
+pub zip_trans : {A B C : Type 0} (R : A → B → Type 0) (S : B → C → Type 0) (T : A → C → Type 0) (xs : List A) (ys : List B) (zs : List C) → ((x : A) (y : B) (z : C) → R x y → S y z → T x z) → AllZip R xs ys → AllZip S ys zs → AllZip T xs zs
+zip_trans R S T [] [] [] step h k = tt
+zip_trans R S T [] [] (z ∷ zs) step h k = absurd k
+zip_trans R S T [] (y ∷ ys) zs step h k = absurd h
+zip_trans R S T (x ∷ xs) [] zs step h k = absurd h
+zip_trans R S T (x ∷ xs) (y ∷ ys) [] step h k = absurd k
+zip_trans R S T (x ∷ xs) (y ∷ ys) (z ∷ zs) step h k = (step x y z h.0 k.0, zip_trans R S T xs ys zs step h.1 k.1)
+
+pub zip_map : {A B C : Type 0} (R : A → B → Type 0) (S : A → C → Type 0) (f : B → C) (xs : List A) (ys : List B) → ((x : A) (y : B) → R x y → S x (f y)) → AllZip R xs ys → AllZip S xs (map f ys)
+zip_map R S f [] [] step h = tt
+zip_map R S f [] (y ∷ ys) step h = absurd h
+zip_map R S f (x ∷ xs) [] step h = absurd h
+zip_map R S f (x ∷ xs) (y ∷ ys) step h = (step x y h.0, zip_map R S f xs ys step h.1)

@@ -43,33 +43,35 @@ pub record NumberIsTakenTo (when : List Part) (f g : IntForm) : Type 0 where
   pub one : (c : ℕ) (x : ℤ) → form_cell f ≡ Some c → HasOneNumber when c x → IsConstant (form_on f x) g
   pub more : ((c : ℕ) (x : ℤ) → form_cell f ≡ Some c → HasOneNumber when c x → ⊥) → g ≡ f
 
+-- A form of this kind with a property.
+abbrev pub IsEnumForm : (EnumForm → Type 0) → Form → Type 0
+IsEnumForm property (form.Enum f) = property f
+IsEnumForm property (form.Int f) = ⊥
+IsEnumForm property (form.Hold f) = ⊥
+IsEnumForm property (form.Nums added) = ⊥
+IsEnumForm property (form.Words added) = ⊥
+
+abbrev pub IsIntForm : (IntForm → Type 0) → Form → Type 0
+IsIntForm property (form.Enum f) = ⊥
+IsIntForm property (form.Int f) = property f
+IsIntForm property (form.Hold f) = ⊥
+IsIntForm property (form.Nums added) = ⊥
+IsIntForm property (form.Words added) = ⊥
+
+abbrev pub IsNumsForm : (List IntForm → Type 0) → Form → Type 0
+IsNumsForm property (form.Enum f) = ⊥
+IsNumsForm property (form.Int f) = ⊥
+IsNumsForm property (form.Hold f) = ⊥
+IsNumsForm property (form.Nums added) = property added
+IsNumsForm property (form.Words added) = ⊥
+
 -- The second form is the first one on the constraint.
 abbrev pub IsTakenTo : List Part → Form → Form → Type 0
-IsTakenTo when (form.Enum f) (form.Enum g) = LabelIsTakenTo when f g
-IsTakenTo when (form.Enum f) (form.Int g) = ⊥
-IsTakenTo when (form.Enum f) (form.Hold g) = ⊥
-IsTakenTo when (form.Enum f) (form.Nums g) = ⊥
-IsTakenTo when (form.Enum f) (form.Words g) = ⊥
-IsTakenTo when (form.Int f) (form.Enum g) = ⊥
-IsTakenTo when (form.Int f) (form.Int g) = NumberIsTakenTo when f g
-IsTakenTo when (form.Int f) (form.Hold g) = ⊥
-IsTakenTo when (form.Int f) (form.Nums g) = ⊥
-IsTakenTo when (form.Int f) (form.Words g) = ⊥
-IsTakenTo when (form.Hold f) (form.Enum g) = ⊥
-IsTakenTo when (form.Hold f) (form.Int g) = ⊥
-IsTakenTo when (form.Hold f) (form.Hold g) = g ≡ f
-IsTakenTo when (form.Hold f) (form.Nums g) = ⊥
-IsTakenTo when (form.Hold f) (form.Words g) = ⊥
-IsTakenTo when (form.Nums f) (form.Enum g) = ⊥
-IsTakenTo when (form.Nums f) (form.Int g) = ⊥
-IsTakenTo when (form.Nums f) (form.Hold g) = ⊥
-IsTakenTo when (form.Nums f) (form.Nums g) = AllZip (NumberIsTakenTo when) f g
-IsTakenTo when (form.Nums f) (form.Words g) = ⊥
-IsTakenTo when (form.Words f) (form.Enum g) = ⊥
-IsTakenTo when (form.Words f) (form.Int g) = ⊥
-IsTakenTo when (form.Words f) (form.Hold g) = ⊥
-IsTakenTo when (form.Words f) (form.Nums g) = ⊥
-IsTakenTo when (form.Words f) (form.Words g) = g ≡ f
+IsTakenTo when (form.Enum f) g = IsEnumForm (LabelIsTakenTo when f) g
+IsTakenTo when (form.Int f) g = IsIntForm (NumberIsTakenTo when f) g
+IsTakenTo when (form.Hold f) g = g ≡ form.Hold f
+IsTakenTo when (form.Nums added) g = IsNumsForm (AllZip (NumberIsTakenTo when) added) g
+IsTakenTo when (form.Words added) g = g ≡ form.Words added
 
 -- The forms are those of another list on the constraint.
 abbrev pub AreTakenTo : List Part → List Form → List Form → Type 0

@@ -6,6 +6,7 @@ mod admitting;
 mod form;
 mod giving;
 pub mod laws;
+mod narrowing;
 mod part;
 mod path;
 mod segment;

@@ -1,4 +1,4 @@
-use Rattle.std.proofs.Common.{◌≡◌, ◌<◌, ◌++◌, ◌∷◌, [], ℕ, List, length, map, take, sym, ◌∙◌, ap, arith, Some}
+use Rattle.std.proofs.Common.{◌≡◌, ◌<◌, ◌++◌, ◌∷◌, [], ℕ, List, length, take, sym, ◌∙◌, ap, arith, Some}
 use Rattle.sym_check.specs.Updates.{words_in}
 use Rattle.sym_path.proofs.Given.{words_next}
 use Rattle.sym_path.proofs.Lists.{no_gap}
