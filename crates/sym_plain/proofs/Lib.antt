@@ -1,2 +1,3 @@
 pub mod FixedLists
 pub mod Locals
+pub mod Places

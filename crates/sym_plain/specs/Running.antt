@@ -1,5 +1,5 @@
 -- What running a part of an update comes to, against what the part means.
-use Rattle.std.specs.Prelude.{◌≡◌, Result, Ok, Err}
+use Rattle.std.specs.Prelude.{◌≡◌, Option, Some, None, Result, Ok, Err}
 use Rattle.sym_base.specs.declared.values.state.State.{State}
 use Rattle.sym_base.specs.declared.values.state.FaultKind.{FaultKind}
 use Rattle.sym_check.specs.DoPlans.{DoPlan, Let, SetInt, SetEnum, CopyEnum, Keep, KeepFrom, PushNum, PushWord, If}
@@ -29,3 +29,8 @@ IsAssignment (KeepFrom c d) = Unit {0}
 IsAssignment (PushNum c t) = Unit {0}
 IsAssignment (PushWord c w) = Unit {0}
 IsAssignment (If c a b) = ⊥
+
+-- The fault that statements mean, or the state after them.
+abbrev pub Ends : Option FaultKind → State → Result State FaultKind → Type 0
+Ends None s meaning = meaning ≡ Ok s
+Ends (Some kind) s meaning = meaning ≡ Err kind

@@ -4,7 +4,9 @@
 
 mod keys;
 mod states;
+mod steps;
 mod update;
 
 pub use keys::key_of;
 pub use states::initial;
+pub use steps::step;

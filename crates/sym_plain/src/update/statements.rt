@@ -119,7 +119,7 @@ fn assign(
     requires { IsAssignment (do_plan statement.now) }
     ensures { let p = script_plan plan.now in
         Runs result state.new
-            (do_step p (known_values known.now) (do_plan statement.now) state.old) }
+        (do_step p (known_values known.now) (do_plan statement.now) state.old) }
 {
     match statement {
         Do::SetInt(cell, term) => {
@@ -127,7 +127,9 @@ fn assign(
             let number = in_range(plan, *cell, number)?;
             state.cells.set(usize::from(*cell), Cell::Int(number));
         }
-        Do::SetEnum(cell, label) => state.cells.set(usize::from(*cell), Cell::Enum(known.label(label))),
+        Do::SetEnum(cell, label) => state
+            .cells
+            .set(usize::from(*cell), Cell::Enum(known.label(label))),
         Do::CopyEnum(cell, from) => {
             let label = state.label_at(*from);
             state.cells.set(usize::from(*cell), Cell::Enum(label));

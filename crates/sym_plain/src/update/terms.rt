@@ -46,10 +46,7 @@ fn within_range(cell: Option<&CellPlan>, number: i128) -> Option<i64>
 {
     match cell {
         Some(CellPlan::Int { lo, hi, .. } | CellPlan::Nums { lo, hi })
-            if *lo as i128 <= number && number <= *hi as i128 =>
-        {
-            Some(number as i64)
-        }
+            if *lo as i128 <= number && number <= *hi as i128 => { Some(number as i64) }
         _ => None,
     }
 }
