@@ -12,11 +12,13 @@ use Rattle.sym_int.specs.declared.wide.Wide.{Wide}
 
 -- The points at which the comparison of the form's number with the bound has this truth.
 abbrev pub HasTruth : Span → Wide → Compare → ℤ → Bool → ℤ → Type 0
-HasTruth span wide compare bound truth x = HasPoint span x × (compares compare (wide_on wide x) bound ≡ truth)
+HasTruth span wide compare bound truth x =
+    HasPoint span x × (compares compare (wide_on wide x) bound ≡ truth)
 
 -- The truth of a piece is that of the comparison at each of its points.
 abbrev pub TellsTruth : Wide → Compare → ℤ → Cut → Type 0
-TellsTruth wide compare bound piece = (x : ℤ) → HasPoint piece.span x → piece.truth ≡ compares compare (wide_on wide x) bound
+TellsTruth wide compare bound piece =
+    (x : ℤ) → HasPoint piece.span x → piece.truth ≡ compares compare (wide_on wide x) bound
 
 -- The number is in the part; never where that is none.
 abbrev pub InPart : Option Span → ℤ → Type 0
@@ -30,7 +32,9 @@ piece_span None = None
 
 -- The number is in one of the pieces.
 abbrev pub InPieces : Pieces → ℤ → Type 0
-InPieces pieces x = HasPoint pieces.first.span x ⊎ (InPart (piece_span pieces.second) x ⊎ InPart (piece_span pieces.third) x)
+InPieces pieces x =
+    HasPoint pieces.first.span x
+    ⊎ (InPart (piece_span pieces.second) x ⊎ InPart (piece_span pieces.third) x)
 
 -- One piece ends before the next begins, and their truths differ.
 abbrev pub Follows : Cut → Cut → Type 0
@@ -56,7 +60,10 @@ count_piece truth None = 0
 
 -- How many of the pieces have this truth.
 abbrev pub count_with : Bool → Pieces → ℕ
-count_with truth pieces = count_truth truth pieces.first.truth + count_piece truth pieces.second + count_piece truth pieces.third
+count_with truth pieces =
+    count_truth truth pieces.first.truth
+    + count_piece truth pieces.second
+    + count_piece truth pieces.third
 
 -- How many pieces with this truth a comparison can give: an order one, `==` one that is true and
 -- two that are false, `!=` two that are true and one that is false.
@@ -73,7 +80,8 @@ most_with Ge truth = 1
 -- The pieces of the span by the comparison of the form with the bound: their points are those of
 -- the span, each tells the truth at its points, neighbours differ, a constant gives one, and no
 -- truth has more pieces than the comparison can give.
-pub record IsCut (span : Span) (wide : Wide) (compare : Compare) (bound : ℤ) (pieces : Pieces) : Type 0 where
+pub record IsCut (span : Span) (wide : Wide) (compare : Compare) (bound : ℤ) (pieces : Pieces) :
+    Type 0 where
   pub cover : (x : ℤ) → HasPoint span x ↔ InPieces pieces x
   pub first : TellsTruth wide compare bound pieces.first
   pub second : IfSome pieces.second (TellsTruth wide compare bound)
@@ -100,4 +108,6 @@ pub record TellsPart (part : Option Span) (truth : Bool) (piece : Cut) : Type 0 
 
 -- The points of the span after a part, with this truth; none where the part ends as the span does.
 abbrev pub IsAfter : Span → Span → Bool → Option Cut → Type 0
-IsAfter span part truth cut = MatchOption cut (part.hi ≡ span.hi) (λ cut. (cut.span.lo ≡ part.hi +ℤ pos 1) × (cut.span.hi ≡ span.hi) × (cut.truth ≡ truth))
+IsAfter span part truth cut =
+    MatchOption cut (part.hi ≡ span.hi)
+    (λ cut. (cut.span.lo ≡ part.hi +ℤ pos 1) × (cut.span.hi ≡ span.hi) × (cut.truth ≡ truth))

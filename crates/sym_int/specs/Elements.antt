@@ -20,13 +20,16 @@ IsZero (form.Line line) = ⊥
 
 -- The numbers of the cells lie in their spans.
 abbrev pub InSpans : List Span → State → Type 0
-InSpans spans state = (cell : ℕ) (span : Span) → slice_get spans cell ≡ Some span → HasPoint span (number_at state cell)
+InSpans spans state =
+    (cell : ℕ) (span : Span) → slice_get spans cell ≡ Some span →
+    HasPoint span (number_at state cell)
 
 -- A context covers the states whose cells lie in their spans. Where a cell isn't an integer
 -- cell, its form is 0.
 pub record Covers (context : IntForms) (state : State) : Type 0 where
   pub spans : InSpans context.spans state
-  pub others : (cell : ℕ) (form : IntForm) → slice_get context.forms cell ≡ Some form → ((x : ℤ) × HoldsInt state cell x) ⊎ IsZero form
+  pub others : (cell : ℕ) (form : IntForm) → slice_get context.forms cell ≡ Some form →
+      ((x : ℤ) × HoldsInt state cell x) ⊎ IsZero form
 
 -- A cell in which an integer cell's number is replaced.
 abbrev pub led_cell : ℤ → Cell → Cell
@@ -35,7 +38,8 @@ led_cell x cell = cell
 
 -- The cells of which the integer cells hold their forms' numbers at a state.
 abbrev pub led_cells : State → List IntForm → List Cell → List Cell
-led_cells state (form ∷ forms) (cell ∷ cells) = led_cell (form_value form state) cell ∷ led_cells state forms cells
+led_cells state (form ∷ forms) (cell ∷ cells) =
+    led_cell (form_value form state) cell ∷ led_cells state forms cells
 led_cells state (form ∷ forms) [] = []
 led_cells state [] cells = cells
 
@@ -55,12 +59,14 @@ StaysOn number (Some cell) spans = StaysOnSpan number (slice_get spans cell)
 -- A line over the form of its cell stays among the numbers of a script on the spans.
 abbrev pub Composes : IntForm → Option IntForm → List Span → Type 0
 Composes outer None spans = ⊥
-Composes outer (Some inner) spans = StaysOn (λ x. form_on outer (form_on inner x)) (form_cell inner) spans
+Composes outer (Some inner) spans =
+    StaysOn (λ x. form_on outer (form_on inner x)) (form_cell inner) spans
 
 -- The condition of a form's way through a context.
 abbrev pub CanGoThrough : IntForm → IntForms → Type 0
 CanGoThrough (form.Const number) context = Unit {0}
-CanGoThrough (form.Line line) context = Composes (form.Line line) (slice_get context.forms line.cell) context.spans
+CanGoThrough (form.Line line) context =
+    Composes (form.Line line) (slice_get context.forms line.cell) context.spans
 
 -- The form is this number at every state.
 abbrev pub IsConstant : ℤ → IntForm → Type 0
@@ -79,13 +85,15 @@ IsOnSpans number (Some cell) spans after = IsOnSpan number cell (slice_get spans
 -- The line over the form of its cell, on the span of the cell that this one names.
 abbrev pub IsComposed : IntForm → Option IntForm → List Span → IntForm → Type 0
 IsComposed outer None spans after = ⊥
-IsComposed outer (Some inner) spans after = IsOnSpans (λ x. form_on outer (form_on inner x)) (form_cell inner) spans after
+IsComposed outer (Some inner) spans after =
+    IsOnSpans (λ x. form_on outer (form_on inner x)) (form_cell inner) spans after
 
 -- What a form becomes through a context: a constant stays, and a line becomes the line over the
 -- form of its cell, on the span of the cell that it then names.
 abbrev pub GoesThroughTo : IntForm → IntForms → IntForm → Type 0
 GoesThroughTo (form.Const number) context after = after ≡ form.Const number
-GoesThroughTo (form.Line line) context after = IsComposed (form.Line line) (slice_get context.forms line.cell) context.spans after
+GoesThroughTo (form.Line line) context after =
+    IsComposed (form.Line line) (slice_get context.forms line.cell) context.spans after
 
 -- The condition under which a cell's number may be put into a form.
 abbrev pub CanFix : IntForm → ℕ → ℤ → Type 0

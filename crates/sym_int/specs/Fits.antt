@@ -18,7 +18,8 @@ inside_span None = None
 -- The form of a part inside is the wide form on that part, and has its number at each state there.
 pub record IsInside (wide : Wide) (part : Inside) : Type 0 where
   pub form : IsTaken (wide_on wide) (wide_cell wide) part.span part.form
-  pub value : (state : State) → IsCellIn (wide_cell wide) part.span state → form_value part.form state ≡ wide_value wide state
+  pub value : (state : State) → IsCellIn (wide_cell wide) part.span state →
+      form_value part.form state ≡ wide_value wide state
 
 -- The points of the span at which the form is below, in and above the range, and the form on those
 -- in the range.

@@ -1,5 +1,5 @@
 -- Finding the tokens of a text, or its first fault, byte by byte.
-use Rattle.std.specs.Prelude.{◌≡◌, ℕ, zero, suc, ◌+◌, ◌-◌, ℤ, pos, Bool, true, false, not, cond, ◌&&◌, nat_le, List, [], ◌∷◌, length, drop, Option, Some, None, option_map, Result, Ok, Err}
+use Rattle.std.specs.Prelude.{◌≡◌, ℕ, zero, suc, ◌+◌, ◌-◌, ℤ, pos, Bool, true, false, not, if◌then◌else◌, ◌&&◌, nat_le, List, [], ◌∷◌, length, drop, Option, Some, None, option_map, Result, Ok, Err}
 use Rattle.std.specs.List.{prefix_len, take_while}
 use Rattle.std.specs.Str.{is_utf8}
 use Rattle.std.specs.Str.Parse.{digits_value}
@@ -24,7 +24,7 @@ use Rattle.sym_lex.specs.Symbols.{symbol_of, symbol_text}
 abbrev pub gap_size : List ℕ → ℕ
 gap_size [] = 0
 gap_size (b ∷ rest) =
-    cond (is_blank b) 1 (cond (is_hash b) (1 + prefix_len is_in_line rest) 0)
+    if is_blank b then 1 else (if is_hash b then 1 + prefix_len is_in_line rest else 0)
 
 -- A name that is a keyword is that keyword.
 abbrev pub name_kind : Option Keyword → TokenKind
@@ -36,21 +36,23 @@ abbrev pub name_at : ℕ → List ℕ → Result Found LexFault
 name_at at text =
     let size = prefix_len is_name_part text in
     let kind = name_kind (keyword_of (take_while is_name_part text)) in
-    cond (nat_le size max_name_bytes) (Ok (record { kind = kind; size = size })) (Err (LongName at))
+    if nat_le size max_name_bytes then Ok (record { kind = kind; size = size })
+    else Err (LongName at)
 
 -- The number that the digits write, unless it is larger than a script's numbers.
 abbrev pub number_of : List ℕ → Option ℤ
 number_of digits =
-    let value = digits_value 10 digits in cond (nat_le value num_max) (Some (pos value)) None
+    let value = digits_value 10 digits in
+    if nat_le value num_max then Some (pos value) else None
 
 -- All the digits, if their value isn't too large and no name follows them at once.
 abbrev pub number_at : ℕ → List ℕ → Result Found LexFault
 number_at at text =
     let size = prefix_len is_ascii_digit text in
     let value = digits_value 10 (take_while is_ascii_digit text) in
-    cond (nat_le value num_max && not (starts_name (drop size text)))
-    (Ok (record { kind = kind.Number (pos value); size = size }))
-    (Err (BadNumber at))
+    if nat_le value num_max && not (starts_name (drop size text))
+    then Ok (record { kind = kind.Number (pos value); size = size })
+    else Err (BadNumber at)
 
 -- What was read after an opening quote: the decoded text, and how many bytes it takes with its
 -- closing quote.
@@ -69,19 +71,19 @@ with_backslash body = record { text = body.text; size = 1 + body.size }
 -- first argument says whether a `\` stands before them.
 unfoldable pub body_of : Bool → List ℕ → Option Decoded
 body_of after_backslash [] = None
-body_of true (b ∷ rest) = cond (is_escaped b) (option_map (with_byte b) (body_of false rest)) None
+body_of true (b ∷ rest) =
+    if is_escaped b then option_map (with_byte b) (body_of false rest) else None
 body_of false (b ∷ rest) =
-    cond (is_quote b) (Some (record { text = []; size = 1 }))
-    (cond (is_line_end b) None
-    (cond (is_backslash b) (option_map with_backslash (body_of true rest))
-    (option_map (with_byte b) (body_of false rest))))
+    if is_quote b then Some (record { text = []; size = 1 })
+    else (if is_line_end b then None
+    else (if is_backslash b then option_map with_backslash (body_of true rest)
+    else option_map (with_byte b) (body_of false rest)))
 
 abbrev pub text_from : ℕ → Option Decoded → Result Found LexFault
 text_from at None = Err (BadText at)
 text_from at (Some body) =
-    cond (is_utf8 body.text)
-    (Ok (record { kind = kind.Str body.text; size = 1 + body.size }))
-    (Err (BadText at))
+    if is_utf8 body.text then Ok (record { kind = kind.Str body.text; size = 1 + body.size })
+    else Err (BadText at)
 
 abbrev pub symbol_from : ℕ → Option Symbol → Result Found LexFault
 symbol_from at None = Err (BadByte at)
@@ -94,9 +96,10 @@ symbol_at at text = symbol_from at (symbol_of text)
 abbrev pub found_at : ℕ → List ℕ → Result Found LexFault
 found_at at [] = Err (BadByte at)
 found_at at (b ∷ rest) =
-    cond (is_name_start b) (name_at at (b ∷ rest))
-    (cond (is_ascii_digit b) (number_at at (b ∷ rest))
-    (cond (is_quote b) (text_from at (body_of false rest)) (symbol_at at (b ∷ rest))))
+    if is_name_start b then name_at at (b ∷ rest)
+    else (if is_ascii_digit b then number_at at (b ∷ rest)
+    else (if is_quote b then text_from at (body_of false rest)
+    else symbol_at at (b ∷ rest)))
 
 -- This token at the place, and then those that follow it.
 abbrev pub with_found : ℕ → Result Found LexFault → (ℕ → LexResult) → LexResult
@@ -110,9 +113,9 @@ unfoldable pub lexed_from : ℕ → ℕ → List ℕ → LexResult
 lexed_from at inside [] = Ok []
 lexed_from at (suc inside) (b ∷ rest) = lexed_from (at + 1) inside rest
 lexed_from at zero (b ∷ rest) =
-    cond (is_blank b) (lexed_from (at + 1) 0 rest)
-    (cond (is_hash b) (lexed_from (at + 1) (prefix_len is_in_line rest) rest)
-    (with_found at (found_at at (b ∷ rest)) (λ size. lexed_from (at + 1) (size - 1) rest)))
+    if is_blank b then lexed_from (at + 1) 0 rest
+    else (if is_hash b then lexed_from (at + 1) (prefix_len is_in_line rest) rest
+    else with_found at (found_at at (b ∷ rest)) (λ size. lexed_from (at + 1) (size - 1) rest))
 
 -- The tokens of a text, or the first fault in it.
 abbrev pub lexed : List ℕ → LexResult

@@ -14,12 +14,17 @@ use Rattle.sym_pred.specs.Meaning.{Stands, Admits}
 -- one, or it stands with the other outcome.
 abbrev pub IsAdded : FactMap → Literal → Added → Type 0
 IsAdded facts literal Same = Stands facts (atom_of literal) literal.outcome
-IsAdded facts literal (Longer more) = (get facts (atom_of literal) ≡ None) × (more ≡ insert facts (atom_of literal) literal.outcome)
+IsAdded facts literal (Longer more) =
+    (get facts (atom_of literal) ≡ None) × (more ≡ insert facts (atom_of literal) literal.outcome)
 IsAdded facts literal Against = Stands facts (atom_of literal) (not literal.outcome)
 
 -- The same on states: the longer facts admit what both the old ones and the literal do. `Same`
 -- comes where all that the old ones admit gives the literal's outcome, `Against` where none does.
 abbrev pub AdmitsAdded : Truth → FactMap → Literal → List Value → Added → Type 0
-AdmitsAdded truth facts literal parts Same = Admits truth facts parts → truth literal.test literal.args parts ≡ literal.outcome
-AdmitsAdded truth facts literal parts (Longer more) = Admits truth more parts ↔ (Admits truth facts parts × (truth literal.test literal.args parts ≡ literal.outcome))
-AdmitsAdded truth facts literal parts Against = Admits truth facts parts → truth literal.test literal.args parts ≢ literal.outcome
+AdmitsAdded truth facts literal parts Same =
+    Admits truth facts parts → truth literal.test literal.args parts ≡ literal.outcome
+AdmitsAdded truth facts literal parts (Longer more) =
+    Admits truth more parts
+    ↔ (Admits truth facts parts × (truth literal.test literal.args parts ≡ literal.outcome))
+AdmitsAdded truth facts literal parts Against =
+    Admits truth facts parts → truth literal.test literal.args parts ≢ literal.outcome

@@ -11,5 +11,10 @@ turned literal = record literal { outcome = not literal.outcome }
 -- How two lists of literals differ: not at all, in the outcome at one place, or in more.
 abbrev pub IsDifference : List Literal → List Literal → Difference → Type 0
 IsDifference left right Nothing = right ≡ left
-IsDifference left right (One index) = (index < length left) × ((d : Literal) → right ≡ slice_set left index (turned (slice_index_or left index d)))
-IsDifference left right Many = (right ≢ left) × ((index : ℕ) (d : Literal) → index < length left → right ≢ slice_set left index (turned (slice_index_or left index d)))
+IsDifference left right (One index) =
+    (index < length left)
+    × ((d : Literal) → right ≡ slice_set left index (turned (slice_index_or left index d)))
+IsDifference left right Many =
+    (right ≢ left)
+    × ((index : ℕ) (d : Literal) → index < length left →
+    right ≢ slice_set left index (turned (slice_index_or left index d)))

@@ -11,7 +11,8 @@ Stands facts atom outcome = get facts atom ≡ Some outcome
 
 -- A hold cell with these parts gives each literal's outcome.
 abbrev pub Admits : Truth → FactMap → List Value → Type 0
-Admits truth facts parts = (atom : Atom) (outcome : Bool) → Stands facts atom outcome → truth atom.0 atom.1 parts ≡ outcome
+Admits truth facts parts =
+    (atom : Atom) (outcome : Bool) → Stands facts atom outcome → truth atom.0 atom.1 parts ≡ outcome
 
 -- A literal of the one stands in the other with the other outcome.
 pub record Clash (left right : FactMap) : Type 0 where

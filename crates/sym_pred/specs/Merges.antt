@@ -27,6 +27,7 @@ pub record ClashIn (xs ys : List Literal) : Type 0 where
 -- An atom that comes before those of both lists comes before those of the third.
 pub record IsMerged (xs ys zs : List Literal) : Type 0 where
   pub in_order : IsInOrder zs
-  pub below : (a : Atom) → T (below_all atom_cmp a (map entry_of xs)) → T (below_all atom_cmp a (map entry_of ys)) → T (below_all atom_cmp a (map entry_of zs))
+  pub below : (a : Atom) → T (below_all atom_cmp a (map entry_of xs)) →
+      T (below_all atom_cmp a (map entry_of ys)) → T (below_all atom_cmp a (map entry_of zs))
   pub finds : (q : Atom) → outcome_in zs q ≡ first_of (outcome_in xs q) (outcome_in ys q)
   pub agree : (q : Atom) (a b : Bool) → outcome_in xs q ≡ Some a → outcome_in ys q ≡ Some b → a ≡ b

@@ -15,8 +15,10 @@ abbrev pub IsPlace : List Literal → Atom → Result ℕ ℕ → Type 0
 IsPlace literals atom (Ok index) =
     (index < length literals)
     × ((d : Literal) → atom_of (slice_index_or literals index d) ≡ atom)
-    × ((d : Literal) → find atom_cmp atom (map entry_of literals) ≡ Some (slice_index_or literals index d).outcome)
+    × ((d : Literal) → find atom_cmp atom (map entry_of literals)
+    ≡ Some (slice_index_or literals index d).outcome)
 IsPlace literals atom (Err index) =
     (index ≤ length literals)
     × (find atom_cmp atom (map entry_of literals) ≡ None)
-    × ((outcome : Bool) → put atom_cmp atom outcome (map entry_of literals) ≡ insert (map entry_of literals) index (atom, outcome))
+    × ((outcome : Bool) → put atom_cmp atom outcome (map entry_of literals)
+    ≡ insert (map entry_of literals) index (atom, outcome))
