@@ -20,8 +20,10 @@ abbrev pub MatchCarried : Carried → Type 0 → Type 0 → Type 0
 MatchCarried LeftAt a b = a
 MatchCarried CrownedAt a b = b
 
--- The hand was a child of the node from lo to hi and is now that node, in whose word the other child's bit was found. The two pieces stand for its left and its right child.
-pub record Meets {P I : Type 0} (stands : I → ℕ → ℕ → P → Type 0) (input : I) (n found : ℕ) (before after : Option Interval) (x y : P) : Type 0 where
+-- The hand was a child of the node from lo to hi and is now that node, in whose word the other
+-- child's bit was found. The two pieces stand for its left and its right child.
+pub record Meets {P I : Type 0} (stands : I → ℕ → ℕ → P → Type 0) (input : I) (n found : ℕ)
+    (before after : Option Interval) (x y : P) : Type 0 where
   pub lo : ℕ
   pub hi : ℕ
   pub two_chunks : 1 < hi - lo
@@ -43,23 +45,28 @@ pub record IsAbove (before after : Option Interval) : Type 0 where
   pub longer : inner_is.hi - inner_is.lo < outer_is.hi - outer_is.lo
 
 module _ {P I : Type 0} {g : _} where
-  -- The hand wasn't the root, its parent's word lacked the sibling's arrival at this step, and the hand is empty.
+  -- The hand wasn't the root, its parent's word lacked the sibling's arrival at this step, and the
+  -- hand is empty.
   pub record LeavesAlone (b : Board P I) (old new : Pass P I g) : Type 0 where
     pub not_root : hand old ≢ Some (whole b)
     pub no_sibling : arrival_found new ≡ 0
     pub emptied : hand new ≡ None
 
-  -- The hand wasn't the root, its parent's word had the sibling's arrival at this step, and the pieces of both children come back.
-  pub record FindsSibling (stands : I → ℕ → ℕ → P → Type 0) (b : Board P I) (old new : Pass P I g) (x y : P) : Type 0 where
+  -- The hand wasn't the root, its parent's word had the sibling's arrival at this step, and the
+  -- pieces of both children come back.
+  pub record FindsSibling (stands : I → ℕ → ℕ → P → Type 0) (b : Board P I) (old new : Pass P I g)
+      (x y : P) : Type 0 where
     pub not_root : hand old ≢ Some (whole b)
-    pub meets : Meets stands (board_input b) (board_leaves b) (arrival_found new) (hand old) (hand new) x y
+    pub meets : Meets stands (board_input b) (board_leaves b) (arrival_found new)
+        (hand old) (hand new) x y
 
   -- the hand was the root and is empty
   pub record CrownsRoot (b : Board P I) (old new : Pass P I g) : Type 0 where
     pub root : hand old ≡ Some (whole b)
     pub emptied : hand new ≡ None
 
-  -- The node delivered last wasn't the root, and its parent's word lacked the sibling's arrival at that step.
+  -- The node delivered last wasn't the root, and its parent's word lacked the sibling's arrival at
+  -- that step.
   pub record EndsAlone (b : Board P I) (p : Pass P I g) : Type 0 where
     pub not_root : delivered p ≢ Some (whole b)
     pub no_sibling : arrival_found p ≡ 0

@@ -11,5 +11,9 @@ pub data IsNode (n : ℕ) : ℕ → ℕ → Type 0 where
 -- each number below 2n - 1 is that of one node, and each node has such a number
 abbrev pub NodesAreNumbered : Type 0
 NodesAreNumbered = (n : ℕ) → 0 < n → n ≤ LEAVES_MAX
-    → ((k : ℕ) → k < nodes n → IsNode n (place n k).lo (place n k).hi × (number (place n k).lo (place n k).hi ≡ k))
-    × ((lo hi : ℕ) → IsNode n lo hi → (number lo hi < nodes n) × ((place n (number lo hi)).lo ≡ lo) × ((place n (number lo hi)).hi ≡ hi))
+    → ((k : ℕ) → k < nodes n
+    → IsNode n (place n k).lo (place n k).hi × (number (place n k).lo (place n k).hi ≡ k))
+    × ((lo hi : ℕ) → IsNode n lo hi
+    → (number lo hi < nodes n)
+    × ((place n (number lo hi)).lo ≡ lo)
+    × ((place n (number lo hi)).hi ≡ hi))

@@ -38,7 +38,9 @@ module _ {P I : Type 0} {g : _} where
   abbrev pub delivered : Pass P I g → Option Interval
   delivered p = span_of p.leaves p.seat.me.0.delivered
 
-  -- What the word at which that node arrived held, as that step found it. For the root it is the crown word, and for any other node its parent's word, in which bit 1 is the left child's and bit 2 the right one's.
+  -- What the word at which that node arrived held, as that step found it. For the root it is the
+  -- crown word, and for any other node its parent's word, in which bit 1 is the left child's and
+  -- bit 2 the right one's.
   abbrev pub arrival_found : Pass P I g → ℕ
   arrival_found p = p.seat.me.0.arrival_found
 
@@ -60,7 +62,8 @@ module _ {P I : Type 0} where
 module _ {P I : Type 0} {g : _} where
   -- a pass of the board's table, with the board's input, leaves and number of passes
   abbrev pub IsPassOf : Board P I → Pass P I g → Type 0
-  IsPassOf b p = (p.seat.table_id ≡ b.table.shared.table_id) × (p.seat.me.0.input ≡ Some (board_input b))
+  IsPassOf b p =
+      (p.seat.table_id ≡ b.table.shared.table_id) × (p.seat.me.0.input ≡ Some (board_input b))
       × (p.leaves ≡ b.leaves) × (p.seat.me.0.seats ≡ b.seats)
 
   -- a pass that may claim: its hand is empty, and it hasn't ended
@@ -73,9 +76,11 @@ module _ {P I : Type 0} {g : _} where
 
   -- The hand isn't empty, and the piece stands for the hand's interval of the board's input.
   abbrev pub StandsForHand : (I → ℕ → ℕ → P → Type 0) → Board P I → Pass P I g → P → Type 0
-  StandsForHand stands b p x = (i : Interval) × (hand p ≡ Some i) × stands (board_input b) i.lo i.hi x
+  StandsForHand stands b p x =
+      (i : Interval) × (hand p ≡ Some i) × stands (board_input b) i.lo i.hi x
 
-  -- What only a claim changes: whether the pass has ended, how many leaves it claimed, and what its last claim found.
+  -- What only a claim changes: whether the pass has ended, how many leaves it claimed, and what its
+  -- last claim found.
   abbrev pub KeepsClaims : Pass P I g → Pass P I g → Type 0
   KeepsClaims old new = (has_ended new ≡ has_ended old)
       × (claims new ≡ claims old) × (claim_found new ≡ claim_found old)

@@ -1,4 +1,6 @@
--- The steps of a board, one kind for each event: a claim, a first and a second arrival at an inner node, the crowning of the root, the splitting and the joining of passes, and the end of the table.
+-- The steps of a board, one kind for each event: a claim, a first and a second arrival at an inner
+-- node, the crowning of the root, the splitting and the joining of passes, and the end of the
+-- table.
 use Rattle.std.specs.Prelude.{◌≡◌, ◌≢◌, ℕ, ◌+◌, ◌-◌, ◌<◌, ◌≤◌, ◌⊎◌, Bool, true, false, not, List, [], ◌∷◌, ◌++◌, length, slice_index, slice_set, max, Option, Some, None}
 use mathlib.Core.Option.{Option as Maybe, some, none}
 use lib.ListN.{get_elem?}
@@ -34,38 +36,71 @@ module _ {I : Type 0} where
   less_one v = record v { passes = v.passes - 1 }
 
   abbrev pub one_pass : View I → View I
-  one_pass v = record v { hand = None; claim_found = 0; delivered = None; arrival_found = 0; claimed = 0; ended = 0; passes = 1 }
+  one_pass v = record v {
+    hand = None;
+    claim_found = 0;
+    delivered = None;
+    arrival_found = 0;
+    claimed = 0;
+    ended = 0;
+    passes = 1;
+  }
 
-  -- A view that took in the counts of another one. Of what their last claims found it keeps the larger.
+  -- A view that took in the counts of another one. Of what their last claims found it keeps the
+  -- larger.
   abbrev pub with_counts : View I → View I → View I
-  with_counts v w = record v { claim_found = max v.claim_found w.claim_found; claimed = v.claimed + w.claimed; ended = v.ended + w.ended; passes = v.passes + w.passes }
+  with_counts v w = record v {
+    claim_found = max v.claim_found w.claim_found;
+    claimed = v.claimed + w.claimed;
+    ended = v.ended + w.ended;
+    passes = v.passes + w.passes;
+  }
 
   abbrev pub spent : View I
-  spent = record { input = None; leaves = 0; seats = 0; hand = None; claim_found = 0; delivered = None; arrival_found = 0; claimed = 0; ended = 0; passes = 0 }
+  spent = record {
+    input = None;
+    leaves = 0;
+    seats = 0;
+    hand = None;
+    claim_found = 0;
+    delivered = None;
+    arrival_found = 0;
+    claimed = 0;
+    ended = 0;
+    passes = 0;
+  }
 
 module _ {P : Type 0} where
-  -- The slot of k goes home with the piece x. The empty slots of k's children, which the pass may still hold, go home with it.
+  -- The slot of k goes home with the piece x. The empty slots of k's children, which the pass may
+  -- still hold, go home with it.
   pub record GoesHome (n k : ℕ) (x : P) (before after : List (Maybe (Option P))) : Type 0 where
     pub same_length : length after ≡ length before
     pub here : get_elem? after k ≡ some (some (Some x))
-    pub others : (j : ℕ) → j ≢ k → (get_elem? after j ≡ get_elem? before j) ⊎ (IsBelow n j k × (get_elem? after j ≡ some (some None)))
+    pub others : (j : ℕ) → j ≢ k →
+        (get_elem? after j ≡ get_elem? before j)
+        ⊎ (IsBelow n j k × (get_elem? after j ≡ some (some None)))
 
-  -- The slots of the inner node at m and of its two children are taken. Those of the children of k go home empty.
+  -- The slots of the inner node at m and of its two children are taken. Those of the children of k
+  -- go home empty.
   pub record TakesUp (n m k : ℕ) (before after : List (Maybe (Option P))) : Type 0 where
     pub same_length : length after ≡ length before
     pub parent_out : get_elem? after (inner m) ≡ some none
     pub side_out : (b : Bool) → get_elem? after (side n m b) ≡ some none
-    pub others : (j : ℕ) → j ≢ inner m → ((b : Bool) → j ≢ side n m b) → (get_elem? after j ≡ get_elem? before j) ⊎ (IsBelow n j k × (get_elem? after j ≡ some (some None)))
+    pub others : (j : ℕ) → j ≢ inner m → ((b : Bool) → j ≢ side n m b) →
+        (get_elem? after j ≡ get_elem? before j)
+        ⊎ (IsBelow n j k × (get_elem? after j ≡ some (some None)))
 
 module _ {P I : Type 0} where
   -- below n: the leaf of that number comes into the hand, and its slot is taken
-  pub record ClaimsLeaf (n : ℕ) (s t : State (Option P) (View I)) (id : ℕ) (v : View I) : Type 0 where
+  pub record ClaimsLeaf (n : ℕ) (s t : State (Option P) (View I)) (id : ℕ) (v : View I) :
+      Type 0 where
     pub below : slice_index s.words 0 < n
     pub homes_are : t.homes ≡ slice_set s.homes (leaf (slice_index s.words 0)) none
     pub views_are : t.views ≡ slice_set s.views id (with_leaf v (slice_index s.words 0))
 
   -- else: the pass has ended
-  pub record ClaimsNone (n : ℕ) (s t : State (Option P) (View I)) (id : ℕ) (v : View I) : Type 0 where
+  pub record ClaimsNone (n : ℕ) (s t : State (Option P) (View I)) (id : ℕ) (v : View I) :
+      Type 0 where
     pub past : n ≤ slice_index s.words 0
     pub homes_are : t.homes ≡ s.homes
     pub views_are : t.views ≡ slice_set s.views id (with_end v (slice_index s.words 0))
@@ -77,7 +112,8 @@ module _ {P I : Type 0} where
     pub found : ClaimsLeaf n s t id v ⊎ ClaimsNone n s t id v
 
   -- a child of the inner node at m arrives, and its sibling hasn't
-  pub record ArrivesFirst (stands : I → ℕ → ℕ → P → Type 0) (input : I) (n : ℕ) (s t : State (Option P) (View I)) (id : ℕ) (v : View I) : Type 0 where
+  pub record ArrivesFirst (stands : I → ℕ → ℕ → P → Type 0) (input : I) (n : ℕ)
+      (s t : State (Option P) (View I)) (id : ℕ) (v : View I) : Type 0 where
     pub parent : ℕ
     pub is_left : Bool
     pub piece : P
@@ -85,13 +121,15 @@ module _ {P I : Type 0} where
     pub near : parent < n
     pub hand_is : v.hand ≡ Some (side n parent is_left)
     pub alone : arrivals n s.words (side n parent (not is_left)) ≡ 0
-    pub piece_stands : stands input (place n (side n parent is_left)).lo (place n (side n parent is_left)).hi piece
+    pub piece_stands : stands input (place n (side n parent is_left)).lo
+        (place n (side n parent is_left)).hi piece
     pub words_are : t.words ≡ slice_set s.words parent (slice_index s.words parent + bit is_left)
     pub homes_are : GoesHome n (side n parent is_left) piece s.homes t.homes
     pub views_are : t.views ≡ slice_set s.views id (with_hand v None (slice_index s.words parent))
 
   -- a child of the inner node at m arrives, and its sibling has
-  pub record ArrivesSecond (n : ℕ) (s t : State (Option P) (View I)) (id : ℕ) (v : View I) : Type 0 where
+  pub record ArrivesSecond (n : ℕ) (s t : State (Option P) (View I)) (id : ℕ) (v : View I) :
+      Type 0 where
     pub parent : ℕ
     pub is_left : Bool
     pub positive : 0 < parent
@@ -100,10 +138,12 @@ module _ {P I : Type 0} where
     pub met : arrivals n s.words (side n parent (not is_left)) ≡ 1
     pub words_are : t.words ≡ slice_set s.words parent (slice_index s.words parent + bit is_left)
     pub homes_are : TakesUp n parent (side n parent is_left) s.homes t.homes
-    pub views_are : t.views ≡ slice_set s.views id (with_hand v (Some (inner parent)) (slice_index s.words parent))
+    pub views_are : t.views ≡ slice_set s.views id
+        (with_hand v (Some (inner parent)) (slice_index s.words parent))
 
   -- the root arrives at the crown word
-  pub record Crowns (stands : I → ℕ → ℕ → P → Type 0) (input : I) (n : ℕ) (s t : State (Option P) (View I)) (id : ℕ) (v : View I) : Type 0 where
+  pub record Crowns (stands : I → ℕ → ℕ → P → Type 0) (input : I) (n : ℕ)
+      (s t : State (Option P) (View I)) (id : ℕ) (v : View I) : Type 0 where
     pub piece : P
     pub hand_is : v.hand ≡ Some (root n)
     pub piece_stands : stands input (place n (root n)).lo (place n (root n)).hi piece
@@ -136,7 +176,8 @@ module _ {P I : Type 0} where
     pub same : t ≡ s
 
   -- a step from s to t by the seat id, whose view is v
-  pub data Step (stands : I → ℕ → ℕ → P → Type 0) (input : I) (n : ℕ) (s t : State (Option P) (View I)) (id : ℕ) (v : View I) : Type 0 where
+  pub data Step (stands : I → ℕ → ℕ → P → Type 0) (input : I) (n : ℕ)
+      (s t : State (Option P) (View I)) (id : ℕ) (v : View I) : Type 0 where
     claim : Claims n s t id v → Step stands input n s t id v
     arrive_first : ArrivesFirst stands input n s t id v → Step stands input n s t id v
     arrive_second : ArrivesSecond n s t id v → Step stands input n s t id v

@@ -47,7 +47,8 @@ impl<P: Piece> Board<P> {
     ghost use Rattle.sym_board.specs.Passes.{hand, board_leaves, board_input, IsPassOf, StandsForHand, KeepsClaims, delivered};
     ghost use Rattle.sym_board.specs.Arrived.{MatchArrived, LeavesAlone, FindsSibling, CrownsRoot};
 
-    // What lies in the slot that the seat took last, which goes behind the others with nothing in it.
+    // What lies in the slot that the seat took last, which goes behind the others with nothing in
+    // it.
     fn take(&self, seat: &mut Seat<Option<P>, View<P::Input>>, slot: u64) -> Option<P>
         requires table { seat.old.table_id ≡ self.now.table.shared.table_id }
         requires first { (o : _) × (seat.old.me.1 ≡ (slot, o) ∷ rest seat.old.me.1) }
@@ -60,7 +61,8 @@ impl<P: Piece> Board<P> {
         value
     }
 
-    // The node arrives at its parent's word. Returns what this step found there: 0 where the sibling hasn't arrived.
+    // The node arrives at its parent's word. Returns what this step found there: 0 where the
+    // sibling hasn't arrived.
     fn set_bit(&self, seat: &mut Seat<Option<P>, View<P::Input>>, node: u64, at: Spot) -> u64
         requires table { seat.old.table_id ≡ self.now.table.shared.table_id }
         requires node { IsChildAt self.now.leaves node at }
@@ -128,12 +130,13 @@ impl<P: Piece> Board<P> {
 
     /// Brings the piece of the node in the hand to the board, by one atomic step.
     ///
-    /// Conditions: the pass is of this board, its hand isn't empty, and the piece stands for the hand's interval of the
-    /// board's input.
+    /// Conditions: the pass is of this board, its hand isn't empty, and the piece stands for the
+    /// hand's interval of the board's input.
     ///
-    /// `Crowned` is returned exactly when the hand was the root. Otherwise it is `Left` exactly when the parent's word
-    /// lacked the sibling's arrival at this step, and `Pair` exactly when it had it. With `Pair` the hand is the
-    /// parent, whose children's pieces come back, and else it is empty.
+    /// `Crowned` is returned exactly when the hand was the root. Otherwise it is `Left` exactly
+    /// when the parent's word lacked the sibling's arrival at this step, and `Pair` exactly when it
+    /// had it. With `Pair` the hand is the parent, whose children's pieces come back, and else it
+    /// is empty.
     pub fn deliver(&self, pass: &mut Pass<P>, piece: P) -> Arrived<P>
         requires of { IsPassOf self.now pass.old }
         requires held { StandsForHand P.stands_for self.now pass.old piece }
@@ -175,13 +178,14 @@ impl<P: Piece> Board<P> {
     ghost use Rattle.sym_board.specs.Passes.{hand, whole, board_input, IsPassOf, StandsForHand, KeepsClaims};
     ghost use Rattle.sym_board.specs.Arrived.{MatchCarried, EndsAlone, EndsAtRoot, IsAbove};
 
-    /// Delivers the piece of the node in the hand and joins what it meets, up to `Left` or `Crowned`: the hand is then
-    /// empty.
+    /// Delivers the piece of the node in the hand and joins what it meets, up to `Left` or
+    /// `Crowned`: the hand is then empty.
     ///
-    /// Conditions: those of [`Board::deliver`], and `input` is the board's. `Crowned` is returned exactly when the node
-    /// that was delivered last was the root, and `Left` exactly when it wasn't and its parent's word lacked the
-    /// sibling's arrival at that step. `Err` says that an allocation failed, and nothing else. The hand then holds a
-    /// node further up, whose piece is lost.
+    /// Conditions: those of [`Board::deliver`], and `input` is the board's. `Crowned` is returned
+    /// exactly when the node that was delivered last was the root, and `Left` exactly when it
+    /// wasn't and its parent's word lacked the sibling's arrival at that step. `Err` says that an
+    /// allocation failed, and nothing else. The hand then holds a node further up, whose piece is
+    /// lost.
     pub fn carry(
         &self,
         alloc: Global,

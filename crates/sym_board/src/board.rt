@@ -50,9 +50,9 @@ impl<P: Piece> Board<P> {
 
     /// A board over `n` leaves with `seats` passes. It takes all the memory that the board needs.
     ///
-    /// Conditions: `n` is 1 to [`LEAVES_MAX`](crate::LEAVES_MAX), and `seats` is 1 to [`SEATS_MAX`](crate::SEATS_MAX).
-    /// Each pass is of this board, its hand is empty, it hasn't ended, and it has claimed nothing. `Err` says that an
-    /// allocation failed, and nothing else.
+    /// Conditions: `n` is 1 to [`LEAVES_MAX`](crate::LEAVES_MAX), and `seats` is 1 to
+    /// [`SEATS_MAX`](crate::SEATS_MAX). Each pass is of this board, its hand is empty, it hasn't
+    /// ended, and it has claimed nothing. `Err` says that an allocation failed, and nothing else.
     pub fn new(alloc: Global, input: &P::Input, n: u32, seats: u32) -> Result<Made<P>, NoMemory>
         requires leaves { (1 ≤ n) × (n ≤ LEAVES_MAX) }
         requires seats { (1 ≤ seats) × (seats ≤ SEATS_MAX) }
@@ -114,9 +114,10 @@ impl<P: Piece> Board<P> {
 
     /// Claims a leaf, by one atomic step.
     ///
-    /// Conditions: the pass is of this board, its hand is empty, and it hasn't ended. `Some(i)` says that the claim
-    /// word stood at i at this step, so that no other claim is given i; leaf i is then in the hand. `None` says that it
-    /// stood at the number of leaves or more, so that every leaf is claimed; the pass has then ended.
+    /// Conditions: the pass is of this board, its hand is empty, and it hasn't ended. `Some(i)`
+    /// says that the claim word stood at i at this step, so that no other claim is given i; leaf i
+    /// is then in the hand. `None` says that it stood at the number of leaves or more, so that
+    /// every leaf is claimed; the pass has then ended.
     pub fn claim(&self, pass: &mut Pass<P>) -> Option<u32>
         requires of { IsPassOf self.now pass.old }
         requires free { IsFree pass.old }

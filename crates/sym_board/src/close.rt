@@ -88,9 +88,9 @@ impl<P: Piece> Board<P> {
 
     /// Ends the board. `Some` is a piece that stands for the board's whole input.
     ///
-    /// Condition: the passes are of this board. `None` is returned only when a pass that was handed in has a node in
-    /// its hand, a pass is missing, or a leaf is unclaimed. No leaf is unclaimed where a pass that was handed in has
-    /// ended.
+    /// Condition: the passes are of this board. `None` is returned only when a pass that was handed
+    /// in has a node in its hand, a pass is missing, or a leaf is unclaimed. No leaf is unclaimed
+    /// where a pass that was handed in has ended.
     pub fn close(self, passes: Vec<Pass<P>>) -> Option<P>
         requires { All (λ p. IsPassOf self p) passes.items }
         ensures some { IfSome result (λ x.

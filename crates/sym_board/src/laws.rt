@@ -1,11 +1,12 @@
-//! What holds of every board, whatever its callers' threads do. Each function does nothing: its clause is the law.
+//! What holds of every board, whatever its callers' threads do. Each function does nothing: its
+//! clause is the law.
 ghost use Rattle.sym_board.specs.Nodes.{NodesAreNumbered};
 ghost use Rattle.sym_board.specs.Laws.{RuleIsLawful, LawfulIsRule, StepsKeepLawful, ChunksLieOnce, AddingClaims, SettingArrivesFirst, SettingArrivesSecond, SettingCrowns, CuttingSplits, MergingJoins, EndingCloses};
 
 use crate::piece::Piece;
 
-/// The nodes of the tree are the numbers below 2n - 1: from the root down, each node of two chunks or more has a left
-/// child with half its chunks, rounded up, and a right child with the rest.
+/// The nodes of the tree are the numbers below 2n - 1: from the root down, each node of two chunks
+/// or more has a left child with half its chunks, rounded up, and a right child with the rest.
 pub fn nodes_are_numbered()
     ensures { NodesAreNumbered }
 {}

@@ -9,7 +9,8 @@ use crate::tree::{Interval, find};
 use crate::view::View;
 use atomic_table::Seat;
 
-/// A pass to a board. With it a worker claims leaves and delivers pieces. It may hold a node of the tree in its hand.
+/// A pass to a board. With it a worker claims leaves and delivers pieces. It may hold a node of the
+/// tree in its hand.
 #[derive(Drop)]
 pub struct Pass<P: Piece> {
     pub(crate) seat: Seat<Option<P>, View<P::Input>>,

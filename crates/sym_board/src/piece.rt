@@ -4,7 +4,8 @@ ghost use Rattle.std.specs.Prelude.{ℕ, IfOk};
 use std::alloc::Global;
 use sym_base::NoMemory;
 
-/// A piece of work on neighbouring chunks of an input, which can be joined with the piece on its right.
+/// A piece of work on neighbouring chunks of an input, which can be joined with the piece on its
+/// right.
 pub trait Piece: Sized + Send + Drop {
     /// What the chunks are cut from.
     type Input;
@@ -14,8 +15,8 @@ pub trait Piece: Sized + Send + Drop {
 
     /// The piece of both together.
     ///
-    /// Condition: the two pieces stand for neighbouring intervals of `input`, this one for the left of them. `Err` says
-    /// that an allocation failed, and nothing else.
+    /// Condition: the two pieces stand for neighbouring intervals of `input`, this one for the left
+    /// of them. `Err` says that an allocation failed, and nothing else.
     fn join(self, alloc: Global, input: &Self::Input, right: Self) -> Result<Self, NoMemory>
         requires { (lo : ℕ) × (mid : ℕ) × (hi : ℕ)
             × stands_for input.now lo mid self × stands_for input.now mid hi right }

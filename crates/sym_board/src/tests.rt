@@ -120,7 +120,8 @@ fn meet(
     Some((left, right))
 }
 
-// Leaves 0 and 1 meet, the third pass carries the others and finds no sixth one, and the board is closed.
+// Leaves 0 and 1 meet, the third pass carries the others and finds no sixth one, and the board is
+// closed.
 fn finish_five(
     alloc: Global,
     board: Board<Row>,

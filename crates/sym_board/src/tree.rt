@@ -1,5 +1,6 @@
-//! The tree over a board's leaves, whose nodes are numbered in order from the left: leaf i is 2i, and the inner node
-//! whose children meet at m is 2m - 1. So a node is found by its number as in a search tree.
+//! The tree over a board's leaves, whose nodes are numbered in order from the left: leaf i is 2i,
+//! and the inner node whose children meet at m is 2m - 1. So a node is found by its number as in a
+//! search tree.
 
 ghost use Rattle.std.specs.Prelude.{◌≡◌, ℕ, ◌*◌, ◌<◌, ◌≤◌};
 ghost use Rattle.sym_board.specs.Tree.{number, spot, place};
@@ -13,8 +14,8 @@ pub struct Interval {
     pub hi: u32,
 }
 
-/// Where a node is: its interval, the number at which its parent's children meet, and whether it is the left one.
-/// At the root the last two mean nothing.
+/// Where a node is: its interval, the number at which its parent's children meet, and whether it is
+/// the left one. At the root the last two mean nothing.
 #[derive(Clone, Copy)]
 pub(crate) struct Spot {
     pub(crate) lo: u64,
