@@ -1,3 +1,4 @@
 pub mod FixedLists
 pub mod Locals
 pub mod Places
+pub mod Pairs

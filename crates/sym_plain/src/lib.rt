@@ -2,11 +2,13 @@
 //! are the definitions of the sequential meaning.
 #![tactic(auto)]
 
+mod groups;
 mod keys;
 mod states;
 mod steps;
 mod update;
 
+pub use groups::Groups;
 pub use keys::key_of;
 pub use states::initial;
 pub use steps::step;

@@ -1,0 +1,82 @@
+-- Pairs with distinct keys, as the map keeps them.
+use Rattle.std.proofs.Common.{◌≡◌, ◌∙◌, ap, sym, refl, rules, Bool, true, false, cond, ◌||◌, if◌then◌else◌, List, [], ◌∷◌, ◌++◌, map, Option, Some, None, true≢false}
+use Rattle.std.specs.Bool.{Decides}
+use Rattle.std.specs.Cmp.{IsEquivalence}
+use Rattle.std.specs.List.{list_any}
+use Rattle.std.specs.Map.{keys_of, lookup, set_value}
+use Rattle.std.proofs.lemmas.Map.{NonePasses}
+use Rattle.std.proofs.lemmas.Map.Entries.{none_past_head}
+use Rattle.std.proofs.lemmas.Map.Keys.{IsDistinct-tail}
+use Rattle.indexmap.specs.IndexMap.{insert_entry}
+use Rattle.sym_base.specs.declared.values.value.Key.{Key}
+use Rattle.sym_base.specs.declared.values.state.Outcome.{Outcome}
+use Rattle.sym_check.specs.Groups.{is_key}
+use Rattle.sym_plain.specs.Pairs.{HaveDistinctKeys, has_key, put}
+
+-- The test of keys holds exactly of equal ones.
+pub key-Decides : (x y : Key) → Decides (is_key x y) (x ≡ y)
+key-Decides x y = search rules
+
+pub same_key : (x : Key) → is_key x x ≡ true
+same_key x = (key-Decides x x).1 refl
+
+by_tests : (a b : Bool) → (a ≡ true → b ≡ true) → (b ≡ true → a ≡ true) → a ≡ b
+by_tests true true f g = refl
+by_tests true false f g = sym (f refl)
+by_tests false true f g = g refl
+by_tests false false f g = refl
+
+turned : (x y : Key) → is_key x y ≡ true → is_key y x ≡ true
+turned x y h = (key-Decides y x).1 (sym ((key-Decides x y).0 h))
+
+pub keys_equiv : IsEquivalence is_key
+keys_equiv = record {
+  refl = same_key;
+  symm = λ x y. by_tests (is_key x y) (is_key y x) (turned x y) (turned y x);
+  congr = λ x y z h. ap (λ (k : Key). is_key k z) ((key-Decides x y).0 h);
+}
+
+abbrev at_key : Key → Outcome → Key × Outcome → Key × Outcome
+at_key key outcome p = if is_key key p.0 then (p.0, outcome) else p
+
+-- Pairs of which none has the key stay.
+others_stay : (key : Key) (outcome : Outcome) (pairs : List (Key × Outcome)) → NonePasses (is_key key) pairs → map (at_key key outcome) pairs ≡ pairs
+others_stay key outcome [] none = refl
+others_stay key outcome (p ∷ rest) none =
+    ap (λ (b : Bool). (if b then (p.0, outcome) else p) ∷ map (at_key key outcome) rest) none.0
+    ∙ ap (λ ps. p ∷ ps) (others_stay key outcome rest none.1)
+
+-- Where the first pair has the key it takes the outcome, and else it stays.
+put_here : (p : Key × Outcome) (rest : List (Key × Outcome)) (key : Key) (outcome : Outcome) → HaveDistinctKeys (p ∷ rest) → is_key key p.0 ≡ true → (p.0, outcome) ∷ rest ≡ put (p ∷ rest) key outcome
+put_here p rest key outcome apart here =
+    sym (ap (λ (b : Bool). if b || has_key rest key then (if b then (p.0, outcome) else p) ∷ map (at_key key outcome) rest else (p ∷ rest) ++ (key, outcome) ∷ []) here
+    ∙ ap (λ ps. (p.0, outcome) ∷ ps) (others_stay key outcome rest (none_past_head keys_equiv key p rest apart here)))
+
+cons_if : (b : Bool) (p : Key × Outcome) (xs ys : List (Key × Outcome)) → p ∷ (if b then xs else ys) ≡ (if b then p ∷ xs else p ∷ ys)
+cons_if true p xs ys = refl
+cons_if false p xs ys = refl
+
+put_past : (p : Key × Outcome) (rest : List (Key × Outcome)) (key : Key) (outcome : Outcome) → is_key key p.0 ≡ false → p ∷ put rest key outcome ≡ put (p ∷ rest) key outcome
+put_past p rest key outcome past =
+    cons_if (has_key rest key) p (map (at_key key outcome) rest) (rest ++ (key, outcome) ∷ [])
+    ∙ sym (ap (λ (b : Bool). if b || has_key rest key then (if b then (p.0, outcome) else p) ∷ map (at_key key outcome) rest else (p ∷ rest) ++ (key, outcome) ∷ []) past)
+
+-- What is inserted into the map is put,
+pub insert-put : (pairs : List (Key × Outcome)) (key : Key) (outcome : Outcome) → HaveDistinctKeys pairs → insert_entry is_key pairs key outcome ≡ put pairs key outcome
+insert-put [] key outcome apart = refl
+insert-put (p ∷ rest) key outcome apart =
+    of (is_key key p.0) refl (insert-put rest key outcome (IsDistinct-tail is_key p.0 (keys_of rest) apart))
+  where
+    of : (b : Bool) → is_key key p.0 ≡ b → insert_entry is_key rest key outcome ≡ put rest key outcome → (if b then (p.0, outcome) ∷ rest else p ∷ insert_entry is_key rest key outcome) ≡ put (p ∷ rest) key outcome
+    of true here later = put_here p rest key outcome apart here
+    of false past later = ap (λ ps. p ∷ ps) later ∙ put_past p rest key outcome past
+
+-- and so is what is set at a key that is there.
+pub set-put : (pairs : List (Key × Outcome)) (key : Key) (old outcome : Outcome) → HaveDistinctKeys pairs → lookup (is_key key) pairs ≡ Some old → set_value (is_key key) pairs outcome ≡ put pairs key outcome
+set-put [] key old outcome apart found = cc
+set-put (p ∷ rest) key old outcome apart found =
+    of (is_key key p.0) refl (set-put rest key old outcome (IsDistinct-tail is_key p.0 (keys_of rest) apart)) found
+  where
+    of : (b : Bool) → is_key key p.0 ≡ b → (lookup (is_key key) rest ≡ Some old → set_value (is_key key) rest outcome ≡ put rest key outcome) → cond b (Some p.1) (lookup (is_key key) rest) ≡ Some old → cond b ((p.0, outcome) ∷ rest) (p ∷ set_value (is_key key) rest outcome) ≡ put (p ∷ rest) key outcome
+    of true here later f = put_here p rest key outcome apart here
+    of false past later f = ap (λ ps. p ∷ ps) (later f) ∙ put_past p rest key outcome past

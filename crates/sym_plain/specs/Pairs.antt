@@ -1,0 +1,36 @@
+-- Groups as a list of pairs: each key with how its group stands.
+use Rattle.std.specs.Prelude.{Bool, List, [], ◌∷◌, ◌++◌, map, Option, Some, None, if◌then◌else◌}
+use Rattle.std.specs.List.{list_any, IsDistinct}
+use Rattle.std.specs.Map.{keys_of, lookup}
+use Rattle.sym_base.specs.declared.values.value.Key.{Key}
+use Rattle.sym_base.specs.declared.values.record.Record.{Record}
+use Rattle.sym_base.specs.declared.values.state.Outcome.{Outcome}
+use Rattle.sym_base.specs.declared.values.state.Outcome.TheVariants.{Going}
+use Rattle.sym_check.specs.Groups.{is_key, key_of}
+use Rattle.sym_check.specs.ScriptPlans.{ScriptPlan}
+use Rattle.sym_check.specs.Updates.{initial, step}
+
+-- No key stands twice.
+abbrev pub HaveDistinctKeys : List (Key × Outcome) → Type 0
+HaveDistinctKeys pairs = IsDistinct is_key (keys_of pairs)
+
+abbrev pub has_key : List (Key × Outcome) → Key → Bool
+has_key pairs key = list_any (is_key key) (keys_of pairs)
+
+-- The key's outcome becomes this one; a new key goes last; all other pairs stay.
+abbrev pub put : List (Key × Outcome) → Key → Outcome → List (Key × Outcome)
+put pairs key outcome =
+    if has_key pairs key
+    then map (λ p. if is_key key p.0 then (p.0, outcome) else p) pairs
+    else pairs ++ (key, outcome) ∷ []
+
+-- How a group stands; one that isn't there begins with the initial state.
+abbrev pub standing : ScriptPlan → Option Outcome → Outcome
+standing p None = Going (initial p)
+standing p (Some outcome) = outcome
+
+-- The groups after one record more: the record's group makes its step, and all others stay.
+abbrev pub after_record : ScriptPlan → List (Key × Outcome) → Record → List (Key × Outcome)
+after_record p pairs rec =
+    let key = key_of p rec in
+    put pairs key (step p (standing p (lookup (is_key key) pairs)) rec)

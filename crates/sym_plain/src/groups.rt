@@ -1,0 +1,65 @@
+//! How groups stand, in order of their keys' first appearance.
+ghost use Rattle.std.specs.Prelude.{◌≡◌, [], IfOk, length, slice_get};
+ghost use Rattle.std.specs.Map.Iter.{deref_pair};
+ghost use Rattle.std.specs.Option.{option_map};
+ghost use Rattle.sym_plain.specs.Pairs.{HaveDistinctKeys, put};
+
+use indexmap::IndexMap;
+use std::alloc::Global;
+use std::marker::Model;
+use sym_base::{Key, NoMemory, Outcome};
+
+/// Each key with how its group stands. A contract sees a list of pairs with distinct keys.
+#[derive(Drop)]
+pub struct Groups {
+    map: IndexMap<Key, Outcome>,
+}
+
+impl Model for Groups {
+    ghost use Rattle.std.specs.Prelude.{List};
+    ghost use Rattle.sym_base.specs.declared.values.value.Key.{Key as OneKey};
+    ghost use Rattle.sym_base.specs.declared.values.state.Outcome.{Outcome as OneOutcome};
+    ghost use Rattle.sym_plain.specs.Pairs.{HaveDistinctKeys};
+
+    ghost Value = { List (OneKey × OneOutcome) };
+
+    ghost view = { λ g. g.map.entries };
+
+    ghost invariant = { λ g. HaveDistinctKeys g.map.entries };
+}
+
+impl Groups {
+    /// No groups. It takes no memory.
+    pub fn new(alloc: Global) -> Groups
+        ensures { result ≡ [] }
+    {
+        Groups {
+            map: IndexMap::new(alloc),
+        }
+    }
+
+    /// The number of groups.
+    pub fn len(&self) -> usize
+        ensures len { result ≡ length self.now }
+        ensures distinct { HaveDistinctKeys self.now }
+    {
+        self.map.len()
+    }
+
+    /// The group at `index`, counted from 0; `None` exactly where `index >= len`.
+    pub fn at(&self, index: usize) -> Option<(&Key, &Outcome)>
+        ensures { option_map deref_pair result ≡ slice_get self.now index }
+    {
+        self.map.get_index(index)
+    }
+
+    /// The groups with this outcome for the key: it takes the place of the key's outcome, and a
+    /// new key goes last. After an `Err` the groups, the key and the outcome are dropped.
+    pub fn put(self, _alloc: Global, key: Key, outcome: Outcome) -> Result<Groups, NoMemory>
+        ensures { IfOk result (λ g. g ≡ put self key outcome) }
+    {
+        let mut groups = self;
+        groups.map.insert(key, outcome)?;
+        Ok(groups)
+    }
+}
