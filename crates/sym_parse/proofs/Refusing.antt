@@ -18,7 +18,7 @@ use Rattle.sym_parse.specs.Lexemes.{Lexeme, lexeme_of, lexemes_of}
 use Rattle.sym_parse.specs.Limits.{most}
 use Rattle.sym_parse.specs.Steps.{Input, Parsed}
 use Rattle.sym_parse.specs.Parsing.Scripts.{script, start}
-use Rattle.sym_parse.specs.Sentences.{IsSentence, BeginNone, IsUnexpected, token, end, IsNoEarlier, IsKeptBy, IsReached}
+use Rattle.sym_parse.specs.Sentences.{IsSentence, BeginNoSentence, IsUnexpected, token, end, IsNoEarlier, IsKeptBy, IsReached}
 use Rattle.sym_parse.proofs.Reaching.{at}
 use Rattle.sym_parse.proofs.Keeping.{Along, ahead, same, Agrees}
 use Rattle.sym_parse.proofs.KeepingScripts.{script-keeps}
@@ -74,7 +74,7 @@ sentence-reads m ls s =
     (read.0, subst (λ (o : Parsed ScriptTree). IsKeptBy o (script (both m s.limits) (start ls))) read.1 wide)
 
 -- No sentence begins with the lexemes up to the one at which reading stops.
-none-begins : (m : LimitKind → ℕ) (front us : List Lexeme) (l : Lexeme) → script m (start (front ++ l ∷ us)) ≡ Err (stop.Expected (suc (length us))) → BeginNone (front ++ l ∷ [])
+none-begins : (m : LimitKind → ℕ) (front us : List Lexeme) (l : Lexeme) → script m (start (front ++ l ∷ us)) ≡ Err (stop.Expected (suc (length us))) → BeginNoSentence (front ++ l ∷ [])
 none-begins m front us l e = λ rest s.
     let wide : LimitKind → ℕ = both m s.limits in
     let read = sentence-reads m ((front ++ l ∷ []) ++ rest) s in
@@ -130,7 +130,7 @@ at-token text tokens left at r e p s =
     let apart : lexemes_of text tokens ≡ ls ++ l ∷ us = ap (lexemes_of text) s.splits ∙ map-append (lexeme_of text) s.front (s.token ∷ s.rest) in
     let left-after : left ≡ length us = sym s.after ∙ sym (length-map s.rest (lexeme_of text)) in
     let here : script most (start (ls ++ l ∷ us)) ≡ Err (stop.Expected (suc (length us))) = ap (λ (m : List Lexeme). script most (start m)) (sym apart) ∙ e ∙ ap (λ (m : ℕ). Err (stop.Expected (suc m))) left-after in
-    let none : BeginNone (lexemes_of text (s.front ++ s.token ∷ [])) = subst BeginNone (sym (map-append (lexeme_of text) s.front (s.token ∷ []))) (none-begins most ls us l here) in
+    let none : BeginNoSentence (lexemes_of text (s.front ++ s.token ∷ [])) = subst BeginNoSentence (sym (map-append (lexeme_of text) s.front (s.token ∷ []))) (none-begins most ls us l here) in
     token s.front s.rest s.token (subst (λ (m : List Token). Reads 0 text (Ok m)) s.splits r) (sym (ap (place_or (length text)) s.stands) ∙ p) none
 
 at-place : (text : List ℕ) (tokens : List Token) (left at : ℕ) → Reads 0 text (Ok tokens) → reading text tokens ≡ Err (stop.Expected left) → left ≤ length tokens → place_of_left (length text) tokens left ≡ at → IsUnexpected text at

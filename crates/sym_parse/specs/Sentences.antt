@@ -19,14 +19,14 @@ pub record IsSentence (ls : List Lexeme) : Type 0 where
   pub script : IsScript limits ls tree
 
 -- Whatever lexemes follow these, and whatever the limits, they are no script's.
-abbrev pub BeginNone : List Lexeme → Type 0
-BeginNone ls = (rest : List Lexeme) → IsSentence (ls ++ rest) → ⊥
+abbrev pub BeginNoSentence : List Lexeme → Type 0
+BeginNoSentence ls = (rest : List Lexeme) → IsSentence (ls ++ rest) → ⊥
 
 -- At this place of the text no sentence goes on: none begins with the tokens up to the one there,
 -- or the tokens of the whole text, which ends there, are none.
 pub data IsUnexpected (text : List ℕ) (at : ℕ) : Type 0 where
   token : (front rest : List Token) (t : Token) → Reads 0 text (Ok (front ++ t ∷ rest)) →
-      t.at ≡ at → BeginNone (lexemes_of text (front ++ t ∷ [])) → IsUnexpected text at
+      t.at ≡ at → BeginNoSentence (lexemes_of text (front ++ t ∷ [])) → IsUnexpected text at
   end : (tokens : List Token) → Reads 0 text (Ok tokens) →
       length text ≡ at → (IsSentence (lexemes_of text tokens) → ⊥) → IsUnexpected text at
 
