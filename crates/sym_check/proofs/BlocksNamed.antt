@@ -53,7 +53,7 @@ local_there p k n last (meaning.NumsCell c) h = h
 local_there p k n last (meaning.WordsCell c) h = h
 local_there p k n last (meaning.Test t ks) h = h
 
-expr_leaves : (e : ExprTree) → is_lawful_expr e ≡ true → has_lawful_leaves e ≡ true
+pub expr_leaves : (e : ExprTree) → is_lawful_expr e ≡ true → has_lawful_leaves e ≡ true
 expr_leaves e h = (both_true (has_lawful_leaves e) (nat_le (operand_count e) max_operands) h).0
 
 exprs_leaves : (es : ExprsTree) → are_lawful_exprs es ≡ true → have_lawful_leaves es ≡ true

@@ -9,10 +9,11 @@ pub mod ReportsSeen
 pub mod ReportsAgree
 pub mod ReportCallsAgree
 pub mod ColumnsAgree
-pub mod ScriptAgreements
+pub mod ScriptParts
 pub mod ScriptsAgree
 pub mod ScopesNamed
 pub mod BlocksNamed
+pub mod AcceptedPlans
 mod Examples
 mod ZippedLists
 mod ValidSteps

@@ -1,66 +1,45 @@
 -- A script has a plan by the rules exactly where the function gives it, and a first broken rule
 -- exactly where the function names it. So it has one plan or one first broken rule, and never both.
-use Rattle.std.proofs.Common.{◌≡◌, refl, ℕ, ◌⊎◌, inl, inr, Result, Ok, Err}
-use Rattle.sym_base.specs.Trees.{ExprTree, StmtsTree, ScriptTree}
+use Rattle.std.proofs.Common.{◌≡◌, refl, ◌⊎◌, inl, inr, Result, Ok, Err}
+use Rattle.sym_base.specs.Trees.{ScriptTree}
 use Rattle.sym_check.specs.ScriptPlans.{ScriptPlan}
 use Rattle.sym_check.specs.declared.elaborate.error.RuleErr.{RuleErr}
-use Rattle.sym_check.specs.Scopes.{Scope}
-use Rattle.sym_check.specs.Typing.{Means}
-use Rattle.sym_check.specs.Breaks.{Breaks}
-use Rattle.sym_check.specs.Elaborate.{infer}
-use Rattle.sym_check.specs.Statements.{IsBlock}
-use Rattle.sym_check.specs.BreaksStatements.{BreaksBlock}
-use Rattle.sym_check.specs.ElaborateStatements.{PlannedDos, block}
 use Rattle.sym_check.specs.Scripts.{IsAccepted, BreaksScript, plan_of}
-use Rattle.sym_check.proofs.Agreements.{Agrees}
-use Rattle.sym_check.proofs.ExpressionsAgree.{means_inferred, inferred_means, breaks_inferred, inferred_breaks}
-use Rattle.sym_check.proofs.ScriptAgreements.{script_agrees}
+use Rattle.sym_check.proofs.ScriptParts.{script_agrees}
 
-infer_agrees : (s : Scope) (e : ExprTree) → Agrees (Means s e) (Breaks s e) (infer s e)
-infer_agrees s e = record {
-  complete = means_inferred s e;
-  sound = inferred_means s e;
-  finds = breaks_inferred s e;
-  breaks = inferred_breaks s e;
-}
+pub accepted_planned : (t : ScriptTree) (p : ScriptPlan) → IsAccepted t p → plan_of t ≡ Ok p
+accepted_planned t p i = (script_agrees t).complete p i
 
-module _ (block_agrees : (out s : Scope) (n : ℕ) (b : StmtsTree) → Agrees (λ (p : PlannedDos). IsBlock out s n b p.plan p.next) (BreaksBlock out s n b) (block out s n b)) where
-  agreement : (t : ScriptTree) → Agrees (IsAccepted t) (BreaksScript t) (plan_of t)
-  agreement t = script_agrees infer_agrees block_agrees t
+pub planned_accepted : (t : ScriptTree) (p : ScriptPlan) → plan_of t ≡ Ok p → IsAccepted t p
+planned_accepted t p e = (script_agrees t).sound p e
 
-  pub accepted_planned : (t : ScriptTree) (p : ScriptPlan) → IsAccepted t p → plan_of t ≡ Ok p
-  accepted_planned t p i = (agreement t).complete p i
+pub breaks_planned : (t : ScriptTree) (f : RuleErr) → BreaksScript t f → plan_of t ≡ Err f
+breaks_planned t f b = (script_agrees t).finds f b
 
-  pub planned_accepted : (t : ScriptTree) (p : ScriptPlan) → plan_of t ≡ Ok p → IsAccepted t p
-  planned_accepted t p e = (agreement t).sound p e
+pub planned_breaks : (t : ScriptTree) (f : RuleErr) → plan_of t ≡ Err f → BreaksScript t f
+planned_breaks t f e = (script_agrees t).breaks f e
 
-  pub breaks_planned : (t : ScriptTree) (f : RuleErr) → BreaksScript t f → plan_of t ≡ Err f
-  breaks_planned t f b = (agreement t).finds f b
+pub one_plan : (t : ScriptTree) (p q : ScriptPlan) → IsAccepted t p → IsAccepted t q → p ≡ q
+one_plan t p q i j =
+    let h : plan_of t ≡ Ok p = accepted_planned t p i in
+    let k : plan_of t ≡ Ok q = accepted_planned t q j in
+    cc (h, k)
 
-  pub planned_breaks : (t : ScriptTree) (f : RuleErr) → plan_of t ≡ Err f → BreaksScript t f
-  planned_breaks t f e = (agreement t).breaks f e
+pub one_fault : (t : ScriptTree) (f g : RuleErr) → BreaksScript t f → BreaksScript t g → f ≡ g
+one_fault t f g i j =
+    let h : plan_of t ≡ Err f = breaks_planned t f i in
+    let k : plan_of t ≡ Err g = breaks_planned t g j in
+    cc (h, k)
 
-  pub one_plan : (t : ScriptTree) (p q : ScriptPlan) → IsAccepted t p → IsAccepted t q → p ≡ q
-  one_plan t p q i j =
-      let h : plan_of t ≡ Ok p = accepted_planned t p i in
-      let k : plan_of t ≡ Ok q = accepted_planned t q j in
-      cc (h, k)
+pub never_both : (t : ScriptTree) (p : ScriptPlan) (f : RuleErr) → IsAccepted t p → BreaksScript t f → ⊥
+never_both t p f i j =
+    let h : plan_of t ≡ Ok p = accepted_planned t p i in
+    let k : plan_of t ≡ Err f = breaks_planned t f j in
+    cc (h, k)
 
-  pub one_fault : (t : ScriptTree) (f g : RuleErr) → BreaksScript t f → BreaksScript t g → f ≡ g
-  one_fault t f g i j =
-      let h : plan_of t ≡ Err f = breaks_planned t f i in
-      let k : plan_of t ≡ Err g = breaks_planned t g j in
-      cc (h, k)
-
-  pub never_both : (t : ScriptTree) (p : ScriptPlan) (f : RuleErr) → IsAccepted t p → BreaksScript t f → ⊥
-  never_both t p f i j =
-      let h : plan_of t ≡ Ok p = accepted_planned t p i in
-      let k : plan_of t ≡ Err f = breaks_planned t f j in
-      cc (h, k)
-
-  pub one_or_other : (t : ScriptTree) → ((p : ScriptPlan) × IsAccepted t p) ⊎ ((f : RuleErr) × BreaksScript t f)
-  one_or_other t = go (plan_of t) refl
-    where
-      go : (r : Result ScriptPlan RuleErr) → plan_of t ≡ r → ((p : ScriptPlan) × IsAccepted t p) ⊎ ((f : RuleErr) × BreaksScript t f)
-      go (Ok p) e = inl (p, planned_accepted t p e)
-      go (Err f) e = inr (f, planned_breaks t f e)
+pub one_or_other : (t : ScriptTree) → ((p : ScriptPlan) × IsAccepted t p) ⊎ ((f : RuleErr) × BreaksScript t f)
+one_or_other t = go (plan_of t) refl
+  where
+    go : (r : Result ScriptPlan RuleErr) → plan_of t ≡ r → ((p : ScriptPlan) × IsAccepted t p) ⊎ ((f : RuleErr) × BreaksScript t f)
+    go (Ok p) e = inl (p, planned_accepted t p e)
+    go (Err f) e = inr (f, planned_breaks t f e)

@@ -1,5 +1,4 @@
--- The declarations of tests agree with what is so of them and with their first broken rule, where
--- expressions do.
+-- The declarations of tests agree with what is so of them and with their first broken rule.
 use Rattle.std.proofs.Common.{◌≡◌, refl, subst, ℕ, Bool, true, false, Decides, Contains, ◌⊎◌, inl, inr, ◌++◌, List, [], ◌∷◌, Option, Some, None, Result, Ok, Err}
 use Rattle.std.specs.List.{list_any}
 use Rattle.std.proofs.lemmas.Cmp.{nat_list_eq_equiv}
@@ -30,6 +29,7 @@ use Rattle.sym_check.specs.BreaksDeclarations.{BreaksKind, BreaksParam, BreaksTe
 use Rattle.sym_check.specs.BreaksDeclarations as breaks
 use Rattle.sym_check.specs.ElaborateDeclarations.{unless_named, param_decl, test_decl}
 use Rattle.sym_check.proofs.Agreements.{Agrees, in_words, only_fault, then_agrees, then_made, where_true, free_agrees, IsKinded, of_kind, of_no_kind}
+use Rattle.sym_check.proofs.ExpressionsAgree.{infer_agrees}
 use Rattle.sym_check.proofs.ListsAgree.{Plans, each_agrees}
 use Rattle.sym_check.proofs.DeclarationsAgree.{kind_agrees}
 use Rattle.sym_check.proofs.StatesAgree.{TakenOr}
@@ -134,23 +134,22 @@ test_blames names s n _ _ (breaks.in_params d f t b) = inr (t, inl b)
 test_blames names s n _ _ (breaks.in_body d ks params f t are b) = inr (t, inr (record { plan = ks; scope = params }, are, inl b))
 test_blames names s n _ _ (breaks.no_condition d ks params u t are m none) = inr (t, inr (record { plan = ks; scope = params }, are, inr (u, m, ((λ c i. none c (means_condition _ _ c (subst (Means (in_tests s ++ params) d.body) i m))), refl))))
 
-module _ (infer_agrees : (s : Scope) (e : ExprTree) → Agrees (Means s e) (Breaks s e) (infer s e)) where
-  one_meaning : (s : Scope) (e : ExprTree) (t : Typed) (c : CondPlan) → Means s e t → IsCondition s e c → t ≡ Truth c
-  one_meaning s e t c m i =
-      let p : infer s e ≡ Ok t = (infer_agrees s e).complete t m in
-      let q : infer s e ≡ Ok (Truth c) = (infer_agrees s e).complete (Truth c) (truth e c i) in
-      cc (p, q)
+one_meaning : (s : Scope) (e : ExprTree) (t : Typed) (c : CondPlan) → Means s e t → IsCondition s e c → t ≡ Truth c
+one_meaning s e t c m i =
+    let p : infer s e ≡ Ok t = (infer_agrees s e).complete t m in
+    let q : infer s e ≡ Ok (Truth c) = (infer_agrees s e).complete (Truth c) (truth e c i) in
+    cc (p, q)
 
-  test_blamed : (names : List (List ℕ)) (s : Scope) (n : ℕ) (d : TestTree) (f : RuleErr) → TestFaults names s d f → BreaksTest names s n d f
-  test_blamed names s n d f (inl (m, t, e)) = subst (BreaksTest names s n d) e (breaks.test_taken d m t)
-  test_blamed names s n d f (inr (t, inl b)) = breaks.in_params d f t b
-  test_blamed names s n d f (inr (t, inr (ks, are, inl b))) = breaks.in_body d ks.plan ks.scope f t are b
-  test_blamed names s n d f (inr (t, inr (ks, are, inr (u, m, (none, e))))) = subst (BreaksTest names s n d) e (breaks.no_condition d ks.plan ks.scope u t are m (λ c i. none c (one_meaning (in_tests s ++ ks.scope) d.body u c m i)))
+test_blamed : (names : List (List ℕ)) (s : Scope) (n : ℕ) (d : TestTree) (f : RuleErr) → TestFaults names s d f → BreaksTest names s n d f
+test_blamed names s n d f (inl (m, t, e)) = subst (BreaksTest names s n d) e (breaks.test_taken d m t)
+test_blamed names s n d f (inr (t, inl b)) = breaks.in_params d f t b
+test_blamed names s n d f (inr (t, inr (ks, are, inl b))) = breaks.in_body d ks.plan ks.scope f t are b
+test_blamed names s n d f (inr (t, inr (ks, are, inr (u, m, (none, e))))) = subst (BreaksTest names s n d) e (breaks.no_condition d ks.plan ks.scope u t are m (λ c i. none c (one_meaning (in_tests s ++ ks.scope) d.body u c m i)))
 
-  pub test_agrees : (names : List (List ℕ)) → Plans (IsTestDecl names) (BreaksTest names) (test_decl names)
-  test_agrees names s n d =
-      in_words (free_agrees s d.name
-      (then_agrees (each_agrees (IsParamDecl names (unfinished s d.name)) (BreaksParam names (unfinished s d.name)) (param_decl names (unfinished s d.name)) (param_agrees names (unfinished s d.name)) [] 0 d.params)
-      (λ ks are. then_agrees (infer_agrees (in_tests s ++ ks.scope) d.body)
-      (λ t m. then_made (test_planned s n d ks) (condition_kinded (place d.body) t)))))
-      (test_joined names s n d) (λ p. test_parted names s n d p.plan p.scope) (test_blamed names s n d) (test_blames names s n d)
+pub test_agrees : (names : List (List ℕ)) → Plans (IsTestDecl names) (BreaksTest names) (test_decl names)
+test_agrees names s n d =
+    in_words (free_agrees s d.name
+    (then_agrees (each_agrees (IsParamDecl names (unfinished s d.name)) (BreaksParam names (unfinished s d.name)) (param_decl names (unfinished s d.name)) (param_agrees names (unfinished s d.name)) [] 0 d.params)
+    (λ ks are. then_agrees (infer_agrees (in_tests s ++ ks.scope) d.body)
+    (λ t m. then_made (test_planned s n d ks) (condition_kinded (place d.body) t)))))
+    (test_joined names s n d) (λ p. test_parted names s n d p.plan p.scope) (test_blamed names s n d) (test_blames names s n d)

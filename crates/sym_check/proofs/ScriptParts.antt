@@ -1,4 +1,4 @@
--- A script agrees with its plan and with its first broken rule, where expressions and blocks do.
+-- A script, part by part, agrees with its plan and with its first broken rule.
 use Rattle.std.proofs.Common.{◌≡◌, refl, sym, subst, ℕ, ◌<◌, ◌≤◌, nat_le, Bool, true, false, Decides, if◌then◌else◌, ◌⊎◌, inl, inr, List, [], ◌∷◌, ◌++◌, Option, Some, None, Result, Ok, Err, arith}
 use Rattle.std.proofs.lemmas.Bool.{leb-true, le-leb}
 use Rattle.sym_base.specs.declared.limits.TheConstants as limit
@@ -14,9 +14,6 @@ use Rattle.sym_check.specs.ScriptPlans.{ScriptPlan, TestOf, ColumnOf}
 use Rattle.sym_check.specs.declared.elaborate.error.RuleErr.{RuleErr}
 use Rattle.sym_check.specs.declared.elaborate.error.RuleErr.TheVariants as broken
 use Rattle.sym_check.specs.Scopes.{Scope, hidden, in_update, in_report}
-use Rattle.sym_check.specs.Typing.{Typed, Means}
-use Rattle.sym_check.specs.Breaks.{Breaks}
-use Rattle.sym_check.specs.Elaborate.{infer}
 use Rattle.sym_check.specs.InOrder.{Each, FirstBroken, Planned, each}
 use Rattle.sym_check.specs.Declarations.{IsEnumDecl, IsFieldDecl, IsGroup, IsStateDecl, IsTestDecl}
 use Rattle.sym_check.specs.BreaksDeclarations.{BreaksEnum, BreaksField, BreaksGroup, BreaksState, BreaksTest}
@@ -33,6 +30,7 @@ use Rattle.sym_check.proofs.ListsAgree.{each_agrees}
 use Rattle.sym_check.proofs.DeclarationsAgree.{group_agrees}
 use Rattle.sym_check.proofs.StatesAgree.{enum_agrees, field_agrees, state_agrees}
 use Rattle.sym_check.proofs.TestsAgree.{test_agrees}
+use Rattle.sym_check.proofs.BlocksAgree.{block_agrees}
 use Rattle.sym_check.proofs.ColumnsAgree.{column_agrees}
 
 -- The path bound, which is tried last.
@@ -218,16 +216,15 @@ script_blames t _ (too_many p h many) =
     let d = h.declared in
     inr (record { plan = p.enums; scope = d.fields.enum_scope }, d.fields.enums, inr (record { plan = p.fields; scope = d.field_scope }, d.fields.fields, inr (p.group, d.fields.group, inr (record { plan = p.cells; scope = d.cell_scope }, d.cells, inr (record { plan = p.tests; scope = h.scope }, d.tests, inr (record { plan = p.update; next = h.locals }, h.update, inr (record { plan = p.columns; scope = h.names }, h.columns, (many, refl))))))))
 
-module _ (infer_agrees : (s : Scope) (e : ExprTree) → Agrees (Means s e) (Breaks s e) (infer s e)) (block_agrees : (out s : Scope) (n : ℕ) (b : StmtsTree) → Agrees (λ (p : PlannedDos). IsBlock out s n b p.plan p.next) (BreaksBlock out s n b) (block out s n b)) where
-  pub script_agrees : (t : ScriptTree) → Agrees (IsAccepted t) (BreaksScript t) (plan_of t)
-  script_agrees t =
-      in_words
-      (then_agrees (each_agrees IsEnumDecl BreaksEnum enum_decl enum_agrees [] 0 t.enums) (λ e ie.
-      then_agrees (each_agrees IsFieldDecl BreaksField field_decl field_agrees e.scope 0 t.fields) (λ f jf.
-      then_agrees (group_agrees f.scope t.group) (λ g ig.
-      then_agrees (each_agrees IsStateDecl BreaksState state_decl state_agrees f.scope 0 t.states) (λ c ic.
-      then_agrees (each_agrees (IsTestDecl (names t)) (BreaksTest (names t)) (test_decl (names t)) (test_agrees infer_agrees (names t)) c.scope 0 t.tests) (λ k ik.
-      then_agrees (block_agrees (hidden k.scope) (in_update k.scope) 0 t.update) (λ u iu.
-      then_agrees (each_agrees (IsColumnDecl (in_report k.scope)) (BreaksColumn (in_report k.scope)) (column_decl (in_report k.scope)) (column_agrees k.scope) [] 0 t.columns) (λ q iq.
-      bounded_agrees (plan_with e f g c k u q)))))))))
-      (plan_joined t) (plan_parted t) (script_blamed t) (script_blames t)
+pub script_agrees : (t : ScriptTree) → Agrees (IsAccepted t) (BreaksScript t) (plan_of t)
+script_agrees t =
+    in_words
+    (then_agrees (each_agrees IsEnumDecl BreaksEnum enum_decl enum_agrees [] 0 t.enums) (λ e ie.
+    then_agrees (each_agrees IsFieldDecl BreaksField field_decl field_agrees e.scope 0 t.fields) (λ f jf.
+    then_agrees (group_agrees f.scope t.group) (λ g ig.
+    then_agrees (each_agrees IsStateDecl BreaksState state_decl state_agrees f.scope 0 t.states) (λ c ic.
+    then_agrees (each_agrees (IsTestDecl (names t)) (BreaksTest (names t)) (test_decl (names t)) (test_agrees (names t)) c.scope 0 t.tests) (λ k ik.
+    then_agrees (block_agrees (hidden k.scope) (in_update k.scope) 0 t.update) (λ u iu.
+    then_agrees (each_agrees (IsColumnDecl (in_report k.scope)) (BreaksColumn (in_report k.scope)) (column_decl (in_report k.scope)) (column_agrees k.scope) [] 0 t.columns) (λ q iq.
+    bounded_agrees (plan_with e f g c k u q)))))))))
+    (plan_joined t) (plan_parted t) (script_blamed t) (script_blames t)
