@@ -1,9 +1,10 @@
 //! The sequential pass, one record at a time.
-ghost use Rattle.std.specs.Prelude.{◌≡◌, None, Some, IsTrue, IfOk, OnOk, option_copied};
+ghost use Rattle.std.specs.Prelude.{◌≡◌, ◌++◌, ◌∷◌, [], List, None, Some, IsTrue, IfOk, OnOk, option_copied};
 ghost use Rattle.std.specs.List.{list_all};
 ghost use Rattle.std.specs.Map.{lookup};
+ghost use Rattle.sym_base.specs.declared.values.record.Record.{Record as OneRecord};
 ghost use Rattle.sym_check.specs.Conditions.{has_fixed_body};
-ghost use Rattle.sym_check.specs.Groups.{field_value, is_key, key_of};
+ghost use Rattle.sym_check.specs.Groups.{field_value, is_key, key_of, pass};
 ghost use Rattle.sym_check.specs.ScriptPlans.{script_plan};
 ghost use Rattle.sym_plain.specs.Pairs.{HaveDistinctKeys, Steps, stepped, after_record};
 
@@ -116,7 +117,10 @@ pub(crate) fn step_group(
 /// is. A key that is there isn't copied, and its group's state is changed where it lies.
 pub fn fold(alloc: Global, plan: &Plan, groups: Groups, rec: &Record) -> Result<Groups, NoMemory>
     requires { IsTrue (list_all has_fixed_body (script_plan plan.now).tests) }
-    ensures { IfOk result (λ g. g ≡ after_record (script_plan plan.now) rec.now groups) }
+    ensures groups { IfOk result (λ g. g ≡ after_record (script_plan plan.now) rec.now groups) }
+    ensures pass { let p = script_plan plan.now in
+        IfOk result (λ g. (records : List OneRecord) →
+        groups ≡ pass p records → g ≡ pass p (records ++ rec.now ∷ [])) }
 {
     let mut groups = groups;
     groups.take(alloc, plan, rec)?;
