@@ -2,3 +2,4 @@ pub mod FixedLists
 pub mod Locals
 pub mod Places
 pub mod Pairs
+pub mod Passes

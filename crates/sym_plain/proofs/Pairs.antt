@@ -10,8 +10,12 @@ use Rattle.std.proofs.lemmas.Map.Keys.{IsDistinct-tail}
 use Rattle.indexmap.specs.IndexMap.{insert_entry}
 use Rattle.sym_base.specs.declared.values.value.Key.{Key}
 use Rattle.sym_base.specs.declared.values.state.Outcome.{Outcome}
+use Rattle.sym_base.specs.declared.values.record.Record.{Record}
+use Rattle.sym_base.specs.declared.values.state.Outcome.TheVariants.{Going}
 use Rattle.sym_check.specs.Groups.{is_key}
-use Rattle.sym_plain.specs.Pairs.{HaveDistinctKeys, has_key, put}
+use Rattle.sym_check.specs.ScriptPlans.{ScriptPlan}
+use Rattle.sym_check.specs.Updates.{initial, step}
+use Rattle.sym_plain.specs.Pairs.{HaveDistinctKeys, has_key, put, standing, stepped}
 
 -- The test of keys holds exactly of equal ones.
 pub key-Decides : (x y : Key) → Decides (is_key x y) (x ≡ y)
@@ -80,3 +84,15 @@ set-put (p ∷ rest) key old outcome apart found =
     of : (b : Bool) → is_key key p.0 ≡ b → (lookup (is_key key) rest ≡ Some old → set_value (is_key key) rest outcome ≡ put rest key outcome) → cond b (Some p.1) (lookup (is_key key) rest) ≡ Some old → cond b ((p.0, outcome) ∷ rest) (p ∷ set_value (is_key key) rest outcome) ≡ put (p ∷ rest) key outcome
     of true here later f = put_here p rest key outcome apart here
     of false past later f = ap (λ ps. p ∷ ps) (later f) ∙ put_past p rest key outcome past
+
+-- A new group makes its first step,
+pub begun : (p : ScriptPlan) (key : Key) (rec : Record) (pairs : List (Key × Outcome)) → HaveDistinctKeys pairs → lookup (is_key key) pairs ≡ None → insert_entry is_key pairs key (step p (Going (initial p)) rec) ≡ stepped p key rec pairs
+begun p key rec pairs apart none =
+    insert-put pairs key (step p (Going (initial p)) rec) apart
+    ∙ ap (λ (r : Option Outcome). put pairs key (step p (standing p r) rec)) (sym none)
+
+-- and one that is there the next.
+pub gone_on : (p : ScriptPlan) (key : Key) (rec : Record) (pairs : List (Key × Outcome)) (o : Outcome) → HaveDistinctKeys pairs → lookup (is_key key) pairs ≡ Some o → set_value (is_key key) pairs (step p o rec) ≡ stepped p key rec pairs
+gone_on p key rec pairs o apart found =
+    set-put pairs key o (step p o rec) apart found
+    ∙ ap (λ (r : Option Outcome). put pairs key (step p (standing p r) rec)) (sym found)

@@ -1,5 +1,5 @@
 -- Groups as a list of pairs: each key with how its group stands.
-use Rattle.std.specs.Prelude.{Bool, List, [], ◌∷◌, ◌++◌, map, Option, Some, None, if◌then◌else◌}
+use Rattle.std.specs.Prelude.{◌≡◌, Bool, true, false, List, [], ◌∷◌, ◌++◌, map, Option, Some, None, if◌then◌else◌}
 use Rattle.std.specs.List.{list_any, IsDistinct}
 use Rattle.std.specs.Map.{keys_of, lookup}
 use Rattle.sym_base.specs.declared.values.value.Key.{Key}
@@ -29,8 +29,15 @@ abbrev pub standing : ScriptPlan → Option Outcome → Outcome
 standing p None = Going (initial p)
 standing p (Some outcome) = outcome
 
--- The groups after one record more: the record's group makes its step, and all others stay.
-abbrev pub after_record : ScriptPlan → List (Key × Outcome) → Record → List (Key × Outcome)
-after_record p pairs rec =
-    let key = key_of p rec in
-    put pairs key (step p (standing p (lookup (is_key key) pairs)) rec)
+-- The groups after a step of the group with this key at a record: all others stay.
+abbrev pub stepped : ScriptPlan → Key → Record → List (Key × Outcome) → List (Key × Outcome)
+stepped p key rec pairs = put pairs key (step p (standing p (lookup (is_key key) pairs)) rec)
+
+-- The groups after one record more: the record's group makes its step.
+abbrev pub after_record : ScriptPlan → Record → List (Key × Outcome) → List (Key × Outcome)
+after_record p rec pairs = stepped p (key_of p rec) rec pairs
+
+-- A group with this key makes its step; where there is none, the groups stay.
+abbrev pub Steps : ScriptPlan → Key → Record → List (Key × Outcome) → Bool → List (Key × Outcome) → Type 0
+Steps p key rec old true new = new ≡ stepped p key rec old
+Steps p key rec old false new = (lookup (is_key key) old ≡ None) × (new ≡ old) × HaveDistinctKeys old

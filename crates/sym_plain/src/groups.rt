@@ -1,18 +1,25 @@
 //! How groups stand, in order of their keys' first appearance.
-ghost use Rattle.std.specs.Prelude.{◌≡◌, [], IfOk, length, slice_get};
+ghost use Rattle.std.specs.Prelude.{◌≡◌, [], IsTrue, IfOk, OnOk, length, slice_get};
+ghost use Rattle.std.specs.List.{list_all};
 ghost use Rattle.std.specs.Map.Iter.{deref_pair};
 ghost use Rattle.std.specs.Option.{option_map};
-ghost use Rattle.sym_plain.specs.Pairs.{HaveDistinctKeys, put};
+ghost use Rattle.sym_check.specs.Conditions.{has_fixed_body};
+ghost use Rattle.sym_check.specs.ScriptPlans.{script_plan};
+ghost use Rattle.sym_plain.specs.Pairs.{HaveDistinctKeys, after_record, put};
 
+use crate::folding::{set_key, step_group};
 use indexmap::IndexMap;
 use std::alloc::Global;
 use std::marker::Model;
-use sym_base::{Key, NoMemory, Outcome};
+use sym_base::{Key, NoMemory, Outcome, Record};
+use sym_check::Plan;
 
 /// Each key with how its group stands. A contract sees a list of pairs with distinct keys.
 #[derive(Drop)]
 pub struct Groups {
     map: IndexMap<Key, Outcome>,
+    // The key that was looked up last; the next one is made over its memory.
+    key: Key,
 }
 
 impl Model for Groups {
@@ -35,6 +42,7 @@ impl Groups {
     {
         Groups {
             map: IndexMap::new(alloc),
+            key: Key::Whole,
         }
     }
 
@@ -61,5 +69,14 @@ impl Groups {
         let mut groups = self;
         groups.map.insert(key, outcome)?;
         Ok(groups)
+    }
+
+    /// Makes the step of the record's group. After an `Err` the groups may stand anyhow.
+    pub(crate) fn take(&mut self, alloc: Global, plan: &Plan, rec: &Record) -> Result<(), NoMemory>
+        requires { IsTrue (list_all has_fixed_body (script_plan plan.now).tests) }
+        ensures { OnOk result (self.new ≡ after_record (script_plan plan.now) rec.now self.old) }
+    {
+        set_key(alloc, plan, &mut self.key, rec)?;
+        step_group(alloc, plan, &mut self.map, &self.key, rec)
     }
 }

@@ -7,7 +7,7 @@ use std::alloc::Global;
 use sym_base::{Key, NoMemory, Record, Value};
 use sym_check::Plan;
 
-fn copy_value(alloc: Global, value: Option<&Value>) -> Result<Value, NoMemory>
+pub(crate) fn copy_value(alloc: Global, value: Option<&Value>) -> Result<Value, NoMemory>
     ensures { IfOk result (λ v. v ≡ field_value (option_copied value.entry)) }
 {
     match value {

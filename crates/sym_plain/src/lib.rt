@@ -2,12 +2,14 @@
 //! are the definitions of the sequential meaning.
 #![tactic(auto)]
 
+mod folding;
 mod groups;
 mod keys;
 mod states;
 mod steps;
 mod update;
 
+pub use folding::fold;
 pub use groups::Groups;
 pub use keys::key_of;
 pub use states::initial;
