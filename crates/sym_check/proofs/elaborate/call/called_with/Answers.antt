@@ -1,5 +1,5 @@
 -- The tests on the arguments, in their order.
-use Rattle.std.proofs.Common.{◌≡◌, ◌∙◌, ◌-◌, length, map, take, drop, arith, Ok, Err}
+use Rattle.std.proofs.Common.{◌≡◌, ◌∙◌, ◌-◌, length, map, drop, arith, Ok, Err}
 use Rattle.std.proofs.lemmas.List.{length-map}
 use Rattle.std.proofs.lemmas.Result.{err_from_is_err_and}
 use Rattle.sym_check.specs.CalledTests.{called_test}
