@@ -1,53 +1,42 @@
 -- The plan of a lawful script that is accepted is well formed.
-use Rattle.std.proofs.Common.{◌≡◌, refl, sym, subst, ap, ℕ, zero, suc, ◌+◌, ◌<◌, ◌≤◌, nat_le, ℤ, Bool, true, false, ◌&&◌, ◌++◌, map, option_map, IfSome, length, List, [], ◌∷◌, Option, Some, None, slice_get, All, arith}
-use Rattle.std.specs.List.{list_all, AllZip}
+use Rattle.std.proofs.Common.{◌≡◌, refl, sym, ℕ, suc, ◌+◌, ◌<◌, ◌≤◌, nat_le, ℤ, Bool, true, ◌&&◌, ◌++◌, IfSome, length, List, [], ◌∷◌, Option, Some, slice_get, All, arith}
+use Rattle.std.specs.List.{list_all}
 use Rattle.std.proofs.lemmas.Bool.{leb-true}
 use Rattle.std.proofs.lemmas.List.{length-map}
 use Rattle.std.proofs.lemmas.List.Elements.{All-cons, All-nil}
 use Rattle.std.proofs.lemmas.Option.{slice_get_within, slice_get-map}
-use Rattle.sym_base.specs.declared.limits.TheConstants as limit
 use Rattle.sym_base.specs.declared.tree.name.Name.{Name}
-use Rattle.sym_base.specs.declared.tree.declaration.EnumDecl.{EnumDecl}
-use Rattle.sym_base.specs.declared.tree.declaration.FieldDecl.{FieldDecl}
 use Rattle.sym_base.specs.declared.tree.declaration.KindRef.{KindRef}
 use Rattle.sym_base.specs.declared.tree.declaration.Literal.{Literal}
 use Rattle.sym_base.specs.declared.tree.declaration.Part.{Part}
 use Rattle.sym_base.specs.declared.tree.declaration.CellDecl.{CellDecl}
-use Rattle.sym_base.specs.declared.tree.declaration.CellDecl.TheVariants as cell
-use Rattle.sym_base.specs.declared.tree.declaration.StateDecl.{StateDecl}
-use Rattle.sym_base.specs.declared.tree.declaration.Param.{Param}
 use Rattle.sym_base.specs.declared.values.value.Value.{Value}
 use Rattle.sym_base.specs.Limits.{IsNumber, is_number, max_labels, max_cells, max_parameters, max_depth, max_parts}
 use Rattle.sym_base.specs.Sizes.{expr_depth}
 use Rattle.sym_base.specs.Lawful.{IsLawful, is_between, is_lawful_name, is_absent_or, is_lawful_text, is_lawful_kind, is_lawful_literal, is_lawful_enum, is_lawful_field, is_lawful_part, is_lawful_cell, is_lawful_state, is_lawful_param, is_lawful_test, is_lawful_column, is_lawful_expr, has_lawful_leaves}
-use Rattle.sym_base.specs.Trees.{ExprTree, TestTree, ColumnTree, ScriptTree}
+use Rattle.sym_base.specs.Trees.{ExprTree, ScriptTree}
 use Rattle.sym_base.proofs.Numbers.{number-Decides}
-use Rattle.sym_check.specs.declared.plan.script.EnumPlan.{EnumPlan}
 use Rattle.sym_check.specs.declared.plan.script.FieldPlan.{FieldPlan}
 use Rattle.sym_check.specs.declared.plan.script.KindPlan.{KindPlan}
-use Rattle.sym_check.specs.declared.plan.script.KindPlan.TheVariants as kind
 use Rattle.sym_check.specs.declared.plan.script.CellPlan.{CellPlan}
-use Rattle.sym_check.specs.declared.plan.script.CellPlan.TheVariants as plan
-use Rattle.sym_check.specs.CondPlans.{CondPlan}
 use Rattle.sym_check.specs.ShowPlans.{ShowPlan}
 use Rattle.sym_check.specs.Columns.{ShownAs, Shows, IsColumn}
 use Rattle.sym_check.specs.Columns as columns
-use Rattle.sym_check.specs.ScriptPlans.{ScriptPlan, TestOf, ColumnOf}
+use Rattle.sym_check.specs.ScriptPlans.{ScriptPlan, TestOf}
 use Rattle.sym_check.specs.declared.elaborate.scope.Variable.TheVariants as var
 use Rattle.sym_check.specs.declared.elaborate.scope.View.TheVariants as view
 use Rattle.sym_check.specs.declared.elaborate.scope.Meaning.{Meaning}
 use Rattle.sym_check.specs.declared.elaborate.scope.Meaning.TheVariants as meaning
-use Rattle.sym_check.specs.Scopes.{Scope, entry, Stands, is_label, shows, hidden, in_tests, in_update, in_report}
+use Rattle.sym_check.specs.Scopes.{Scope, entry, is_label, hidden, in_tests, in_update, in_report}
 use Rattle.sym_check.specs.InOrder.{Each, none, one_more}
-use Rattle.sym_check.specs.Typing.{IsCondition}
 use Rattle.sym_check.specs.Declarations.{unfinished, IsKindOf, IsLiteral, IsDefault, IsLabelDecl, IsEnumDecl, IsFieldDecl, IsGroup, AreParts, IsCellDecl, IsStateDecl, IsParamDecl, IsTestDecl}
 use Rattle.sym_check.specs.Declarations as is
 use Rattle.sym_check.specs.Reports.{IsShown, IsColumnDecl}
 use Rattle.sym_check.specs.Reports as report
 use Rattle.sym_check.specs.Scripts.{names, IsAccepted}
-use Rattle.sym_check.specs.Validity.{label_count, IsOfKind, AreOfKinds, field_kinds}
-use Rattle.sym_check.specs.WellFormed.{Kinds, IsKind, IsField, IsCell, IsTest, parameter_kinds, known_kinds, IsEnum, IsWellFormed}
-use Rattle.sym_check.proofs.ScopesNamed.{IsTestThere, IsThere, AreThere, there_more, there_both, there_seen, stands_there, both_true, unsigned_number, condition_well}
+use Rattle.sym_check.specs.Validity.{IsOfKind, AreOfKinds, field_kinds}
+use Rattle.sym_check.specs.WellFormed.{IsKind, IsField, IsCell, IsTest, parameter_kinds, known_kinds, IsEnum, IsWellFormed}
+use Rattle.sym_check.proofs.ScopesNamed.{IsThere, AreThere, there_more, there_both, there_seen, stands_there, both_true, unsigned_number, condition_well}
 use Rattle.sym_check.proofs.BlocksNamed.{expr_leaves, block_well}
 
 -- These stand in the whole list, from this number on.
@@ -132,9 +121,10 @@ module _ (p : ScriptPlan) where
   field_keeps : Keeps IsFieldDecl is_lawful_field There (IsField p.enums) p.fields
   field_keeps _ _ _ _ _ (is.field s n d k empty free i j) h stands there =
       let (first, lawful) = both_true (is_lawful_name d.name && is_absent_or is_lawful_text d.header && is_lawful_kind d.kind) (is_absent_or is_lawful_literal d.default) h in
-      let begun : There (unfinished s d.name) = unfinished_there s d.name there in
-      (there_more p (known_kinds p) s (entry d.name (meaning.Value k (var.Field n))) there (field_there n _ stands),
-      record { kind = kind_well (unfinished s d.name) d.kind k begun i; empty = default_well (unfinished s d.name) k d.default empty begun lawful j })
+      let begun : There (unfinished s d.name) = unfinished_there s d.name there in (
+        there_more p (known_kinds p) s (entry d.name (meaning.Value k (var.Field n))) there (field_there n _ stands),
+        record { kind = kind_well (unfinished s d.name) d.kind k begun i; empty = default_well (unfinished s d.name) k d.default empty begun lawful j },
+      )
 
   group_well : (s : Scope) (d : Option Name) (g : Option ℕ) → There s → IsGroup s d g → IfSome g (λ n. n < length p.fields)
   group_well s _ _ there is.no_group = tt
@@ -192,9 +182,10 @@ module _ (p : ScriptPlan) where
       let t : TestOf = record { params = ks; body = c } in
       let begun : There (unfinished s d.name) = unfinished_there s d.name there in
       let (given, kinds) = each_keeps (IsParamDecl taken (unfinished s d.name)) is_lawful_param (AreThere body_plan (parameter_kinds t)) (IsKind p.enums) ks (param_keeps taken (unfinished s d.name) t begun) [] params d.params each lawful tt in
-      let seen : AreThere body_plan (parameter_kinds t) (in_tests s ++ params) = there_both body_plan (parameter_kinds t) (in_tests s) params (there_seen p body_plan (known_kinds p) (parameter_kinds t) view.Tests s (label_there t) there) given in
-      (there_more p (known_kinds p) s (entry d.name (meaning.Test n ks)) there (record { there = t; is = stands; params = refl }),
-      record { kinds = kinds; body = condition_well body_plan (parameter_kinds t) (in_tests s ++ params) seen d.body c (expr_leaves d.body body) i })
+      let seen : AreThere body_plan (parameter_kinds t) (in_tests s ++ params) = there_both body_plan (parameter_kinds t) (in_tests s) params (there_seen p body_plan (known_kinds p) (parameter_kinds t) view.Tests s (label_there t) there) given in (
+        there_more p (known_kinds p) s (entry d.name (meaning.Test n ks)) there (record { there = t; is = stands; params = refl }),
+        record { kinds = kinds; body = condition_well body_plan (parameter_kinds t) (in_tests s ++ params) seen d.body c (expr_leaves d.body body) i },
+      )
 
   -- Columns.
   shown_well : (s : Scope) (e : ExprTree) (g : ShownAs) (o : ShowPlan) → There s → has_lawful_leaves e ≡ true → IsShown s e g o → Shows p.cells o g

@@ -1,15 +1,14 @@
 -- The plans of lawful statements are well formed where names stand for what is there.
-use Rattle.std.proofs.Common.{◌≡◌, refl, sym, subst, ap, ℕ, zero, suc, ◌+◌, ◌-◌, ◌<◌, ◌≤◌, nat_le, Bool, true, false, ◌&&◌, replicate, length, length-append, List, [], ◌∷◌, ◌++◌, Option, Some, None, slice_get, arith}
+use Rattle.std.proofs.Common.{◌≡◌, refl, ℕ, zero, suc, ◌+◌, ◌-◌, ◌≤◌, nat_le, true, ◌&&◌, replicate, length, length-append, List, [], ◌∷◌, ◌++◌, Some, slice_get, arith}
 use Rattle.std.proofs.lemmas.List.{length-replicate}
 use Rattle.sym_base.specs.Limits.{max_operands}
 use Rattle.sym_base.specs.Sizes.{operand_count}
 use Rattle.sym_base.specs.Lawful.{is_lawful_name, has_some, has_lawful_leaves, have_lawful_leaves, is_lawful_expr, are_lawful_exprs, is_lawful_stmt, are_lawful_stmts}
-use Rattle.sym_base.specs.Trees.{ExprTree, Named, ExprsTree, End, More, StmtTree, StmtsTree}
+use Rattle.sym_base.specs.Trees.{ExprTree, ExprsTree, End, More, StmtTree, StmtsTree}
 use Rattle.sym_check.specs.declared.plan.script.KindPlan.{KindPlan}
 use Rattle.sym_check.specs.declared.plan.script.KindPlan.TheVariants as kind
 use Rattle.sym_check.specs.DoPlans.{DoPlan, DosPlan}
 use Rattle.sym_check.specs.ScriptPlans.{ScriptPlan}
-use Rattle.sym_check.specs.declared.elaborate.scope.Variable.{Variable}
 use Rattle.sym_check.specs.declared.elaborate.scope.Variable.TheVariants as var
 use Rattle.sym_check.specs.declared.elaborate.scope.Meaning.{Meaning}
 use Rattle.sym_check.specs.declared.elaborate.scope.Meaning.TheVariants as meaning
@@ -18,7 +17,7 @@ use Rattle.sym_check.specs.Statements.{local_entry, IsStmt, IsBlock}
 use Rattle.sym_check.specs.Statements as is
 use Rattle.sym_check.specs.WellFormed.{Kinds, with_kind, IsDo, IsDos}
 use Rattle.sym_check.specs.WellFormed as well
-use Rattle.sym_check.proofs.ScopesNamed.{IsVariable, IsThere, AreThere, there_more, there_as, stands_there, both_true, term_well, value_well, values_well, condition_well, fixed_word_well, fixed_label_well}
+use Rattle.sym_check.proofs.ScopesNamed.{IsThere, AreThere, there_more, there_as, stands_there, both_true, term_well, value_well, values_well, condition_well, fixed_word_well, fixed_label_well}
 
 -- Lists that grow.
 pub get_more : {A : Type 0} (xs ys : List A) (i : ℕ) (x : A) → slice_get xs i ≡ Some x → slice_get (xs ++ ys) i ≡ Some x

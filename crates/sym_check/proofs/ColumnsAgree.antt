@@ -1,9 +1,8 @@
 -- Columns agree with what is so of them and with their first broken rule.
-use Rattle.std.proofs.Common.{◌≡◌, refl, sym, subst, ℕ, Bool, true, false, if◌then◌else◌, filter, ◌⊎◌, inl, inr, List, [], ◌∷◌, ◌++◌, Option, Some, None, Result, Ok, Err}
+use Rattle.std.proofs.Common.{◌≡◌, refl, subst, ℕ, Bool, true, false, if◌then◌else◌, ◌⊎◌, inl, inr, List, [], ◌∷◌, ◌++◌, Some}
 use Rattle.sym_base.specs.declared.tree.name.Name.{Name}
-use Rattle.sym_base.specs.Trees.{ColumnTree, ExprTree, Num, Words, Named, Call, Neg, Not, Bin}
+use Rattle.sym_base.specs.Trees.{ColumnTree, ExprTree, Named}
 use Rattle.sym_check.specs.declared.plan.script.KindPlan.{KindPlan}
-use Rattle.sym_check.specs.Arithmetic.{and_then}
 use Rattle.sym_check.specs.Columns.{ShownAs, as_number, as_word, as_list}
 use Rattle.sym_check.specs.Conditions.{same_word}
 use Rattle.sym_check.specs.ShowPlans.{ShowPlan}
@@ -11,20 +10,19 @@ use Rattle.sym_check.specs.ShowPlans as show
 use Rattle.sym_check.specs.ScriptPlans.{ColumnOf}
 use Rattle.sym_check.specs.declared.elaborate.error.RuleErr.{RuleErr}
 use Rattle.sym_check.specs.declared.elaborate.error.RuleErr.TheVariants as broken
-use Rattle.sym_check.specs.declared.elaborate.scope.Entry.{Entry}
 use Rattle.sym_check.specs.declared.elaborate.scope.View.{View}
 use Rattle.sym_check.specs.declared.elaborate.scope.View.TheVariants as view
 use Rattle.sym_check.specs.declared.elaborate.scope.Meaning.{Meaning}
 use Rattle.sym_check.specs.declared.elaborate.scope.Meaning.TheVariants as meaning
-use Rattle.sym_check.specs.Scopes.{Scope, entry, find, Stands, IsFree, is_cell, shows, visible, in_report}
+use Rattle.sym_check.specs.Scopes.{Scope, entry, find, Stands, IsFree, shows, visible, in_report}
 use Rattle.sym_check.specs.Breaks.{place}
 use Rattle.sym_check.specs.InOrder.{Planned}
 use Rattle.sym_check.specs.Reports.{IsShown, IsColumnDecl}
 use Rattle.sym_check.specs.Reports as is
 use Rattle.sym_check.specs.BreaksReports.{BreaksShown, BreaksColumn}
 use Rattle.sym_check.specs.BreaksReports as breaks
-use Rattle.sym_check.specs.ElaborateReports.{Seen, Numeral, Number, Word, NumList, WordList, Parts, shown, see, column_decl}
-use Rattle.sym_check.proofs.Agreements.{Agrees, in_words, then_agrees, then_made, IsKinded, of_kind, of_no_kind, free_agrees, one_value}
+use Rattle.sym_check.specs.ElaborateReports.{Seen, Numeral, Number, Word, NumList, WordList, Parts, shown, column_decl}
+use Rattle.sym_check.proofs.Agreements.{in_words, then_agrees, then_made, IsKinded, of_kind, of_no_kind, free_agrees}
 use Rattle.sym_check.proofs.ListsAgree.{Plans}
 use Rattle.sym_check.proofs.StatesAgree.{TakenOr}
 use Rattle.sym_check.proofs.ReportsSeen.{Sees, Gives, a_numeral, a_number, a_word, num_list, word_list, seen_shown, shown_seen}

@@ -1,5 +1,5 @@
 -- Declarations agree with what is so of them and with their first broken rule.
-use Rattle.std.proofs.Common.{◌≡◌, refl, sym, subst, ap, ℕ, ℤ, ◌==◌, ◌⊎◌, inl, inr, ◌++◌, List, [], ◌∷◌, Option, Some, None, Result, Ok, Err}
+use Rattle.std.proofs.Common.{◌≡◌, refl, sym, subst, ℕ, ℤ, ◌==◌, ◌⊎◌, inl, inr, List, Option, Some, None, Result, Ok, Err}
 use Rattle.std.proofs.lemmas.Bool.Decides.{Decides-eqb}
 use Rattle.sym_base.specs.declared.tree.name.Name.{Name}
 use Rattle.sym_base.specs.declared.tree.declaration.KindRef.{KindRef}
@@ -13,11 +13,10 @@ use Rattle.sym_check.specs.declared.plan.script.KindPlan.TheVariants as kind
 use Rattle.sym_check.specs.Arithmetic.{and_then}
 use Rattle.sym_check.specs.declared.elaborate.error.RuleErr.{RuleErr}
 use Rattle.sym_check.specs.declared.elaborate.error.RuleErr.TheVariants as broken
-use Rattle.sym_check.specs.declared.elaborate.scope.Variable.{Variable}
 use Rattle.sym_check.specs.declared.elaborate.scope.Variable.TheVariants as var
 use Rattle.sym_check.specs.declared.elaborate.scope.Meaning.{Meaning}
 use Rattle.sym_check.specs.declared.elaborate.scope.Meaning.TheVariants as meaning
-use Rattle.sym_check.specs.Scopes.{Scope, entry, find, Stands, IsFree}
+use Rattle.sym_check.specs.Scopes.{Scope, find, Stands, IsFree}
 use Rattle.sym_check.specs.Elaborate.{kind_at}
 use Rattle.sym_check.specs.Declarations.{IsKindOf, IsLiteral, IsDefault, IsGroup}
 use Rattle.sym_check.specs.Declarations as is

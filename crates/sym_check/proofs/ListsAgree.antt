@@ -1,6 +1,6 @@
 -- Declarations one after the other agree with what is so of them and with their first broken rule,
 -- where each does.
-use Rattle.std.proofs.Common.{◌≡◌, refl, subst, ℕ, ◌+◌, ◌⊎◌, inl, inr, List, [], ◌∷◌, Result, Ok, Err}
+use Rattle.std.proofs.Common.{◌≡◌, refl, subst, ℕ, ◌+◌, ◌⊎◌, inl, inr, List, [], ◌∷◌, Result}
 use Rattle.sym_check.specs.declared.elaborate.error.RuleErr.{RuleErr}
 use Rattle.sym_check.specs.Scopes.{Scope}
 use Rattle.sym_check.specs.InOrder.{Each, none, one_more, FirstBroken, here, further, Planned, each}

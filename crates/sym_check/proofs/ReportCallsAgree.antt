@@ -1,7 +1,7 @@
 -- Calls in the report, and with them columns, agree with what they give and with their first broken
 -- rule.
-use Rattle.std.proofs.Common.{◌≡◌, refl, sym, subst, ap, ℕ, ℤ, zero, suc, pos, negsuc, ◌-◌, ◌==◌, ◌≤◌, ◌<◌, length, get_or, slice_get, Bool, true, false, ◌||◌, is_some, if◌then◌else◌, codes, Decides, arith, ◌⊎◌, inl, inr, List, [], ◌∷◌, ◌++◌, Option, Some, None, Result, Ok, Err}
-use Rattle.std.proofs.lemmas.Option.{slice_get_within, slice_get_past, slice_get_cases}
+use Rattle.std.proofs.Common.{◌≡◌, refl, subst, ℕ, ℤ, zero, suc, pos, negsuc, ◌-◌, ◌==◌, ◌≤◌, ◌<◌, length, get_or, slice_get, Bool, true, false, ◌||◌, is_some, codes, Decides, arith, ◌⊎◌, inl, inr, List, [], ◌∷◌, Option, Some, None, Result, Ok, Err}
+use Rattle.std.proofs.lemmas.Option.{slice_get_past, slice_get_cases}
 use Rattle.std.proofs.lemmas.Slice.Eq.{slice_eq-Decides}
 use Rattle.std.proofs.lemmas.Bool.Decides.{Decides-eqb}
 use Rattle.sym_base.specs.declared.tree.name.Name.{Name}
@@ -10,7 +10,6 @@ use Rattle.sym_check.specs.declared.plan.script.KindPlan.{KindPlan}
 use Rattle.sym_check.specs.declared.plan.script.KindPlan.TheVariants as kind
 use Rattle.sym_check.specs.declared.plan.show.ShowFn.{ShowFn}
 use Rattle.sym_check.specs.declared.plan.show.ShowFn.TheVariants as show_fn
-use Rattle.sym_check.specs.Arithmetic.{and_then}
 use Rattle.sym_check.specs.Conditions.{same_word}
 use Rattle.sym_check.specs.Columns.{ShownAs, as_number, as_word, as_list, shown_kind, OfAnyList, word_list_shows}
 use Rattle.sym_check.specs.ShowPlans.{ShowPlan}
@@ -19,15 +18,14 @@ use Rattle.sym_check.specs.declared.elaborate.error.RuleErr.{RuleErr}
 use Rattle.sym_check.specs.declared.elaborate.error.RuleErr.TheVariants as broken
 use Rattle.sym_check.specs.declared.elaborate.scope.Meaning.{Meaning}
 use Rattle.sym_check.specs.declared.elaborate.scope.Meaning.TheVariants as meaning
-use Rattle.sym_check.specs.Scopes.{Scope, find, Stands, IsFree}
-use Rattle.sym_check.specs.Elaborate.{kind_at}
+use Rattle.sym_check.specs.Scopes.{Scope, find, Stands}
 use Rattle.sym_check.specs.Reports.{list_function, is_part, IsShown}
 use Rattle.sym_check.specs.Reports as is
 use Rattle.sym_check.specs.BreaksReports.{GivesSomething, IsSeen, AreSeen, IsFunction, of_lists, IsOutside, BreaksShown, BreakShown}
 use Rattle.sym_check.specs.BreaksReports as breaks
-use Rattle.sym_check.specs.ElaborateReports.{Seen, Numeral, Number, Word, NumList, WordList, Parts, part_seen, part_at, part_by, of_word_list, of_list, of_parts, applied, see, see_all}
-use Rattle.sym_check.proofs.Agreements.{Agrees, in_words, only_value, only_fault, then_agrees, then_made, one_value, where_true}
-use Rattle.sym_check.proofs.ReportsSeen.{Sees, Gives, a_numeral, a_number, a_word, num_list, word_list, seen_shown, shown_seen}
+use Rattle.sym_check.specs.ElaborateReports.{Seen, Numeral, Number, Word, NumList, WordList, Parts, part_seen, part_at, of_word_list, of_list, of_parts, applied, see_all}
+use Rattle.sym_check.proofs.Agreements.{Agrees, in_words, only_value, only_fault, then_agrees, then_made, where_true}
+use Rattle.sym_check.proofs.ReportsSeen.{Sees, Gives, a_numeral, a_number, a_word}
 use Rattle.sym_check.proofs.ReportsAgree.{is_seen, seen_is, Sights, HasCellsAlone, NamedSeen, sees_name, numeral_once, numeral_sights, text_sights, name_sights, neg_sights, not_sights, bin_sights}
 
 -- Arguments, and what they come to.

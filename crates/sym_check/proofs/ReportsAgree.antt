@@ -1,10 +1,9 @@
 -- Report expressions agree with what they give and with their first broken rule, in a scope of cells.
-use Rattle.std.proofs.Common.{◌≡◌, refl, sym, subst, ℕ, ℤ, Bool, true, false, ◌⊎◌, inl, inr, List, [], ◌∷◌, Option, Some, None, Result, Ok, Err}
+use Rattle.std.proofs.Common.{◌≡◌, refl, subst, ℕ, ℤ, true, ◌⊎◌, inl, inr, List, Option, Some, None, Result, Ok}
 use Rattle.sym_base.specs.declared.tree.name.Name.{Name}
 use Rattle.sym_base.specs.declared.tree.expression.BinOp.{BinOp}
-use Rattle.sym_base.specs.Trees.{ExprTree, Num, Words, Named, Call, Neg, Not, Bin, ExprsTree, End, More}
+use Rattle.sym_base.specs.Trees.{ExprTree, Num, Words, Named, Neg, Not, Bin}
 use Rattle.sym_check.specs.declared.plan.expression.ArithOp.{ArithOp}
-use Rattle.sym_check.specs.declared.plan.script.KindPlan.{KindPlan}
 use Rattle.sym_check.specs.Arithmetic.{and_then}
 use Rattle.sym_check.specs.Columns.{ShownAs, as_number, as_word, as_list}
 use Rattle.sym_check.specs.ShowPlans.{ShowPlan}
@@ -13,16 +12,15 @@ use Rattle.sym_check.specs.declared.elaborate.error.RuleErr.{RuleErr}
 use Rattle.sym_check.specs.declared.elaborate.error.RuleErr.TheVariants as broken
 use Rattle.sym_check.specs.declared.elaborate.scope.Meaning.{Meaning}
 use Rattle.sym_check.specs.declared.elaborate.scope.Meaning.TheVariants as meaning
-use Rattle.sym_check.specs.Scopes.{Scope, find, Stands, IsFree, is_cell}
+use Rattle.sym_check.specs.Scopes.{Scope, Stands, IsFree, is_cell}
 use Rattle.sym_check.specs.Typing.{arith_of}
-use Rattle.sym_check.specs.Elaborate.{kind_at}
 use Rattle.sym_check.specs.Reports.{IsShown}
 use Rattle.sym_check.specs.Reports as is
 use Rattle.sym_check.specs.BreaksReports.{GivesSomething, IsSeen, AreSeen, BreaksShown, BreakShown}
 use Rattle.sym_check.specs.BreaksReports as breaks
-use Rattle.sym_check.specs.ElaborateReports.{Seen, Numeral, Number, Word, NumList, WordList, Parts, seen, shown_number, calculated_by, see, see_all}
-use Rattle.sym_check.proofs.Agreements.{Agrees, in_words, only_value, only_fault, then_agrees, then_made, IsKinded, of_kind, of_no_kind, kinded_then, one_value, named_agrees}
-use Rattle.sym_check.proofs.ReportsSeen.{Sees, Gives, a_numeral, a_number, a_word, num_list, word_list, seen_shown, Shows, shown_seen}
+use Rattle.sym_check.specs.ElaborateReports.{Seen, Numeral, Number, Word, NumList, WordList, Parts, seen, shown_number, calculated_by, see}
+use Rattle.sym_check.proofs.Agreements.{Agrees, in_words, only_value, then_agrees, then_made, IsKinded, of_kind, of_no_kind, kinded_then, one_value, named_agrees}
+use Rattle.sym_check.proofs.ReportsSeen.{Sees, Gives, a_numeral, a_number, num_list, word_list, seen_shown, shown_seen}
 
 -- Whether something is seen, by what it comes to.
 pub is_seen : (s : Scope) (e : ExprTree) (v : Seen) → Sees s e v → IsSeen s e

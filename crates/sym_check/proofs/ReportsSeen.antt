@@ -1,27 +1,19 @@
 -- What report expressions come to, in the words of the rules.
-use Rattle.std.proofs.Common.{◌≡◌, refl, sym, subst, ℕ, ℤ, pos, negsuc, ◌-◌, ◌==◌, ◌≤◌, ◌<◌, zero, suc, length, slice_get, Bool, true, false, is_some, if◌then◌else◌, codes, ◌⊎◌, inl, inr, List, [], ◌∷◌, Option, Some, None, Result, Ok, Err, Decides, arith}
+use Rattle.std.proofs.Common.{◌≡◌, refl, ℕ, ℤ}
 use Rattle.sym_base.specs.declared.tree.name.Name.{Name}
-use Rattle.sym_base.specs.declared.tree.expression.BinOp.{BinOp}
-use Rattle.sym_base.specs.Trees.{ExprTree, Num, Words, Named, Call, Neg, Not, Bin, ExprsTree, End, More}
-use Rattle.sym_check.specs.declared.plan.expression.ArithOp.{ArithOp}
+use Rattle.sym_base.specs.Trees.{ExprTree, Num, Named}
 use Rattle.sym_check.specs.declared.plan.script.KindPlan.{KindPlan}
 use Rattle.sym_check.specs.declared.plan.script.KindPlan.TheVariants as kind
 use Rattle.sym_check.specs.declared.plan.show.ShowFn.{ShowFn}
 use Rattle.sym_check.specs.declared.plan.show.ShowFn.TheVariants as show_fn
-use Rattle.sym_check.specs.Arithmetic.{and_then}
-use Rattle.sym_check.specs.Columns.{ShownAs, as_number, as_word, as_list, shown_kind, OfAnyList, word_list_shows}
+use Rattle.sym_check.specs.Columns.{ShownAs, as_number, as_word, as_list, shown_kind, word_list_shows}
 use Rattle.sym_check.specs.ShowPlans.{ShowPlan}
 use Rattle.sym_check.specs.ShowPlans as show
-use Rattle.sym_check.specs.declared.elaborate.error.RuleErr.{RuleErr}
-use Rattle.sym_check.specs.declared.elaborate.error.RuleErr.TheVariants as broken
-use Rattle.sym_check.specs.declared.elaborate.scope.Meaning.{Meaning}
 use Rattle.sym_check.specs.declared.elaborate.scope.Meaning.TheVariants as meaning
-use Rattle.sym_check.specs.Scopes.{Scope, find, Stands, IsFree, is_cell}
-use Rattle.sym_check.specs.Typing.{arith_of}
-use Rattle.sym_check.specs.Elaborate.{kind_at}
+use Rattle.sym_check.specs.Scopes.{Scope, Stands}
 use Rattle.sym_check.specs.Reports.{list_function, is_part, IsShown}
 use Rattle.sym_check.specs.Reports as is
-use Rattle.sym_check.specs.ElaborateReports.{Seen, Numeral, Number, Word, NumList, WordList, Parts, seen, shown_number, shown, calculated_by, part_seen, part_at, part_by, of_word_list, of_list, of_parts, applied}
+use Rattle.sym_check.specs.ElaborateReports.{Seen, Numeral, Number, Word, NumList, WordList, Parts}
 
 -- An expression comes to this.
 abbrev pub Sees : Scope → ExprTree → Seen → Type 0

@@ -1,13 +1,12 @@
 -- Scopes whose names stand for what is there in a plan, and expressions in them, whose plans are
 -- well formed then.
-use Rattle.std.proofs.Common.{◌≡◌, refl, sym, subst, ap, ℕ, zero, suc, ◌+◌, ◌-◌, ◌<◌, ◌≤◌, nat_le, ℤ, pos, int_le, Bool, true, false, ◌&&◌, if◌then◌else◌, filter, replicate, length, List, [], ◌∷◌, ◌++◌, Option, Some, None, slice_get, arith}
+use Rattle.std.proofs.Common.{◌≡◌, refl, subst, ℕ, ◌<◌, ℤ, pos, int_le, Bool, true, false, ◌&&◌, if◌then◌else◌, length, List, [], ◌∷◌, ◌++◌, Some, slice_get, arith}
 use Rattle.std.specs.List.{AllZip}
 use Rattle.std.proofs.lemmas.Int.{ints}
 use Rattle.sym_base.specs.declared.tree.name.Name.{Name}
-use Rattle.sym_base.specs.declared.tree.expression.BinOp.TheVariants as op
 use Rattle.sym_base.specs.Limits.{IsNumber, is_number, num_max}
 use Rattle.sym_base.specs.Lawful.{is_unsigned, is_lawful_name, has_some, has_lawful_leaves, have_lawful_leaves}
-use Rattle.sym_base.specs.Trees.{ExprTree, Num, Words, Named, Call, Neg, Not, Bin, ExprsTree, End, More}
+use Rattle.sym_base.specs.Trees.{ExprTree, Named, ExprsTree, More}
 use Rattle.sym_base.proofs.Numbers.{number-Decides}
 use Rattle.sym_check.specs.declared.plan.script.EnumPlan.{EnumPlan}
 use Rattle.sym_check.specs.declared.plan.script.KindPlan.{KindPlan}
@@ -22,7 +21,6 @@ use Rattle.sym_check.specs.declared.elaborate.scope.Variable.{Variable}
 use Rattle.sym_check.specs.declared.elaborate.scope.Variable.TheVariants as var
 use Rattle.sym_check.specs.declared.elaborate.scope.Entry.{Entry}
 use Rattle.sym_check.specs.declared.elaborate.scope.View.{View}
-use Rattle.sym_check.specs.declared.elaborate.scope.View.TheVariants as view
 use Rattle.sym_check.specs.declared.elaborate.scope.Meaning.{Meaning}
 use Rattle.sym_check.specs.declared.elaborate.scope.Meaning.TheVariants as meaning
 use Rattle.sym_check.specs.Conditions.{same_word}

@@ -1,30 +1,28 @@
 -- A script, part by part, agrees with its plan and with its first broken rule.
-use Rattle.std.proofs.Common.{◌≡◌, refl, sym, subst, ℕ, ◌<◌, ◌≤◌, nat_le, Bool, true, false, Decides, if◌then◌else◌, ◌⊎◌, inl, inr, List, [], ◌∷◌, ◌++◌, Option, Some, None, Result, Ok, Err, arith}
+use Rattle.std.proofs.Common.{◌≡◌, refl, subst, ℕ, ◌<◌, ◌≤◌, nat_le, Decides, ◌⊎◌, inl, inr, List, [], Option, None, arith}
 use Rattle.std.proofs.lemmas.Bool.{leb-true, le-leb}
 use Rattle.sym_base.specs.declared.limits.TheConstants as limit
-use Rattle.sym_base.specs.declared.tree.name.Name.{Name}
-use Rattle.sym_base.specs.Trees.{ExprTree, StmtsTree, ScriptTree}
+use Rattle.sym_base.specs.Trees.{ScriptTree}
 use Rattle.sym_check.specs.declared.plan.script.EnumPlan.{EnumPlan}
 use Rattle.sym_check.specs.declared.plan.script.FieldPlan.{FieldPlan}
 use Rattle.sym_check.specs.declared.plan.script.CellPlan.{CellPlan}
-use Rattle.sym_check.specs.Arithmetic.{and_then}
 use Rattle.sym_check.specs.PathBounds.{path_bound}
 use Rattle.sym_check.specs.DoPlans as do_
 use Rattle.sym_check.specs.ScriptPlans.{ScriptPlan, TestOf, ColumnOf}
 use Rattle.sym_check.specs.declared.elaborate.error.RuleErr.{RuleErr}
 use Rattle.sym_check.specs.declared.elaborate.error.RuleErr.TheVariants as broken
 use Rattle.sym_check.specs.Scopes.{Scope, hidden, in_update, in_report}
-use Rattle.sym_check.specs.InOrder.{Each, FirstBroken, Planned, each}
+use Rattle.sym_check.specs.InOrder.{Each, FirstBroken, Planned}
 use Rattle.sym_check.specs.Declarations.{IsEnumDecl, IsFieldDecl, IsGroup, IsStateDecl, IsTestDecl}
 use Rattle.sym_check.specs.BreaksDeclarations.{BreaksEnum, BreaksField, BreaksGroup, BreaksState, BreaksTest}
-use Rattle.sym_check.specs.ElaborateDeclarations.{enum_decl, field_decl, group_of, state_decl, test_decl}
+use Rattle.sym_check.specs.ElaborateDeclarations.{enum_decl, field_decl, state_decl, test_decl}
 use Rattle.sym_check.specs.Statements.{IsBlock}
 use Rattle.sym_check.specs.BreaksStatements.{BreaksBlock}
-use Rattle.sym_check.specs.ElaborateStatements.{PlannedDos, block}
+use Rattle.sym_check.specs.ElaborateStatements.{PlannedDos}
 use Rattle.sym_check.specs.Reports.{IsColumnDecl}
 use Rattle.sym_check.specs.BreaksReports.{BreaksColumn}
 use Rattle.sym_check.specs.ElaborateReports.{column_decl}
-use Rattle.sym_check.specs.Scripts.{names, HaveFields, AreDeclared, HasPlan, IsAccepted, BreaksScript, in_enums, in_fields, in_group, in_states, in_tests, in_block, in_columns, too_many, bounded, plan_of}
+use Rattle.sym_check.specs.Scripts.{names, IsAccepted, BreaksScript, in_enums, in_fields, in_group, in_states, in_tests, in_block, in_columns, too_many, bounded, plan_of}
 use Rattle.sym_check.proofs.Agreements.{Agrees, in_words, only_value, only_fault, then_agrees, where_true}
 use Rattle.sym_check.proofs.ListsAgree.{each_agrees}
 use Rattle.sym_check.proofs.DeclarationsAgree.{group_agrees}
@@ -118,15 +116,35 @@ plan_joined t p (e, ie, (f, jf, (g, ig, (c, ic, (k, ik, (u, iu, (q, iq, (few, sa
 plan_parted : (t : ScriptTree) (p : ScriptPlan) → IsAccepted t p → Found t p
 plan_parted t p i =
     let h = i.has_plan in
-    let d = h.declared in
-    (record { plan = p.enums; scope = d.fields.enum_scope }, d.fields.enums,
-    (record { plan = p.fields; scope = d.field_scope }, d.fields.fields,
-    (p.group, d.fields.group,
-    (record { plan = p.cells; scope = d.cell_scope }, d.cells,
-    (record { plan = p.tests; scope = h.scope }, d.tests,
-    (record { plan = p.update; next = h.locals }, h.update,
-    (record { plan = p.columns; scope = h.names }, h.columns,
-    (i.few, refl))))))))
+    let d = h.declared in (
+      record { plan = p.enums; scope = d.fields.enum_scope },
+      d.fields.enums,
+      (
+        record { plan = p.fields; scope = d.field_scope },
+        d.fields.fields,
+        (
+          p.group,
+          d.fields.group,
+          (
+            record { plan = p.cells; scope = d.cell_scope },
+            d.cells,
+            (
+              record { plan = p.tests; scope = h.scope },
+              d.tests,
+              (
+                record { plan = p.update; next = h.locals },
+                h.update,
+                (
+                  record { plan = p.columns; scope = h.names },
+                  h.columns,
+                  (i.few, refl),
+                ),
+              ),
+            ),
+          ),
+        ),
+      ),
+    )
 
 abbrev Faults : ScriptTree → RuleErr → Type 0
 Faults t x =

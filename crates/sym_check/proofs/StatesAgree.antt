@@ -1,7 +1,7 @@
 -- The declarations of enums, fields and states agree with what is so of them and with their first
 -- broken rule.
 use Rattle.std.proofs.lemmas.Int.{ints}
-use Rattle.std.proofs.Common.{arith, true, ◌≡◌, refl, sym, subst, ap, ℕ, ℤ, ◌≤ℤ◌, ◌&&◌, ◌⊎◌, inl, inr, ◌++◌, List, [], ◌∷◌, Option, Some, None, Result, Ok, Err}
+use Rattle.std.proofs.Common.{arith, true, ◌≡◌, refl, subst, ℕ, ℤ, ◌≤ℤ◌, ◌&&◌, ◌⊎◌, inl, inr, ◌++◌, List, [], ◌∷◌, Option}
 use Rattle.std.specs.Prelude.{int_le}
 use Rattle.std.specs.Option.{unwrap_or}
 use Rattle.std.specs.Bool.{Decides}
@@ -9,35 +9,29 @@ use Rattle.std.proofs.lemmas.Bool.Decides.{Decides-and}
 use Rattle.sym_base.specs.declared.tree.name.Name.{Name}
 use Rattle.sym_base.specs.declared.tree.declaration.EnumDecl.{EnumDecl}
 use Rattle.sym_base.specs.declared.tree.declaration.FieldDecl.{FieldDecl}
-use Rattle.sym_base.specs.declared.tree.declaration.KindRef.TheVariants as ref
-use Rattle.sym_base.specs.declared.tree.declaration.Literal.{Literal}
-use Rattle.sym_base.specs.declared.tree.declaration.Literal.TheVariants as literal
 use Rattle.sym_base.specs.declared.tree.declaration.Part.{Part}
 use Rattle.sym_base.specs.declared.tree.declaration.CellDecl.{CellDecl}
 use Rattle.sym_base.specs.declared.tree.declaration.CellDecl.TheVariants as cell
 use Rattle.sym_base.specs.declared.tree.declaration.StateDecl.{StateDecl}
 use Rattle.sym_base.specs.declared.values.value.Value.{Value}
-use Rattle.sym_base.specs.declared.values.value.Value.TheVariants as value
 use Rattle.sym_check.specs.declared.plan.script.EnumPlan.{EnumPlan}
 use Rattle.sym_check.specs.declared.plan.script.FieldPlan.{FieldPlan}
 use Rattle.sym_check.specs.declared.plan.script.KindPlan.{KindPlan}
-use Rattle.sym_check.specs.declared.plan.script.KindPlan.TheVariants as kind
 use Rattle.sym_check.specs.declared.plan.script.CellPlan.{CellPlan}
 use Rattle.sym_check.specs.declared.plan.script.CellPlan.TheVariants as plan
-use Rattle.sym_check.specs.Arithmetic.{and_then}
 use Rattle.sym_check.specs.declared.elaborate.error.RuleErr.{RuleErr}
 use Rattle.sym_check.specs.declared.elaborate.error.RuleErr.TheVariants as broken
 use Rattle.sym_check.specs.declared.elaborate.scope.Variable.TheVariants as var
 use Rattle.sym_check.specs.declared.elaborate.scope.Meaning.{Meaning}
 use Rattle.sym_check.specs.declared.elaborate.scope.Meaning.TheVariants as meaning
-use Rattle.sym_check.specs.Scopes.{Scope, entry, find, Stands, IsFree}
-use Rattle.sym_check.specs.InOrder.{Each, FirstBroken, Planned, each}
+use Rattle.sym_check.specs.Scopes.{Scope, entry, Stands, IsFree}
+use Rattle.sym_check.specs.InOrder.{Each, FirstBroken, Planned}
 use Rattle.sym_check.specs.Validity.{InRange}
 use Rattle.sym_check.specs.Declarations.{unfinished, IsKindOf, IsLiteral, IsDefault, IsLabelDecl, IsEnumDecl, IsFieldDecl, AreParts, IsCellDecl, IsStateDecl}
 use Rattle.sym_check.specs.Declarations as is
 use Rattle.sym_check.specs.BreaksDeclarations.{BreaksKind, BreaksLiteral, BreaksLabel, BreaksEnum, BreaksField, BreaksParts, BreaksCell, BreaksState}
 use Rattle.sym_check.specs.BreaksDeclarations as breaks
-use Rattle.sym_check.specs.ElaborateDeclarations.{enum_named, label_named, kind_of, literal_of, default_of, label_decl, enum_decl, field_decl, PlannedParts, parts_of, PlannedCell, cell_of, state_decl}
+use Rattle.sym_check.specs.ElaborateDeclarations.{enum_named, label_named, label_decl, enum_decl, field_decl, PlannedParts, parts_of, PlannedCell, cell_of, state_decl}
 use Rattle.sym_check.proofs.Agreements.{Agrees, in_words, only_value, only_fault, then_agrees, then_made, where_true, free_agrees, ok_agrees, named_agrees}
 use Rattle.sym_check.proofs.ListsAgree.{Plans, each_agrees}
 use Rattle.sym_check.proofs.DeclarationsAgree.{kind_agrees, literal_agrees, BreaksDefault, default_agrees, enum_kinded, label_kinded, Unmeant, no_enum, enum_not, other_label, label_not}

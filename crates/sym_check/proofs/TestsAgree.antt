@@ -1,5 +1,5 @@
 -- The declarations of tests agree with what is so of them and with their first broken rule.
-use Rattle.std.proofs.Common.{◌≡◌, refl, subst, ℕ, Bool, true, false, Decides, Contains, ◌⊎◌, inl, inr, ◌++◌, List, [], ◌∷◌, Option, Some, None, Result, Ok, Err}
+use Rattle.std.proofs.Common.{◌≡◌, refl, subst, ℕ, Bool, true, false, Decides, Contains, ◌⊎◌, inl, inr, ◌++◌, List, [], ◌∷◌, Result, Ok}
 use Rattle.std.specs.List.{list_any}
 use Rattle.std.proofs.lemmas.Cmp.{nat_list_eq_equiv}
 use Rattle.std.proofs.lemmas.Bool.Decides.{Decides-eqb, not_from_Decides}
@@ -10,7 +10,6 @@ use Rattle.sym_base.specs.declared.tree.declaration.Param.{Param}
 use Rattle.sym_base.specs.Trees.{ExprTree, TestTree}
 use Rattle.sym_check.specs.declared.plan.script.KindPlan.{KindPlan}
 use Rattle.sym_check.specs.CondPlans.{CondPlan}
-use Rattle.sym_check.specs.Arithmetic.{and_then}
 use Rattle.sym_check.specs.ScriptPlans.{TestOf}
 use Rattle.sym_check.specs.declared.elaborate.error.RuleErr.{RuleErr}
 use Rattle.sym_check.specs.declared.elaborate.error.RuleErr.TheVariants as broken
@@ -18,11 +17,11 @@ use Rattle.sym_check.specs.declared.elaborate.scope.Variable.TheVariants as var
 use Rattle.sym_check.specs.declared.elaborate.scope.Meaning.{Meaning}
 use Rattle.sym_check.specs.declared.elaborate.scope.Meaning.TheVariants as meaning
 use Rattle.sym_check.specs.Conditions.{same_word}
-use Rattle.sym_check.specs.Scopes.{Scope, entry, find, Stands, IsFree, in_tests}
+use Rattle.sym_check.specs.Scopes.{Scope, entry, Stands, IsFree, in_tests}
 use Rattle.sym_check.specs.Typing.{Typed, Truth, Means, truth, IsCondition}
 use Rattle.sym_check.specs.Breaks.{place, Breaks}
 use Rattle.sym_check.specs.Elaborate.{condition, infer}
-use Rattle.sym_check.specs.InOrder.{Each, FirstBroken, Planned, each}
+use Rattle.sym_check.specs.InOrder.{Each, FirstBroken, Planned}
 use Rattle.sym_check.specs.Declarations.{unfinished, IsKindOf, IsParamDecl, IsTestDecl}
 use Rattle.sym_check.specs.Declarations as is
 use Rattle.sym_check.specs.BreaksDeclarations.{BreaksKind, BreaksParam, BreaksTest}
