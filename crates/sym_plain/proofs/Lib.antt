@@ -3,3 +3,4 @@ pub mod Locals
 pub mod Places
 pub mod Pairs
 pub mod Passes
+pub mod Wide

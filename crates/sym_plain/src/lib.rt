@@ -5,6 +5,7 @@
 mod folding;
 mod groups;
 mod keys;
+mod report;
 mod states;
 mod steps;
 mod update;
@@ -12,5 +13,6 @@ mod update;
 pub use folding::fold;
 pub use groups::Groups;
 pub use keys::key_of;
+pub use report::shown::columns;
 pub use states::initial;
 pub use steps::step;
