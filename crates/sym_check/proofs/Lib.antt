@@ -20,6 +20,7 @@ mod ValidSteps
 mod TestAnswers
 mod PlanLaws
 mod CheckedExamples
+pub mod CountersAccepted
 mod Fits
 mod ScopeLaws
 mod Done
