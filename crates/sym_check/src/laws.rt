@@ -12,6 +12,7 @@ ghost use Rattle.sym_base.specs.declared.values.value.Key.TheVariants.{Whole};
 
 pub mod plans;
 pub mod rules;
+pub mod scripts;
 
 /// The counter that is read off a tree is the one whose tree it is.
 pub fn counters_are_read()
