@@ -24,3 +24,7 @@ parts_behind ks vs (Err e) = Err e
 -- The parts before `rest` have these kinds and first values.
 pub record ArePartsDone (s : Scope) (whole : List Part) (ks : List KindPlan) (vs : List Value) (rest : List Part) : Type 0 where
   pub same : parts_of s whole ≡ parts_behind ks vs (parts_of s rest)
+
+abbrev pub before_all : {A : Type 0} → List A → Result (List A) RuleErr → Result (List A) RuleErr
+before_all xs (Ok ys) = Ok (xs ++ ys)
+before_all xs (Err e) = Err e

@@ -39,3 +39,6 @@ mod BlockFaults
 mod BlocksAgree
 mod Gathered
 mod Called
+mod WholeScripts
+mod FewParts
+mod Seen

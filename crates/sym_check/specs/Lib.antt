@@ -40,3 +40,5 @@ pub mod Declaring
 pub mod Operators
 pub mod BlockPlans
 pub mod CalledTests
+pub mod Showing
+pub mod WholeScripts
