@@ -7,3 +7,4 @@ pub mod Lists
 pub mod Narrowed
 pub mod NarrowedFits
 pub mod OnlyOutcomes
+pub mod Pulled

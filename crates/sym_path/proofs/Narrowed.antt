@@ -10,7 +10,7 @@ use Rattle.sym_base.specs.declared.values.state.Cell.TheVariants as cell
 use Rattle.sym_base.specs.declared.values.state.State.{State}
 use Rattle.sym_base.specs.declared.values.state.Outcome.{Outcome}
 use Rattle.sym_base.specs.declared.values.state.Outcome.TheVariants.{Going}
-use Rattle.sym_check.specs.Updates.{nums_in}
+use Rattle.sym_base.specs.States.{nums_in}
 use Rattle.sym_check.specs.declared.plan.script.CellPlan.{CellPlan}
 use Rattle.sym_check.specs.declared.plan.script.CellPlan.TheVariants as plan
 use Rattle.sym_check.specs.ScriptPlans.{ScriptPlan}
@@ -87,7 +87,7 @@ only_label_at truth set l s c only = go (slice_get s.cells c)
 label_put-value : (c l : ℕ) (f : EnumForm) (s : State) → label_at s c ≡ l → label_value (label_put c l f) s ≡ label_value f s
 label_put-value c l (label.Const m) s h = refl
 label_put-value c l (label.Copy d) s h = elim (cases_eq d c) [
-  inl e ↦ rw (eq-eqb d c e) (sym h ∙ ap (λ k. label_at s k) (sym e))
+  | inl e ↦ rw (eq-eqb d c e) (sym h ∙ ap (λ k. label_at s k) (sym e))
   | inr e ↦ rw (ne_eqb d c e) refl
 ]
 
@@ -135,7 +135,7 @@ constant_value y (number.Line m) s h = absurd h
 pub fixed_value : (f g : IntForm) (c : ℕ) (x : ℤ) (s : State) → IsFixedTo f c x g → number_at s c ≡ x → form_value g s ≡ form_value f s
 fixed_value (number.Const n) g c x s h e = let same : g ≡ number.Const n = h.other (λ p. cc) in ap (λ (k : IntForm). form_value k s) same
 fixed_value (number.Line line) g c x s h e = elim (cases_eq line.cell c) [
-  inl p ↦
+  | inl p ↦
       let at : number_at s line.cell ≡ x = ap (λ k. number_at s k) p ∙ e in
       constant_value (form_on (number.Line line) x) g s (h.named (ap Some p)) ∙ ap (λ (y : ℤ). line.a *ℤ y +ℤ line.b) (sym at)
   | inr p ↦ let same : g ≡ number.Line line = h.other (λ q. p (cc)) in ap (λ (k : IntForm). form_value k s) same
@@ -223,7 +223,7 @@ labels_give c set old new narrower h truth s = go (old_labels set (slice_get old
   where
     ends : cell_admitted truth (part.Set set) (slice_get s.cells c) ≡ true → end_at new.end s ≡ end_at old.end s
     ends e = elim h.end [
-      inl (l, only, is) ↦ ap (λ (x : PathEnd). end_at x s) is ∙ with_label-end c l old.end s (only_label_at truth set l s c only e)
+      | inl (l, only, is) ↦ ap (λ (x : PathEnd). end_at x s) is ∙ with_label-end c l old.end s (only_label_at truth set l s c only e)
       | inr (none, is) ↦ ap (λ (x : PathEnd). end_at x s) is
     ]
 

@@ -98,7 +98,7 @@ module _ (p : ScriptPlan) (when : List Part) (c : ℕ) (old set : LabelSet) (is 
 
   labels_stay : (lo hi : ℤ) (line : Line) → StaysWithin lo hi (form_on (number.Line line)) (slice_get when line.cell) → StaysWithin lo hi (form_on (number.Line line)) (slice_get after_set line.cell)
   labels_stay lo hi line h = elim (cases_eq line.cell c) [
-    inl e ↦
+    | inl e ↦
         let there : slice_get when line.cell ≡ Some (part.Set old) = ap (λ k. slice_get when k) e ∙ is in
         let none : StaysWithin lo hi (form_on (number.Line line)) (Some (part.Set old)) = rw there at h in
         absurd none
@@ -107,7 +107,7 @@ module _ (p : ScriptPlan) (when : List Part) (c : ℕ) (old set : LabelSet) (is 
 
   number_kept : (d : ℕ) (x : ℤ) → HasOneNumber after_set d x → HasOneNumber when d x
   number_kept d x o = elim (set_cases when c d (part.Set set) (part.Span o.span) o.is) [
-    inl h ↦ absurd (let k = h.1 in cc)
+    | inl h ↦ absurd (let k = h.1 in cc)
     | inr h ↦ record { span = o.span; is = h.1; lo = o.lo; hi = o.hi }
   ]
 
@@ -118,10 +118,10 @@ module _ (p : ScriptPlan) (when : List Part) (c : ℕ) (old set : LabelSet) (is 
   put_free : (l : ℕ) (f : EnumForm) → LabelIsTakenTo when f f → LabelIsTakenTo after_set (label_put c l f) (label_put c l f)
   put_free l (label.Const m) h = label_taken after_set (label.Const m) (λ d n e o. cc)
   put_free l (label.Copy d) h = elim (cases_eq d c) [
-    inl e ↦ rw (eq-eqb d c e) (label_taken after_set (label.Const l) (λ k n q o. cc))
+    | inl e ↦ rw (eq-eqb d c e) (label_taken after_set (label.Const l) (λ k n q o. cc))
     | inr e ↦ rw (ne_eqb d c e) (label_taken after_set (label.Copy d) (λ k n q o.
         elim (set_cases when c k (part.Set set) (part.Set o.set) o.is) [
-          inl g ↦ e (let r = g.0 in cc)
+          | inl g ↦ e (let r = g.0 in cc)
           | inr g ↦ label_free when (label.Copy d) h k n q (record { set = o.set; is = g.1; only = o.only })
         ]))
   ]
@@ -129,7 +129,7 @@ module _ (p : ScriptPlan) (when : List Part) (c : ℕ) (old set : LabelSet) (is 
   kept_free : ((l : ℕ) → IsOnlyLabel set l → ⊥) → (f : EnumForm) → LabelIsTakenTo when f f → LabelIsTakenTo after_set f f
   kept_free more f h = label_taken after_set f (λ k n q o.
       elim (set_cases when c k (part.Set set) (part.Set o.set) o.is) [
-        inl g ↦ let same : o.set ≡ set = cc in more n (subst (λ (t : LabelSet). IsOnlyLabel t n) same o.only)
+        | inl g ↦ let same : o.set ≡ set = cc in more n (subst (λ (t : LabelSet). IsOnlyLabel t n) same o.only)
         | inr g ↦ label_free when f h k n q (record { set = o.set; is = g.1; only = o.only })
       ])
 
@@ -172,7 +172,7 @@ module _ (p : ScriptPlan) (when : List Part) (c : ℕ) (old set : LabelSet) (is 
     put_fits : (l : ℕ) → IsTrue (has_label set l) → (cp : CellPlan) (f : Form) → FormFits p after_set cp f → FormFits p after_set cp (with_label c l f)
     put_fits l e _ _ (fitting.of_label of first m h) = fitting.of_label of first m h
     put_fits l e _ _ (fitting.copied_label of first d h) = elim (cases_eq d c) [
-      inl q ↦ rw (eq-eqb d c q) (fitting.of_label of first l (label_within l of e (subst (λ (k : ℕ). IsEnumCell p.cells k of) q h)))
+      | inl q ↦ rw (eq-eqb d c q) (fitting.of_label of first l (label_within l of e (subst (λ (k : ℕ). IsEnumCell p.cells k of) q h)))
       | inr q ↦ rw (ne_eqb d c q) (fitting.copied_label of first d h)
     ]
     put_fits l e _ _ (fitting.of_number lo hi first f h) = fitting.of_number lo hi first f h
@@ -202,7 +202,7 @@ labels_fit p c set old new narrower h fits = go (old_labels set (slice_get old.w
     go (before, is, subset) =
         let w : List Part = slice_set old.when c (part.Set set) in
         let ends : EndFits p w new.end = elim h.end [
-          inl (l, only, same) ↦ subst (λ (e : PathEnd). EndFits p w e) (sym same) (put_end_fits p old.when c before set is subset fits.parts l ((only l).1 refl) old.end fits.end)
+          | inl (l, only, same) ↦ subst (λ (e : PathEnd). EndFits p w e) (sym same) (put_end_fits p old.when c before set is subset fits.parts l ((only l).1 refl) old.end fits.end)
           | inr (more, same) ↦ subst (λ (e : PathEnd). EndFits p w e) (sym same) (kept_end_fits p old.when c before set is subset fits.parts more old.end fits.end)
         ] in
         record {
@@ -225,7 +225,7 @@ module _ (p : ScriptPlan) (when : List Part) (c : ℕ) (old span : Span) (is : s
 
   numbers_stay : (lo hi : ℤ) (line : Line) → StaysWithin lo hi (form_on (number.Line line)) (slice_get when line.cell) → StaysWithin lo hi (form_on (number.Line line)) (slice_get after_span line.cell)
   numbers_stay lo hi line h = elim (cases_eq line.cell c) [
-    inl e ↦
+    | inl e ↦
         let there : slice_get when line.cell ≡ Some (part.Span old) = ap (λ k. slice_get when k) e ∙ is in
         let now : slice_get after_span line.cell ≡ Some (part.Span span) = ap (λ k. slice_get after_span k) e ∙ span_there in
         let all : (x : ℤ) → HasPoint old x → InRange lo hi (form_on (number.Line line) x) = stays_at lo hi (form_on (number.Line line)) when line.cell old there h in
@@ -235,7 +235,7 @@ module _ (p : ScriptPlan) (when : List Part) (c : ℕ) (old span : Span) (is : s
 
   label_kept : (d m : ℕ) → HasOneLabel after_span d m → HasOneLabel when d m
   label_kept d m o = elim (set_cases when c d (part.Span span) (part.Set o.set) o.is) [
-    inl h ↦ absurd (let k = h.1 in cc)
+    | inl h ↦ absurd (let k = h.1 in cc)
     | inr h ↦ record { set = o.set; is = h.1; only = o.only }
   ]
 
@@ -247,7 +247,7 @@ module _ (p : ScriptPlan) (when : List Part) (c : ℕ) (old span : Span) (is : s
     kept_number : (f g : IntForm) → g ≡ f → NumberIsTakenTo when f f → NumberIsTakenTo after_span g g
     kept_number f g same h = subst (λ (k : IntForm). NumberIsTakenTo after_span k k) (sym same) (number_taken after_span f (λ d x e o.
         elim (set_cases when c d (part.Span span) (part.Span o.span) o.is) [
-          inl q ↦
+          | inl q ↦
               let t : o.span ≡ span = cc in
               let lo : span.lo ≡ x = ap (λ (u : Span). u.lo) (sym t) ∙ o.lo in
               let hi : span.hi ≡ x = ap (λ (u : Span). u.hi) (sym t) ∙ o.hi in
@@ -279,14 +279,14 @@ module _ (p : ScriptPlan) (when : List Part) (c : ℕ) (old span : Span) (is : s
         let same : g ≡ number.Const n = r.other (λ q. cc) in
         subst (λ (k : IntForm). NumberIsTakenTo after_span k k) (sym same) (number_taken after_span (number.Const n) (λ d x e o. cc))
     put_number_taken (number.Line line) g r h = elim (cases_eq line.cell c) [
-      inl e ↦ number_taken after_span g (λ d x q o. constant_free when g (form_on (number.Line line) span.lo) d (r.named (ap Some e)) q)
+      | inl e ↦ number_taken after_span g (λ d x q o. constant_free when g (form_on (number.Line line) span.lo) d (r.named (ap Some e)) q)
       | inr e ↦
           let same : g ≡ number.Line line = r.other (λ q. e (cc)) in
           subst (λ (k : IntForm). NumberIsTakenTo after_span k k) (sym same) (number_taken after_span (number.Line line) (λ d x q o.
-              elim (set_cases when c d (part.Span span) (part.Span o.span) o.is) [
-                inl t ↦ e (let z = t.0 in cc)
-                | inr t ↦ number_free when (number.Line line) h d x q (record { span = o.span; is = t.1; lo = o.lo; hi = o.hi })
-              ]))
+          elim (set_cases when c d (part.Span span) (part.Span o.span) o.is) [
+            | inl t ↦ e (let z = t.0 in cc)
+            | inr t ↦ number_free when (number.Line line) h d x q (record { span = o.span; is = t.1; lo = o.lo; hi = o.hi })
+          ]))
     ]
 
     number_put_taken : (f g : Form) → NumberIsPut c span.lo f g → IsTakenOn when f → IsTakenOn after_span g
@@ -311,7 +311,7 @@ module _ (p : ScriptPlan) (when : List Part) (c : ℕ) (old span : Span) (is : s
     fixed_fits : (lo hi : ℤ) (f g : IntForm) → NumberFits lo hi after_span f → IsFixedTo f c span.lo g → NumberFits lo hi after_span g
     fixed_fits lo hi (number.Const n) g h r = subst (λ (k : IntForm). NumberFits lo hi after_span k) (sym (r.other (λ q. cc))) h
     fixed_fits lo hi (number.Line line) g h r = elim (cases_eq line.cell c) [
-      inl e ↦
+      | inl e ↦
           let now : slice_get after_span line.cell ≡ Some (part.Span span) = ap (λ k. slice_get after_span k) e ∙ span_there in
           let at : InRange lo hi (form_on (number.Line line) span.lo) = stays_at lo hi (form_on (number.Line line)) after_span line.cell span now h span.lo the_point in
           constant_fits lo hi (form_on (number.Line line) span.lo) g (r.named (ap Some e)) at
@@ -387,9 +387,9 @@ numbers_fit p c span old new narrower h fits = go (old_numbers span (slice_get o
     go (before, is, within) =
         let w : List Part = slice_set old.when c (part.Span span) in
         let ends : EndFits p w new.end =
-            by_lt_z span.lo span.hi
-            (λ q. subst (λ (e : PathEnd). EndFits p w e) (sym (h.more q)) (numbers_kept_end p old.when c before span is within q old.end fits.end))
-            (λ q. let o : span.lo ≤ℤ span.hi = span.ordered in let one : span.lo ≡ span.hi = omega (arith, ints) in number_put_end p old.when c before span is within one old.end new.end fits.end (h.one one)) in
+        by_lt_z span.lo span.hi
+        (λ q. subst (λ (e : PathEnd). EndFits p w e) (sym (h.more q)) (numbers_kept_end p old.when c before span is within q old.end fits.end))
+        (λ q. let o : span.lo ≤ℤ span.hi = span.ordered in let one : span.lo ≡ span.hi = omega (arith, ints) in number_put_end p old.when c before span is within one old.end new.end fits.end (h.one one)) in
         record {
           parts = subst (λ (v : List Part). AllZip (PartFits p) p.cells v) (sym h.when) (numbers_parts p old.when c before span is within fits.parts);
           end = subst (λ (v : List Part). EndFits p v new.end) (sym h.when) ends;
@@ -408,7 +408,7 @@ module _ (p : ScriptPlan) (when : List Part) (c : ℕ) (old known : FactMap) (is
 
   facts_stay : (lo hi : ℤ) (line : Line) → StaysWithin lo hi (form_on (number.Line line)) (slice_get when line.cell) → StaysWithin lo hi (form_on (number.Line line)) (slice_get after_facts line.cell)
   facts_stay lo hi line h = elim (cases_eq line.cell c) [
-    inl e ↦
+    | inl e ↦
         let there : slice_get when line.cell ≡ Some (part.Facts old) = ap (λ k. slice_get when k) e ∙ is in
         let none : StaysWithin lo hi (form_on (number.Line line)) (Some (part.Facts old)) = rw there at h in
         absurd none
@@ -417,13 +417,13 @@ module _ (p : ScriptPlan) (when : List Part) (c : ℕ) (old known : FactMap) (is
 
   facts_number : (d : ℕ) (x : ℤ) → HasOneNumber after_facts d x → HasOneNumber when d x
   facts_number d x o = elim (set_cases when c d (part.Facts known) (part.Span o.span) o.is) [
-    inl h ↦ absurd (let k = h.1 in cc)
+    | inl h ↦ absurd (let k = h.1 in cc)
     | inr h ↦ record { span = o.span; is = h.1; lo = o.lo; hi = o.hi }
   ]
 
   facts_label : (d m : ℕ) → HasOneLabel after_facts d m → HasOneLabel when d m
   facts_label d m o = elim (set_cases when c d (part.Facts known) (part.Set o.set) o.is) [
-    inl h ↦ absurd (let k = h.1 in cc)
+    | inl h ↦ absurd (let k = h.1 in cc)
     | inr h ↦ record { set = o.set; is = h.1; only = o.only }
   ]
 

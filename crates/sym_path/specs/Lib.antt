@@ -4,5 +4,6 @@ pub mod Giving
 pub mod Joining
 pub mod Narrowing
 pub mod Possible
+pub mod Pulling
 pub mod Standing
 pub mod Taking

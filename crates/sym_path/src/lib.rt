@@ -9,6 +9,7 @@ pub mod laws;
 mod narrowing;
 mod part;
 mod path;
+mod pulling;
 mod segment;
 
 pub use form::{Form, Forms};

@@ -1,7 +1,7 @@
 use Rattle.std.proofs.Common.{◌≡◌, ◌<◌, ◌++◌, ◌∷◌, [], ℤ, List, length, map, take, sym, ◌∙◌, ap, arith, rules, Some, to_z, of_z, w64}
 use Rattle.std.proofs.lemmas.Int.{to_z-of_z}
 use mir.Val.{SFits}
-use Rattle.sym_check.specs.Updates.{nums_in}
+use Rattle.sym_base.specs.States.{nums_in}
 use Rattle.sym_int.specs.Lines.{form_value}
 use Rattle.sym_path.proofs.Given.{added_next}
 use Rattle.sym_path.proofs.Lists.{no_gap}

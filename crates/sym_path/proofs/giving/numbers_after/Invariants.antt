@@ -1,6 +1,6 @@
 -- The values of the elements so far stand after the old numbers.
 use Rattle.std.proofs.Common.{◌≡◌, ◌++◌, map, take, Some}
-use Rattle.sym_check.specs.Updates.{nums_in}
+use Rattle.sym_base.specs.States.{nums_in}
 use Rattle.sym_int.specs.Lines.{form_value}
 use Rattle.sym_path.proofs.giving.numbers_after.Given as goal
 

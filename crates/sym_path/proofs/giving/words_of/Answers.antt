@@ -1,5 +1,5 @@
 use Rattle.std.proofs.Common.{◌≡◌, ◌<◌, ◌++◌, ◌∷◌, [], ℕ, List, length, take, sym, ◌∙◌, ap, arith, Some}
-use Rattle.sym_check.specs.Updates.{words_in}
+use Rattle.sym_base.specs.States.{words_in}
 use Rattle.sym_path.proofs.Given.{words_next}
 use Rattle.sym_path.proofs.Lists.{no_gap}
 use Rattle.sym_path.proofs.giving.words_of.Goals.{in-Some+in_ok-copy-in-Some+in_ok-push-in-Some, in-None}

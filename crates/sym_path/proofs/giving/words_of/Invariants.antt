@@ -1,6 +1,6 @@
 -- The elements so far stand after the old words.
 use Rattle.std.proofs.Common.{◌≡◌, ◌++◌, take, Some}
-use Rattle.sym_check.specs.Updates.{words_in}
+use Rattle.sym_base.specs.States.{words_in}
 use Rattle.sym_path.proofs.giving.words_of.Given as goal
 
 abbrev pub invariant-added : goal.invariant-added
