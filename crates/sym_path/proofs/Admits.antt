@@ -1,5 +1,5 @@
 -- Lemmas on the states that constraints admit.
-use Rattle.std.proofs.Common.{◌≡◌, ◌≢◌, ◌<◌, ℕ, suc, Bool, true, false, List, [], ◌∷◌, Option, None, length, refl, sym, ap, ◌∙◌, arith}
+use Rattle.std.proofs.Common.{◌≡◌, ◌≢◌, suc, false, List, [], ◌∷◌, length, refl, sym, ap, ◌∙◌}
 use Rattle.std.proofs.lemmas.Bool.{and_right}
 use Rattle.std.proofs.lemmas.List.{length-map}
 use Rattle.std.specs.FinMap.{entries, len-entries}
@@ -9,7 +9,7 @@ use Rattle.sym_pred.specs.Facts.{FactMap}
 use Rattle.sym_pred.specs.Literals.{literals, literal_of}
 use Rattle.sym_base.specs.Tests.{Truth}
 use Rattle.sym_path.specs.declared.part.Part.{Part}
-use Rattle.sym_path.specs.Admitting.{admits, part_admits}
+use Rattle.sym_path.specs.Admitting.{admits}
 
 pub literals_counted : (facts : FactMap) → map.len facts ≡ length (literals facts)
 literals_counted facts = len-entries facts ∙ sym (length-map (entries facts) literal_of)

@@ -1,26 +1,23 @@
 -- What fits a script, at a valid state that a path admits.
-use Rattle.std.proofs.Common.{◌≡◌, ◌<◌, ◌≤◌, ℕ, zero, suc, ℤ, pos, ◌+ℤ◌, ◌*ℤ◌, ◌≤ℤ◌, List, [], ◌∷◌, ◌++◌, Option, Some, None, map, length, refl, sym, ap, ◌∙◌, subst, arith}
+use Rattle.std.proofs.Common.{◌≡◌, ◌<◌, ℕ, ℤ, List, [], ◌∷◌, ◌++◌, Option, Some, None, map, refl, sym, ap, ◌∙◌, arith}
 use Rattle.std.proofs.lemmas.Int.{ints}
 use Rattle.std.proofs.lemmas.List.Elements.{All-append, All-map}
-use Rattle.std.specs.Prelude.{slice_get, IsSome, unsigned_abs}
+use Rattle.std.specs.Prelude.{slice_get}
 use Rattle.std.specs.List.{All, AllZip}
-use Rattle.sym_base.specs.Limits.{IsNumber, num_max}
+use Rattle.sym_base.specs.Limits.{IsNumber}
 use Rattle.sym_base.specs.States.{number_at, number_in, label_at, label_in, parts_at, parts_in}
 use Rattle.sym_base.specs.declared.values.value.Value.{Value}
 use Rattle.sym_base.specs.declared.values.state.Cell.{Cell}
 use Rattle.sym_base.specs.declared.values.state.Cell.TheVariants as cell
 use Rattle.sym_base.specs.declared.values.state.State.{State}
-use Rattle.sym_check.specs.declared.plan.script.EnumPlan.{EnumPlan}
 use Rattle.sym_check.specs.declared.plan.script.KindPlan.{KindPlan}
 use Rattle.sym_check.specs.declared.plan.script.CellPlan.{CellPlan}
 use Rattle.sym_check.specs.declared.plan.script.CellPlan.TheVariants as plan
-use Rattle.sym_check.specs.CellKinds.{IsEnumCell, IsHoldCell}
 use Rattle.sym_check.specs.ScriptPlans.{ScriptPlan}
 use Rattle.sym_base.specs.States.{nums_in, words_in}
 use Rattle.sym_check.specs.Validity.{label_count, AreOfKinds, InRange, IsValidCell, IsValid, IsValidOutcome}
 use Rattle.sym_check.specs.Validity as valid
 use Rattle.sym_check.specs.WellFormed.{IsCell, IsWellFormed}
-use Rattle.sym_enum.specs.declared.form.EnumForm.TheVariants as label
 use Rattle.sym_int.specs.Lines.{form_on, form_value}
 use Rattle.sym_int.specs.Points.{HasPoint}
 use Rattle.sym_int.specs.declared.form.IntForm.{IntForm}
@@ -28,14 +25,11 @@ use Rattle.sym_int.specs.declared.form.IntForm.TheVariants as number
 use Rattle.sym_int.specs.declared.form.Line.{Line}
 use Rattle.sym_int.specs.declared.span.Span.{Span}
 use Rattle.sym_base.specs.Tests.{Truth}
-use Rattle.sym_pred.specs.declared.form.HoldForm.TheVariants as hold
 use Rattle.sym_path.specs.declared.part.Part.{Part}
 use Rattle.sym_path.specs.declared.part.Part.TheVariants as part
 use Rattle.sym_path.specs.declared.form.Form.{Form}
-use Rattle.sym_path.specs.declared.form.Form.TheVariants as form
 use Rattle.sym_path.specs.declared.path.PathEnd.{PathEnd}
 use Rattle.sym_path.specs.declared.path.PathEnd.TheVariants.{Next, Ended}
-use Rattle.sym_path.specs.declared.path.Path.{Path}
 use Rattle.sym_path.specs.Admitting.{PartAdmits, Admits}
 use Rattle.sym_path.specs.Fitting.{StaysWithin, NumberFits, FormFits, FormsFit, EndFits, PathFits}
 use Rattle.sym_path.specs.Fitting as fitting

@@ -8,3 +8,4 @@ pub mod Narrowed
 pub mod NarrowedFits
 pub mod OnlyOutcomes
 pub mod Pulled
+pub mod Possibly

@@ -1,5 +1,6 @@
 -- Lists from an index on, and lists item by item.
-use Rattle.std.proofs.Common.{get_or, ◌≡◌, ◌≢◌, ◌<◌, ◌+◌, ℕ, zero, suc, Bool, true, false, List, [], ◌∷◌, ◌++◌, Option, Some, None, ◌⊎◌, inl, inr, map, length, take, drop, refl, sym, ap, ◌∙◌, subst, arith, add-one}
+use Rattle.std.proofs.Common.{get_or, ◌≡◌, ◌≢◌, ◌<◌, ◌+◌, ℕ, zero, suc, Bool, true, false, List, [], ◌∷◌, ◌++◌, Some, None, ◌⊎◌, inl, inr, map, length, take, drop, refl, sym, ap, ◌∙◌, subst, arith, add-one}
+use Rattle.std.proofs.lemmas.Bool.{cases_lt}
 use Rattle.std.proofs.lemmas.Option.{slice_get-get_or, get_or_from_slice_get, slice_get_within}
 use Rattle.std.specs.Prelude.{slice_get, slice_set}
 use Rattle.std.specs.List.{All, AllZip, list_all}
@@ -142,3 +143,18 @@ zip_map R S f [] [] step h = tt
 zip_map R S f [] (y ∷ ys) step h = absurd h
 zip_map R S f (x ∷ xs) [] step h = absurd h
 zip_map R S f (x ∷ xs) (y ∷ ys) step h = (step x y h.0, zip_map R S f xs ys step h.1)
+
+-- One pair more.
+pub below_next : {A B : Type 0} (R : A → B → Type 0) (xs : List A) (ys : List B) (i : ℕ) (x : A) (y : B) → slice_get xs i ≡ Some x → slice_get ys i ≡ Some y → R x y → ((d : ℕ) (a : A) (b : B) → d < i → slice_get xs d ≡ Some a → slice_get ys d ≡ Some b → R a b) → (d : ℕ) (a : A) (b : B) → d < i + 1 → slice_get xs d ≡ Some a → slice_get ys d ≡ Some b → R a b
+below_next {A} {B} R xs ys i x y ex ey r h d a b lt ea eb = elim (cases_lt d i) [
+  | inl below ↦ h d a b below ea eb
+  | inr above ↦
+      let at : d ≡ i = omega arith in
+      let sx : Some x ≡ Some a = sym ex ∙ ap (slice_get xs) (sym at) ∙ ea in
+      let sy : Some y ≡ Some b = sym ey ∙ ap (slice_get ys) (sym at) ∙ eb in
+      let px : x ≡ a = cc in
+      let py : y ≡ b = cc in
+      let P : A → Type 0 = λ v. R v y in
+      let Q : B → Type 0 = λ v. R a v in
+      subst Q py (subst P px r)
+]

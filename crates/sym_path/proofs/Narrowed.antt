@@ -1,9 +1,9 @@
 -- A path's constraint narrowed in one cell, and its forms taken on it.
-use Rattle.std.proofs.Common.{◌≡◌, ◌≢◌, ◌<◌, ℕ, zero, suc, ℤ, ◌+ℤ◌, ◌*ℤ◌, ◌≤ℤ◌, ◌<ℤ◌, Bool, true, false, ◌&&◌, ◌==◌, List, [], ◌∷◌, ◌++◌, Option, Some, None, ◌⊎◌, inl, inr, map, refl, sym, ap, ◌∙◌, subst, arith}
-use Rattle.std.proofs.lemmas.Bool.{cases_eq, cond-true, cond-false, eq-eqb, ne_eqb}
+use Rattle.std.proofs.Common.{◌≡◌, ℕ, zero, suc, ℤ, ◌+ℤ◌, ◌*ℤ◌, ◌≤ℤ◌, Bool, true, false, ◌&&◌, List, [], ◌∷◌, ◌++◌, Option, Some, None, inl, inr, map, refl, sym, ap, ◌∙◌, arith}
+use Rattle.std.proofs.lemmas.Bool.{cases_eq, eq-eqb, ne_eqb}
 use Rattle.std.proofs.lemmas.Int.{ints, by_lt_z}
-use Rattle.std.specs.Prelude.{slice_get, slice_set, if◌then◌else◌, IsTrue}
-use Rattle.std.specs.List.{All, AllZip}
+use Rattle.std.specs.Prelude.{slice_get, slice_set, if◌then◌else◌}
+use Rattle.std.specs.List.{AllZip}
 use Rattle.sym_base.specs.States.{number_at, number_in, label_at, label_in}
 use Rattle.sym_base.specs.declared.values.state.Cell.{Cell}
 use Rattle.sym_base.specs.declared.values.state.Cell.TheVariants as cell
@@ -11,16 +11,12 @@ use Rattle.sym_base.specs.declared.values.state.State.{State}
 use Rattle.sym_base.specs.declared.values.state.Outcome.{Outcome}
 use Rattle.sym_base.specs.declared.values.state.Outcome.TheVariants.{Going}
 use Rattle.sym_base.specs.States.{nums_in}
-use Rattle.sym_check.specs.declared.plan.script.CellPlan.{CellPlan}
-use Rattle.sym_check.specs.declared.plan.script.CellPlan.TheVariants as plan
-use Rattle.sym_check.specs.ScriptPlans.{ScriptPlan}
-use Rattle.sym_check.specs.Validity.{label_count, InRange}
-use Rattle.sym_enum.specs.Labels.{has_label, label_value, IsOnlyLabel}
+use Rattle.sym_enum.specs.Labels.{label_value, IsOnlyLabel}
 use Rattle.sym_enum.specs.declared.form.EnumForm.{EnumForm}
 use Rattle.sym_enum.specs.declared.form.EnumForm.TheVariants as label
 use Rattle.sym_enum.specs.declared.label_set.LabelSet.{LabelSet}
 use Rattle.sym_int.specs.Elements.{IsConstant, IsFixedTo}
-use Rattle.sym_int.specs.Lines.{form_on, form_cell, form_value}
+use Rattle.sym_int.specs.Lines.{form_on, form_value}
 use Rattle.sym_int.specs.Points.{HasPoint}
 use Rattle.sym_int.specs.declared.form.IntForm.{IntForm}
 use Rattle.sym_int.specs.declared.form.IntForm.TheVariants as number
@@ -37,10 +33,9 @@ use Rattle.sym_path.specs.declared.path.PathEnd.{PathEnd}
 use Rattle.sym_path.specs.declared.path.PathEnd.TheVariants.{Next, Ended}
 use Rattle.sym_path.specs.declared.path.Path.{Path}
 use Rattle.sym_path.specs.Admitting.{part_admits, admits}
-use Rattle.sym_path.specs.Giving.{cell_at, cells_at, state_at, end_at, given}
+use Rattle.sym_path.specs.Giving.{cell_at, cells_at, end_at, given}
 use Rattle.sym_path.specs.Narrowing.{cell_admitted, GivesWhere, IsSubset, IsSubspan, NarrowsLabels, NarrowsNumbers, NarrowsFacts, label_put, with_label, NumberIsPut, end_with_label, NumberIsPutAtEnd, LabelsNarrowed, NumbersNarrowed}
 use Rattle.sym_path.proofs.Decided.{point_decided, facts_decided}
-use Rattle.sym_path.proofs.Lists.{set_cases}
 
 -- ---- what a narrowed constraint admits
 

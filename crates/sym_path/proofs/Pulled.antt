@@ -1,19 +1,15 @@
 -- What is needed of one cell, over all forms.
-use Rattle.std.proofs.Common.{◌≡◌, ◌<◌, ◌+◌, ◌↔◌, ℕ, ℤ, ◌≤ℤ◌, Bool, true, false, ◌&&◌, ◌==◌, List, [], ◌∷◌, Option, Some, None, length, drop, refl, sym, ap, ◌∙◌, arith}
+use Rattle.std.proofs.Common.{◌≡◌, ◌+◌, ◌↔◌, ℕ, ℤ, Bool, true, false, ◌&&◌, List, Option, Some, None, drop, refl, sym, ap, ◌∙◌}
 use Rattle.std.proofs.lemmas.Bool.{and_parts, and_from, eq-eqb}
 use Rattle.std.specs.Prelude.{slice_get, IsTrue}
 use Rattle.sym_base.specs.Limits.{IsNumber}
-use Rattle.sym_enum.specs.Labels.{has_label}
 use Rattle.sym_int.specs.Lines.{form_on}
 use Rattle.sym_int.specs.Points.{HasPoint, IsPart}
-use Rattle.sym_int.specs.declared.form.IntForm.{IntForm}
 use Rattle.sym_int.specs.declared.form.IntForm.TheVariants as number
 use Rattle.sym_int.specs.declared.form.Line.{Line}
 use Rattle.sym_int.specs.declared.span.Span.{Span}
-use Rattle.sym_path.specs.declared.part.Part.{Part}
 use Rattle.sym_path.specs.declared.part.Part.TheVariants as part
-use Rattle.sym_path.specs.declared.form.Form.{Form}
-use Rattle.sym_path.specs.Pulling.{zip_all, label_passes, int_passes, number_passes}
+use Rattle.sym_path.specs.Pulling.{zip_all, int_passes}
 use Rattle.sym_path.proofs.Decided.{point_decided}
 use Rattle.sym_path.proofs.Fitted.{number_between}
 use Rattle.sym_path.proofs.Lists.{drop_get}

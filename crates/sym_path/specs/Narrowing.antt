@@ -3,13 +3,11 @@ use Rattle.std.specs.Prelude.{◌≡◌, ℕ, ℤ, ◌≤ℤ◌, ◌<ℤ◌, ◌
 use Rattle.std.specs.List.{All, AllZip}
 use Rattle.sym_base.specs.declared.values.state.Cell.{Cell}
 use Rattle.sym_base.specs.declared.values.state.State.{State}
-use Rattle.sym_base.specs.declared.values.state.Outcome.{Outcome}
 use Rattle.sym_enum.specs.Labels.{has_label, IsOnlyLabel}
 use Rattle.sym_enum.specs.declared.form.EnumForm.{EnumForm}
 use Rattle.sym_enum.specs.declared.form.EnumForm.TheVariants as label
 use Rattle.sym_enum.specs.declared.label_set.LabelSet.{LabelSet}
 use Rattle.sym_int.specs.Elements.{CanFix, IsFixedTo}
-use Rattle.sym_int.specs.declared.form.IntForm.{IntForm}
 use Rattle.sym_int.specs.declared.span.Span.{Span}
 use Rattle.sym_check.specs.declared.plan.script.CellPlan.{CellPlan}
 use Rattle.sym_check.specs.ScriptPlans.{ScriptPlan}

@@ -58,15 +58,22 @@ pub record IsNeeded (forms : List Form) (needs : List Part) (c : ℕ) (atom : At
 abbrev pub IsSaid : FactMap → List Form → List Part → ℕ → Atom → Bool → Type 0
 IsSaid known forms needs c atom outcome = Stands known atom outcome ⊎ IsNeeded forms needs c atom outcome
 
--- A path with this constraint and these forms can be followed by one with the constraint `needs`.
+-- What is left of a cell by its part and by what is needed of it: a label of an enum cell, a number
+-- of an integer cell, and of a hold cell no literal against itself.
+abbrev pub IsLeft : List Form → List Part → ℕ → Part → Type 0
+IsLeft forms needs c (part.Set set) = (l : ℕ) × IsTrue (has_label set l) × LabelMeets forms needs c l
+IsLeft forms needs c (part.Span span) = (x : ℤ) × HasPoint span x × NumberMeets forms needs c x
+IsLeft forms needs c (part.Facts known) = (atom : Atom) (outcome : Bool) → IsSaid known forms needs c atom outcome → IsSaid known forms needs c atom (not outcome) → ⊥
+IsLeft forms needs c part.Free = Unit {0}
+
+abbrev pub AllLeft : List Part → List Form → List Part → Type 0
+AllLeft when forms needs = (c : ℕ) (p : Part) → slice_get when c ≡ Some p → IsLeft forms needs c p
+
+-- A path with this constraint and these forms can be followed by one with the constraint `needs`:
+-- every constant is as it is needed, and no set and no span is empty, and no literal against itself.
 pub record Possible (truth : Truth) (when : List Part) (forms : List Form) (needs : List Part) : Type 0 where
-  -- Every constant is as it is needed.
   pub constants : (f : Form) (need : Part) → Meets forms needs f need → ConstantMeets truth f need
-  -- No set, and no span, is empty.
-  pub labels : (c : ℕ) (set : LabelSet) → slice_get when c ≡ Some (part.Set set) → (l : ℕ) × IsTrue (has_label set l) × LabelMeets forms needs c l
-  pub numbers : (c : ℕ) (span : Span) → slice_get when c ≡ Some (part.Span span) → (x : ℤ) × HasPoint span x × NumberMeets forms needs c x
-  -- No literal stands against itself.
-  pub literals : (c : ℕ) (known : FactMap) → slice_get when c ≡ Some (part.Facts known) → (atom : Atom) (outcome : Bool) → IsSaid known forms needs c atom outcome → IsSaid known forms needs c atom (not outcome) → ⊥
+  pub cells : AllLeft when forms needs
 
 -- The second path can come after the first. After a fault none can.
 abbrev pub IsPossiblePair : Truth → Path → Path → Type 0

@@ -94,3 +94,24 @@ Agrees c known (form.Words added) need = Unit {0}
 -- It is so of all forms.
 abbrev pub AllAgree : ℕ → FactMap → List Form → List Part → Type 0
 AllAgree c known forms needs = (d : ℕ) (f : Form) (need : Part) → slice_get forms d ≡ Some f → slice_get needs d ≡ Some need → Agrees c known f need
+
+abbrev pub NeedAgrees : ℕ → List Form → List Part → Part → Type 0
+NeedAgrees c forms needs (part.Set need) = Unit {0}
+NeedAgrees c forms needs (part.Span need) = Unit {0}
+NeedAgrees c forms needs (part.Facts need) = AllAgree c need forms needs
+NeedAgrees c forms needs part.Free = Unit {0}
+
+abbrev pub CopyAgrees : ℕ → List Form → List Part → Part → HoldForm → Type 0
+CopyAgrees c forms needs need (hold.Const parts) = Unit {0}
+CopyAgrees c forms needs need (hold.Copy d) = d ≡ c → NeedAgrees c forms needs need
+
+-- What is needed of a form that copies the hold cell c agrees with what is needed of the others.
+abbrev pub OthersAgree : ℕ → List Form → List Part → Form → Part → Type 0
+OthersAgree c forms needs (form.Enum f) need = Unit {0}
+OthersAgree c forms needs (form.Int f) need = Unit {0}
+OthersAgree c forms needs (form.Hold f) need = CopyAgrees c forms needs need f
+OthersAgree c forms needs (form.Nums added) need = Unit {0}
+OthersAgree c forms needs (form.Words added) need = Unit {0}
+
+abbrev pub NeedsAgree : ℕ → List Form → List Part → Type 0
+NeedsAgree c forms needs = (d : ℕ) (f : Form) (need : Part) → slice_get forms d ≡ Some f → slice_get needs d ≡ Some need → OthersAgree c forms needs f need

@@ -9,10 +9,12 @@ pub mod laws;
 mod narrowing;
 mod part;
 mod path;
+mod possible_pairs;
 mod pulling;
 mod segment;
 
 pub use form::{Form, Forms};
 pub use part::{Constraint, Part};
 pub use path::{Path, PathEnd};
+pub use possible_pairs::possible;
 pub use segment::Segment;

@@ -5,7 +5,7 @@ ghost use Rattle.sym_check.specs.Conditions.{has_fixed_body, test_truth};
 ghost use Rattle.sym_check.specs.ScriptPlans.{script_plan};
 ghost use Rattle.sym_enum.specs.Labels.{has_label};
 ghost use Rattle.sym_int.specs.Points.{HasPoint, IsPart};
-ghost use Rattle.sym_path.specs.Pulling.{zip_all, constant_meets, label_passes, int_passes, number_passes, Agrees, AllAgree};
+ghost use Rattle.sym_path.specs.Pulling.{zip_all, constant_meets, label_passes, int_passes, number_passes, Agrees, AllAgree, OthersAgree, NeedsAgree};
 ghost use Rattle.sym_path.specs.declared.part.Part.TheVariants as part;
 
 use crate::admitting::give_all;
@@ -149,6 +149,34 @@ pub(crate) fn all_agree(cell: u16, facts: &Facts, forms: &[Form], needs: &[Part]
 {
     'cells: for index in 0..forms.len() {
         if !agrees(cell, facts, &forms[index], &needs[index]) {
+            return false;
+        }
+    }
+    true
+}
+
+/// Whether what is needed of a form that copies the hold cell agrees with what is needed of the
+/// others.
+fn others_agree(cell: u16, form: &Form, need: &Part, forms: &[Form], needs: &[Part]) -> bool
+    requires { length forms.now ≡ length needs.now }
+    ensures { IsTrue result ↔ OthersAgree cell forms.now needs.now form.now need.now }
+{
+    match form {
+        Form::Hold(HoldForm::Copy(own)) => match need {
+            Part::Facts(needed) => *own != cell || all_agree(cell, needed, forms, needs),
+            _ => true,
+        },
+        _ => true,
+    }
+}
+
+/// Whether it is so of all forms.
+pub(crate) fn needs_agree(cell: u16, forms: &[Form], needs: &[Part]) -> bool
+    requires { length forms.now ≡ length needs.now }
+    ensures { IsTrue result ↔ NeedsAgree cell forms.now needs.now }
+{
+    'cells: for index in 0..forms.len() {
+        if !others_agree(cell, &forms[index], &needs[index], forms, needs) {
             return false;
         }
     }

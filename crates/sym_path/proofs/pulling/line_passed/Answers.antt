@@ -1,4 +1,4 @@
-use Rattle.std.proofs.Common.{◌≡◌, ◌↔◌, ℤ, sym}
+use Rattle.std.proofs.Common.{◌↔◌, ℤ}
 use Rattle.sym_base.specs.Limits.{IsNumber}
 use Rattle.sym_int.specs.Lines.{form_on}
 use Rattle.sym_int.specs.Points.{HasPoint}

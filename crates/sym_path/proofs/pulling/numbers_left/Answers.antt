@@ -1,4 +1,4 @@
-use Rattle.std.proofs.Common.{◌≡◌, sym, refl, length, Some, arith}
+use Rattle.std.proofs.Common.{◌≡◌, refl, length, Some}
 use Rattle.std.proofs.lemmas.Option.{slice_get_read}
 use Rattle.std.specs.Prelude.{slice_get}
 use Rattle.sym_path.specs.Pulling.{number_passes}
