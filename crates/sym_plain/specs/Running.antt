@@ -1,7 +1,13 @@
 -- What running a part of an update comes to, against what the part means.
-use Rattle.std.specs.Prelude.{◌≡◌, Option, Some, None, Result, Ok, Err}
+use Rattle.std.specs.Prelude.{◌≡◌, ℕ, List, Option, Some, None, Result, Ok, Err}
 use Rattle.sym_base.specs.declared.values.state.State.{State}
 use Rattle.sym_base.specs.declared.values.state.FaultKind.{FaultKind}
+use Rattle.sym_base.specs.declared.values.state.Cell.TheVariants as cell
+use Rattle.sym_base.specs.States.{with_cell}
+use Rattle.sym_check.specs.Arithmetic.{and_then}
+use Rattle.sym_check.specs.FixedPlans.{FixedPlan}
+use Rattle.sym_check.specs.FixedValues.{Environment, fixed_values}
+use Rattle.sym_check.specs.Updates.{or_fault}
 use Rattle.sym_check.specs.DoPlans.{DoPlan, Let, SetInt, SetEnum, CopyEnum, Keep, KeepFrom, PushNum, PushWord, If}
 use Rattle.sym_plain.specs.declared.update.stop.Stop.{Stop}
 use Rattle.sym_plain.specs.declared.update.stop.Stop.TheVariants as stop
@@ -12,11 +18,12 @@ Gives (Ok x) meaning = meaning ≡ Ok x
 Gives (Err (stop.Fault kind)) meaning = meaning ≡ Err kind
 Gives (Err stop.NoMemory) meaning = Unit {0}
 
--- The state that statements mean, or their fault; where memory is out, anything.
-abbrev pub Runs : {A : Type 0} → Result A Stop → State → Result State FaultKind → Type 0
-Runs (Ok x) s meaning = meaning ≡ Ok s
-Runs (Err (stop.Fault kind)) s meaning = meaning ≡ Err kind
-Runs (Err stop.NoMemory) s meaning = Unit {0}
+-- What was written in the course of the part is the value that it means, or its fault is meant; where
+-- memory is out, anything.
+abbrev pub Makes : {A B : Type 0} → Result A Stop → B → Result B FaultKind → Type 0
+Makes (Ok x) made meaning = meaning ≡ Ok made
+Makes (Err (stop.Fault kind)) made meaning = meaning ≡ Err kind
+Makes (Err stop.NoMemory) made meaning = Unit {0}
 
 -- A statement that changes cells alone.
 abbrev pub IsAssignment : DoPlan → Type 0
@@ -34,3 +41,7 @@ IsAssignment (If c a b) = ⊥
 abbrev pub Ends : Option FaultKind → State → Result State FaultKind → Type 0
 Ends None s meaning = meaning ≡ Ok s
 Ends (Some kind) s meaning = meaning ≡ Err kind
+
+-- What `keep` with these values does to a state.
+abbrev pub kept : Environment → ℕ → List FixedPlan → State → Result State FaultKind
+kept k c es s = and_then (λ parts. Ok (with_cell s c (cell.Hold parts))) (or_fault (fixed_values k es))

@@ -12,6 +12,7 @@ use crate::groups::Groups;
 use crate::keys::copy_value;
 use crate::states::initial;
 use crate::steps::advance;
+use crate::update::buffers::Buffers;
 use indexmap::IndexMap;
 use std::alloc::Global;
 use sym_base::{Key, NoMemory, Outcome, Record, Value};
@@ -56,6 +57,7 @@ fn go_on(
     map: &mut IndexMap<Key, Outcome>,
     key: &Key,
     rec: &Record,
+    buffers: &mut Buffers,
 ) -> Result<bool, NoMemory>
     requires { IsTrue (list_all has_fixed_body (script_plan plan.now).tests) }
     ensures steps { let p = script_plan plan.now in
@@ -64,7 +66,7 @@ fn go_on(
 {
     match map.get_mut(key) {
         Some(outcome) => {
-            advance(alloc, plan, outcome, rec)?;
+            advance(alloc, plan, outcome, rec, buffers)?;
             Ok(true)
         }
         None => Ok(false),
@@ -78,6 +80,7 @@ fn begin(
     map: &mut IndexMap<Key, Outcome>,
     key: &Key,
     rec: &Record,
+    buffers: &mut Buffers,
 ) -> Result<(), NoMemory>
     requires tests { IsTrue (list_all has_fixed_body (script_plan plan.now).tests) }
     requires new { lookup (is_key key.now) map.old.entries ≡ None }
@@ -87,7 +90,7 @@ fn begin(
     ensures distinct { HaveDistinctKeys map.new.entries }
 {
     let mut outcome = Outcome::Going(initial(alloc, plan)?);
-    advance(alloc, plan, &mut outcome, rec)?;
+    advance(alloc, plan, &mut outcome, rec, buffers)?;
     map.insert(key.copy(alloc)?, outcome)?;
     Ok(())
 }
@@ -99,16 +102,17 @@ pub(crate) fn step_group(
     map: &mut IndexMap<Key, Outcome>,
     key: &Key,
     rec: &Record,
+    buffers: &mut Buffers,
 ) -> Result<(), NoMemory>
     requires { IsTrue (list_all has_fixed_body (script_plan plan.now).tests) }
     ensures steps { let p = script_plan plan.now in
         OnOk result (map.new.entries ≡ stepped p key.now rec.now map.old.entries) }
     ensures distinct { HaveDistinctKeys map.new.entries }
 {
-    if go_on(alloc, plan, map, key, rec)? {
+    if go_on(alloc, plan, map, key, rec, buffers)? {
         Ok(())
     } else {
-        begin(alloc, plan, map, key, rec)
+        begin(alloc, plan, map, key, rec, buffers)
     }
 }
 

@@ -8,6 +8,7 @@ ghost use Rattle.sym_check.specs.ScriptPlans.{script_plan};
 ghost use Rattle.sym_plain.specs.Pairs.{HaveDistinctKeys, after_record, put};
 
 use crate::folding::{set_key, step_group};
+use crate::update::buffers::Buffers;
 use indexmap::IndexMap;
 use std::alloc::Global;
 use std::marker::Model;
@@ -20,6 +21,7 @@ pub struct Groups {
     map: IndexMap<Key, Outcome>,
     // The key that was looked up last; the next one is made over its memory.
     key: Key,
+    buffers: Buffers,
 }
 
 impl Model for Groups {
@@ -43,6 +45,7 @@ impl Groups {
         Groups {
             map: IndexMap::new(alloc),
             key: Key::Whole,
+            buffers: Buffers::new(alloc),
         }
     }
 
@@ -77,6 +80,13 @@ impl Groups {
         ensures { OnOk result (self.new ≡ after_record (script_plan plan.now) rec.now self.old) }
     {
         set_key(alloc, plan, &mut self.key, rec)?;
-        step_group(alloc, plan, &mut self.map, &self.key, rec)
+        step_group(
+            alloc,
+            plan,
+            &mut self.map,
+            &self.key,
+            rec,
+            &mut self.buffers,
+        )
     }
 }

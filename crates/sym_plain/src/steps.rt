@@ -8,10 +8,11 @@ ghost use Rattle.sym_check.specs.ScriptPlans.{script_plan};
 ghost use Rattle.sym_check.specs.Updates.{environment, dos_step, step};
 ghost use Rattle.sym_plain.specs.Running.{Ends};
 
+use crate::update::buffers::{Buffers, shorten};
 use crate::update::statements::run_all;
 use crate::update::stop::Stop;
 use std::alloc::Global;
-use sym_base::{Fault, FaultKind, NoMemory, Outcome, Record, State, Values};
+use sym_base::{Fault, FaultKind, NoMemory, Outcome, Record, State};
 use sym_check::Plan;
 
 // Runs the update on a state where it lies, and gives the fault that ends the group, if there is one.
@@ -20,13 +21,14 @@ fn update(
     plan: &Plan,
     state: &mut State,
     rec: &Record,
+    buffers: &mut Buffers,
 ) -> Result<Option<FaultKind>, NoMemory>
     requires { IsTrue (list_all has_fixed_body (script_plan plan.now).tests) }
     ensures { let p = script_plan plan.now in
         IfOk result (λ kind. Ends kind state.new (dos_step p (environment rec.now []) p.update state.old)) }
 {
-    let mut locals = Values::new(alloc);
-    match run_all(alloc, plan, rec, &plan.update, &mut locals, state) {
+    shorten(alloc, &mut buffers.locals, 0);
+    match run_all(alloc, plan, rec, &plan.update, buffers, state) {
         Ok(()) => Ok(None),
         Err(Stop::Fault(kind)) => Ok(Some(kind)),
         Err(Stop::NoMemory) => Err(NoMemory),
@@ -40,13 +42,14 @@ pub(crate) fn advance(
     plan: &Plan,
     outcome: &mut Outcome,
     rec: &Record,
+    buffers: &mut Buffers,
 ) -> Result<(), NoMemory>
     requires { IsTrue (list_all has_fixed_body (script_plan plan.now).tests) }
     ensures { OnOk result (outcome.new ≡ step (script_plan plan.now) outcome.old rec.now) }
 {
     match outcome {
         Outcome::Going(state) => {
-            if let Some(kind) = update(alloc, plan, state, rec)? {
+            if let Some(kind) = update(alloc, plan, state, rec, buffers)? {
                 *outcome = Outcome::Ended(Fault { kind, no: rec.no });
             }
         }
@@ -62,6 +65,6 @@ pub fn step(alloc: Global, plan: &Plan, state: State, rec: &Record) -> Result<Ou
     ensures { IfOk result (λ o. o ≡ step (script_plan plan.now) (Going state) rec.now) }
 {
     let mut outcome = Outcome::Going(state);
-    advance(alloc, plan, &mut outcome, rec)?;
+    advance(alloc, plan, &mut outcome, rec, &mut Buffers::new(alloc))?;
     Ok(outcome)
 }

@@ -8,8 +8,9 @@ ghost use Rattle.sym_check.specs.FixedValues.{fixed_value, fixed_values};
 ghost use Rattle.sym_check.specs.KnownValues.{known_values};
 ghost use Rattle.sym_check.specs.ScriptPlans.{script_plan};
 ghost use Rattle.sym_check.specs.Updates.{or_fault};
-ghost use Rattle.sym_plain.specs.Running.{Gives};
+ghost use Rattle.sym_plain.specs.Running.{Gives, Makes};
 
+use crate::update::buffers::shorten;
 use crate::update::stop::Stop;
 use crate::update::terms::term_number;
 use std::alloc::Global;
@@ -27,30 +28,32 @@ pub(crate) fn fixed_value(alloc: Global, known: &Known, expression: &Fixed) -> R
     }
 }
 
-/// The values of fixed expressions, in order.
-pub(crate) fn fixed_values(
+/// Makes the list that of the values of these expressions, over the memory that it has.
+pub(crate) fn set_values(
     alloc: Global,
     known: &Known,
     expressions: &FixedList,
-) -> Result<Values, Stop>
+    values: &mut Values,
+) -> Result<(), Stop>
     ensures { let meaning = fixed_values (known_values known.now) (map fixed_plan expressions.now) in
-        Gives result (or_fault meaning) }
+        Makes result values.new (or_fault meaning) }
 {
-    let mut values = Values::new(alloc);
+    shorten(alloc, values, 0);
     'values: for expression in expressions.as_slice() {
         let value = fixed_value(alloc, known, expression)?;
         values.push(value)?;
     }
-    Ok(values)
+    Ok(())
 }
 
-/// The truth of a condition at a state.
+/// The truth of a condition at a state. `args` is memory for the arguments of tests.
 pub(crate) fn truth_of(
     alloc: Global,
     plan: &Plan,
     known: &Known,
     condition: &Cond,
     state: &State,
+    args: &mut Values,
 ) -> Result<bool, Stop>
     requires { IsTrue (list_all has_fixed_body (script_plan plan.now).tests) }
     ensures { let tests = test_truth (script_plan plan.now).tests in
@@ -66,23 +69,27 @@ pub(crate) fn truth_of(
         Cond::Words(left, right) => Ok(known.word(left) == known.word(right)),
         Cond::CellIs(cell, label) => Ok(state.label_at(*cell) == known.label(label)),
         Cond::LabelIs(left, right) => Ok(known.label(left) == known.label(right)),
-        Cond::Test { test, cell, args } => {
-            let args = fixed_values(alloc, known, args)?;
+        Cond::Test {
+            test,
+            cell,
+            args: expressions,
+        } => {
+            set_values(alloc, known, expressions, args)?;
             Ok(answer_at(&plan.tests, *test, state.parts_at(*cell), args.as_slice()))
         }
-        Cond::Not(condition) => Ok(!truth_of(alloc, plan, known, condition, state)?),
+        Cond::Not(condition) => Ok(!truth_of(alloc, plan, known, condition, state, args)?),
         Cond::And(left, right) => {
-            if truth_of(alloc, plan, known, left, state)? {
-                truth_of(alloc, plan, known, right, state)
+            if truth_of(alloc, plan, known, left, state, args)? {
+                truth_of(alloc, plan, known, right, state, args)
             } else {
                 Ok(false)
             }
         }
         Cond::Or(left, right) => {
-            if truth_of(alloc, plan, known, left, state)? {
+            if truth_of(alloc, plan, known, left, state, args)? {
                 Ok(true)
             } else {
-                truth_of(alloc, plan, known, right, state)
+                truth_of(alloc, plan, known, right, state, args)
             }
         }
     }

@@ -1,21 +1,22 @@
 //! Statements of the update, run on a state's cells where they lie.
-ghost use Rattle.std.specs.Prelude.{◌≡◌, ◌++◌, ◌∷◌, [], ◌-◌, IsTrue, IfOk, OnOk, length, pos, replicate, take};
+ghost use Rattle.std.specs.Prelude.{◌≡◌, ◌++◌, ◌∷◌, [], ◌-◌, IsTrue, IfOk, OnOk, length, map, pos, replicate, take};
 ghost use Rattle.std.specs.List.{list_all};
 ghost use Rattle.sym_check.specs.Conditions.{has_fixed_body};
 ghost use Rattle.sym_check.specs.DoPlans.{do_plan, dos_plan};
+ghost use Rattle.sym_check.specs.FixedPlans.{fixed_plan};
 ghost use Rattle.sym_check.specs.KnownValues.{known_values};
 ghost use Rattle.sym_check.specs.ScriptPlans.{script_plan};
 ghost use Rattle.sym_check.specs.Updates.{environment, environment_after, do_step, dos_step};
-ghost use Rattle.sym_base.specs.States.{nums_in, words_in, with_num, with_word};
-ghost use Rattle.sym_plain.specs.Running.{Runs, IsAssignment};
+ghost use Rattle.sym_base.specs.States.{nums_in, parts_in, words_in, with_num, with_word};
+ghost use Rattle.sym_plain.specs.Running.{IsAssignment, Makes, kept};
 
-use crate::update::conditions::{fixed_value, fixed_values, truth_of};
+use crate::update::buffers::{Buffers, shorten};
+use crate::update::conditions::{fixed_value, set_values, truth_of};
 use crate::update::stop::Stop;
 use crate::update::terms::{in_range, term_number};
 use std::alloc::Global;
-use std::mem;
 use sym_base::{Cell, NoMemory, Nums, Record, State, Text, Value, Values, Words};
-use sym_check::{Do, Dos, Known, Plan};
+use sym_check::{Do, Dos, FixedList, Known, Plan};
 
 fn known_in<'a>(rec: &'a Record, locals: &'a Values) -> Known<'a>
     ensures { known_values result ≡ environment rec.now locals.now }
@@ -97,15 +98,31 @@ fn name_local(locals: &mut Values, local: u16, value: Value) -> Result<(), NoMem
     Ok(())
 }
 
-// The first locals stay, those of a block that has ended are gone.
-fn drop_locals(alloc: Global, locals: &mut Values, count: usize)
-    ensures { locals.new ≡ take count locals.old }
+fn parts_of(alloc: Global, cell: Option<Cell>) -> Values
+    ensures { result ≡ parts_in cell }
 {
-    if count < locals.len() {
-        let mut items = mem::replace(locals, Values::new(alloc)).into_vec();
-        items.truncate(count);
-        *locals = Values::of(items);
+    match cell {
+        Some(Cell::Hold(parts)) => parts,
+        _ => Values::new(alloc),
     }
+}
+
+// The parts are written over those that the cell has.
+fn keep(
+    alloc: Global,
+    known: &Known,
+    cell: u16,
+    values: &FixedList,
+    state: &mut State,
+) -> Result<(), Stop>
+    ensures { let meaning = kept (known_values known.now) cell (map fixed_plan values.now) in
+        Makes result state.new (meaning state.old) }
+{
+    let cell = usize::from(cell);
+    let mut parts = parts_of(alloc, state.cells.replace(cell, Cell::Enum(0)));
+    set_values(alloc, known, values, &mut parts)?;
+    state.cells.set(cell, Cell::Hold(parts));
+    Ok(())
 }
 
 // A statement that changes cells alone.
@@ -118,7 +135,7 @@ fn assign(
 ) -> Result<(), Stop>
     requires { IsAssignment (do_plan statement.now) }
     ensures { let p = script_plan plan.now in
-        Runs result state.new
+        Makes result state.new
         (do_step p (known_values known.now) (do_plan statement.now) state.old) }
 {
     match statement {
@@ -135,8 +152,7 @@ fn assign(
             state.cells.set(usize::from(*cell), Cell::Enum(label));
         }
         Do::Keep(cell, values) => {
-            let parts = fixed_values(alloc, known, values)?;
-            state.cells.set(usize::from(*cell), Cell::Hold(parts));
+            keep(alloc, known, *cell, values, state)?;
         }
         Do::KeepFrom(cell, from) => {
             let parts = copy_parts(alloc, state.parts_at(*from))?;
@@ -160,20 +176,20 @@ pub(crate) fn run_all(
     plan: &Plan,
     rec: &Record,
     statements: &Dos,
-    locals: &mut Values,
+    buffers: &mut Buffers,
     state: &mut State,
 ) -> Result<(), Stop>
     requires { IsTrue (list_all has_fixed_body (script_plan plan.now).tests) }
     ensures state { let p = script_plan plan.now in
-        let k = environment rec.now locals.old in
-        Runs result state.new (dos_step p k (dos_plan statements.now) state.old) }
-    ensures locals { OnOk result (take (length locals.old) locals.new ≡ locals.old) }
+        let k = environment rec.now buffers.old.locals in
+        Makes result state.new (dos_step p k (dos_plan statements.now) state.old) }
+    ensures locals { OnOk result (take (length buffers.old.locals) buffers.new.locals ≡ buffers.old.locals) }
 {
     match statements {
         Dos::End => Ok(()),
         Dos::More(first, rest) => {
-            run(alloc, plan, rec, first, locals, state)?;
-            run_all(alloc, plan, rec, rest, locals, state)
+            run(alloc, plan, rec, first, buffers, state)?;
+            run_all(alloc, plan, rec, rest, buffers, state)
         }
     }
 }
@@ -185,18 +201,18 @@ fn run_block(
     plan: &Plan,
     rec: &Record,
     statements: &Dos,
-    locals: &mut Values,
+    buffers: &mut Buffers,
     state: &mut State,
 ) -> Result<(), Stop>
     requires { IsTrue (list_all has_fixed_body (script_plan plan.now).tests) }
     ensures state { let p = script_plan plan.now in
-        let k = environment rec.now locals.old in
-        Runs result state.new (dos_step p k (dos_plan statements.now) state.old) }
-    ensures locals { OnOk result (locals.new ≡ locals.old) }
+        let k = environment rec.now buffers.old.locals in
+        Makes result state.new (dos_step p k (dos_plan statements.now) state.old) }
+    ensures locals { OnOk result (buffers.new.locals ≡ buffers.old.locals) }
 {
-    let count = locals.len();
-    run_all(alloc, plan, rec, statements, locals, state)?;
-    drop_locals(alloc, locals, count);
+    let count = buffers.locals.len();
+    run_all(alloc, plan, rec, statements, buffers, state)?;
+    shorten(alloc, &mut buffers.locals, count);
     Ok(())
 }
 
@@ -206,29 +222,36 @@ fn run(
     plan: &Plan,
     rec: &Record,
     statement: &Do,
-    locals: &mut Values,
+    buffers: &mut Buffers,
     state: &mut State,
 ) -> Result<(), Stop>
     requires { IsTrue (list_all has_fixed_body (script_plan plan.now).tests) }
     ensures state { let p = script_plan plan.now in
-        let k = environment rec.now locals.old in
-        Runs result state.new (do_step p k (do_plan statement.now) state.old) }
-    ensures locals { let k = environment rec.now locals.old in
-        OnOk result (environment rec.now locals.new ≡ environment_after k (do_plan statement.now)) }
+        let k = environment rec.now buffers.old.locals in
+        Makes result state.new (do_step p k (do_plan statement.now) state.old) }
+    ensures locals { let k = environment rec.now buffers.old.locals in
+        OnOk result (environment rec.now buffers.new.locals ≡ environment_after k (do_plan statement.now)) }
 {
     match statement {
         Do::Let(local, value) => {
-            let value = fixed_value(alloc, &known_in(rec, locals), value)?;
-            name_local(locals, *local, value)?;
+            let value = fixed_value(alloc, &known_in(rec, &buffers.locals), value)?;
+            name_local(&mut buffers.locals, *local, value)?;
             Ok(())
         }
         Do::If(condition, then, otherwise) => {
-            if truth_of(alloc, plan, &known_in(rec, locals), condition, state)? {
-                run_block(alloc, plan, rec, then, locals, state)
+            let known = known_in(rec, &buffers.locals);
+            if truth_of(alloc, plan, &known, condition, state, &mut buffers.args)? {
+                run_block(alloc, plan, rec, then, buffers, state)
             } else {
-                run_block(alloc, plan, rec, otherwise, locals, state)
+                run_block(alloc, plan, rec, otherwise, buffers, state)
             }
         }
-        _ => assign(alloc, plan, &known_in(rec, locals), statement, state),
+        _ => assign(
+            alloc,
+            plan,
+            &known_in(rec, &buffers.locals),
+            statement,
+            state,
+        ),
     }
 }

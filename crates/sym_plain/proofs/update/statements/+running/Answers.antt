@@ -5,5 +5,5 @@ use Rattle.sym_plain.proofs.update.statements.+running.Goals as goal
 pub run_all-returns-in_ok-run-in-More-clause-locals :
     goal.run_all-returns-in_ok-run-in-More-clause-locals
 run_all-returns-in_ok-run-in-More-clause-locals t c =
-    kept_on c.run_all.result c.args.rec.now c.args.locals.now c.run.new.locals c.run_all.new.locals
+    kept_on c.run_all.result c.args.rec.now c.args.buffers.now.locals c.run.new.buffers.locals c.run_all.new.buffers.locals
     (do_plan c.deref.result.now) c.in_ok-run-in-More.ensures.locals c.run_all.ensures.locals

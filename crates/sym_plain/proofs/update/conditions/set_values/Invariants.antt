@@ -5,7 +5,7 @@ use Rattle.sym_check.specs.FixedValues.{fixed_values}
 use Rattle.sym_check.specs.KnownValues.{known_values}
 use Rattle.sym_check.specs.Updates.{or_fault}
 use Rattle.sym_plain.proofs.FixedLists.{values_after}
-use Rattle.sym_plain.proofs.update.conditions.fixed_values.Given as goal
+use Rattle.sym_plain.proofs.update.conditions.set_values.Given as goal
 
 abbrev pub invariant-values : goal.invariant-values
 invariant-values l =
