@@ -2,7 +2,8 @@
 # Runs the program as its users do, by the launcher, and tests its statuses and what it writes, over
 # the files and streams of the system: one row or more for each status but that of no memory. Then
 # runs each row once for each of its allocations, with that one failing: the answer has to stay as it
-# was, or be status 8 with nothing written, and at least one run of each row has to end with 8.
+# was, or be status 8 with nothing written, and at least one run of each row has to end with 8. One
+# more run reads a script of very many values with a small stack.
 # Needs a C compiler as cc, and the GNU C library. The last line counts what passed and failed.
 set -u
 
@@ -119,6 +120,19 @@ row "an absent file" 5 '' run "$counter" "$work/absent"
 row "a directory in place of a file" 5 '' run "$counter" "$work"
 row "a large script" 7 '' run "$work/large.symple" "$work/two.csv"
 row "a large file" 7 '' run "$counter" "$work/large.csv"
+# A script of 65,536 bytes, which is a keep of as many values as there is room for, and a stack of
+# 1 MiB. It is no row, since a run for each allocation would take hours.
+{
+    printf 'field x: num; state n: int [0..99] = 0; state h: hold(num = 0); update { keep h(1'
+    yes ,1 | head -n 32716 | tr -d '\n'
+    printf '); } report { n = n; }\n'
+} >"$work/many.symple"
+(ulimit -s 1024 && exec "$program" run "$work/many.symple" "$work/two.csv") \
+    >"$out" 2>"$work/err"
+status=$?
+[ "$(wc -c <"$work/many.symple")" -eq 65536 ] && answered 3 ""
+note $? "a keep of many values, with a stack of 1 MiB: status $status"
+
 # What goes to this device can't be read back: only the status is compared.
 out=/dev/full
 row "a full device" 6 '' run "$counter" "$work/two.csv"
