@@ -18,3 +18,6 @@ pub use part::{Constraint, Part};
 pub use path::{Path, PathEnd};
 pub use possible_pairs::possible;
 pub use segment::Segment;
+
+#[cfg(test)]
+mod tests;
