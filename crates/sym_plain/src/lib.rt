@@ -16,3 +16,6 @@ pub use keys::key_of;
 pub use report::shown::columns;
 pub use states::initial;
 pub use steps::step;
+
+#[cfg(test)]
+mod tests;
