@@ -8,7 +8,6 @@ ghost use Rattle.sym_check.specs.KnownValues.{known_values};
 ghost use Rattle.sym_check.specs.LinePlans.{term_plan};
 ghost use Rattle.sym_check.specs.LineValues.{term_number};
 ghost use Rattle.sym_check.specs.ScriptPlans.{test_plan};
-ghost use Rattle.sym_base.specs.Comparing.{compares};
 
 use crate::evaluate::arithmetic::Arith;
 use crate::evaluate::known::Known;
@@ -16,20 +15,7 @@ use crate::evaluate::numbers::number_of;
 use crate::plan::condition::Cond;
 use crate::plan::expression::{Num, Term};
 use crate::plan::script::{TestPlan, TestPlans};
-use sym_base::{Compare, Value};
-
-fn compared(compare: Compare, x: i64, y: i64) -> bool
-    ensures { result ≡ compares compare x y }
-{
-    match compare {
-        Compare::Eq => x == y,
-        Compare::Ne => x != y,
-        Compare::Lt => x < y,
-        Compare::Le => x <= y,
-        Compare::Gt => x > y,
-        Compare::Ge => x >= y,
-    }
-}
+use sym_base::Value;
 
 /// The truth of a condition that names no cell and calls no test.
 pub(crate) fn truth_of(known: &Known, condition: &Cond) -> Result<bool, Arith>
@@ -40,7 +26,7 @@ pub(crate) fn truth_of(known: &Known, condition: &Cond) -> Result<bool, Arith>
         Cond::Compare(compare, Term::Fixed(left), right) => {
             let left = number_of(known, left)?;
             let right = number_of(known, right)?;
-            Ok(compared(*compare, left, right))
+            Ok(compare.holds(i128::from(left), i128::from(right)))
         }
         Cond::Words(left, right) => Ok(known.word(left) == known.word(right)),
         Cond::LabelIs(left, right) => Ok(known.label(left) == known.label(right)),
