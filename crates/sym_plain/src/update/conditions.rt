@@ -1,5 +1,5 @@
 //! The truth of conditions at a state.
-ghost use Rattle.std.specs.Prelude.{◌≡◌, IsTrue, map, Ok};
+ghost use Rattle.std.specs.Prelude.{◌≡◌, ◌≤◌, ◌+◌, ◌++◌, ◌∷◌, [], IsTrue, IfOk, OnOk, length, map, take, Ok};
 ghost use Rattle.std.specs.List.{list_all};
 ghost use Rattle.sym_check.specs.CondPlans.{cond_plan};
 ghost use Rattle.sym_check.specs.Conditions.{has_fixed_body, test_truth, truth};
@@ -14,7 +14,7 @@ use crate::update::buffers::shorten;
 use crate::update::stop::Stop;
 use crate::update::terms::term_number;
 use std::alloc::Global;
-use sym_base::{FaultKind, State, Value, Values};
+use sym_base::{FaultKind, NoMemory, State, Text, Value, Values};
 use sym_check::{Cond, Fixed, FixedList, FixedValue, Known, Plan, answer_at, number_of, value_of};
 
 /// The value of a fixed expression; arithmetic that fails ends the group.
@@ -28,6 +28,47 @@ pub(crate) fn fixed_value(alloc: Global, known: &Known, expression: &Fixed) -> R
     }
 }
 
+// The word is written over the text of an old value.
+fn text_over(alloc: Global, old: Option<Value>, word: &str) -> Result<Text, NoMemory>
+    ensures { IfOk result (λ t. t ≡ word.now) }
+{
+    match old {
+        Some(Value::Word(mut text)) => {
+            text.set(word)?;
+            Ok(text)
+        }
+        _ => Text::from_str(alloc, word),
+    }
+}
+
+fn value_over(
+    alloc: Global,
+    known: &Known,
+    expression: &Fixed,
+    old: Option<Value>,
+) -> Result<Value, Stop>
+    ensures { let k = known_values known.now in
+        Gives result (or_fault (fixed_value k (fixed_plan expression.now))) }
+{
+    match expression {
+        Fixed::Word(word) => Ok(Value::Word(text_over(alloc, old, known.word(word))?)),
+        _ => fixed_value(alloc, known, expression),
+    }
+}
+
+fn put_at(values: &mut Values, index: usize, value: Value) -> Result<(), NoMemory>
+    requires { index ≤ length values.old }
+    ensures values { OnOk result (take (index + 1) values.new ≡ take index values.old ++ value ∷ []) }
+    ensures length { OnOk result (index + 1 ≤ length values.new) }
+{
+    if index < values.len() {
+        values.set(index, value);
+    } else {
+        values.push(value)?;
+    }
+    Ok(())
+}
+
 /// Makes the list that of the values of these expressions, over the memory that it has.
 pub(crate) fn set_values(
     alloc: Global,
@@ -38,11 +79,12 @@ pub(crate) fn set_values(
     ensures { let meaning = fixed_values (known_values known.now) (map fixed_plan expressions.now) in
         Makes result values.new (or_fault meaning) }
 {
-    shorten(alloc, values, 0);
-    'values: for expression in expressions.as_slice() {
-        let value = fixed_value(alloc, known, expression)?;
-        values.push(value)?;
+    'values: for (index, expression) in expressions.as_slice().iter().enumerate() {
+        let old = values.replace(index, Value::Num(0));
+        let value = value_over(alloc, known, expression, old)?;
+        put_at(values, index, value)?;
     }
+    shorten(alloc, values, expressions.len());
     Ok(())
 }
 
