@@ -20,27 +20,50 @@ use sym_base::{Compare, NUM_MAX, NoMemory, Text, Value};
 fn arithmetic_fails_past_the_ends_and_by_zero(rt: HostRuntime) -> Result<(), Fail> {
     let rows = [
         (ArithOp::Add, NUM_MAX, 0, Ok(NUM_MAX)),
+        (ArithOp::Add, NUM_MAX, -NUM_MAX, Ok(0)),
         (ArithOp::Add, NUM_MAX, 1, Err(Arith)),
+        (ArithOp::Add, NUM_MAX, NUM_MAX, Err(Arith)),
+        (ArithOp::Add, -NUM_MAX, 0, Ok(-NUM_MAX)),
         (ArithOp::Add, -NUM_MAX, -1, Err(Arith)),
+        (ArithOp::Add, -NUM_MAX, -NUM_MAX, Err(Arith)),
+        (ArithOp::Sub, NUM_MAX, NUM_MAX, Ok(0)),
+        (ArithOp::Sub, NUM_MAX, -1, Err(Arith)),
         (ArithOp::Sub, -NUM_MAX, 0, Ok(-NUM_MAX)),
         (ArithOp::Sub, -NUM_MAX, 1, Err(Arith)),
-        (ArithOp::Sub, NUM_MAX, -1, Err(Arith)),
+        (ArithOp::Sub, -NUM_MAX, NUM_MAX, Err(Arith)),
         (ArithOp::Mul, 1_000_000, 1_000_000, Ok(NUM_MAX)),
         (ArithOp::Mul, 1_000_000, -1_000_000, Ok(-NUM_MAX)),
+        (ArithOp::Mul, -1, -NUM_MAX, Ok(NUM_MAX)),
         (ArithOp::Mul, 1_000_001, 1_000_000, Err(Arith)),
+        (ArithOp::Mul, -1_000_000, 1_000_001, Err(Arith)),
         (ArithOp::Mul, NUM_MAX, NUM_MAX, Err(Arith)),
         (ArithOp::Mul, NUM_MAX, -NUM_MAX, Err(Arith)),
+        (ArithOp::Mul, -NUM_MAX, -NUM_MAX, Err(Arith)),
+        (ArithOp::Div, 7, 2, Ok(3)),
         (ArithOp::Div, -7, 2, Ok(-3)),
         (ArithOp::Div, 7, -2, Ok(-3)),
+        (ArithOp::Div, -7, -2, Ok(3)),
+        (ArithOp::Div, NUM_MAX, -1, Ok(-NUM_MAX)),
         (ArithOp::Div, -NUM_MAX, -1, Ok(NUM_MAX)),
+        (ArithOp::Div, -1, NUM_MAX, Ok(0)),
         (ArithOp::Div, 1, 0, Err(Arith)),
         (ArithOp::Div, -1, 0, Err(Arith)),
         (ArithOp::Div, 0, 0, Err(Arith)),
+        (ArithOp::Div, NUM_MAX, 0, Err(Arith)),
+        (ArithOp::Div, -NUM_MAX, 0, Err(Arith)),
+        (ArithOp::Rem, 7, 2, Ok(1)),
         (ArithOp::Rem, -7, 2, Ok(-1)),
         (ArithOp::Rem, 7, -2, Ok(1)),
+        (ArithOp::Rem, -7, -2, Ok(-1)),
+        (ArithOp::Rem, NUM_MAX, -7, Ok(1)),
+        (ArithOp::Rem, -NUM_MAX, 7, Ok(-1)),
         (ArithOp::Rem, -NUM_MAX, -1, Ok(0)),
+        (ArithOp::Rem, -1, NUM_MAX, Ok(-1)),
         (ArithOp::Rem, 1, 0, Err(Arith)),
         (ArithOp::Rem, -1, 0, Err(Arith)),
+        (ArithOp::Rem, 0, 0, Err(Arith)),
+        (ArithOp::Rem, NUM_MAX, 0, Err(Arith)),
+        (ArithOp::Rem, -NUM_MAX, 0, Err(Arith)),
     ];
     for (operator, x, y, wanted) in rows {
         assert_eq!(rt; calculated(operator, x, y), wanted);
@@ -81,6 +104,26 @@ fn fixed_expressions_have_values(rt: HostRuntime) -> Result<(), Fail> {
     Ok(())
 }
 
+#[test]
+fn each_step_keeps_the_range(rt: HostRuntime) -> Result<(), Fail> {
+    let rows = [
+        (ArithOp::Add, 1, ArithOp::Sub, 1, Err(Arith)),
+        (ArithOp::Add, 0, ArithOp::Sub, NUM_MAX, Ok(0)),
+        (ArithOp::Mul, -2, ArithOp::Mul, 0, Err(Arith)),
+        (ArithOp::Mul, -1, ArithOp::Sub, 0, Ok(-NUM_MAX)),
+        (ArithOp::Mul, -1, ArithOp::Sub, 1, Err(Arith)),
+        (ArithOp::Rem, 0, ArithOp::Mul, 0, Err(Arith)),
+        (ArithOp::Div, -NUM_MAX, ArithOp::Div, 0, Err(Arith)),
+        (ArithOp::Div, -NUM_MAX, ArithOp::Div, -1, Ok(1)),
+    ];
+    for (operator, x, later, y, wanted) in rows {
+        let first = bin(rt.alloc(), operator, Num::Lit(NUM_MAX), Num::Lit(x))?;
+        let number = bin(rt.alloc(), later, first, Num::Lit(y))?;
+        assert_eq!(rt; number_of(&known(&[], &[]), &number), wanted);
+    }
+    Ok(())
+}
+
 // -(cell 4) * field 0 + 10
 fn falling(alloc: Global) -> Result<Line, NoMemory> {
     let negated = Line::Neg(Box::new(alloc, Line::Cell(4))?);
@@ -116,11 +159,57 @@ fn lines_have_pairs(rt: HostRuntime) -> Result<(), Fail> {
                 b: 10,
             }),
         ),
+        (
+            -NUM_MAX,
+            Ok(Pair {
+                cell: 4,
+                a: NUM_MAX,
+                b: 10,
+            }),
+        ),
         (NUM_MAX + 1, Err(Arith)),
+        (-NUM_MAX - 1, Err(Arith)),
     ];
     for (by, wanted) in rows {
         let fields = [Value::Num(by)];
         assert_eq!(rt; pair_of(&known(&fields, &[]), &line), wanted);
+    }
+    Ok(())
+}
+
+// (cell 4 + 6 / field 0 * 1_000_000) * field 1
+fn scaled_sum(alloc: Global) -> Result<Line, NoMemory> {
+    let quotient = bin(alloc, ArithOp::Div, Num::Lit(6), Num::Field(0))?;
+    let number = bin(alloc, ArithOp::Mul, quotient, Num::Lit(1_000_000))?;
+    let sum = Line::Add(Box::new(alloc, Line::Cell(4))?, number);
+    Ok(Line::Scale(Num::Field(1), Box::new(alloc, sum)?))
+}
+
+#[test]
+fn both_numbers_of_a_pair_keep_the_range(rt: HostRuntime) -> Result<(), Fail> {
+    let line = scaled_sum(rt.alloc())?;
+    let rows = [
+        (6, 1_000_000, Ok((1_000_000, NUM_MAX))),
+        (-6, 1_000_000, Ok((1_000_000, -NUM_MAX))),
+        (6, -1_000_000, Ok((-1_000_000, -NUM_MAX))),
+        (-6, -1_000_000, Ok((-1_000_000, NUM_MAX))),
+        (6, 1_000_001, Err(Arith)),
+        (-6, 1_000_001, Err(Arith)),
+        (6, -1_000_001, Err(Arith)),
+        (7, NUM_MAX, Ok((NUM_MAX, 0))),
+        (-7, -NUM_MAX, Ok((-NUM_MAX, 0))),
+        (7, NUM_MAX + 1, Err(Arith)),
+        (6, 0, Ok((0, 0))),
+        (0, 0, Err(Arith)),
+        (0, 1, Err(Arith)),
+    ];
+    for (divisor, by, wanted) in rows {
+        let fields = [Value::Num(divisor), Value::Num(by)];
+        let pair = match pair_of(&known(&fields, &[]), &line) {
+            Ok(Pair { cell: _, a, b }) => Ok((a, b)),
+            Err(failed) => Err(failed),
+        };
+        assert_eq!(rt; pair, wanted);
     }
     Ok(())
 }
@@ -149,6 +238,67 @@ fn tests_answer_by_their_bodies(rt: HostRuntime) -> Result<(), Fail> {
         let gap = gap(rt.alloc())?;
         let (parts, args) = ([Value::Num(last)], [Value::Num(now)]);
         assert_eq!(rt; answer_of(&gap, &parts, &args), wanted);
+    }
+    Ok(())
+}
+
+// Whether the second parameter over the first is more than 1, or the first is 0; this is looked at
+// first where `guarded`.
+fn ratio(alloc: Global, guarded: bool) -> Result<TestPlan, NoMemory>
+    ensures { IfOk result (λ t. IsTrue (has_fixed_body (test_plan t))) }
+{
+    let mut params = KindPlans::new(alloc);
+    params.push(KindPlan::Num)?;
+    params.push(KindPlan::Num)?;
+    let quotient = bin(alloc, ArithOp::Div, Num::Param(1), Num::Param(0))?;
+    let large = Cond::Compare(Compare::Gt, Term::Fixed(quotient), Num::Lit(1));
+    let zero = Cond::Compare(Compare::Eq, Term::Fixed(Num::Param(0)), Num::Lit(0));
+    let large = Box::new(alloc, large)?;
+    let zero = Box::new(alloc, zero)?;
+    let body = if guarded {
+        Cond::Or(zero, large)
+    } else {
+        Cond::Or(large, zero)
+    };
+    Ok(TestPlan { params, body })
+}
+
+// Whether it isn't so that the second parameter by the first leaves more than 1, and the first isn't
+// 0. The remainder is looked at first.
+fn remains_small(alloc: Global) -> Result<TestPlan, NoMemory>
+    ensures { IfOk result (λ t. IsTrue (has_fixed_body (test_plan t))) }
+{
+    let mut params = KindPlans::new(alloc);
+    params.push(KindPlan::Num)?;
+    params.push(KindPlan::Num)?;
+    let quotient = bin(alloc, ArithOp::Rem, Num::Param(1), Num::Param(0))?;
+    let large = Cond::Compare(Compare::Gt, Term::Fixed(quotient), Num::Lit(1));
+    let other = Cond::Compare(Compare::Ne, Term::Fixed(Num::Param(0)), Num::Lit(0));
+    let large = Box::new(alloc, large)?;
+    let both = Cond::And(large, Box::new(alloc, other)?);
+    let body = Cond::Not(Box::new(alloc, both)?);
+    Ok(TestPlan { params, body })
+}
+
+#[test]
+fn failed_arithmetic_makes_a_test_false_where_it_is_looked_at(rt: HostRuntime) -> Result<(), Fail> {
+    let guarded = ratio(rt.alloc(), true)?;
+    let open = ratio(rt.alloc(), false)?;
+    let small = remains_small(rt.alloc())?;
+    let rows = [
+        (2, 5, true, true, true),
+        (-2, -5, true, true, true),
+        (2, 3, false, false, true),
+        (3, 5, false, false, false),
+        (0, 5, true, false, false),
+        (0, -5, true, false, false),
+        (0, 0, true, false, false),
+    ];
+    for (last, now, when_guarded, when_open, when_small) in rows {
+        let (parts, args) = ([Value::Num(last)], [Value::Num(now)]);
+        assert_eq!(rt; answer_of(&guarded, &parts, &args), when_guarded);
+        assert_eq!(rt; answer_of(&open, &parts, &args), when_open);
+        assert_eq!(rt; answer_of(&small, &parts, &args), when_small);
     }
     Ok(())
 }
