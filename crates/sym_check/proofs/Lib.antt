@@ -42,3 +42,4 @@ mod Called
 mod WholeScripts
 mod FewParts
 mod Seen
+mod PlannedScripts

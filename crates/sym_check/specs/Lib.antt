@@ -42,3 +42,5 @@ pub mod BlockPlans
 pub mod CalledTests
 pub mod Showing
 pub mod WholeScripts
+pub mod PlanSets
+pub mod CheckedPlans

@@ -2,6 +2,7 @@
 #![tactic(auto)]
 
 mod checked;
+pub mod checking;
 mod elaborate;
 mod evaluate;
 pub mod laws;

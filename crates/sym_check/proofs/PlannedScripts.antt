@@ -1,0 +1,21 @@
+-- What is known of a script from the function's answer.
+use Rattle.std.proofs.Common.{◌≡◌, ◌≢◌, ◌∙◌, sym, Ok, Err}
+use Rattle.std.specs.Prelude.{Result}
+use Rattle.sym_base.specs.Lawful.{IsLawful}
+use Rattle.sym_base.specs.Trees.{ScriptTree}
+use Rattle.sym_check.specs.ScriptPlans.{ScriptPlan}
+use Rattle.sym_check.specs.Scripts.{IsAccepted, BreaksScript, plan_of}
+use Rattle.sym_check.specs.WellFormed.{IsWellFormed}
+use Rattle.sym_check.specs.declared.elaborate.error.RuleErr.{RuleErr}
+use Rattle.sym_check.proofs.AcceptedPlans.{accepted_well}
+use Rattle.sym_check.proofs.ScriptsAgree.{planned_accepted, accepted_planned, breaks_planned}
+
+pub planned_well : (t : ScriptTree) (p : ScriptPlan) → IsLawful t → plan_of t ≡ Ok p → IsWellFormed p
+planned_well t p lawful e = accepted_well t p lawful (planned_accepted t p e)
+
+-- What an accepted script, and one that breaks a rule, is answered.
+pub accepted_answer : (t : ScriptTree) (p : ScriptPlan) (o : Result ScriptPlan RuleErr) → IsAccepted t p → plan_of t ≡ o → Ok p ≡ o
+accepted_answer t p o i e = sym (accepted_planned t p i) ∙ e
+
+pub broken_answer : (t : ScriptTree) (f : RuleErr) (o : Result ScriptPlan RuleErr) → BreaksScript t f → plan_of t ≡ o → Err f ≡ o
+broken_answer t f o i e = sym (breaks_planned t f i) ∙ e
