@@ -9,3 +9,4 @@ pub mod NarrowedFits
 pub mod OnlyOutcomes
 pub mod Pulled
 pub mod Possibly
+pub mod Joined

@@ -1,8 +1,9 @@
 -- Paths that can be joined, and settled lists of paths, as in the SYMPLE paper (SOSP 2015) in
 -- outline; which parts unite is this project's profile.
-use Rattle.std.specs.Prelude.{◌≡◌, ◌≢◌, ℕ, List, Some, slice_get, ◌⊎◌}
+use Rattle.std.specs.Prelude.{◌≡◌, ◌≢◌, ℕ, List, Option, None, Some, slice_get, ◌⊎◌}
 use Rattle.std.specs.List.{AllPairs}
 use Rattle.sym_int.specs.Points.{IsUnion}
+use Rattle.sym_int.specs.declared.form.IntForm.{IntForm}
 use Rattle.sym_int.specs.declared.span.Span.{Span}
 use Rattle.sym_pred.specs.Meaning.{Unite}
 use Rattle.sym_path.specs.declared.part.Part.{Part}
@@ -10,7 +11,7 @@ use Rattle.sym_path.specs.declared.part.Part.TheVariants as part
 use Rattle.sym_path.specs.declared.path.PathEnd.{PathEnd}
 use Rattle.sym_path.specs.declared.path.PathEnd.TheVariants.{Next, Ended}
 use Rattle.sym_path.specs.declared.path.Path.{Path}
-use Rattle.sym_path.specs.Taking.{AreTakenTo}
+use Rattle.sym_path.specs.Taking.{AreTakenTo, NumberIsTakenTo}
 
 -- Two parts unite: any two sets, two spans whose numbers are those of one span, and two lots of facts
 -- that are equal or differ in exactly one outcome.
@@ -45,6 +46,12 @@ pub record UniteInOne (v w : List Part) : Type 0 where
 -- Equal, or equal but for one cell whose parts unite.
 abbrev pub ConstraintsUnite : List Part → List Part → Type 0
 ConstraintsUnite v w = (v ≡ w) ⊎ UniteInOne v w
+
+-- The second of two elements that may be none is the first one on the constraint; both are there.
+abbrev pub ElementIsTakenTo : List Part → Option IntForm → Option IntForm → Type 0
+ElementIsTakenTo when None g = ⊥
+ElementIsTakenTo when (Some f) None = ⊥
+ElementIsTakenTo when (Some f) (Some g) = NumberIsTakenTo when f g
 
 -- The ends are the same fault, or the forms of one path, taken on the other's constraint, are the
 -- other's forms.

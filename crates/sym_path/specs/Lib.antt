@@ -1,4 +1,5 @@
 pub mod Admitting
+pub mod Differing
 pub mod Fitting
 pub mod Giving
 pub mod Joining

@@ -5,6 +5,7 @@
 mod admitting;
 mod form;
 mod giving;
+mod joining;
 pub mod laws;
 mod narrowing;
 mod part;
@@ -14,6 +15,7 @@ mod pulling;
 mod segment;
 
 pub use form::{Form, Forms};
+pub use joining::joinable;
 pub use part::{Constraint, Part};
 pub use path::{Path, PathEnd};
 pub use possible_pairs::possible;
