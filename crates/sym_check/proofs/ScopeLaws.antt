@@ -62,3 +62,10 @@ label_unseen s own wanted x e = ap (label_named wanted x.at) (not_earlier s own 
 
 pub no_label_unseen : {A : Type 0} (s : Scope) (own x : Name) → find s x.text ≡ None → no_label {A = A} x.at (find (unfinished s own) x.text) ≡ Err (unseen_by own x)
 no_label_unseen {A} s own x e = ap (no_label {A = A} x.at) (not_earlier s own x.text e) ∙ no_label_of_own (same_word own.text x.text) x.at
+
+-- By what stands earlier, or else by the declaration's own name.
+pub ruleset enum_beside = (found_earlier, enum_unseen)
+
+pub ruleset label_beside = (found_earlier, label_unseen)
+
+pub ruleset none_beside = (found_earlier, no_label_unseen)

@@ -16,7 +16,8 @@ use Rattle.sym_check.specs.InOrder.{Planned}
 use Rattle.sym_check.specs.ElaborateDeclarations.{PlannedParts, PlannedCell}
 
 -- The plan and the scope after it are those of the definition, or an allocation was refused.
-abbrev pub Declares : {A B : Type 0} → (A → B) → Result (Planned B) RuleErr → Result A RuleErr → Scope → Type 0
+abbrev pub Declares : {A B : Type 0}
+    → (A → B) → Result (Planned B) RuleErr → Result A RuleErr → Scope → Type 0
 Declares view outcome (Ok a) s = outcome ≡ Ok (record { plan = view a; scope = s })
 Declares view outcome (Err e) s = e ≢ broken.NoMemory → outcome ≡ Err e
 

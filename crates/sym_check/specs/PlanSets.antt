@@ -37,14 +37,23 @@ use Rattle.sym_check.specs.ShowPlans.{ShowPlan}
 use Rattle.sym_check.specs.ShowPlans as show
 use Rattle.sym_check.specs.DoPlans.{DoPlan, DosPlan}
 use Rattle.sym_check.specs.DoPlans as one
-use Rattle.sym_check.specs.ScriptPlans.{TestOf, ColumnOf, ScriptPlan}
-use Rattle.sym_base.specs.Trees.{ScriptTree}
+use Rattle.sym_check.specs.ScriptPlans.{TestOf, ColumnOf, ScriptPlan, script_plan}
+use Rattle.sym_base.specs.declared.tree.script.Script.{Script}
+use Rattle.sym_base.specs.Trees.{script_tree}
+use Rattle.sym_check.specs.declared.plan.script.Plan.{Plan}
 use Rattle.sym_check.specs.Scripts.{plan_of}
 
-retract_set : {A B : Type 0} (to : A → B) (from : B → A) → ((x : A) → from (to x) ≡ x) → IsSet B → IsSet A
+-- A type that maps into a set and back has equations that hold in one way, as the set's do.
+retract_set : {A B : Type 0} (to : A → B) (from : B → A)
+    → ((x : A) → from (to x) ≡ x) → IsSet B → IsSet A
 retract_set to from back set =
     collapsible→set (λ x y p. sym (back x) ∙ ap from (ap to p) ∙ back y)
-    (λ x y p q. ap (λ z. sym (back x) ∙ ap from z ∙ back y) (set (to x) (to y) (ap to p) (ap to q)))
+    (λ x y p q. ap (λ z. sym (back x) ∙ ap from z ∙ back y)
+        (set (to x) (to y) (ap to p) (ap to q)))
+
+-- Two equations of records agree at a field that is a set.
+agree : {R A : Type 0} → IsSet A → (get : R → A) (a b : R) (p q : a ≡ b) → ap get p ≡ ap get q
+agree set get a b p q = set (get a) (get b) (ap get p) (ap get q)
 
 ArithOp-set : IsSet ArithOp
 ArithOp-set = Coded-set arith_row.the_row.coded
@@ -107,7 +116,9 @@ same_num (fixed.Field a) = refl
 same_num (fixed.Local a) = refl
 same_num (fixed.Param a) = refl
 same_num (fixed.Neg a) = ap (λ (x : NumPlan). fixed.Neg x) (same_num a)
-same_num (fixed.Bin a b c) = ap (λ (x : NumPlan). fixed.Bin a x (of_num (to_num c))) (same_num b) ∙ ap (λ (x : NumPlan). fixed.Bin a b x) (same_num c)
+same_num (fixed.Bin a b c) =
+    ap (λ (x : NumPlan). fixed.Bin a x (of_num (to_num c))) (same_num b)
+    ∙ ap (λ (x : NumPlan). fixed.Bin a b x) (same_num c)
 
 pub NumPlan-set : IsSet NumPlan
 NumPlan-set = retract_set to_num of_num same_num (NumCopy-set ℤ_set ℕ_set ArithOp-set)
@@ -134,7 +145,9 @@ same_fixed (fixed.OfWord a) = refl
 same_fixed (fixed.OfLabel a) = refl
 
 pub FixedPlan-set : IsSet FixedPlan
-FixedPlan-set = retract_set to_fixed of_fixed same_fixed (FixedCopy-set NumPlan-set WordOf-set LabelOf-set)
+FixedPlan-set =
+    retract_set to_fixed of_fixed same_fixed
+    (FixedCopy-set NumPlan-set WordOf-set LabelOf-set)
 
 data LineCopy : Type 0 where
   line_cell : ℕ → LineCopy
@@ -222,11 +235,18 @@ same_cond (cond.CellIs a b) = refl
 same_cond (cond.LabelIs a b) = refl
 same_cond (cond.Test a b c) = refl
 same_cond (cond.Not a) = ap (λ (x : CondPlan). cond.Not x) (same_cond a)
-same_cond (cond.And a b) = ap (λ (x : CondPlan). cond.And x (of_cond (to_cond b))) (same_cond a) ∙ ap (λ (x : CondPlan). cond.And a x) (same_cond b)
-same_cond (cond.Or a b) = ap (λ (x : CondPlan). cond.Or x (of_cond (to_cond b))) (same_cond a) ∙ ap (λ (x : CondPlan). cond.Or a x) (same_cond b)
+same_cond (cond.And a b) =
+    ap (λ (x : CondPlan). cond.And x (of_cond (to_cond b))) (same_cond a)
+    ∙ ap (λ (x : CondPlan). cond.And a x) (same_cond b)
+same_cond (cond.Or a b) =
+    ap (λ (x : CondPlan). cond.Or x (of_cond (to_cond b))) (same_cond a)
+    ∙ ap (λ (x : CondPlan). cond.Or a x) (same_cond b)
 
 pub CondPlan-set : IsSet CondPlan
-CondPlan-set = retract_set to_cond of_cond same_cond (CondCopy-set Compare-set TermPlan-set NumPlan-set WordOf-set ℕ_set LabelOf-set (List-set FixedPlan-set))
+CondPlan-set =
+    retract_set to_cond of_cond same_cond
+    (CondCopy-set Compare-set TermPlan-set NumPlan-set WordOf-set ℕ_set
+    LabelOf-set (List-set FixedPlan-set))
 
 data ShowCopy : Type 0 where
   show_num : ℤ → ShowCopy
@@ -263,10 +283,14 @@ same_show (show.Cell a) = refl
 same_show (show.Part a b) = refl
 same_show (show.Call a b) = refl
 same_show (show.Neg a) = ap (λ (x : ShowPlan). show.Neg x) (same_show a)
-same_show (show.Bin a b c) = ap (λ (x : ShowPlan). show.Bin a x (of_show (to_show c))) (same_show b) ∙ ap (λ (x : ShowPlan). show.Bin a b x) (same_show c)
+same_show (show.Bin a b c) =
+    ap (λ (x : ShowPlan). show.Bin a x (of_show (to_show c))) (same_show b)
+    ∙ ap (λ (x : ShowPlan). show.Bin a b x) (same_show c)
 
 pub ShowPlan-set : IsSet ShowPlan
-ShowPlan-set = retract_set to_show of_show same_show (ShowCopy-set ℤ_set (List-set ℕ_set) ℕ_set ShowFn-set ArithOp-set)
+ShowPlan-set =
+    retract_set to_show of_show same_show
+    (ShowCopy-set ℤ_set (List-set ℕ_set) ℕ_set ShowFn-set ArithOp-set)
 
 -- One copy for a statement and a list of them.
 data DoCopy : Type 0 where
@@ -327,15 +351,20 @@ abbrev mutual
   same_do (one.PushNum c t) = refl
   same_do (one.PushWord c w) = refl
   same_do (one.If c a b) =
-      ap (λ (x : DosPlan). one.If c x (of_dos (to_dos b))) (same_dos a) ∙ ap (λ (x : DosPlan). one.If c a x) (same_dos b)
+      ap (λ (x : DosPlan). one.If c x (of_dos (to_dos b))) (same_dos a)
+      ∙ ap (λ (x : DosPlan). one.If c a x) (same_dos b)
 
   same_dos : (x : DosPlan) → of_dos (to_dos x) ≡ x
   same_dos one.End = refl
   same_dos (one.Then d ds) =
-      ap (λ (x : DoPlan). one.Then x (of_dos (to_dos ds))) (same_do d) ∙ ap (λ (x : DosPlan). one.Then d x) (same_dos ds)
+      ap (λ (x : DoPlan). one.Then x (of_dos (to_dos ds))) (same_do d)
+      ∙ ap (λ (x : DosPlan). one.Then d x) (same_dos ds)
 
 pub DosPlan-set : IsSet DosPlan
-DosPlan-set = retract_set to_dos of_dos same_dos (DoCopy-set ℕ_set FixedPlan-set TermPlan-set LabelOf-set (List-set FixedPlan-set) WordOf-set CondPlan-set)
+DosPlan-set =
+    retract_set to_dos of_dos same_dos
+    (DoCopy-set ℕ_set FixedPlan-set TermPlan-set
+    LabelOf-set (List-set FixedPlan-set) WordOf-set CondPlan-set)
 
 abbrev to_group : Option ℕ → List ℕ
 to_group None = []
@@ -354,25 +383,25 @@ Group-set = retract_set to_group of_group same_group (List-set ℕ_set)
 
 pub TestOf-set : IsSet TestOf
 TestOf-set a b p q = λ i j. record {
-  params = List-set KindPlan-set a.params b.params (ap (λ (t : TestOf). t.params) p) (ap (λ (t : TestOf). t.params) q) i j;
-  body = CondPlan-set a.body b.body (ap (λ (t : TestOf). t.body) p) (ap (λ (t : TestOf). t.body) q) i j;
+  params = agree (List-set KindPlan-set) (λ (t : TestOf). t.params) a b p q i j;
+  body = agree CondPlan-set (λ (t : TestOf). t.body) a b p q i j;
 }
 
 pub ColumnOf-set : IsSet ColumnOf
 ColumnOf-set a b p q = λ i j. record {
-  name = List-set ℕ_set a.name b.name (ap (λ (c : ColumnOf). c.name) p) (ap (λ (c : ColumnOf). c.name) q) i j;
-  value = ShowPlan-set a.value b.value (ap (λ (c : ColumnOf). c.value) p) (ap (λ (c : ColumnOf). c.value) q) i j;
+  name = agree (List-set ℕ_set) (λ (c : ColumnOf). c.name) a b p q i j;
+  value = agree ShowPlan-set (λ (c : ColumnOf). c.value) a b p q i j;
 }
 
 pub ScriptPlan-set : IsSet ScriptPlan
 ScriptPlan-set a b p q = λ i j. record {
-  enums = List-set EnumPlan-set a.enums b.enums (ap (λ (s : ScriptPlan). s.enums) p) (ap (λ (s : ScriptPlan). s.enums) q) i j;
-  fields = List-set FieldPlan-set a.fields b.fields (ap (λ (s : ScriptPlan). s.fields) p) (ap (λ (s : ScriptPlan). s.fields) q) i j;
-  group = Group-set a.group b.group (ap (λ (s : ScriptPlan). s.group) p) (ap (λ (s : ScriptPlan). s.group) q) i j;
-  cells = List-set CellPlan-set a.cells b.cells (ap (λ (s : ScriptPlan). s.cells) p) (ap (λ (s : ScriptPlan). s.cells) q) i j;
-  tests = List-set TestOf-set a.tests b.tests (ap (λ (s : ScriptPlan). s.tests) p) (ap (λ (s : ScriptPlan). s.tests) q) i j;
-  update = DosPlan-set a.update b.update (ap (λ (s : ScriptPlan). s.update) p) (ap (λ (s : ScriptPlan). s.update) q) i j;
-  columns = List-set ColumnOf-set a.columns b.columns (ap (λ (s : ScriptPlan). s.columns) p) (ap (λ (s : ScriptPlan). s.columns) q) i j;
+  enums = agree (List-set EnumPlan-set) (λ (s : ScriptPlan). s.enums) a b p q i j;
+  fields = agree (List-set FieldPlan-set) (λ (s : ScriptPlan). s.fields) a b p q i j;
+  group = agree Group-set (λ (s : ScriptPlan). s.group) a b p q i j;
+  cells = agree (List-set CellPlan-set) (λ (s : ScriptPlan). s.cells) a b p q i j;
+  tests = agree (List-set TestOf-set) (λ (s : ScriptPlan). s.tests) a b p q i j;
+  update = agree DosPlan-set (λ (s : ScriptPlan). s.update) a b p q i j;
+  columns = agree (List-set ColumnOf-set) (λ (s : ScriptPlan). s.columns) a b p q i j;
 }
 
 data OutcomeCopy : Type 0 where
@@ -393,8 +422,13 @@ same_outcome (Ok p) = refl
 same_outcome (Err e) = refl
 
 Outcome-set : IsSet (Result ScriptPlan RuleErr)
-Outcome-set = retract_set to_outcome of_outcome same_outcome (OutcomeCopy-set ScriptPlan-set RuleErr-set)
+Outcome-set =
+    retract_set to_outcome of_outcome same_outcome
+    (OutcomeCopy-set ScriptPlan-set RuleErr-set)
 
--- A script has its plan in at most one way.
-pub planned-prop : (t : ScriptTree) (p : ScriptPlan) → IsProp (plan_of t ≡ Ok p)
-planned-prop t p = Outcome-set (plan_of t) (Ok p)
+-- The script has this plan, which it has in at most one way.
+abbrev pub IsPlanned : Script → Plan → Type 0
+IsPlanned script plan = plan_of (script_tree script) ≡ Ok (script_plan plan)
+
+pub IsPlanned-prop : (script : Script) (plan : Plan) → IsProp (IsPlanned script plan)
+IsPlanned-prop script plan = Outcome-set (plan_of (script_tree script)) (Ok (script_plan plan))

@@ -1,12 +1,11 @@
 //! Scripts that break no rule.
-ghost use Rattle.std.specs.Prelude.{◌≡◌, Ok};
+ghost use Rattle.std.specs.Prelude.{◌≡◌};
 ghost use Rattle.sym_base.specs.Lawful.{IsLawful};
 ghost use Rattle.sym_base.specs.Trees.{script_tree};
 ghost use Rattle.sym_check.specs.DoPlans.{dos_plan};
 ghost use Rattle.sym_check.specs.PathBounds.{path_bound as paths_of};
-ghost use Rattle.sym_check.specs.PlanSets.{planned-prop};
+ghost use Rattle.sym_check.specs.PlanSets.{IsPlanned, IsPlanned-prop};
 ghost use Rattle.sym_check.specs.ScriptPlans.{script_plan};
-ghost use Rattle.sym_check.specs.Scripts.{plan_of};
 
 use crate::path_bound::path_bound_of;
 use crate::plan::script::Plan;
@@ -20,7 +19,7 @@ pub struct Checked {
     plan: Plan,
     path_bound: u32,
     pub ghost lawful: { IsLawful (script_tree script) },
-    pub ghost planned: { plan_of (script_tree script) ≡ Ok (script_plan plan) } by { planned-prop (script_tree script) (script_plan plan) },
+    pub ghost planned: { IsPlanned script plan } by { IsPlanned-prop script plan },
     pub ghost bound: { path_bound ≡ paths_of (dos_plan plan.update) },
 }
 
@@ -35,7 +34,7 @@ impl Checked {
     // The script with its plan.
     pub(crate) fn of(script: Script, plan: Plan) -> Checked
         requires lawful { IsLawful (script_tree script) }
-        requires planned { plan_of (script_tree script) ≡ Ok (script_plan plan) }
+        requires planned { IsPlanned script plan }
         ensures script { checked_tree result ≡ script_tree script }
         ensures plan { checked_plan result ≡ script_plan plan }
     {

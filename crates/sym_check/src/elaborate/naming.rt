@@ -68,7 +68,7 @@ fn enum_in(at: u32, meaning: &Meaning) -> Result<u16, RuleErr>
 }
 
 /// The enum that a name stands for in the declaration of `own`.
-#[tactic(auto, using(crate::proofs::ScopeLaws::found_earlier, crate::proofs::ScopeLaws::enum_unseen))]
+#[tactic(auto, using(crate::proofs::ScopeLaws::enum_beside))]
 pub(crate) fn enum_named(scope: &Scope, own: &Name, name: &Name) -> Result<u16, RuleErr>
     ensures { let meaning = find (unfinished scope.now own.now) name.now.text in
         Answers itself (enum_named name.now.at meaning) result }
@@ -98,7 +98,7 @@ fn label_in(wanted: u16, at: u32, meaning: &Meaning) -> Result<u8, RuleErr>
 }
 
 /// The label of the enum that a name stands for in the declaration of `own`.
-#[tactic(auto, using(crate::proofs::ScopeLaws::found_earlier, crate::proofs::ScopeLaws::label_unseen))]
+#[tactic(auto, using(crate::proofs::ScopeLaws::label_beside))]
 pub(crate) fn label_named(
     scope: &Scope,
     own: &Name,
@@ -115,7 +115,7 @@ pub(crate) fn label_named(
 }
 
 /// Why a name is no literal of a kind that has no labels, in the declaration of `own`.
-#[tactic(auto, using(crate::proofs::ScopeLaws::found_earlier, crate::proofs::ScopeLaws::no_label_unseen))]
+#[tactic(auto, using(crate::proofs::ScopeLaws::none_beside))]
 pub(crate) fn no_label(scope: &Scope, own: &Name, name: &Name) -> RuleErr
     ensures { let meaning = find (unfinished scope.now own.now) name.now.text in
         no_label {A = OneValue} name.now.at meaning ≡ Err result }
