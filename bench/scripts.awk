@@ -1,9 +1,32 @@
-# Writes a script of one kind with at most `size` bytes, within the limits of the language:
-# parentheses, operands, statements, names, texts or comments. What is left of the size is a comment.
+# Writes a script of one kind with at most `size` bytes, which is within the limits of the language
+# and breaks no rule: parentheses, operands, statements, names, locals, texts or comments. What is left
+# of the size is a comment.
 function repeated(piece, times,    all) {
     all = ""
     while (times-- > 0)
         all = all piece
+    return all
+}
+
+# The local with this number.
+function local(number) {
+    return "l" (10 + number)
+}
+
+# A sum of 255 of the 32 locals.
+function sum_of_locals(    all, number) {
+    all = ""
+    for (number = 0; number < 255; number++)
+        all = all " + " local(number % 32)
+    return all
+}
+
+# What stands before the statements of the kind.
+function prelude(    all, number) {
+    all = ""
+    if (kind == "locals")
+        for (number = 0; number < 32; number++)
+            all = all "let " local(number) " = x;\n"
     return all
 }
 
@@ -14,18 +37,26 @@ function statement() {
     if (kind == "operands")
         return "n = n" repeated(" + 1", 255) ";"
     if (kind == "statements")
-        return "if x < 0 { let " long " = " long " - x * x + 1; n = n - " long "; } else { push " long " x; keep " long "(x); }" \
-            repeated(" ", 400)
+        return "if x < 0 { let " long_local " = x * x + 1; n = n - " long_local "; } " \
+            "else { push " long_list " x; keep " long_hold "(x); }" repeated(" ", 400)
     if (kind == "names")
-        return long " = " long " + " long ";"
+        return long_cell " = " long_cell " + " long_field " - " long_field ";"
+    if (kind == "locals")
+        return "n = n" sum_of_locals() ";"
     if (kind == "texts")
         return "if w == \"" repeated("text \\\" ", 32) "\" { n = 0; }"
     return "# " repeated("any bytes ", 12)
 }
 
 BEGIN {
-    long = repeated("n", 64)
-    begin = "field x: num;\nfield w: word;\nstate n: int [0..9] = 0;\nstate " long ": int [0..9] = 0;\nupdate {\n"
+    long_field = repeated("f", 64)
+    long_cell = repeated("n", 64)
+    long_hold = repeated("h", 64)
+    long_list = repeated("l", 64)
+    long_local = repeated("v", 64)
+    begin = "field x: num;\nfield w: word;\nfield " long_field ": num;\nstate n: int [0..9] = 0;\n" \
+        "state " long_cell ": int [0..9] = 0;\nstate " long_hold ": hold(num = 0);\n" \
+        "state " long_list ": nums [0..9];\nupdate {\n" prelude()
     end = "}\nreport { n = n; }\n"
     printf "%s", begin
     left = size - length(begin) - length(end)
