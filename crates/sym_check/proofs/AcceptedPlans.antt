@@ -68,7 +68,7 @@ module _ {A B : Type 0} (One : Scope → ℕ → A → B → Scope → Type 0) (
 each_keeps : {A B : Type 0} (One : Scope → ℕ → A → B → Scope → Type 0) (lawful : A → Bool) (There : Scope → Type 0) (Is : B → Type 0) (bs : List B) → Keeps One lawful There Is bs → (s later : Scope) (items : List A) → Each One s 0 items bs later → list_all lawful items ≡ true → There s → There later × All Is bs
 each_keeps One lawful There Is bs step s later items i h there = each_from One lawful There Is bs step s later 0 items bs i h (from_start bs) there
 
-each_long : {A B : Type 0} (One : Scope → ℕ → A → B → Scope → Type 0) (s later : Scope) (n : ℕ) (items : List A) (bs : List B) → Each One s n items bs later → length bs ≡ length items
+pub each_long : {A B : Type 0} (One : Scope → ℕ → A → B → Scope → Type 0) (s later : Scope) (n : ℕ) (items : List A) (bs : List B) → Each One s n items bs later → length bs ≡ length items
 each_long One _ _ _ _ _ (none s n) = refl
 each_long One _ _ _ _ _ (one_more s m later n a rest b bs i others) = let long : length bs ≡ length rest = each_long One m later (n + 1) rest bs others in omega arith
 

@@ -49,7 +49,7 @@ retract_set : {A B : Type 0} (to : A → B) (from : B → A)
 retract_set to from back set =
     collapsible→set (λ x y p. sym (back x) ∙ ap from (ap to p) ∙ back y)
     (λ x y p q. ap (λ z. sym (back x) ∙ ap from z ∙ back y)
-        (set (to x) (to y) (ap to p) (ap to q)))
+    (set (to x) (to y) (ap to p) (ap to q)))
 
 -- Two equations of records agree at a field that is a set.
 agree : {R A : Type 0} → IsSet A → (get : R → A) (a b : R) (p q : a ≡ b) → ap get p ≡ ap get q

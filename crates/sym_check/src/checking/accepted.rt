@@ -24,8 +24,9 @@ pub struct Checked {
 }
 
 impl Checked {
-    ghost use Rattle.std.specs.Prelude.{IfOk, IsTrue};
+    ghost use Rattle.std.specs.Prelude.{◌≤◌, IfOk, IsTrue, length};
     ghost use Rattle.std.specs.List.{list_all};
+    ghost use Rattle.sym_base.specs.declared.limits.TheConstants as limit;
     ghost use Rattle.sym_check.specs.CheckedPlans.{checked_tree, checked_plan};
     ghost use Rattle.sym_check.specs.Conditions.{has_fixed_body};
     ghost use Rattle.sym_check.specs.Scripts.{IsAccepted};
@@ -69,6 +70,7 @@ impl Checked {
         ensures same { script_plan result.now ≡ checked_plan self.now }
         ensures accepted { IsAccepted (checked_tree self.now) (script_plan result.now) }
         ensures well_formed { IsWellFormed (script_plan result.now) }
+        ensures fields { length (script_plan result.now).fields ≤ limit.FIELDS_MAX }
         ensures tests { IsTrue (list_all has_fixed_body (script_plan result.now).tests) }
     {
         &self.plan

@@ -1,7 +1,7 @@
 use Rattle.sym_base.specs.Trees.{script_tree}
 use Rattle.sym_check.specs.ScriptPlans.{script_plan}
 use Rattle.sym_check.proofs.PlanLaws.{bodies_are_fixed}
-use Rattle.sym_check.proofs.PlannedScripts.{planned_well}
+use Rattle.sym_check.proofs.PlannedScripts.{planned_well, planned_fields}
 use Rattle.sym_check.proofs.ScriptsAgree.{planned_accepted}
 use Rattle.sym_check.proofs.checking.accepted.Checked.plan.Goals as goal
 
@@ -20,3 +20,8 @@ returns-clause-tests c =
     let checked = c.args.self.now in
     bodies_are_fixed (script_plan checked.plan)
     (planned_well (script_tree checked.script) (script_plan checked.plan) checked.lawful checked.planned)
+
+pub returns-clause-fields : goal.returns-clause-fields
+returns-clause-fields c =
+    let checked = c.args.self.now in
+    planned_fields (script_tree checked.script) (script_plan checked.plan) checked.lawful checked.planned
