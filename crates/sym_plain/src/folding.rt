@@ -10,7 +10,7 @@ ghost use Rattle.sym_plain.specs.Pairs.{HaveDistinctKeys, Steps, stepped, after_
 
 use crate::groups::Groups;
 use crate::keys::copy_value;
-use crate::states::initial;
+use crate::states::first_state;
 use crate::steps::advance;
 use crate::update::buffers::Buffers;
 use indexmap::IndexMap;
@@ -89,7 +89,7 @@ fn begin(
         OnOk result (map.new.entries ≡ stepped p key.now rec.now map.old.entries) }
     ensures distinct { HaveDistinctKeys map.new.entries }
 {
-    let mut outcome = Outcome::Going(initial(alloc, plan)?);
+    let mut outcome = Outcome::Going(first_state(alloc, plan)?);
     advance(alloc, plan, &mut outcome, rec, buffers)?;
     map.insert(key.copy(alloc)?, outcome)?;
     Ok(())
@@ -116,10 +116,13 @@ pub(crate) fn step_group(
     }
 }
 
-/// The groups after one record more: the record's group makes its next step, a new group goes last
-/// with one step from the initial state, and all others stay. A group that has ended stays as it
-/// is. A key that is there isn't copied, and its group's state is changed where it lies.
-pub fn fold(alloc: Global, plan: &Plan, groups: Groups, rec: &Record) -> Result<Groups, NoMemory>
+/// The groups after one record more.
+pub(crate) fn fold_record(
+    alloc: Global,
+    plan: &Plan,
+    groups: Groups,
+    rec: &Record,
+) -> Result<Groups, NoMemory>
     requires { IsTrue (list_all has_fixed_body (script_plan plan.now).tests) }
     ensures groups { IfOk result (λ g. g ≡ after_record (script_plan plan.now) rec.now groups) }
     ensures pass { let p = script_plan plan.now in

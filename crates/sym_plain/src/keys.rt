@@ -16,9 +16,8 @@ pub(crate) fn copy_value(alloc: Global, value: Option<&Value>) -> Result<Value, 
     }
 }
 
-/// The key of a record's group: `Whole` where the script has no group line, else `One` of the
-/// named field's value.
-pub fn key_of(alloc: Global, plan: &Plan, rec: &Record) -> Result<Key, NoMemory>
+/// The key of a record's group.
+pub(crate) fn record_key(alloc: Global, plan: &Plan, rec: &Record) -> Result<Key, NoMemory>
     ensures { IfOk result (λ k. k ≡ key_of (script_plan plan.now) rec.now) }
 {
     match plan.group {

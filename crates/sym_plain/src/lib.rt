@@ -2,6 +2,7 @@
 //! are the definitions of the sequential meaning.
 #![tactic(auto)]
 
+mod calls;
 mod folding;
 mod groups;
 mod keys;
@@ -10,12 +11,8 @@ mod states;
 mod steps;
 mod update;
 
-pub use folding::fold;
+pub use calls::{columns, fold, initial, key_of, step};
 pub use groups::Groups;
-pub use keys::key_of;
-pub use report::shown::columns;
-pub use states::initial;
-pub use steps::step;
 
 #[cfg(test)]
 mod tests;

@@ -20,8 +20,8 @@ fn first_cell(alloc: Global, cell: &CellPlan) -> Result<Cell, NoMemory>
     }
 }
 
-/// The declared initial state, with empty lists.
-pub fn initial(alloc: Global, plan: &Plan) -> Result<State, NoMemory>
+/// The initial state of a plan.
+pub(crate) fn first_state(alloc: Global, plan: &Plan) -> Result<State, NoMemory>
     ensures { IfOk result (λ s. s ≡ initial (script_plan plan.now)) }
 {
     let mut cells = Vec::with_capacity(alloc, plan.cells.len())?;

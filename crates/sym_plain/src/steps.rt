@@ -58,9 +58,13 @@ pub(crate) fn advance(
     Ok(())
 }
 
-/// The step that a group with this state makes at a record. The state is changed where it lies:
-/// nothing that stays is copied.
-pub fn step(alloc: Global, plan: &Plan, state: State, rec: &Record) -> Result<Outcome, NoMemory>
+/// The step that a group with this state makes at a record.
+pub(crate) fn step_of(
+    alloc: Global,
+    plan: &Plan,
+    state: State,
+    rec: &Record,
+) -> Result<Outcome, NoMemory>
     requires { IsTrue (list_all has_fixed_body (script_plan plan.now).tests) }
     ensures { IfOk result (λ o. o ≡ step (script_plan plan.now) (Going state) rec.now) }
 {

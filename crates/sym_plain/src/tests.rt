@@ -4,7 +4,12 @@ ghost use Rattle.std.specs.List.{list_all};
 ghost use Rattle.sym_check.specs.Conditions.{has_fixed_body};
 ghost use Rattle.sym_check.specs.ScriptPlans.{script_plan, test_plan};
 
-use crate::{Groups, columns, fold, initial, key_of, step};
+use crate::folding::fold_record;
+use crate::groups::Groups;
+use crate::keys::record_key;
+use crate::report::shown::shown_columns;
+use crate::states::first_state;
+use crate::steps::step_of;
 use std::alloc::Global;
 use std::process::Abort;
 use std::test::Fail;
@@ -101,13 +106,13 @@ fn record(alloc: Global, no: u64, number: i64, word: &str) -> Result<Record, NoM
 fn after(alloc: Global, plan: &Plan, numbers: &[i64]) -> Result<Outcome, NoMemory>
     requires { IsTrue (list_all has_fixed_body (script_plan plan.now).tests) }
 {
-    let mut outcome = Outcome::Going(initial(alloc, plan)?);
+    let mut outcome = Outcome::Going(first_state(alloc, plan)?);
     let mut no = 0u64;
     'numbers: for number in numbers {
         no = no.wrapping_add(1);
         let rec = record(alloc, no, *number, "a")?;
         outcome = match outcome {
-            Outcome::Going(state) => step(alloc, plan, state, &rec)?,
+            Outcome::Going(state) => step_of(alloc, plan, state, &rec)?,
             Outcome::Ended(fault) => Outcome::Ended(fault),
         };
     }
@@ -166,7 +171,7 @@ fn folded(alloc: Global, plan: &Plan, records: &[(i64, &str)]) -> Result<Groups,
     'records: for (number, word) in records {
         no = no.wrapping_add(1);
         let rec = record(alloc, no, *number, word)?;
-        groups = fold(alloc, plan, groups, &rec)?;
+        groups = fold_record(alloc, plan, groups, &rec)?;
     }
     Ok(groups)
 }
@@ -189,7 +194,7 @@ fn shows(
 ) -> Result<bool, NoMemory> {
     match groups.at(index) {
         Some((_, Outcome::Going(state))) => {
-            let shown = columns(alloc, plan, state)?;
+            let shown = shown_columns(alloc, plan, state)?;
             Ok(word_at(groups, index) == word && shown.as_slice() == wanted)
         }
         _ => Ok(false),
@@ -319,7 +324,7 @@ fn shown_after(alloc: Global, value: Show, numbers: &[i64]) -> Result<Column, No
     let update = then(alloc, push, Dos::End)?;
     let plan = plan(alloc, None, cells, update, columns_shown)?;
     match after(alloc, &plan, numbers)? {
-        Outcome::Going(state) => match columns(alloc, &plan, &state)?.get(0) {
+        Outcome::Going(state) => match shown_columns(alloc, &plan, &state)?.get(0) {
             Some(column) => column.copy(alloc),
             None => Ok(Column::Nothing),
         },
@@ -430,14 +435,14 @@ fn walked(
 ) -> Result<Outcome, NoMemory>
     requires { IsTrue (list_all has_fixed_body (script_plan plan.now).tests) }
 {
-    let mut outcome = Outcome::Going(initial(alloc, plan)?);
+    let mut outcome = Outcome::Going(first_state(alloc, plan)?);
     let mut no = 0u64;
     'records: for (number, word) in records {
         no = no.wrapping_add(1);
         let rec = record(alloc, no, *number, word)?;
-        if key_of(alloc, plan, &rec)? == *key {
+        if record_key(alloc, plan, &rec)? == *key {
             outcome = match outcome {
-                Outcome::Going(state) => step(alloc, plan, state, &rec)?,
+                Outcome::Going(state) => step_of(alloc, plan, state, &rec)?,
                 Outcome::Ended(fault) => Outcome::Ended(fault),
             };
         }

@@ -151,8 +151,8 @@ fn shown(alloc: Global, plan: &Plan, state: &State, show: &Show) -> Result<Colum
     }
 }
 
-/// The columns of the report for a state, in order.
-pub fn columns(alloc: Global, plan: &Plan, state: &State) -> Result<Columns, NoMemory>
+/// The columns of a plan's report for a state, in order.
+pub(crate) fn shown_columns(alloc: Global, plan: &Plan, state: &State) -> Result<Columns, NoMemory>
     ensures { IfOk result (λ c. c ≡ columns (script_plan plan.now) state.now) }
 {
     let mut columns = Vec::with_capacity(alloc, plan.columns.len())?;

@@ -12,7 +12,7 @@ pub returns-clause-steps : goal.returns-clause-steps
 returns-clause-steps c =
     let p = script_plan c.args.plan.now in
     let first : c.advance.new.outcome ≡ step p (Going (initial p)) c.args.rec.now =
-    c.in_ok-advance.ensures ∙ ap (λ (s : State). step p (Going s) c.args.rec.now) c.in_ok-initial.ensures in
+    c.in_ok-advance.ensures ∙ ap (λ (s : State). step p (Going s) c.args.rec.now) c.in_ok-first_state.ensures in
     c.in_ok-insert.ensures.entries
     ∙ ap₂ (insert_entry is_key c.args.map.now.entries) c.in_ok-copy.ensures first
     ∙ begun p c.args.key.now c.args.rec.now c.args.map.now.entries c.requires.distinct c.requires.new

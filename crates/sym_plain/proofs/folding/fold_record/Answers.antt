@@ -2,7 +2,7 @@ use Rattle.std.proofs.Common.{◌∙◌, ap, sym}
 use Rattle.sym_check.specs.ScriptPlans.{script_plan}
 use Rattle.sym_plain.specs.Pairs.{after_record}
 use Rattle.sym_plain.proofs.Passes.{pass_next}
-use Rattle.sym_plain.proofs.folding.fold.Goals as goal
+use Rattle.sym_plain.proofs.folding.fold_record.Goals as goal
 
 pub returns-clause-pass : goal.returns-clause-pass
 returns-clause-pass c records is =

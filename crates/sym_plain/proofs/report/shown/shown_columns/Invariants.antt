@@ -2,7 +2,7 @@
 use Rattle.std.proofs.Common.{◌≡◌, take, map}
 use Rattle.sym_check.specs.ScriptPlans.{ColumnOf, column_plan, script_plan}
 use Rattle.sym_plain.specs.Shown.{shown}
-use Rattle.sym_plain.proofs.report.shown.columns.Given as goal
+use Rattle.sym_plain.proofs.report.shown.shown_columns.Given as goal
 
 abbrev pub invariant-columns : goal.invariant-columns
 invariant-columns l =

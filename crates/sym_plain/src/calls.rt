@@ -1,0 +1,71 @@
+//! The calls over checked scripts.
+ghost use Rattle.std.specs.Prelude.{◌≡◌, ◌++◌, ◌∷◌, [], List, IfOk};
+ghost use Rattle.sym_base.specs.declared.values.record.Record.{Record as OneRecord};
+ghost use Rattle.sym_base.specs.declared.values.state.Outcome.TheVariants.{Going};
+ghost use Rattle.sym_check.specs.CheckedPlans.{checked_plan};
+ghost use Rattle.sym_check.specs.Groups.{key_of, pass};
+ghost use Rattle.sym_check.specs.Updates.{initial, step};
+ghost use Rattle.sym_plain.specs.Pairs.{after_record};
+ghost use Rattle.sym_plain.specs.Shown.{columns};
+
+use crate::folding::fold_record;
+use crate::groups::Groups;
+use crate::keys::record_key;
+use crate::report::shown::shown_columns;
+use crate::states::first_state;
+use crate::steps::step_of;
+use std::alloc::Global;
+use sym_base::{Columns, Key, NoMemory, Outcome, Record, State};
+use sym_check::checking::Checked;
+
+/// The declared initial state, with empty lists.
+pub fn initial(alloc: Global, checked: &Checked) -> Result<State, NoMemory>
+    ensures { IfOk result (λ s. s ≡ initial (checked_plan checked.now)) }
+{
+    first_state(alloc, checked.plan())
+}
+
+/// The step that a group with this state makes at a record. The state is changed where it lies:
+/// nothing that stays is copied.
+pub fn step(
+    alloc: Global,
+    checked: &Checked,
+    state: State,
+    rec: &Record,
+) -> Result<Outcome, NoMemory>
+    ensures { IfOk result (λ o. o ≡ step (checked_plan checked.now) (Going state) rec.now) }
+{
+    step_of(alloc, checked.plan(), state, rec)
+}
+
+/// The columns of the report for a state, in order.
+pub fn columns(alloc: Global, checked: &Checked, state: &State) -> Result<Columns, NoMemory>
+    ensures { IfOk result (λ c. c ≡ columns (checked_plan checked.now) state.now) }
+{
+    shown_columns(alloc, checked.plan(), state)
+}
+
+/// The key of a record's group: `Whole` where the script has no group line, else `One` of the
+/// named field's value.
+pub fn key_of(alloc: Global, checked: &Checked, rec: &Record) -> Result<Key, NoMemory>
+    ensures { IfOk result (λ k. k ≡ key_of (checked_plan checked.now) rec.now) }
+{
+    record_key(alloc, checked.plan(), rec)
+}
+
+/// The groups after one record more: the record's group makes its next step, a new group goes last
+/// with one step from the initial state, and all others stay. A group that has ended stays as it
+/// is. A key that is there isn't copied, and its group's state is changed where it lies.
+pub fn fold(
+    alloc: Global,
+    checked: &Checked,
+    groups: Groups,
+    rec: &Record,
+) -> Result<Groups, NoMemory>
+    ensures groups { IfOk result (λ g. g ≡ after_record (checked_plan checked.now) rec.now groups) }
+    ensures pass { let p = checked_plan checked.now in
+        IfOk result (λ g. (records : List OneRecord) →
+        groups ≡ pass p records → g ≡ pass p (records ++ rec.now ∷ [])) }
+{
+    fold_record(alloc, checked.plan(), groups, rec)
+}
