@@ -4,7 +4,7 @@ use Rattle.std.proofs.lemmas.Bool.{cases_eq, cases_lt}
 use Rattle.std.proofs.lemmas.Bool.Decides.{Decides-like}
 use Rattle.std.proofs.lemmas.Int.{ints}
 use Rattle.std.specs.Prelude.{slice_get, IsTrue, is_some, MatchOption}
-use Rattle.std.specs.Bool.{Decides}
+use Rattle.std.specs.Bool.{Decides, MatchBool}
 use Rattle.sym_enum.proofs.CallersLemmas.{set_eq-Decides}
 use Rattle.sym_enum.specs.Labels.{IsOnlyLabel}
 use Rattle.sym_enum.specs.declared.form.EnumForm.{EnumForm}
@@ -104,7 +104,7 @@ module _ (v w : List Part) (e : length v ≡ length w) (cell : ℕ) (below : cel
         ]
       ]
 
-  one_cell : ConstraintsUnite v w → (u : UniteInOne v w) × (u.cell ≡ cell)
+  pub one_cell : ConstraintsUnite v w → (u : UniteInOne v w) × (u.cell ≡ cell)
   one_cell (inl same) = absurd (differ (ap (λ x. slice_get x cell) same))
   one_cell (inr u) = (u, elim (cases_eq cell u.cell) [ inl q ↦ sym q | inr q ↦ absurd (differ (u.others cell q)) ])
 
@@ -277,3 +277,7 @@ first_decides a d t = (λ e. inl (d.0 e), λ h. t)
 
 pub second_decides : {P Q : Type 0} (a b : Bool) → (IsTrue a ↔ P) → a ≡ false → (IsTrue b ↔ Q) → IsTrue b ↔ (P ⊎ Q)
 second_decides a b d f e = (λ t. inr (e.0 t), λ h. elim h [ inl p ↦ absurd (let z : true ≡ false = sym (d.1 p) ∙ f in cc) | inr q ↦ e.1 q ])
+
+pub keeps : {P Q : Type 0} (b : Bool) → (IsTrue b ↔ P) → (P ⊎ Q) → MatchBool b P Q
+keeps true d h = d.0 refl
+keeps false d h = elim h [ inl p ↦ absurd (let z : false ≡ true = d.1 p in cc) | inr q ↦ q ]

@@ -10,3 +10,4 @@ pub mod OnlyOutcomes
 pub mod Pulled
 pub mod Possibly
 pub mod Joined
+pub mod TakenValues

@@ -122,7 +122,7 @@ only_number_at truth span s c one = go (slice_get s.cells c)
     go (Some (cell.Nums xs)) e = absurd (cc)
     go (Some (cell.Words ts)) e = absurd (cc)
 
-constant_value : (y : ℤ) (g : IntForm) (s : State) → IsConstant y g → form_value g s ≡ y
+pub constant_value : (y : ℤ) (g : IntForm) (s : State) → IsConstant y g → form_value g s ≡ y
 constant_value y (number.Const n) s h = h
 constant_value y (number.Line m) s h = absurd h
 

@@ -1,7 +1,10 @@
 -- Paths that can be joined, and settled lists of paths, as in the SYMPLE paper (SOSP 2015) in
 -- outline; which parts unite is this project's profile.
-use Rattle.std.specs.Prelude.{◌≡◌, ◌≢◌, ℕ, List, Option, None, Some, slice_get, ◌⊎◌}
+use Rattle.std.specs.Prelude.{◌≡◌, ◌≢◌, ℕ, true, ◌||◌, List, Option, None, Some, slice_get, ◌⊎◌}
 use Rattle.std.specs.List.{AllPairs}
+use Rattle.sym_base.specs.Tests.{Truth}
+use Rattle.sym_base.specs.declared.values.state.Cell.{Cell}
+use Rattle.sym_base.specs.declared.values.state.State.{State}
 use Rattle.sym_int.specs.Points.{IsUnion}
 use Rattle.sym_int.specs.declared.form.IntForm.{IntForm}
 use Rattle.sym_int.specs.declared.span.Span.{Span}
@@ -11,6 +14,8 @@ use Rattle.sym_path.specs.declared.part.Part.TheVariants as part
 use Rattle.sym_path.specs.declared.path.PathEnd.{PathEnd}
 use Rattle.sym_path.specs.declared.path.PathEnd.TheVariants.{Next, Ended}
 use Rattle.sym_path.specs.declared.path.Path.{Path}
+use Rattle.sym_path.specs.Admitting.{part_admits, admits}
+use Rattle.sym_path.specs.Giving.{end_at}
 use Rattle.sym_path.specs.Taking.{AreTakenTo, NumberIsTakenTo}
 
 -- Two parts unite: any two sets, two spans whose numbers are those of one span, and two lots of facts
@@ -71,3 +76,20 @@ pub record Joinable (p q : Path) : Type 0 where
 -- No two of the paths can be joined.
 abbrev pub IsSettled : List Path → Type 0
 IsSettled paths = AllPairs (λ p q. Joinable p q → ⊥) paths
+
+-- A path that stands for two: it admits what either admits, and gives what that one gives.
+pub record IsJoined (p q r : Path) : Type 0 where
+  pub either : (truth : Truth) (s : State) → admits truth r.when s.cells ≡ (admits truth p.when s.cells || admits truth q.when s.cells)
+  pub first : (truth : Truth) (s : State) → admits truth p.when s.cells ≡ true → end_at r.end s ≡ end_at p.end s
+  pub second : (truth : Truth) (s : State) → admits truth q.when s.cells ≡ true → end_at r.end s ≡ end_at q.end s
+
+-- A part admits what either of two parts admits.
+abbrev pub IsUnited : Part → Part → Part → Type 0
+IsUnited a b u = (truth : Truth) (c : Cell) → part_admits truth u c ≡ (part_admits truth a c || part_admits truth b c)
+
+-- The first of two ends may be kept for both paths, where the second path has this constraint.
+abbrev pub EndKept : List Part → PathEnd → PathEnd → Type 0
+EndKept when (Next fs) (Next gs) = AreTakenTo when fs gs
+EndKept when (Next fs) (Ended b) = ⊥
+EndKept when (Ended a) (Next gs) = ⊥
+EndKept when (Ended a) (Ended b) = a ≡ b

@@ -1,14 +1,19 @@
 //! Whether two paths can be joined into one.
-ghost use Rattle.std.specs.Prelude.{◌≡◌, ◌↔◌, ◌≤◌, ◌+ℤ◌, ◌*ℤ◌, ℕ, ℤ, IsTrue, MatchOption, length, option_copied};
+ghost use Rattle.std.specs.Prelude.{◌≡◌, ◌↔◌, ◌≤◌, ◌+ℤ◌, ◌*ℤ◌, ℕ, ℤ, ◌||◌, IfOk, List, IsTrue, MatchBool, MatchOption, length, option_copied};
 ghost use Rattle.sym_int.specs.Elements.{IsConstant};
 ghost use Rattle.std.specs.List.{AllZip};
-ghost use Rattle.sym_path.specs.Joining.{ElementIsTakenTo, PartsUnite, ConstraintsUnite, EndsAgree, Joinable};
+ghost use Rattle.sym_path.specs.Joining.{ElementIsTakenTo, PartsUnite, ConstraintsUnite, EndsAgree, Joinable, IsUnited, EndKept, IsJoined};
+ghost use Rattle.sym_base.specs.Tests.{Truth};
+ghost use Rattle.sym_base.specs.declared.values.state.Cell.{Cell as OneCell};
+ghost use Rattle.sym_path.specs.Admitting.{admits};
 ghost use Rattle.sym_path.specs.Taking.{HasOneLabel, HasOneNumber, LabelIsTakenTo, NumberIsTakenTo, IsTakenTo, AreTakenTo};
 ghost use Rattle.sym_path.specs.Differing.{IsFirstDifference};
 
 use crate::form::Form;
-use crate::part::Part;
+use crate::part::{Constraint, Part};
 use crate::path::{Path, PathEnd};
+use std::alloc::Global;
+use sym_base::NoMemory;
 use sym_enum::EnumForm;
 use sym_int::{IntForm, Line};
 use sym_vector::ListForm;
@@ -200,4 +205,105 @@ pub fn joinable(p: &Path, q: &Path) -> bool
     ensures { IsTrue result ↔ Joinable p.now q.now }
 {
     ends_agree(p, q) && constraints_unite(p.when.as_slice(), q.when.as_slice())
+}
+
+/// The part that admits what either of two parts that unite admits.
+fn united(alloc: Global, first: &Part, second: &Part) -> Result<Part, NoMemory>
+    requires { PartsUnite first.now second.now }
+    ensures { IfOk result (IsUnited first.now second.now) }
+{
+    match first {
+        Part::Set(set) => match second {
+            Part::Set(other) => Ok(Part::Set(set.unite(other))),
+            _ => unreachable!(),
+        },
+        Part::Span(span) => match second {
+            Part::Span(other) => match span.unite(other) {
+                Some(union) => Ok(Part::Span(union)),
+                None => unreachable!(),
+            },
+            _ => unreachable!(),
+        },
+        Part::Facts(facts) => match second {
+            Part::Facts(other) => match facts.unite(alloc, other)? {
+                Some(union) => Ok(Part::Facts(union)),
+                None => unreachable!(),
+            },
+            _ => unreachable!(),
+        },
+        Part::Free => match second {
+            Part::Free => Ok(Part::Free),
+            _ => unreachable!(),
+        },
+    }
+}
+
+/// The constraint that admits what either of two that unite admits.
+fn constraint_united(
+    alloc: Global,
+    first: Constraint,
+    second: &Constraint,
+) -> Result<Constraint, NoMemory>
+    requires { ConstraintsUnite first second.now }
+    ensures { IfOk result (λ when. (truth : Truth) (cells : List OneCell) →
+        admits truth when cells ≡ (admits truth first cells || admits truth second.now cells)) }
+{
+    let (parts, others) = (first.as_slice(), second.as_slice());
+    match first_difference(parts, others, 0) {
+        None => Ok(first),
+        Some(cell) => {
+            let part = united(alloc, &parts[cell], &others[cell])?;
+            let mut when = first;
+            when.set(cell, part);
+            Ok(when)
+        }
+    }
+}
+
+/// Whether the end of the first of two paths that can be joined serves for both; else that of the
+/// second does.
+fn keeps_first(p: &Path, q: &Path) -> bool
+    requires { EndsAgree p.now q.now }
+    ensures { MatchBool result (EndKept q.now.when p.now.end q.now.end)
+        (EndKept p.now.when q.now.end p.now.end) }
+{
+    match (&p.end, &q.end) {
+        (PathEnd::Next(first), PathEnd::Next(second)) => {
+            are_taken_to(q.when.as_slice(), first.as_slice(), second.as_slice())
+        }
+        _ => true,
+    }
+}
+
+impl Path {
+    /// The path of two that can be joined, which are given away: it admits what either admits and
+    /// gives what that one gives.
+    pub fn join(self, alloc: Global, other: Path) -> Result<Path, NoMemory>
+        requires { Joinable self other }
+        ensures { IfOk result (IsJoined self other) }
+    {
+        let keeps = keeps_first(&self, &other);
+        let Path { when, end } = self;
+        let Path {
+            when: others,
+            end: other_end,
+        } = other;
+        let when = constraint_united(alloc, when, &others)?;
+        if keeps {
+            Ok(Path { when, end })
+        } else {
+            Ok(Path {
+                when,
+                end: other_end,
+            })
+        }
+    }
+}
+
+/// The path of two that can be joined: it admits what either admits and gives what that one gives.
+pub fn join_paths(alloc: Global, p: &Path, q: &Path) -> Result<Path, NoMemory>
+    requires { Joinable p.now q.now }
+    ensures { IfOk result (IsJoined p.now q.now) }
+{
+    p.copy(alloc)?.join(alloc, q.copy(alloc)?)
 }

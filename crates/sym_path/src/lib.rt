@@ -15,7 +15,7 @@ mod pulling;
 mod segment;
 
 pub use form::{Form, Forms};
-pub use joining::joinable;
+pub use joining::{join_paths, joinable};
 pub use part::{Constraint, Part};
 pub use path::{Path, PathEnd};
 pub use possible_pairs::possible;
