@@ -13,8 +13,8 @@ use Rattle.sym_check.specs.LinePlans as line
 use Rattle.sym_check.specs.CondPlans.{CondPlan}
 use Rattle.sym_check.specs.DoPlans.{DoPlan}
 use Rattle.sym_check.specs.DoPlans as plan
-use Rattle.sym_check.specs.declared.elaborate.error.RuleErr.{RuleErr}
-use Rattle.sym_check.specs.declared.elaborate.error.RuleErr.TheVariants as broken
+use Rattle.sym_check.specs.declared.elaborate.error.CheckErr.{CheckErr}
+use Rattle.sym_check.specs.declared.elaborate.error.CheckErr.TheVariants as broken
 use Rattle.sym_check.specs.declared.elaborate.scope.Meaning.{Meaning}
 use Rattle.sym_check.specs.declared.elaborate.scope.Meaning.TheVariants as meaning
 use Rattle.sym_check.specs.Scopes.{Scope, find, Stands}
@@ -34,7 +34,7 @@ use Rattle.sym_check.proofs.BlocksComplete.{block_planned, stmt_planned}
 use Rattle.sym_check.proofs.BlocksFound.{StmtOutcome, planned, unplanned, stmt_outcome}
 
 -- Names that are taken, first in the script and then in the scope.
-taken : {A : Type 0} (at : ℕ) (o : Option Meaning) (m : Meaning) (next : Result A RuleErr) → unless_taken at o (unless_taken at (Some m) next) ≡ Err (broken.Twice at)
+taken : {A : Type 0} (at : ℕ) (o : Option Meaning) (m : Meaning) (next : Result A CheckErr) → unless_taken at o (unless_taken at (Some m) next) ≡ Err (broken.Twice at)
 taken at None m next = refl
 taken at (Some other) m next = refl
 
@@ -53,7 +53,7 @@ not_assigned at (meaning.IntCell c) none = absurd (none tt)
 not_assigned at (meaning.EnumCell c enum) none = absurd (none tt)
 not_assigned at _ none = refl
 
-set_name_inferred : (s : Scope) (x : Name) (f : RuleErr) → BreaksName s IsAssignedCell x f → assigned x.at (find s x.text) ≡ Err f
+set_name_inferred : (s : Scope) (x : Name) (f : CheckErr) → BreaksName s IsAssignedCell x f → assigned x.at (find s x.text) ≡ Err f
 set_name_inferred s x _ (rule.unknown free) = rw free.missing refl
 set_name_inferred s x _ (rule.wrong_cell m st none) = rw (st.found, not_assigned x.at m none) refl
 
@@ -67,7 +67,7 @@ not_pushed at (meaning.NumsCell c) none = absurd (none tt)
 not_pushed at (meaning.WordsCell c) none = absurd (none tt)
 not_pushed at _ none = refl
 
-push_name_inferred : (s : Scope) (x : Name) (f : RuleErr) → BreaksName s IsPushedCell x f → pushed x.at (find s x.text) ≡ Err f
+push_name_inferred : (s : Scope) (x : Name) (f : CheckErr) → BreaksName s IsPushedCell x f → pushed x.at (find s x.text) ≡ Err f
 push_name_inferred s x _ (rule.unknown free) = rw free.missing refl
 push_name_inferred s x _ (rule.wrong_cell m st none) = rw (st.found, not_pushed x.at m none) refl
 
@@ -80,7 +80,7 @@ not_kept : (at : ℕ) (m : Meaning) → (IsKeptCell m → ⊥) → kept at (Some
 not_kept at (meaning.HoldCell c ks) none = absurd (none tt)
 not_kept at _ none = refl
 
-keep_name_inferred : (s : Scope) (x : Name) (f : RuleErr) → BreaksName s IsKeptCell x f → kept x.at (find s x.text) ≡ Err f
+keep_name_inferred : (s : Scope) (x : Name) (f : CheckErr) → BreaksName s IsKeptCell x f → kept x.at (find s x.text) ≡ Err f
 keep_name_inferred s x _ (rule.unknown free) = rw free.missing refl
 keep_name_inferred s x _ (rule.wrong_cell m st none) = rw (st.found, not_kept x.at m none) refl
 
@@ -89,11 +89,11 @@ kept_by at (meaning.HoldCell c ks) i = (record { cell = c; kinds = ks }, refl)
 kept_by at _ i = absurd i
 
 -- What is stored has one fault, and so has what is kept from another cell.
-choice_fault : (at : ℕ) (p : DoPlan) (f : RuleErr) (b : Bool) → (if b then Ok p else kind_at at) ≡ Err f → f ≡ broken.Kind at
+choice_fault : (at : ℕ) (p : DoPlan) (f : CheckErr) (b : Bool) → (if b then Ok p else kind_at at) ≡ Err f → f ≡ broken.Kind at
 choice_fault at p f true e = absurd (cc)
 choice_fault at p f false e = cc
 
-placed_fault : (at : ℕ) (target : Target) (t : Typed) (f : RuleErr) → placed_in at target t ≡ Err f → f ≡ broken.Kind at
+placed_fault : (at : ℕ) (target : Target) (t : Typed) (f : CheckErr) → placed_in at target t ≡ Err f → f ≡ broken.Kind at
 placed_fault at (ToInt c) (Number t) f e = absurd (cc)
 placed_fault at (ToEnum c enum) (Label other l) f e = choice_fault at (plan.SetEnum c l) f (enum == other) e
 placed_fault at (ToEnum c enum) (EnumCell d other) f e = choice_fault at (plan.CopyEnum c d) f ((enum == other) && not (c == d)) e
@@ -101,15 +101,15 @@ placed_fault at (ToNums c) (Number t) f e = absurd (cc)
 placed_fault at (ToWords c) (Word w) f e = absurd (cc)
 placed_fault at target t f e = cc
 
-kept_fault : (at : ℕ) (k from : Kept) (f : RuleErr) → kept_from at k from ≡ Err f → f ≡ broken.Kind at
+kept_fault : (at : ℕ) (k from : Kept) (f : CheckErr) → kept_from at k from ≡ Err f → f ≡ broken.Kind at
 kept_fault at k from f e = choice_fault at (plan.KeepFrom k.cell from.cell) f (pointwise same_kind k.kinds from.kinds && not (k.cell == from.cell)) e
 
-only_fault : (hidden s : Scope) (n : ℕ) (d : StmtTree) (g : RuleErr) → ((f : RuleErr) → statement hidden s n d ≡ Err f → f ≡ g) → HasNoPlan hidden s n d → StmtOutcome hidden s n d → statement hidden s n d ≡ Err g
+only_fault : (hidden s : Scope) (n : ℕ) (d : StmtTree) (g : CheckErr) → ((f : CheckErr) → statement hidden s n d ≡ Err f → f ≡ g) → HasNoPlan hidden s n d → StmtOutcome hidden s n d → statement hidden s n d ≡ Err g
 only_fault hidden s n d g faults none (planned r p h) = absurd (none r.plan r.scope r.next h)
 only_fault hidden s n d g faults none (unplanned f p h) = p ∙ ap Err (faults f p)
 
 -- A fault after the last step isn't made there.
-made_fault : {A B : Type 0} (make : A → B) (r : Result A RuleErr) (f : RuleErr) → and_then (λ (a : A). Ok (make a)) r ≡ Err f → r ≡ Err f
+made_fault : {A B : Type 0} (make : A → B) (r : Result A CheckErr) (f : CheckErr) → and_then (λ (a : A). Ok (make a)) r ≡ Err f → r ≡ Err f
 made_fault make (Ok a) f e = absurd (cc)
 made_fault make (Err g) f e = cc
 
@@ -136,10 +136,10 @@ from_is hidden s n x y names others =
     let from : (k : Kept) × (kept y.at (Some others.meaning) ≡ Ok k) = kept_by y.at others.meaning others.is_wanted in
     (k.0, from.0, rw (names.stands.found, k.1, others.stands.found, from.1) refl)
 
-placed_fault_here : (hidden s : Scope) (n : ℕ) (d : StmtTree) (at : ℕ) (t : Typed) (f : RuleErr) → (target : Target) × (statement hidden s n d ≡ and_then (λ (p : DoPlan). Ok (here s n p)) (placed_in at target t)) → statement hidden s n d ≡ Err f → f ≡ broken.Kind at
+placed_fault_here : (hidden s : Scope) (n : ℕ) (d : StmtTree) (at : ℕ) (t : Typed) (f : CheckErr) → (target : Target) × (statement hidden s n d ≡ and_then (λ (p : DoPlan). Ok (here s n p)) (placed_in at target t)) → statement hidden s n d ≡ Err f → f ≡ broken.Kind at
 placed_fault_here hidden s n d at t f q e = placed_fault at q.0 t f (made_fault (here s n) (placed_in at q.0 t) f (sym q.1 ∙ e))
 
-kept_fault_here : (hidden s : Scope) (n : ℕ) (d : StmtTree) (at : ℕ) (f : RuleErr) → (k : Kept) × (from : Kept) × (statement hidden s n d ≡ and_then (λ (p : DoPlan). Ok (here s n p)) (kept_from at k from)) → statement hidden s n d ≡ Err f → f ≡ broken.Kind at
+kept_fault_here : (hidden s : Scope) (n : ℕ) (d : StmtTree) (at : ℕ) (f : CheckErr) → (k : Kept) × (from : Kept) × (statement hidden s n d ≡ and_then (λ (p : DoPlan). Ok (here s n p)) (kept_from at k from)) → statement hidden s n d ≡ Err f → f ≡ broken.Kind at
 kept_fault_here hidden s n d at f q e = kept_fault at q.0 q.1 f (made_fault (here s n) (kept_from at q.0 q.1) f (sym q.2 ∙ e))
 
 -- Values that are kept.
@@ -156,28 +156,28 @@ no_condition_inferred : (s : Scope) (e : ExprTree) (t : Typed) → Means s e t �
 no_condition_inferred s e (Truth c) h none = absurd (none c (is_condition s e c h))
 no_condition_inferred s e t h none = refl
 
-in_kept : (hidden s : Scope) (n : ℕ) (x : Name) (es : ExprsTree) (f : RuleErr) → Names s IsKeptCell x → operands s es ≡ Err f → statement hidden s n (Keep x es) ≡ Err f
+in_kept : (hidden s : Scope) (n : ℕ) (x : Name) (es : ExprsTree) (f : CheckErr) → Names s IsKeptCell x → operands s es ≡ Err f → statement hidden s n (Keep x es) ≡ Err f
 in_kept hidden s n x es f names q =
     let k : (k : Kept) × (kept x.at (Some names.meaning) ≡ Ok k) = kept_by x.at names.meaning names.is_wanted in
     rw (names.stands.found, k.1, q) refl
 
-from_name_kept : (hidden s : Scope) (n : ℕ) (x y : Name) (f : RuleErr) → Names s IsKeptCell x → kept y.at (find s y.text) ≡ Err f → statement hidden s n (KeepFrom x y) ≡ Err f
+from_name_kept : (hidden s : Scope) (n : ℕ) (x y : Name) (f : CheckErr) → Names s IsKeptCell x → kept y.at (find s y.text) ≡ Err f → statement hidden s n (KeepFrom x y) ≡ Err f
 from_name_kept hidden s n x y f names q =
     let k : (k : Kept) × (kept x.at (Some names.meaning) ≡ Ok k) = kept_by x.at names.meaning names.is_wanted in
     rw (names.stands.found, k.1, q) refl
 
-in_assigned : (hidden s : Scope) (n : ℕ) (x : Name) (e : ExprTree) (f : RuleErr) → Names s IsAssignedCell x → infer s e ≡ Err f → statement hidden s n (Set x e) ≡ Err f
+in_assigned : (hidden s : Scope) (n : ℕ) (x : Name) (e : ExprTree) (f : CheckErr) → Names s IsAssignedCell x → infer s e ≡ Err f → statement hidden s n (Set x e) ≡ Err f
 in_assigned hidden s n x e f names q =
     let to : (target : Target) × (assigned x.at (Some names.meaning) ≡ Ok target) = assigned_to x.at names.meaning names.is_wanted in
     rw (names.stands.found, to.1, q) refl
 
-in_pushed : (hidden s : Scope) (n : ℕ) (x : Name) (e : ExprTree) (f : RuleErr) → Names s IsPushedCell x → infer s e ≡ Err f → statement hidden s n (Push x e) ≡ Err f
+in_pushed : (hidden s : Scope) (n : ℕ) (x : Name) (e : ExprTree) (f : CheckErr) → Names s IsPushedCell x → infer s e ≡ Err f → statement hidden s n (Push x e) ≡ Err f
 in_pushed hidden s n x e f names q =
     let to : (target : Target) × (pushed x.at (Some names.meaning) ≡ Ok target) = pushed_to x.at names.meaning names.is_wanted in
     rw (names.stands.found, to.1, q) refl
 
 mutual
-  pub breaks_stmt_planned : (hidden s : Scope) (n : ℕ) (d : StmtTree) (f : RuleErr) → BreaksStmt hidden s n d f → statement hidden s n d ≡ Err f
+  pub breaks_stmt_planned : (hidden s : Scope) (n : ℕ) (d : StmtTree) (f : CheckErr) → BreaksStmt hidden s n d f → statement hidden s n d ≡ Err f
   breaks_stmt_planned hidden _ _ _ _ (rule.let_hidden s n x e m st) = rw st.found refl
   breaks_stmt_planned hidden _ _ _ _ (rule.let_taken s n x e m st) = rw (st.found, taken x.at (find hidden x.text) m) refl
   breaks_stmt_planned hidden _ _ _ _ (rule.in_let s n x e f there free b) = rw (there.missing, free.missing, breaks_inferred s e f b) refl
@@ -203,6 +203,6 @@ mutual
   breaks_stmt_planned hidden _ _ _ _ (rule.in_then s n e a b c f h i) = rw (condition_inferred s e c h, breaks_block_planned hidden s n a f i) refl
   breaks_stmt_planned hidden _ _ _ _ (rule.in_else s n m e a b c ds f h i j) = rw (condition_inferred s e c h, block_planned hidden s n a ds m i, breaks_block_planned hidden s m b f j) refl
 
-  pub breaks_block_planned : (hidden s : Scope) (n : ℕ) (b : StmtsTree) (f : RuleErr) → BreaksBlock hidden s n b f → block hidden s n b ≡ Err f
+  pub breaks_block_planned : (hidden s : Scope) (n : ℕ) (b : StmtsTree) (f : CheckErr) → BreaksBlock hidden s n b f → block hidden s n b ≡ Err f
   breaks_block_planned hidden _ _ _ _ (rule.in_statement s n first rest f i) = rw (breaks_stmt_planned hidden s n first f i) refl
   breaks_block_planned hidden _ _ _ _ (rule.in_rest s later n m first rest d f h i) = rw (stmt_planned hidden s n first d later m h, breaks_block_planned hidden later m rest f i) refl

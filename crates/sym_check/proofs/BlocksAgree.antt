@@ -2,7 +2,7 @@
 -- answers, with the scope and the number after it, and so is the first broken rule in it.
 use Rattle.std.proofs.Common.{◌≡◌, sym, ap, ◌∙◌, subst, ℕ, ◌⊎◌, inl, inr, Result, Ok, Err}
 use Rattle.sym_base.specs.Trees.{StmtTree, StmtsTree}
-use Rattle.sym_check.specs.declared.elaborate.error.RuleErr.{RuleErr}
+use Rattle.sym_check.specs.declared.elaborate.error.CheckErr.{CheckErr}
 use Rattle.sym_check.specs.DoPlans.{DoPlan, DosPlan}
 use Rattle.sym_check.specs.Scopes.{Scope}
 use Rattle.sym_check.specs.Statements.{IsStmt, IsBlock}
@@ -27,16 +27,16 @@ pub planned_stmt : (hidden s : Scope) (n : ℕ) (d : StmtTree) (r : PlannedDo)
     → IsStmt hidden s n d r.plan r.scope r.next
 planned_stmt hidden s n d r p = stmt_of hidden s n d r p (stmt_outcome hidden s n d)
 
-pub breaks_stmt_planned : (hidden s : Scope) (n : ℕ) (d : StmtTree) (f : RuleErr)
+pub breaks_stmt_planned : (hidden s : Scope) (n : ℕ) (d : StmtTree) (f : CheckErr)
     → BreaksStmt hidden s n d f
     → statement hidden s n d ≡ Err f
 breaks_stmt_planned = faults.breaks_stmt_planned
 
-stmt_fault_of : (hidden s : Scope) (n : ℕ) (d : StmtTree) (f : RuleErr) → statement hidden s n d ≡ Err f → StmtOutcome hidden s n d → BreaksStmt hidden s n d f
+stmt_fault_of : (hidden s : Scope) (n : ℕ) (d : StmtTree) (f : CheckErr) → statement hidden s n d ≡ Err f → StmtOutcome hidden s n d → BreaksStmt hidden s n d f
 stmt_fault_of hidden s n d f p (planned q e h) = absurd (cc)
-stmt_fault_of hidden s n d f p (unplanned g e b) = let P : RuleErr → Type 0 = BreaksStmt hidden s n d in let same : g ≡ f = cc (p, e) in subst P same b
+stmt_fault_of hidden s n d f p (unplanned g e b) = let P : CheckErr → Type 0 = BreaksStmt hidden s n d in let same : g ≡ f = cc (p, e) in subst P same b
 
-pub planned_breaks_stmt : (hidden s : Scope) (n : ℕ) (d : StmtTree) (f : RuleErr)
+pub planned_breaks_stmt : (hidden s : Scope) (n : ℕ) (d : StmtTree) (f : CheckErr)
     → statement hidden s n d ≡ Err f
     → BreaksStmt hidden s n d f
 planned_breaks_stmt hidden s n d f p = stmt_fault_of hidden s n d f p (stmt_outcome hidden s n d)
@@ -56,16 +56,16 @@ pub planned_block : (hidden s : Scope) (n : ℕ) (b : StmtsTree) (r : PlannedDos
     → IsBlock hidden s n b r.plan r.next
 planned_block hidden s n b r p = block_of hidden s n b r p (block_outcome hidden s n b)
 
-pub breaks_block_planned : (hidden s : Scope) (n : ℕ) (b : StmtsTree) (f : RuleErr)
+pub breaks_block_planned : (hidden s : Scope) (n : ℕ) (b : StmtsTree) (f : CheckErr)
     → BreaksBlock hidden s n b f
     → block hidden s n b ≡ Err f
 breaks_block_planned = faults.breaks_block_planned
 
-block_fault_of : (hidden s : Scope) (n : ℕ) (b : StmtsTree) (f : RuleErr) → block hidden s n b ≡ Err f → BlockOutcome hidden s n b → BreaksBlock hidden s n b f
+block_fault_of : (hidden s : Scope) (n : ℕ) (b : StmtsTree) (f : CheckErr) → block hidden s n b ≡ Err f → BlockOutcome hidden s n b → BreaksBlock hidden s n b f
 block_fault_of hidden s n b f p (block_is q e h) = absurd (cc)
-block_fault_of hidden s n b f p (block_breaks g e i) = let P : RuleErr → Type 0 = BreaksBlock hidden s n b in let same : g ≡ f = cc (p, e) in subst P same i
+block_fault_of hidden s n b f p (block_breaks g e i) = let P : CheckErr → Type 0 = BreaksBlock hidden s n b in let same : g ≡ f = cc (p, e) in subst P same i
 
-pub planned_breaks_block : (hidden s : Scope) (n : ℕ) (b : StmtsTree) (f : RuleErr)
+pub planned_breaks_block : (hidden s : Scope) (n : ℕ) (b : StmtsTree) (f : CheckErr)
     → block hidden s n b ≡ Err f
     → BreaksBlock hidden s n b f
 planned_breaks_block hidden s n b f p = block_fault_of hidden s n b f p (block_outcome hidden s n b)
@@ -87,15 +87,15 @@ block_agrees hidden s n b = record {
 }
 
 -- So a block has a plan or a first broken rule,
-pub always : (hidden s : Scope) (n : ℕ) (b : StmtsTree) → ((p : DosPlan) × (m : ℕ) × IsBlock hidden s n b p m) ⊎ ((f : RuleErr) × BreaksBlock hidden s n b f)
+pub always : (hidden s : Scope) (n : ℕ) (b : StmtsTree) → ((p : DosPlan) × (m : ℕ) × IsBlock hidden s n b p m) ⊎ ((f : CheckErr) × BreaksBlock hidden s n b f)
 always hidden s n b = go (block_outcome hidden s n b)
   where
-    go : BlockOutcome hidden s n b → ((p : DosPlan) × (m : ℕ) × IsBlock hidden s n b p m) ⊎ ((f : RuleErr) × BreaksBlock hidden s n b f)
+    go : BlockOutcome hidden s n b → ((p : DosPlan) × (m : ℕ) × IsBlock hidden s n b p m) ⊎ ((f : CheckErr) × BreaksBlock hidden s n b f)
     go (block_is r e h) = inl (r.plan, r.next, h)
     go (block_breaks f e i) = inr (f, i)
 
 -- one at most, and never both.
-ok_same : (q r : PlannedDos) → ◌≡◌ {A = Result PlannedDos RuleErr} (Ok q) (Ok r) → q ≡ r
+ok_same : (q r : PlannedDos) → ◌≡◌ {A = Result PlannedDos CheckErr} (Ok q) (Ok r) → q ≡ r
 ok_same q r e = cc
 
 pub one_plan : (hidden s : Scope) (n m k : ℕ) (b : StmtsTree) (p q : DosPlan) → IsBlock hidden s n b p m → IsBlock hidden s n b q k → (p ≡ q) × (m ≡ k)
@@ -107,13 +107,13 @@ one_plan hidden s n m k b p q h i =
     let same : left ≡ right = ok_same left right (sym e ∙ g) in
     (ap (λ (r : PlannedDos). r.plan) same, ap (λ (r : PlannedDos). r.next) same)
 
-pub one_fault : (hidden s : Scope) (n : ℕ) (b : StmtsTree) (f g : RuleErr) → BreaksBlock hidden s n b f → BreaksBlock hidden s n b g → f ≡ g
+pub one_fault : (hidden s : Scope) (n : ℕ) (b : StmtsTree) (f g : CheckErr) → BreaksBlock hidden s n b f → BreaksBlock hidden s n b g → f ≡ g
 one_fault hidden s n b f g h i =
     let p : block hidden s n b ≡ Err f = breaks_block_planned hidden s n b f h in
     let q : block hidden s n b ≡ Err g = breaks_block_planned hidden s n b g i in
     cc
 
-pub never_both : (hidden s : Scope) (n m : ℕ) (b : StmtsTree) (p : DosPlan) (f : RuleErr) → IsBlock hidden s n b p m → BreaksBlock hidden s n b f → ⊥
+pub never_both : (hidden s : Scope) (n m : ℕ) (b : StmtsTree) (p : DosPlan) (f : CheckErr) → IsBlock hidden s n b p m → BreaksBlock hidden s n b f → ⊥
 never_both hidden s n m b p f h i =
     let e : block hidden s n b ≡ Ok (record { plan = p; next = m }) = block_planned hidden s n b p m h in
     let q : block hidden s n b ≡ Err f = breaks_block_planned hidden s n b f i in

@@ -5,7 +5,7 @@ use Rattle.sym_check.specs.declared.plan.script.KindPlan.{KindPlan}
 use Rattle.sym_check.specs.FixedPlans.{FixedPlan}
 use Rattle.sym_check.specs.LinePlans as line
 use Rattle.sym_check.specs.DoPlans.{DoPlan, DosPlan}
-use Rattle.sym_check.specs.declared.elaborate.error.RuleErr.{RuleErr}
+use Rattle.sym_check.specs.declared.elaborate.error.CheckErr.{CheckErr}
 use Rattle.sym_check.specs.Scopes.{Scope}
 use Rattle.sym_check.specs.Typing.{Typed, Number, Word, Label, EnumCell, HoldCell, Truth, IsValue}
 use Rattle.sym_check.specs.Typing as typing
@@ -51,7 +51,7 @@ mutual
   block_planned hidden _ _ _ _ _ (rule.followed s t n m later first rest d ds h i) = rw (stmt_planned hidden s n first d t m h, block_planned hidden t m rest ds later i) refl
 
 -- So a statement that the function refuses has no plan.
-pub no_plan : (hidden s : Scope) (n : ℕ) (d : StmtTree) (f : RuleErr) → statement hidden s n d ≡ Err f → HasNoPlan hidden s n d
+pub no_plan : (hidden s : Scope) (n : ℕ) (d : StmtTree) (f : CheckErr) → statement hidden s n d ≡ Err f → HasNoPlan hidden s n d
 no_plan hidden s n d f p plan later m h =
     let q : statement hidden s n d ≡ Ok (record { plan = plan; scope = later; next = m }) = stmt_planned hidden s n d plan later m h in
     cc

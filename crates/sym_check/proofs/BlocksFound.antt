@@ -13,8 +13,8 @@ use Rattle.sym_check.specs.LinePlans as line
 use Rattle.sym_check.specs.CondPlans.{CondPlan}
 use Rattle.sym_check.specs.DoPlans.{DoPlan, DosPlan}
 use Rattle.sym_check.specs.DoPlans as plan
-use Rattle.sym_check.specs.declared.elaborate.error.RuleErr.{RuleErr}
-use Rattle.sym_check.specs.declared.elaborate.error.RuleErr.TheVariants as broken
+use Rattle.sym_check.specs.declared.elaborate.error.CheckErr.{CheckErr}
+use Rattle.sym_check.specs.declared.elaborate.error.CheckErr.TheVariants as broken
 use Rattle.sym_check.specs.declared.elaborate.scope.Meaning.{Meaning}
 use Rattle.sym_check.specs.declared.elaborate.scope.Meaning.TheVariants as meaning
 use Rattle.sym_check.specs.Scopes.{Scope, find, Stands, IsFree}
@@ -37,11 +37,11 @@ use Rattle.sym_check.proofs.BlocksComplete.{LetInferred, let_inferred, no_plan}
 -- What the function answers, with the rule that says so.
 pub data StmtOutcome (hidden s : Scope) (n : ℕ) (d : StmtTree) : Type 0 where
   planned : (r : PlannedDo) → statement hidden s n d ≡ Ok r → IsStmt hidden s n d r.plan r.scope r.next → StmtOutcome hidden s n d
-  unplanned : (f : RuleErr) → statement hidden s n d ≡ Err f → BreaksStmt hidden s n d f → StmtOutcome hidden s n d
+  unplanned : (f : CheckErr) → statement hidden s n d ≡ Err f → BreaksStmt hidden s n d f → StmtOutcome hidden s n d
 
 pub data BlockOutcome (hidden s : Scope) (n : ℕ) (b : StmtsTree) : Type 0 where
   block_is : (r : PlannedDos) → block hidden s n b ≡ Ok r → IsBlock hidden s n b r.plan r.next → BlockOutcome hidden s n b
-  block_breaks : (f : RuleErr) → block hidden s n b ≡ Err f → BreaksBlock hidden s n b f → BlockOutcome hidden s n b
+  block_breaks : (f : CheckErr) → block hidden s n b ≡ Err f → BreaksBlock hidden s n b f → BlockOutcome hidden s n b
 
 -- Most statements leave the scope and the number as they are.
 planned_here : (hidden s : Scope) (n : ℕ) (d : StmtTree) (p : DoPlan) → statement hidden s n d ≡ Ok (record { plan = p; scope = s; next = n }) → IsStmt hidden s n d p s n → StmtOutcome hidden s n d
@@ -59,7 +59,7 @@ let_planned hidden s n x e k v free_there free_here h r =
     (rw (free_there.missing, free_here.missing, r.inferred, r.is_value) refl)
     (fits.let_value s n x e k v free_there free_here h)
 
-no_let_value : (s : Scope) (e : ExprTree) (t : Typed) (f : RuleErr) → infer s e ≡ Ok t → let_value (place e) t ≡ Err f → (k : KindPlan) (v : FixedPlan) → IsValue s k e v → ⊥
+no_let_value : (s : Scope) (e : ExprTree) (t : Typed) (f : CheckErr) → infer s e ≡ Ok t → let_value (place e) t ≡ Err f → (k : KindPlan) (v : FixedPlan) → IsValue s k e v → ⊥
 no_let_value s e t f p q k v h =
     let r : LetInferred s k e v = let_inferred s k e v h in
     let same : r.typed ≡ t = cc (r.inferred, p) in
@@ -202,7 +202,7 @@ push_outcome hidden s n x e (Some (meaning.Test t ks)) p r = push_named hidden s
 -- What a `keep` names: a hold cell, or what goes wrong.
 data KeptView (s : Scope) (x : Name) : Type 0 where
   is_kept : (c : ℕ) (ks : List KindPlan) → Stands s x (meaning.HoldCell c ks) → KeptView s x
-  no_kept : (f : RuleErr) → kept x.at (find s x.text) ≡ Err f → BreaksName s IsKeptCell x f → KeptView s x
+  no_kept : (f : CheckErr) → kept x.at (find s x.text) ≡ Err f → BreaksName s IsKeptCell x f → KeptView s x
 
 other_kept : (s : Scope) (x : Name) (m : Meaning) → find s x.text ≡ Some m → kept x.at (Some m) ≡ kind_at x.at → (IsKeptCell m → ⊥) → KeptView s x
 other_kept s x m p q other = no_kept (broken.Kind x.at) (rw p q) (rule.wrong_cell m (record { found = p }) other)

@@ -8,7 +8,7 @@ use Rattle.sym_check.specs.declared.plan.script.KindPlan.{KindPlan}
 use Rattle.sym_check.specs.Arithmetic.{and_then}
 use Rattle.sym_check.specs.FixedPlans.{FixedPlan}
 use Rattle.sym_check.specs.CondPlans as cond
-use Rattle.sym_check.specs.declared.elaborate.error.RuleErr.{RuleErr}
+use Rattle.sym_check.specs.declared.elaborate.error.CheckErr.{CheckErr}
 use Rattle.sym_check.specs.Scopes.{Scope, Stands}
 use Rattle.sym_check.specs.declared.elaborate.scope.Meaning.TheVariants as meaning
 use Rattle.sym_check.specs.Typing.{Typed, HoldCell, Truth}
@@ -44,7 +44,7 @@ wrong_cell_called at test args c ks n h =
 pub others_left : (params ks js : List KindPlan) → params ≡ ks ++ js → length params - length ks ≡ length js
 others_left params ks js e = rw e (omega (arith, length-append ks js))
 
-pub right_cell_called : (at : ℕ) (test : TestNamed) (args : Arguments) (c : ℕ) (ks js : List KindPlan) (r : Result (List FixedPlan) RuleErr)
+pub right_cell_called : (at : ℕ) (test : TestNamed) (args : Arguments) (c : ℕ) (ks js : List KindPlan) (r : Result (List FixedPlan) CheckErr)
     → test.params ≡ ks ++ js
     → length args.others ≡ length js
     → values_of js args.others ≡ r

@@ -3,8 +3,8 @@ use Rattle.std.proofs.Common.{◌≡◌, ℕ, ◌-◌, ◌==◌, true, false, Li
 use Rattle.std.proofs.Math.Seq.{take-length}
 use Rattle.std.proofs.lemmas.Grind.{common_steps}
 use Rattle.std.specs.Cmp.Lexicographic.{pointwise}
-use Rattle.sym_check.specs.declared.elaborate.error.RuleErr.{RuleErr}
-use Rattle.sym_check.specs.declared.elaborate.error.RuleErr.TheVariants as broken
+use Rattle.sym_check.specs.declared.elaborate.error.CheckErr.{CheckErr}
+use Rattle.sym_check.specs.declared.elaborate.error.CheckErr.TheVariants as broken
 use Rattle.sym_check.specs.declared.plan.script.KindPlan.{KindPlan}
 use Rattle.sym_check.specs.Arithmetic.{and_then}
 use Rattle.sym_check.specs.CondPlans as cond
@@ -29,8 +29,8 @@ module _ (at : ℕ) (test : TestNamed) (args : Arguments) (c : ℕ) (ks : List K
       called_on at test args (HoldCell c ks) ≡ and_then (λ vs. Ok (Truth (cond.Test test.test c vs))) (values_of (drop (length ks) test.params) args.others)
   same-kinds e p = rw (same _ _ e, p) refl
 
-pub then-ok : {A B : Type 0} (o : Result A RuleErr) (f : A → Result B RuleErr) (a : A) → o ≡ Ok a → and_then f o ≡ f a
+pub then-ok : {A B : Type 0} (o : Result A CheckErr) (f : A → Result B CheckErr) (a : A) → o ≡ Ok a → and_then f o ≡ f a
 then-ok o f a e = rw e refl
 
-pub then-err : {A B : Type 0} (o : Result A RuleErr) (f : A → Result B RuleErr) (e : RuleErr) → o ≡ Err e → and_then f o ≡ Err e
+pub then-err : {A B : Type 0} (o : Result A CheckErr) (f : A → Result B CheckErr) (e : CheckErr) → o ≡ Err e → and_then f o ≡ Err e
 then-err o f e p = rw p refl

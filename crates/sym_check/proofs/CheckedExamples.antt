@@ -23,7 +23,7 @@ use Rattle.sym_check.specs.CondPlans as cond
 use Rattle.sym_check.specs.DoPlans as do_
 use Rattle.sym_check.specs.ShowPlans as show
 use Rattle.sym_check.specs.ScriptPlans.{ScriptPlan}
-use Rattle.sym_check.specs.declared.elaborate.error.RuleErr.TheVariants as broken
+use Rattle.sym_check.specs.declared.elaborate.error.CheckErr.TheVariants as broken
 use Rattle.sym_check.specs.Scripts.{plan_of}
 
 abbrev n_at : ℕ → Name

@@ -8,8 +8,8 @@ use Rattle.sym_check.specs.Conditions.{same_word}
 use Rattle.sym_check.specs.ShowPlans.{ShowPlan}
 use Rattle.sym_check.specs.ShowPlans as show
 use Rattle.sym_check.specs.ScriptPlans.{ColumnOf}
-use Rattle.sym_check.specs.declared.elaborate.error.RuleErr.{RuleErr}
-use Rattle.sym_check.specs.declared.elaborate.error.RuleErr.TheVariants as broken
+use Rattle.sym_check.specs.declared.elaborate.error.CheckErr.{CheckErr}
+use Rattle.sym_check.specs.declared.elaborate.error.CheckErr.TheVariants as broken
 use Rattle.sym_check.specs.declared.elaborate.scope.View.{View}
 use Rattle.sym_check.specs.declared.elaborate.scope.View.TheVariants as view
 use Rattle.sym_check.specs.declared.elaborate.scope.Meaning.{Meaning}
@@ -106,10 +106,10 @@ column_joined s columns n d q (t, (v, i, (p, j, e))) =
 column_parted : (s columns : Scope) (n : ℕ) (d : ColumnTree) (p : ColumnOf) (later : Scope) → IsColumnDecl s columns n d p later → IsColumnOf s columns d (record { plan = p; scope = later })
 column_parted s _ _ _ _ _ (is.column columns n d g p t i) = let v = shown_seen s d.value g p i in (t, (v.0, v.1, (p, gives_whole v.0 g p v.2, refl)))
 
-abbrev ColumnFaults : Scope → Scope → ColumnTree → RuleErr → Type 0
+abbrev ColumnFaults : Scope → Scope → ColumnTree → CheckErr → Type 0
 ColumnFaults s columns d f = TakenOr columns d.name (λ f. BreaksShown s d.value f ⊎ ((v : Seen) × Sees s d.value v × (((p : ShowPlan) → Whole v p → ⊥) × (broken.Kind (place d.value) ≡ f)))) f
 
-column_blamed : (s columns : Scope) (n : ℕ) (d : ColumnTree) (f : RuleErr) → ColumnFaults s columns d f → BreaksColumn s columns n d f
+column_blamed : (s columns : Scope) (n : ℕ) (d : ColumnTree) (f : CheckErr) → ColumnFaults s columns d f → BreaksColumn s columns n d f
 column_blamed s columns n d f (inl (m, t, e)) = subst (BreaksColumn s columns n d) e (breaks.column_taken d m t)
 column_blamed s columns n d f (inr (t, inl b)) = breaks.in_value d f t b
 column_blamed s columns n d f (inr (t, inr (v, i, (none, e)))) =
@@ -117,7 +117,7 @@ column_blamed s columns n d f (inr (t, inr (v, i, (none, e)))) =
     let same : broken.Kind x.at ≡ f = cc (e, j) in
     subst (BreaksColumn s columns n d) same (breaks.whole_cell d x c ks t j k)
 
-column_blames : (s columns : Scope) (n : ℕ) (d : ColumnTree) (f : RuleErr) → BreaksColumn s columns n d f → ColumnFaults s columns d f
+column_blames : (s columns : Scope) (n : ℕ) (d : ColumnTree) (f : CheckErr) → BreaksColumn s columns n d f → ColumnFaults s columns d f
 column_blames s columns n _ _ (breaks.column_taken d m t) = inl (m, t, refl)
 column_blames s columns n _ _ (breaks.in_value d f t b) = inr (t, inl b)
 column_blames s columns n _ _ (breaks.whole_cell d x c ks t e u) = inr (t, inr (Parts c ks, (x, e, u), ((λ p i. i), rw e refl)))

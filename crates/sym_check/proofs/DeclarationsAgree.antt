@@ -11,8 +11,8 @@ use Rattle.sym_base.specs.declared.values.value.Value.TheVariants as value
 use Rattle.sym_check.specs.declared.plan.script.KindPlan.{KindPlan}
 use Rattle.sym_check.specs.declared.plan.script.KindPlan.TheVariants as kind
 use Rattle.sym_check.specs.Arithmetic.{and_then}
-use Rattle.sym_check.specs.declared.elaborate.error.RuleErr.{RuleErr}
-use Rattle.sym_check.specs.declared.elaborate.error.RuleErr.TheVariants as broken
+use Rattle.sym_check.specs.declared.elaborate.error.CheckErr.{CheckErr}
+use Rattle.sym_check.specs.declared.elaborate.error.CheckErr.TheVariants as broken
 use Rattle.sym_check.specs.declared.elaborate.scope.Variable.TheVariants as var
 use Rattle.sym_check.specs.declared.elaborate.scope.Meaning.{Meaning}
 use Rattle.sym_check.specs.declared.elaborate.scope.Meaning.TheVariants as meaning
@@ -47,7 +47,7 @@ field_kinded at (meaning.Value k (var.Param n)) = of_no_kind at (λ a i. let e :
 field_kinded at _ = of_no_kind at (λ a i. let e = i.1 in cc)
 
 -- What one kind of meaning is wanted for, and where a name has none or another one.
-abbrev pub Unmeant : Scope → Name → {A : Type 0} → (Meaning → A → Type 0) → RuleErr → Type 0
+abbrev pub Unmeant : Scope → Name → {A : Type 0} → (Meaning → A → Type 0) → CheckErr → Type 0
 Unmeant s x {A} Is f = (IsFree s x × (broken.Name x.at ≡ f)) ⊎ ((m : Meaning) × Stands s x m × (((a : A) → Is m a → ⊥) × (broken.Kind x.at ≡ f)))
 
 -- A kind that is written.
@@ -57,11 +57,11 @@ enum_kind s x k (n, (m, t, e), i) = subst (IsKindOf s (ref.Named x)) i (is.label
 kind_enum : (s : Scope) (x : Name) (k : KindPlan) → IsKindOf s (ref.Named x) k → (n : ℕ) × ((m : Meaning) × Stands s x m × (m ≡ meaning.Enum n)) × (kind.Label n ≡ k)
 kind_enum s _ _ (is.label_kind x n t) = (n, (meaning.Enum n, t, refl), refl)
 
-pub no_enum : (s : Scope) (x : Name) (f : RuleErr) → Unmeant s x (λ m (n : ℕ). m ≡ meaning.Enum n) f → BreaksKind s (ref.Named x) f
+pub no_enum : (s : Scope) (x : Name) (f : CheckErr) → Unmeant s x (λ m (n : ℕ). m ≡ meaning.Enum n) f → BreaksKind s (ref.Named x) f
 no_enum s x f (inl (t, e)) = subst (BreaksKind s (ref.Named x)) e (breaks.unknown_kind x t)
 no_enum s x f (inr (m, t, (none, e))) = subst (BreaksKind s (ref.Named x)) e (breaks.no_enum x m t none)
 
-pub enum_not : (s : Scope) (x : Name) (f : RuleErr) → BreaksKind s (ref.Named x) f → Unmeant s x (λ m (n : ℕ). m ≡ meaning.Enum n) f
+pub enum_not : (s : Scope) (x : Name) (f : CheckErr) → BreaksKind s (ref.Named x) f → Unmeant s x (λ m (n : ℕ). m ≡ meaning.Enum n) f
 enum_not s _ _ (breaks.unknown_kind x t) = inl (t, refl)
 enum_not s _ _ (breaks.no_enum x m t none) = inr (m, t, (none, refl))
 
@@ -82,7 +82,7 @@ kind_agrees s (ref.Named x) =
 unlike_free : (s : Scope) (k : KindPlan) (x : Name) (v : Value) → IsLiteral s k (literal.Named x) v → IsFree s x → ⊥
 unlike_free s _ _ _ (is.label_literal x n l t) free = stands_or_free s x _ t.found free
 
-literal_fine : (s : Scope) (k : KindPlan) (d : Literal) (v : Value) → IsLiteral s k d v → (f : RuleErr) → BreaksLiteral s k d f → ⊥
+literal_fine : (s : Scope) (k : KindPlan) (d : Literal) (v : Value) → IsLiteral s k d v → (f : CheckErr) → BreaksLiteral s k d f → ⊥
 literal_fine s k _ v i _ (breaks.unknown_label x t) = unlike_free s k x v i t
 literal_fine s k _ v i _ (breaks.other_kind d visible none) = none v i
 
@@ -95,7 +95,7 @@ one_number s _ _ _ (is.num_literal n at) = refl
 one_text : (s : Scope) (t : List ℕ) (at : ℕ) (v : Value) → IsLiteral s kind.Word (literal.Text t at) v → value.Word t ≡ v
 one_text s _ _ _ (is.text_literal t at) = refl
 
-visible_fault : (s : Scope) (k : KindPlan) (d : Literal) (f : RuleErr) → IsVisible s d → BreaksLiteral s k d f → broken.Kind (literal_place d) ≡ f
+visible_fault : (s : Scope) (k : KindPlan) (d : Literal) (f : CheckErr) → IsVisible s d → BreaksLiteral s k d f → broken.Kind (literal_place d) ≡ f
 visible_fault s k _ _ visible (breaks.unknown_label x free) = absurd (stands_or_free s x visible.0 visible.1.found free)
 visible_fault s k _ _ visible (breaks.other_kind d v none) = refl
 
@@ -112,18 +112,18 @@ label_is s k x v (m, t, (enum, l, i, j, e)) = rw (i, ← e) (is.label_literal x 
 is_label : (s : Scope) (k : KindPlan) (x : Name) (v : Value) → IsLiteral s k (literal.Named x) v → (m : Meaning) × Stands s x m × Labels k m v
 is_label s _ _ _ (is.label_literal x enum l t) = (meaning.Label enum l, t, (enum, l, refl, refl, refl))
 
-no_label_is : (s : Scope) (k : KindPlan) (x : Name) (f : RuleErr) → Unmeant s x (Labels k) f → BreaksLiteral s k (literal.Named x) f
+no_label_is : (s : Scope) (k : KindPlan) (x : Name) (f : CheckErr) → Unmeant s x (Labels k) f → BreaksLiteral s k (literal.Named x) f
 no_label_is s k x f (inl (t, e)) = subst (BreaksLiteral s k (literal.Named x)) e (breaks.unknown_label x t)
 no_label_is s k x f (inr (m, t, (none, e))) = subst (BreaksLiteral s k (literal.Named x)) e (breaks.other_kind (literal.Named x) (m, t) labels)
   where
     labels : (v : Value) → IsLiteral s k (literal.Named x) v → ⊥
     labels v i = let j = is_label s k x v i in let same : m ≡ j.0 = stands_once s x m j.0 t.found j.1 in none v (rw same j.2)
 
-is_no_label : (s : Scope) (k : KindPlan) (x : Name) (f : RuleErr) → BreaksLiteral s k (literal.Named x) f → Unmeant s x (Labels k) f
+is_no_label : (s : Scope) (k : KindPlan) (x : Name) (f : CheckErr) → BreaksLiteral s k (literal.Named x) f → Unmeant s x (Labels k) f
 is_no_label s k _ _ (breaks.unknown_label x t) = inl (t, refl)
 is_no_label s k x _ (breaks.other_kind _ (m, t) none) = inr (m, t, ((λ v i. none v (label_is s k x v (m, t, i))), refl))
 
-literal_named : (s : Scope) (k : KindPlan) (x : Name) (g : Option Meaning → Result Value RuleErr) → g None ≡ Err (broken.Name x.at) → ((m : Meaning) → IsKinded (Labels k m) x.at (g (Some m))) → Agrees (IsLiteral s k (literal.Named x)) (BreaksLiteral s k (literal.Named x)) (g (find s x.text))
+literal_named : (s : Scope) (k : KindPlan) (x : Name) (g : Option Meaning → Result Value CheckErr) → g None ≡ Err (broken.Name x.at) → ((m : Meaning) → IsKinded (Labels k m) x.at (g (Some m))) → Agrees (IsLiteral s k (literal.Named x)) (BreaksLiteral s k (literal.Named x)) (g (find s x.text))
 literal_named s k x g unknown h = in_words (named_agrees s x g unknown h) (label_is s k x) (is_label s k x) (no_label_is s k x) (is_no_label s k x)
 
 labelled_by : (wanted : ℕ) (m : Meaning) (v : Value) → (i : Labels (kind.Label wanted) m v) → m ≡ meaning.Label wanted i.1
@@ -135,10 +135,10 @@ labelled wanted at m = in_words (then_made value.Label (label_kinded wanted at m
     back : (v : Value) → Labels (kind.Label wanted) m v → (l : ℕ) × (m ≡ meaning.Label wanted l) × (value.Label l ≡ v)
     back v (enum, l, i, j, e) = (l, cc, e)
 
-    blames : (f : RuleErr) → ((l : ℕ) → m ≡ meaning.Label wanted l → ⊥) × (broken.Kind at ≡ f) → ((v : Value) → Labels (kind.Label wanted) m v → ⊥) × (broken.Kind at ≡ f)
+    blames : (f : CheckErr) → ((l : ℕ) → m ≡ meaning.Label wanted l → ⊥) × (broken.Kind at ≡ f) → ((v : Value) → Labels (kind.Label wanted) m v → ⊥) × (broken.Kind at ≡ f)
     blames f (none, e) = (λ v i. none (back v i).0 (back v i).1, e)
 
-    blamed : (f : RuleErr) → ((v : Value) → Labels (kind.Label wanted) m v → ⊥) × (broken.Kind at ≡ f) → ((l : ℕ) → m ≡ meaning.Label wanted l → ⊥) × (broken.Kind at ≡ f)
+    blamed : (f : CheckErr) → ((v : Value) → Labels (kind.Label wanted) m v → ⊥) × (broken.Kind at ≡ f) → ((l : ℕ) → m ≡ meaning.Label wanted l → ⊥) × (broken.Kind at ≡ f)
     blamed f (none, e) = (λ l i. none (value.Label l) (wanted, l, refl, i, refl), e)
 
 pub literal_agrees : (s : Scope) (k : KindPlan) (d : Literal) → Agrees (IsLiteral s k d) (BreaksLiteral s k d) (literal_of s k d)
@@ -153,11 +153,11 @@ literal_agrees s (kind.Label enum) (literal.Text t at) = literal_refused s (kind
 literal_agrees s (kind.Label enum) (literal.Named x) = literal_named s (kind.Label enum) x (λ o. and_then (λ l. Ok (value.Label l)) (label_named enum x.at o)) refl (λ m. labelled enum x.at m)
 
 -- A name that stands for no label of the enum.
-pub other_label : (s : Scope) (enum : ℕ) (x : Name) (f : RuleErr) → Unmeant s x (λ m (l : ℕ). m ≡ meaning.Label enum l) f → BreaksLiteral s (kind.Label enum) (literal.Named x) f
+pub other_label : (s : Scope) (enum : ℕ) (x : Name) (f : CheckErr) → Unmeant s x (λ m (l : ℕ). m ≡ meaning.Label enum l) f → BreaksLiteral s (kind.Label enum) (literal.Named x) f
 other_label s enum x f (inl b) = no_label_is s (kind.Label enum) x f (inl b)
 other_label s enum x f (inr (m, t, (none, e))) = no_label_is s (kind.Label enum) x f (inr (m, t, ((λ v i. none i.1 (labelled_by enum m v i)), e)))
 
-pub label_not : (s : Scope) (enum : ℕ) (x : Name) (f : RuleErr) → BreaksLiteral s (kind.Label enum) (literal.Named x) f → Unmeant s x (λ m (l : ℕ). m ≡ meaning.Label enum l) f
+pub label_not : (s : Scope) (enum : ℕ) (x : Name) (f : CheckErr) → BreaksLiteral s (kind.Label enum) (literal.Named x) f → Unmeant s x (λ m (l : ℕ). m ≡ meaning.Label enum l) f
 label_not s enum x f b = go (is_no_label s (kind.Label enum) x f b)
   where
     go : Unmeant s x (Labels (kind.Label enum)) f → Unmeant s x (λ m (l : ℕ). m ≡ meaning.Label enum l) f
@@ -165,7 +165,7 @@ label_not s enum x f b = go (is_no_label s (kind.Label enum) x f b)
     go (inr (m, t, (none, e))) = inr (m, t, ((λ l i. none (value.Label l) (enum, l, refl, i, refl)), e))
 
 -- The value of an empty text.
-abbrev pub BreaksDefault : Scope → KindPlan → Option Literal → RuleErr → Type 0
+abbrev pub BreaksDefault : Scope → KindPlan → Option Literal → CheckErr → Type 0
 BreaksDefault s k d f = (l : Literal) × (d ≡ Some l) × BreaksLiteral s k l f
 
 no_default_alone : (s : Scope) (k : KindPlan) (v : Option Value) → IsDefault s k None v → None ≡ v
@@ -191,11 +191,11 @@ group_is s x o (n, (m, t, (k, i)), e) = subst (IsGroup s (Some x)) e (is.group x
 is_group : (s : Scope) (x : Name) (o : Option ℕ) → IsGroup s (Some x) o → (n : ℕ) × ((m : Meaning) × Stands s x m × IsFieldMeaning m n) × (Some n ≡ o)
 is_group s _ _ (is.group x k n t) = (n, (meaning.Value k (var.Field n), t, (k, refl)), refl)
 
-no_group_is : (s : Scope) (x : Name) (f : RuleErr) → Unmeant s x IsFieldMeaning f → BreaksGroup s (Some x) f
+no_group_is : (s : Scope) (x : Name) (f : CheckErr) → Unmeant s x IsFieldMeaning f → BreaksGroup s (Some x) f
 no_group_is s x f (inl (t, e)) = subst (BreaksGroup s (Some x)) e (breaks.unknown_group x t)
 no_group_is s x f (inr (m, t, (none, e))) = subst (BreaksGroup s (Some x)) e (breaks.no_field x m t (λ k n i. none n (k, i)))
 
-is_no_group : (s : Scope) (x : Name) (f : RuleErr) → BreaksGroup s (Some x) f → Unmeant s x IsFieldMeaning f
+is_no_group : (s : Scope) (x : Name) (f : CheckErr) → BreaksGroup s (Some x) f → Unmeant s x IsFieldMeaning f
 is_no_group s _ _ (breaks.unknown_group x t) = inl (t, refl)
 is_no_group s _ _ (breaks.no_field x m t none) = inr (m, t, ((λ n i. none i.0 n i.1), refl))
 

@@ -4,8 +4,8 @@ use Rattle.sym_base.specs.declared.tree.name.Name.{Name}
 use Rattle.sym_base.specs.declared.tree.expression.BinOp.{BinOp}
 use Rattle.sym_base.specs.Trees.{ExprTree, Named, Call, Neg, Not, Bin, ExprsTree, More}
 use Rattle.sym_check.specs.declared.plan.script.KindPlan.{KindPlan}
-use Rattle.sym_check.specs.declared.elaborate.error.RuleErr.{RuleErr}
-use Rattle.sym_check.specs.declared.elaborate.error.RuleErr.TheVariants as broken
+use Rattle.sym_check.specs.declared.elaborate.error.CheckErr.{CheckErr}
+use Rattle.sym_check.specs.declared.elaborate.error.CheckErr.TheVariants as broken
 use Rattle.sym_check.specs.declared.elaborate.scope.Meaning.{Meaning}
 use Rattle.sym_check.specs.declared.elaborate.scope.Meaning.TheVariants as meaning
 use Rattle.sym_check.specs.Scopes.{Scope, Stands}
@@ -22,7 +22,7 @@ use Rattle.sym_check.proofs.ValuesFound.{OperandsFound, operands_found, found_in
 use Rattle.sym_check.proofs.ExpressionsFound.{Outcome, means, breaks, outcome}
 
 -- A name that stands for something, but for no value.
-named_fault : (s : Scope) (x : Name) (m : Meaning) (f : RuleErr) → Stands s x m → Breaks s (Named x) f → f ≡ broken.Kind x.at
+named_fault : (s : Scope) (x : Name) (m : Meaning) (f : CheckErr) → Stands s x m → Breaks s (Named x) f → f ≡ broken.Kind x.at
 named_fault s x m _ st (rule.unknown _ free) = let found = st.found in let missing = free.missing in cc
 named_fault s x m _ st (rule.no_value _ other _ no_meaning) = refl
 
@@ -31,11 +31,11 @@ named_refused s x m st no_meaning (means t p h) = absurd (no_meaning (t, h))
 named_refused s x m st no_meaning (breaks f p b) = p ∙ ap Err (named_fault s x m f st b)
 
 -- The operators of one operand have one fault.
-negated_fault : (at : ℕ) (t : Typed) (f : RuleErr) → negated at t ≡ Err f → f ≡ broken.Kind at
+negated_fault : (at : ℕ) (t : Typed) (f : CheckErr) → negated at t ≡ Err f → f ≡ broken.Kind at
 negated_fault at (Number t) f e = absurd (cc)
 negated_fault at t f e = cc
 
-inverted_fault : (at : ℕ) (t : Typed) (f : RuleErr) → inverted at t ≡ Err f → f ≡ broken.Kind at
+inverted_fault : (at : ℕ) (t : Typed) (f : CheckErr) → inverted at t ≡ Err f → f ≡ broken.Kind at
 inverted_fault at (Truth c) f e = absurd (cc)
 inverted_fault at t f e = cc
 
@@ -45,17 +45,17 @@ neg_is s e at t p i = rw (p, operand_passes (place e) t i) refl
 not_is : (s : Scope) (e : ExprTree) (at : ℕ) (t : Typed) → infer s e ≡ Ok t → IsOperand t → infer s (Not e at) ≡ inverted at t
 not_is s e at t p i = rw (p, operand_passes (place e) t i) refl
 
-only_fault : (s : Scope) (e : ExprTree) (r : Result Typed RuleErr) (g : RuleErr) → infer s e ≡ r → ((f : RuleErr) → r ≡ Err f → f ≡ g) → (HasMeaning s e → ⊥) → Outcome s e → infer s e ≡ Err g
+only_fault : (s : Scope) (e : ExprTree) (r : Result Typed CheckErr) (g : CheckErr) → infer s e ≡ r → ((f : CheckErr) → r ≡ Err f → f ≡ g) → (HasMeaning s e → ⊥) → Outcome s e → infer s e ≡ Err g
 only_fault s e r g q faults no_meaning (means t p h) = absurd (no_meaning (t, h))
 only_fault s e r g q faults no_meaning (breaks f p h) = p ∙ ap Err (faults f (sym q ∙ p))
 
 -- The operators of two operands.
-no_line_inferred : (s : Scope) (o : BinOp) (l r : ExprTree) (at : ℕ) (j : Result Typed RuleErr) → TakesNumbers s o l r → (HasMeaning s (Bin o l r at) → ⊥) → Joins s o l r at j → j ≡ Err (broken.NotLinear at)
+no_line_inferred : (s : Scope) (o : BinOp) (l r : ExprTree) (at : ℕ) (j : Result Typed CheckErr) → TakesNumbers s o l r → (HasMeaning s (Bin o l r at) → ⊥) → Joins s o l r at j → j ≡ Err (broken.NotLinear at)
 no_line_inferred s o l r at _ takes no_meaning (has_meaning v m) = absurd (no_meaning (v, m))
 no_line_inferred s o l r at _ takes no_meaning (no_line other) = refl
 no_line_inferred s o l r at _ takes no_meaning (no_kinds takes_none) = absurd (takes_none takes)
 
-no_kinds_inferred : (s : Scope) (o : BinOp) (l r : ExprTree) (at : ℕ) (j : Result Typed RuleErr) → (TakesNumbers s o l r → ⊥) → (HasMeaning s (Bin o l r at) → ⊥) → Joins s o l r at j → j ≡ kind_at at
+no_kinds_inferred : (s : Scope) (o : BinOp) (l r : ExprTree) (at : ℕ) (j : Result Typed CheckErr) → (TakesNumbers s o l r → ⊥) → (HasMeaning s (Bin o l r at) → ⊥) → Joins s o l r at j → j ≡ kind_at at
 no_kinds_inferred s o l r at _ takes_none no_meaning (has_meaning v m) = absurd (no_meaning (v, m))
 no_kinds_inferred s o l r at _ takes_none no_meaning (no_line takes) = absurd (takes_none takes)
 no_kinds_inferred s o l r at _ takes_none no_meaning (no_kinds other) = refl
@@ -96,7 +96,7 @@ wrong_call_inferred s x _ _ t n _ params st others (rule.wrong_argument e es c k
     ∙ right_cell_called x.at (record { test = t; params = params }) (record { first = record { at = place e; typed = HoldCell c ks }; others = others.located }) c ks js (kind_at at) split (others.many ∙ sym many) (wrong_values_inferred s js es at others.located others.found w)
 
 mutual
-  pub breaks_inferred : (s : Scope) (e : ExprTree) (f : RuleErr) → Breaks s e f → infer s e ≡ Err f
+  pub breaks_inferred : (s : Scope) (e : ExprTree) (f : CheckErr) → Breaks s e f → infer s e ≡ Err f
   breaks_inferred s _ _ (rule.unknown x free) = rw free.missing refl
   breaks_inferred s _ _ (rule.no_value x m st no_meaning) = named_refused s x m st no_meaning (outcome s (Named x))
   breaks_inferred s _ _ (rule.in_negated e at f b) = rw (breaks_inferred s e f b) refl
@@ -127,7 +127,7 @@ mutual
   breaks_inferred s _ _ (rule.in_others x e es t params u f st h i b) = rw (st.found, means_inferred s e u h, first_passes (place e) u i, breaks_operands_inferred s es f b) refl
   breaks_inferred s _ _ (rule.wrong_call x e es t n at params st a w) = wrong_call_inferred s x e es t n at params st (operands_found s es n a) w
 
-  pub breaks_operands_inferred : (s : Scope) (es : ExprsTree) (f : RuleErr) → BreaksOperands s es f → operands s es ≡ Err f
+  pub breaks_operands_inferred : (s : Scope) (es : ExprsTree) (f : CheckErr) → BreaksOperands s es f → operands s es ≡ Err f
   breaks_operands_inferred s _ _ (rule.in_operand e es f b) = rw (breaks_inferred s e f b) refl
   breaks_operands_inferred s _ _ (rule.operand_cell e es t h i) = rw (means_inferred s e t h, no_operand (place e) t i) refl
   breaks_operands_inferred s _ _ (rule.in_rest e es t f h i b) = rw (means_inferred s e t h, operand_passes (place e) t i, breaks_operands_inferred s es f b) refl

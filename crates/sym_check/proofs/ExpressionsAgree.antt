@@ -2,7 +2,7 @@
 -- function answers, and so is the first broken rule in it.
 use Rattle.std.proofs.Common.{◌≡◌, subst, ℕ, ◌⊎◌, inl, inr, List, length, Ok, Err}
 use Rattle.sym_base.specs.Trees.{ExprTree, ExprsTree}
-use Rattle.sym_check.specs.declared.elaborate.error.RuleErr.{RuleErr}
+use Rattle.sym_check.specs.declared.elaborate.error.CheckErr.{CheckErr}
 use Rattle.sym_check.specs.CondPlans.{CondPlan}
 use Rattle.sym_check.specs.Scopes.{Scope}
 use Rattle.sym_check.specs.Typing.{Typed, Truth, Means, HasMeaning, IsCondition}
@@ -18,7 +18,7 @@ use Rattle.sym_check.proofs.ExpressionFaults as faults
 pub means_inferred : (s : Scope) (e : ExprTree) (t : Typed) → Means s e t → infer s e ≡ Ok t
 means_inferred = complete.means_inferred
 
-pub breaks_inferred : (s : Scope) (e : ExprTree) (f : RuleErr) → Breaks s e f → infer s e ≡ Err f
+pub breaks_inferred : (s : Scope) (e : ExprTree) (f : CheckErr) → Breaks s e f → infer s e ≡ Err f
 breaks_inferred = faults.breaks_inferred
 
 meaning_of : (s : Scope) (e : ExprTree) (t : Typed) → infer s e ≡ Ok t → Outcome s e → Means s e t
@@ -28,11 +28,11 @@ meaning_of s e t p (breaks f q b) = absurd (cc)
 pub inferred_means : (s : Scope) (e : ExprTree) (t : Typed) → infer s e ≡ Ok t → Means s e t
 inferred_means s e t p = meaning_of s e t p (outcome s e)
 
-fault_of : (s : Scope) (e : ExprTree) (f : RuleErr) → infer s e ≡ Err f → Outcome s e → Breaks s e f
+fault_of : (s : Scope) (e : ExprTree) (f : CheckErr) → infer s e ≡ Err f → Outcome s e → Breaks s e f
 fault_of s e f p (means t q h) = absurd (cc)
-fault_of s e f p (breaks g q b) = let P : RuleErr → Type 0 = Breaks s e in let same : g ≡ f = cc in subst P same b
+fault_of s e f p (breaks g q b) = let P : CheckErr → Type 0 = Breaks s e in let same : g ≡ f = cc in subst P same b
 
-pub inferred_breaks : (s : Scope) (e : ExprTree) (f : RuleErr) → infer s e ≡ Err f → Breaks s e f
+pub inferred_breaks : (s : Scope) (e : ExprTree) (f : CheckErr) → infer s e ≡ Err f → Breaks s e f
 inferred_breaks s e f p = fault_of s e f p (outcome s e)
 
 pub infer_agrees : (s : Scope) (e : ExprTree) → Agrees (Means s e) (Breaks s e) (infer s e)
@@ -50,10 +50,10 @@ pub inferred_condition : (s : Scope) (e : ExprTree) (c : CondPlan) → infer s e
 inferred_condition s e c p = is_condition s e c (inferred_means s e (Truth c) p)
 
 -- So an expression has a meaning or a first broken rule,
-pub always : (s : Scope) (e : ExprTree) → HasMeaning s e ⊎ ((f : RuleErr) × Breaks s e f)
+pub always : (s : Scope) (e : ExprTree) → HasMeaning s e ⊎ ((f : CheckErr) × Breaks s e f)
 always s e = go (outcome s e)
   where
-    go : Outcome s e → HasMeaning s e ⊎ ((f : RuleErr) × Breaks s e f)
+    go : Outcome s e → HasMeaning s e ⊎ ((f : CheckErr) × Breaks s e f)
     go (means t p h) = inl (t, h)
     go (breaks f p b) = inr (f, b)
 
@@ -61,13 +61,13 @@ always s e = go (outcome s e)
 pub one_meaning : (s : Scope) (e : ExprTree) (t u : Typed) → Means s e t → Means s e u → t ≡ u
 one_meaning = complete.one_meaning
 
-pub one_fault : (s : Scope) (e : ExprTree) (f g : RuleErr) → Breaks s e f → Breaks s e g → f ≡ g
+pub one_fault : (s : Scope) (e : ExprTree) (f g : CheckErr) → Breaks s e f → Breaks s e g → f ≡ g
 one_fault s e f g h k =
     let p : infer s e ≡ Err f = breaks_inferred s e f h in
     let q : infer s e ≡ Err g = breaks_inferred s e g k in
     cc
 
-pub never_both : (s : Scope) (e : ExprTree) (t : Typed) (f : RuleErr) → Means s e t → Breaks s e f → ⊥
+pub never_both : (s : Scope) (e : ExprTree) (t : Typed) (f : CheckErr) → Means s e t → Breaks s e f → ⊥
 never_both s e t f h k =
     let p : infer s e ≡ Ok t = means_inferred s e t h in
     let q : infer s e ≡ Err f = breaks_inferred s e f k in
@@ -91,12 +91,12 @@ operands_inferred s es n a =
     let r : OperandsFound s es n = operands_found s es n a in
     record { located = r.located; inferred = found_inferred s es r.located r.found; many = r.many }
 
-pub breaks_operands_inferred : (s : Scope) (es : ExprsTree) (f : RuleErr) → BreaksOperands s es f → operands s es ≡ Err f
+pub breaks_operands_inferred : (s : Scope) (es : ExprsTree) (f : CheckErr) → BreaksOperands s es f → operands s es ≡ Err f
 breaks_operands_inferred = faults.breaks_operands_inferred
 
-pub inferred_breaks_operands : (s : Scope) (es : ExprsTree) (f : RuleErr) → operands s es ≡ Err f → BreaksOperands s es f
+pub inferred_breaks_operands : (s : Scope) (es : ExprsTree) (f : CheckErr) → operands s es ≡ Err f → BreaksOperands s es f
 inferred_breaks_operands s es f p = go (operands_outcome s es)
   where
     go : OperandsOutcome s es → BreaksOperands s es f
     go (found others q a) = absurd (cc)
-    go (unfound g q b) = let P : RuleErr → Type 0 = BreaksOperands s es in let same : g ≡ f = cc in subst P same b
+    go (unfound g q b) = let P : CheckErr → Type 0 = BreaksOperands s es in let same : g ≡ f = cc in subst P same b

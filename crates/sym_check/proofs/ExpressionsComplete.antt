@@ -9,7 +9,7 @@ use Rattle.sym_check.specs.FixedPlans.{NumPlan, FixedPlan}
 use Rattle.sym_check.specs.LinePlans.{LinePlan, TermPlan}
 use Rattle.sym_check.specs.LinePlans as line
 use Rattle.sym_check.specs.CondPlans.{CondPlan}
-use Rattle.sym_check.specs.declared.elaborate.error.RuleErr.{RuleErr}
+use Rattle.sym_check.specs.declared.elaborate.error.CheckErr.{CheckErr}
 use Rattle.sym_check.specs.Scopes.{Scope}
 use Rattle.sym_check.specs.Typing.{Typed, Number, Word, Label, EnumCell, HoldCell, Truth, IsNum, IsWord, IsLabel, IsLine, IsTerm, IsValue, AreValues, IsCondition, Means, HasMeaning}
 use Rattle.sym_check.specs.Typing as typing
@@ -113,5 +113,5 @@ one_meaning s e t u h k =
     let q : infer s e ≡ Ok u = means_inferred s e u k in
     cc
 
-pub no_meaning : (s : Scope) (e : ExprTree) (f : RuleErr) → infer s e ≡ Err f → HasMeaning s e → ⊥
+pub no_meaning : (s : Scope) (e : ExprTree) (f : CheckErr) → infer s e ≡ Err f → HasMeaning s e → ⊥
 no_meaning s e f p m = let q : infer s e ≡ Ok m.0 = means_inferred s e m.0 m.1 in cc

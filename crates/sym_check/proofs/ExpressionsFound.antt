@@ -16,8 +16,8 @@ use Rattle.sym_check.specs.LinePlans.{TermPlan}
 use Rattle.sym_check.specs.LinePlans as line
 use Rattle.sym_check.specs.CondPlans.{CondPlan}
 use Rattle.sym_check.specs.CondPlans as cond
-use Rattle.sym_check.specs.declared.elaborate.error.RuleErr.{RuleErr}
-use Rattle.sym_check.specs.declared.elaborate.error.RuleErr.TheVariants as broken
+use Rattle.sym_check.specs.declared.elaborate.error.CheckErr.{CheckErr}
+use Rattle.sym_check.specs.declared.elaborate.error.CheckErr.TheVariants as broken
 use Rattle.sym_check.specs.declared.elaborate.scope.Variable.{Variable}
 use Rattle.sym_check.specs.declared.elaborate.scope.Meaning.{Meaning}
 use Rattle.sym_check.specs.declared.elaborate.scope.Meaning.TheVariants as meaning
@@ -37,11 +37,11 @@ use Rattle.sym_check.proofs.ValuesFound.{AreFound, none_found, more_found, found
 -- What the function answers, with the rule that says so.
 pub data Outcome (s : Scope) (e : ExprTree) : Type 0 where
   means : (t : Typed) → infer s e ≡ Ok t → Means s e t → Outcome s e
-  breaks : (f : RuleErr) → infer s e ≡ Err f → Breaks s e f → Outcome s e
+  breaks : (f : CheckErr) → infer s e ≡ Err f → Breaks s e f → Outcome s e
 
 pub data OperandsOutcome (s : Scope) (es : ExprsTree) : Type 0 where
   found : (others : List Located) → operands s es ≡ Ok others → AreFound s es others → OperandsOutcome s es
-  unfound : (f : RuleErr) → operands s es ≡ Err f → BreaksOperands s es f → OperandsOutcome s es
+  unfound : (f : CheckErr) → operands s es ≡ Err f → BreaksOperands s es f → OperandsOutcome s es
 
 -- What stands for something is fine at its place, or it isn't.
 is_operand_or_not : (t : Typed) → IsOperand t ⊎ (IsOperand t → ⊥)
@@ -131,7 +131,7 @@ not_outcome s e at (means t p h) = not_of s e at t p h
 not_outcome s e at (breaks f p h) = breaks f (rw p refl) (rule.in_not e at f h)
 
 -- Operators of two operands.
-joins_outcome : (s : Scope) (o : BinOp) (l r : ExprTree) (at : ℕ) (t u : Typed) (j : Result Typed RuleErr)
+joins_outcome : (s : Scope) (o : BinOp) (l r : ExprTree) (at : ℕ) (t u : Typed) (j : Result Typed CheckErr)
     → Means s l t
     → IsLeft o t
     → Means s r u

@@ -14,7 +14,7 @@ use Rattle.sym_base.specs.declared.tree.declaration.Part.{Part}
 use Rattle.sym_base.specs.declared.tree.declaration.CellDecl.{CellDecl}
 use Rattle.sym_base.specs.declared.tree.declaration.CellDecl.TheVariants as cell
 use Rattle.sym_base.specs.declared.values.value.Value.{Value}
-use Rattle.sym_check.specs.declared.elaborate.error.RuleErr.{RuleErr}
+use Rattle.sym_check.specs.declared.elaborate.error.CheckErr.{CheckErr}
 use Rattle.sym_check.specs.declared.elaborate.scope.Meaning.{Meaning}
 use Rattle.sym_check.specs.declared.elaborate.scope.Meaning.TheVariants as meaning
 use Rattle.sym_check.specs.declared.elaborate.scope.Variable.TheVariants as var
@@ -87,24 +87,24 @@ visible_few v (d ∷ rest) all =
     (visible_few v rest (right_true (few d) (list_all few rest) all))
 
 -- Where the outcome is a plan, the scope after it has few parts too.
-abbrev Keeps : {B : Type 0} → Scope → Result (Planned B) RuleErr → Type 0
+abbrev Keeps : {B : Type 0} → Scope → Result (Planned B) CheckErr → Type 0
 Keeps s (Ok p) = HaveFewParts s → HaveFewParts p.scope
 Keeps s (Err e) = Unit {0}
 
-taken_keeps : {B : Type 0} (s : Scope) (at : ℕ) (o : Option Meaning) (r : Result (Planned B) RuleErr) → Keeps s r → Keeps s (unless_taken at o r)
+taken_keeps : {B : Type 0} (s : Scope) (at : ℕ) (o : Option Meaning) (r : Result (Planned B) CheckErr) → Keeps s r → Keeps s (unless_taken at o r)
 taken_keeps s at None r h = h
 taken_keeps s at (Some m) r h = tt
 
-bind_keeps : {A B : Type 0} (s : Scope) (r : Result A RuleErr) (f : A → Result (Planned B) RuleErr) → ((a : A) → Keeps s (f a)) → Keeps s (and_then f r)
+bind_keeps : {A B : Type 0} (s : Scope) (r : Result A CheckErr) (f : A → Result (Planned B) CheckErr) → ((a : A) → Keeps s (f a)) → Keeps s (and_then f r)
 bind_keeps s (Ok a) f h = h a
 bind_keeps s (Err e) f h = tt
 
-then_keeps : {B C : Type 0} (s m : Scope) (o : Result (Planned B) RuleErr) (f : B → C) → (HaveFewParts s → HaveFewParts m) → Keeps m o → Keeps s (and_then (λ b. Ok (record { plan = f b.plan; scope = b.scope })) o)
+then_keeps : {B C : Type 0} (s m : Scope) (o : Result (Planned B) CheckErr) (f : B → C) → (HaveFewParts s → HaveFewParts m) → Keeps m o → Keeps s (and_then (λ b. Ok (record { plan = f b.plan; scope = b.scope })) o)
 then_keeps s m (Ok b) f h k = λ all. k (h all)
 then_keeps s m (Err e) f h k = tt
 
-module _ {A B : Type 0} (one : Scope → ℕ → A → Result (Planned B) RuleErr) (lawful : A → Bool) (keeps : (s : Scope) (n : ℕ) (a : A) → lawful a ≡ true → Keeps s (one s n a)) where
-  first_keeps : (s : Scope) (n : ℕ) (rest : List A) (o : Result (Planned B) RuleErr) → Keeps s o → ((m : Scope) → Keeps m (each one m (n + 1) rest)) → Keeps s (and_then (λ b. and_then (λ bs. Ok (record { plan = b.plan ∷ bs.plan; scope = bs.scope })) (each one b.scope (n + 1) rest)) o)
+module _ {A B : Type 0} (one : Scope → ℕ → A → Result (Planned B) CheckErr) (lawful : A → Bool) (keeps : (s : Scope) (n : ℕ) (a : A) → lawful a ≡ true → Keeps s (one s n a)) where
+  first_keeps : (s : Scope) (n : ℕ) (rest : List A) (o : Result (Planned B) CheckErr) → Keeps s o → ((m : Scope) → Keeps m (each one m (n + 1) rest)) → Keeps s (and_then (λ b. and_then (λ bs. Ok (record { plan = b.plan ∷ bs.plan; scope = bs.scope })) (each one b.scope (n + 1) rest)) o)
   first_keeps s n rest (Ok b) h more = then_keeps s b.scope (each one b.scope (n + 1) rest) (λ bs. b.plan ∷ bs) h (more b.scope)
   first_keeps s n rest (Err e) h more = tt
 
@@ -143,15 +143,15 @@ field_keeps s n d lawful =
     more_few s (entry d.name (meaning.Value k (var.Field n))) refl)))
 
 -- As many kinds as parts.
-abbrev HasKinds : ℕ → Result PlannedParts RuleErr → Type 0
+abbrev HasKinds : ℕ → Result PlannedParts CheckErr → Type 0
 HasKinds n (Ok p) = length p.kinds ≡ n
 HasKinds n (Err e) = Unit {0}
 
-bind_kinds : {A : Type 0} (n : ℕ) (r : Result A RuleErr) (f : A → Result PlannedParts RuleErr) → ((a : A) → HasKinds n (f a)) → HasKinds n (and_then f r)
+bind_kinds : {A : Type 0} (n : ℕ) (r : Result A CheckErr) (f : A → Result PlannedParts CheckErr) → ((a : A) → HasKinds n (f a)) → HasKinds n (and_then f r)
 bind_kinds n (Ok a) f h = h a
 bind_kinds n (Err e) f h = tt
 
-more_kinds : (k : KindPlan) (v : Value) (n : ℕ) (o : Result PlannedParts RuleErr) → HasKinds n o → HasKinds (suc n) (and_then (λ p. Ok (record { kinds = k ∷ p.kinds; firsts = v ∷ p.firsts })) o)
+more_kinds : (k : KindPlan) (v : Value) (n : ℕ) (o : Result PlannedParts CheckErr) → HasKinds n o → HasKinds (suc n) (and_then (λ p. Ok (record { kinds = k ∷ p.kinds; firsts = v ∷ p.firsts })) o)
 more_kinds k v n (Ok p) h = ap suc h
 more_kinds k v n (Err e) h = tt
 
@@ -162,26 +162,26 @@ part_kinds s (d ∷ rest) =
     bind_kinds (length (d ∷ rest)) (literal_of s k d.first) _ (λ v.
     more_kinds k v (length rest) (parts_of s rest) (part_kinds s rest)))
 
-abbrev IsFewCell : Result PlannedCell RuleErr → Type 0
+abbrev IsFewCell : Result PlannedCell CheckErr → Type 0
 IsFewCell (Ok c) = has_few_parts c.meaning ≡ true
 IsFewCell (Err e) = Unit {0}
 
-few_if : (b : Bool) (c : PlannedCell) (e : RuleErr) → has_few_parts c.meaning ≡ true → IsFewCell (if b then Ok c else Err e)
+few_if : (b : Bool) (c : PlannedCell) (e : CheckErr) → has_few_parts c.meaning ≡ true → IsFewCell (if b then Ok c else Err e)
 few_if true c e h = h
 few_if false c e h = tt
 
 few_of_count : (n k : ℕ) → is_between 1 max_parts n ≡ true → k ≡ n → nat_lt k 65536 ≡ true
 few_of_count n k h e = grind (arith, nat_tests)
 
-few_hold : (n count : ℕ) (o : Result PlannedParts RuleErr) → is_between 1 max_parts count ≡ true → HasKinds count o → IsFewCell (and_then (λ p. Ok (record { plan = cell_plan.Hold p.kinds p.firsts; meaning = meaning.HoldCell n p.kinds })) o)
+few_hold : (n count : ℕ) (o : Result PlannedParts CheckErr) → is_between 1 max_parts count ≡ true → HasKinds count o → IsFewCell (and_then (λ p. Ok (record { plan = cell_plan.Hold p.kinds p.firsts; meaning = meaning.HoldCell n p.kinds })) o)
 few_hold n count (Ok p) lawful h = few_of_count count (length p.kinds) lawful h
 few_hold n count (Err e) lawful h = tt
 
-few_enum : (n enum : ℕ) (o : Result ℕ RuleErr) → IsFewCell (and_then (λ l. Ok (record { plan = cell_plan.Enum enum l; meaning = meaning.EnumCell n enum })) o)
+few_enum : (n enum : ℕ) (o : Result ℕ CheckErr) → IsFewCell (and_then (λ l. Ok (record { plan = cell_plan.Enum enum l; meaning = meaning.EnumCell n enum })) o)
 few_enum n enum (Ok l) = refl
 few_enum n enum (Err e) = tt
 
-bind_cell : {A : Type 0} (r : Result A RuleErr) (f : A → Result PlannedCell RuleErr) → ((a : A) → IsFewCell (f a)) → IsFewCell (and_then f r)
+bind_cell : {A : Type 0} (r : Result A CheckErr) (f : A → Result PlannedCell CheckErr) → ((a : A) → IsFewCell (f a)) → IsFewCell (and_then f r)
 bind_cell (Ok a) f h = h a
 bind_cell (Err e) f h = tt
 
@@ -196,7 +196,7 @@ few_cell s n at (cell.Hold parts) lawful =
 few_cell s n at (cell.Enum of first) lawful =
     bind_cell (enum_named of.at (find s of.text)) _ (λ enum. few_enum n enum (label_named enum first.at (find s first.text)))
 
-cell_keeps : (s : Scope) (x : Name) (o : Result PlannedCell RuleErr) → IsFewCell o → Keeps s (and_then (λ c. Ok (record { plan = c.plan; scope = s ++ entry x c.meaning ∷ [] })) o)
+cell_keeps : (s : Scope) (x : Name) (o : Result PlannedCell CheckErr) → IsFewCell o → Keeps s (and_then (λ c. Ok (record { plan = c.plan; scope = s ++ entry x c.meaning ∷ [] })) o)
 cell_keeps s x (Ok c) h = more_few s (entry x c.meaning) h
 cell_keeps s x (Err e) h = tt
 
@@ -214,8 +214,8 @@ test_keeps names s n d lawful =
     bind_keeps s (condition (place d.body) t) _ (λ c.
     more_few s (entry d.name (meaning.Test n params.plan)) refl))))
 
-kept_by : {B : Type 0} (s : Scope) (r : Result (Planned B) RuleErr) (b : B) (m : Scope) → Keeps s r → r ≡ Ok (record { plan = b; scope = m }) → HaveFewParts s → HaveFewParts m
-kept_by {B} s r b m k e = let P : Result (Planned B) RuleErr → Type 0 = λ o. Keeps s o in subst P e k
+kept_by : {B : Type 0} (s : Scope) (r : Result (Planned B) CheckErr) (b : B) (m : Scope) → Keeps s r → r ≡ Ok (record { plan = b; scope = m }) → HaveFewParts s → HaveFewParts m
+kept_by {B} s r b m k e = let P : Result (Planned B) CheckErr → Type 0 = λ o. Keeps s o in subst P e k
 
 -- So has the scope after all declarations of a lawful script.
 pub declared_few : (t : ScriptTree) (es : List EnumPlan) (fs : List FieldPlan) (g : Option ℕ) (cs : List CellPlan) (ts : List TestOf) (s : Scope)

@@ -1,16 +1,16 @@
 -- Values that are gathered one by one are those of the whole list.
 use Rattle.std.proofs.Common.{◌≡◌, ℕ, suc, ◌+◌, ◌<◌, List, [], ◌∷◌, ◌++◌, length, get_or, drop, Result, Ok, Err, refl, ap, sym, append_assoc, append-nil, add-one, drop-cons}
-use Rattle.sym_check.specs.declared.elaborate.error.RuleErr.{RuleErr}
+use Rattle.sym_check.specs.declared.elaborate.error.CheckErr.{CheckErr}
 use Rattle.sym_check.specs.declared.plan.script.KindPlan.{KindPlan}
 use Rattle.sym_check.specs.Arithmetic.{and_then}
 use Rattle.sym_check.specs.Elaborate.{Located, value_of, values_of}
 use Rattle.sym_check.specs.FixedPlans.{FixedPlan}
 
 -- These, before the others.
-abbrev pub gathered : {A : Type 0} → List A → List A → Result (List A) RuleErr
+abbrev pub gathered : {A : Type 0} → List A → List A → Result (List A) CheckErr
 gathered xs rest = Ok (xs ++ rest)
 
-pub gathered-one : {A : Type 0} (xs : List A) (x : A) (o : Result (List A) RuleErr) →
+pub gathered-one : {A : Type 0} (xs : List A) (x : A) (o : Result (List A) CheckErr) →
     and_then (gathered xs) (and_then (λ rest. Ok (x ∷ rest)) o) ≡ and_then (gathered (xs ++ x ∷ [])) o
 gathered-one xs x (Ok rest) = ap (λ all. Ok all) (sym (append_assoc xs (x ∷ []) rest))
 gathered-one xs x (Err e) = refl

@@ -1,5 +1,3 @@
-pub mod CounterTrees
-pub mod Steps
 pub mod Agreements
 pub mod ListsAgree
 pub mod DeclarationsAgree

@@ -17,8 +17,8 @@ use Rattle.sym_check.specs.LinePlans.{LinePlan, TermPlan}
 use Rattle.sym_check.specs.LinePlans as line
 use Rattle.sym_check.specs.CondPlans.{CondPlan}
 use Rattle.sym_check.specs.CondPlans as cond
-use Rattle.sym_check.specs.declared.elaborate.error.RuleErr.{RuleErr}
-use Rattle.sym_check.specs.declared.elaborate.error.RuleErr.TheVariants as broken
+use Rattle.sym_check.specs.declared.elaborate.error.CheckErr.{CheckErr}
+use Rattle.sym_check.specs.declared.elaborate.error.CheckErr.TheVariants as broken
 use Rattle.sym_check.specs.Scopes.{Scope}
 use Rattle.sym_check.specs.Typing.{arith_of, compare_of, turned, Typed, Number, Word, Label, EnumCell, HoldCell, Truth, IsNum, IsWord, IsLabel, IsLine, IsTerm, IsCondition, Means}
 use Rattle.sym_check.specs.Typing as typing
@@ -47,7 +47,7 @@ pub is_condition : (s : Scope) (e : ExprTree) (c : CondPlan) → Means s e (Trut
 is_condition s e c (typing.truth _ _ h) = h
 
 -- The whole has a meaning, or the operator takes two numbers and has them, or it has wrong kinds.
-pub data Joins (s : Scope) (o : BinOp) (l r : ExprTree) (at : ℕ) : Result Typed RuleErr → Type 0 where
+pub data Joins (s : Scope) (o : BinOp) (l r : ExprTree) (at : ℕ) : Result Typed CheckErr → Type 0 where
   has_meaning : (v : Typed) → Means s (Bin o l r at) v → Joins s o l r at (Ok v)
   no_line : TakesNumbers s o l r → Joins s o l r at (Err (broken.NotLinear at))
   no_kinds : (TakesNumbers s o l r → ⊥) → Joins s o l r at (Err (broken.Kind at))
@@ -111,7 +111,7 @@ both_joins s o l r at make _ _ rule not_so h k (a_truth c) (a_truth d) = truth_j
 both_joins s o l r at make _ _ rule not_so h k (a_truth c) (no_truth u e) = rw (e at) (no_kinds not_so)
 both_joins s o l r at make _ u rule not_so h k (no_truth t e) w = rw (e at) (no_kinds not_so)
 
-arithmetic_joins : (s : Scope) (o : BinOp) (l r : ExprTree) (at : ℕ) (rule : ℕ → TermPlan → TermPlan → Result TermPlan RuleErr) (t u : Typed)
+arithmetic_joins : (s : Scope) (o : BinOp) (l r : ExprTree) (at : ℕ) (rule : ℕ → TermPlan → TermPlan → Result TermPlan CheckErr) (t u : Typed)
     → ((x y : TermPlan) → IsTerm s l x → IsTerm s r y → Joins s o l r at (and_then (λ (z : TermPlan). Ok (Number z)) (rule at x y)))
     → Means s l t
     → Means s r u

@@ -9,7 +9,7 @@ use Rattle.sym_base.specs.Trees.{ScriptTree}
 use Rattle.sym_check.specs.ScriptPlans.{ScriptPlan}
 use Rattle.sym_check.specs.Scripts.{IsAccepted, BreaksScript, plan_of}
 use Rattle.sym_check.specs.WellFormed.{IsWellFormed}
-use Rattle.sym_check.specs.declared.elaborate.error.RuleErr.{RuleErr}
+use Rattle.sym_check.specs.declared.elaborate.error.CheckErr.{CheckErr}
 use Rattle.sym_check.specs.Declarations.{IsFieldDecl}
 use Rattle.sym_check.proofs.AcceptedPlans.{accepted_well, each_long}
 use Rattle.sym_check.proofs.ScriptsAgree.{planned_accepted, accepted_planned, breaks_planned}
@@ -27,8 +27,8 @@ planned_fields t p lawful e =
     (each_long IsFieldDecl d.fields.enum_scope d.field_scope 0 t.fields p.fields d.fields.fields)
 
 -- What an accepted script, and one that breaks a rule, is answered.
-pub accepted_answer : (t : ScriptTree) (p : ScriptPlan) (o : Result ScriptPlan RuleErr) → IsAccepted t p → plan_of t ≡ o → Ok p ≡ o
+pub accepted_answer : (t : ScriptTree) (p : ScriptPlan) (o : Result ScriptPlan CheckErr) → IsAccepted t p → plan_of t ≡ o → Ok p ≡ o
 accepted_answer t p o i e = sym (accepted_planned t p i) ∙ e
 
-pub broken_answer : (t : ScriptTree) (f : RuleErr) (o : Result ScriptPlan RuleErr) → BreaksScript t f → plan_of t ≡ o → Err f ≡ o
+pub broken_answer : (t : ScriptTree) (f : CheckErr) (o : Result ScriptPlan CheckErr) → BreaksScript t f → plan_of t ≡ o → Err f ≡ o
 broken_answer t f o i e = sym (breaks_planned t f i) ∙ e

@@ -14,8 +14,8 @@ use Rattle.sym_check.specs.Conditions.{same_word}
 use Rattle.sym_check.specs.Columns.{ShownAs, as_number, as_word, as_list, shown_kind, OfAnyList, word_list_shows}
 use Rattle.sym_check.specs.ShowPlans.{ShowPlan}
 use Rattle.sym_check.specs.ShowPlans as show
-use Rattle.sym_check.specs.declared.elaborate.error.RuleErr.{RuleErr}
-use Rattle.sym_check.specs.declared.elaborate.error.RuleErr.TheVariants as broken
+use Rattle.sym_check.specs.declared.elaborate.error.CheckErr.{CheckErr}
+use Rattle.sym_check.specs.declared.elaborate.error.CheckErr.TheVariants as broken
 use Rattle.sym_check.specs.declared.elaborate.scope.Meaning.{Meaning}
 use Rattle.sym_check.specs.declared.elaborate.scope.Meaning.TheVariants as meaning
 use Rattle.sym_check.specs.Scopes.{Scope, find, Stands}
@@ -65,14 +65,14 @@ more_parted : (s : Scope) (e : ExprTree) (es : ExprsTree) (ws : List Seen) → S
 more_parted s e es [] i = absurd i
 more_parted s e es (v ∷ vs) i = (v, i.0, (vs, i.1, refl))
 
-abbrev MoreFaults : Scope → ExprTree → ExprsTree → RuleErr → Type 0
+abbrev MoreFaults : Scope → ExprTree → ExprsTree → CheckErr → Type 0
 MoreFaults s e es f = BreaksShown s e f ⊎ ((v : Seen) × Sees s e v × BreakShown s es f)
 
-more_blamed : (s : Scope) (e : ExprTree) (es : ExprsTree) (f : RuleErr) → MoreFaults s e es f → BreakShown s (More e es) f
+more_blamed : (s : Scope) (e : ExprTree) (es : ExprsTree) (f : CheckErr) → MoreFaults s e es f → BreakShown s (More e es) f
 more_blamed s e es f (inl b) = breaks.in_first e es f b
 more_blamed s e es f (inr (v, i, b)) = breaks.in_others e es f (is_seen s e v i) b
 
-more_blames : (s : Scope) (e : ExprTree) (es : ExprsTree) (f : RuleErr) → BreakShown s (More e es) f → MoreFaults s e es f
+more_blames : (s : Scope) (e : ExprTree) (es : ExprsTree) (f : CheckErr) → BreakShown s (More e es) f → MoreFaults s e es f
 more_blames s _ _ _ (breaks.in_first e es f b) = inl b
 more_blames s _ _ _ (breaks.in_others e es f i b) = let t = seen_is s e i in inr (t.0, t.1, b)
 
@@ -128,12 +128,12 @@ past_is_outside ks zero le = inl refl
 past_is_outside ks (suc k) le = inr (omega arith)
 
 -- What a call comes to, its name and its arguments being right by themselves.
-abbrev OutsideAt : Scope → Name → ExprsTree → RuleErr → Type 0
+abbrev OutsideAt : Scope → Name → ExprsTree → CheckErr → Type 0
 OutsideAt s x es f = (h : Name) × (k : ℕ) × (at : ℕ) × (es ≡ More (Named h) (More (Num (pos k) at) End)) × IsOutside s x h k × (broken.Range at ≡ f)
 
-data Applied (s : Scope) (x : Name) (es : ExprsTree) : Result Seen RuleErr → Type 0 where
+data Applied (s : Scope) (x : Name) (es : ExprsTree) : Result Seen CheckErr → Type 0 where
   comes : (v : Seen) → Sees s (Call x es) v → Applied s x es (Ok v)
-  outside : (f : RuleErr) → OutsideAt s x es f → Applied s x es (Err f)
+  outside : (f : CheckErr) → OutsideAt s x es f → Applied s x es (Err f)
   refused : Applied s x es (Err (broken.Kind x.at))
 
 sees_one : (s : Scope) (es : ExprsTree) (v : Seen) → SeesAll s es (v ∷ []) → (e : ExprTree) × (es ≡ More e End) × Sees s e v
@@ -241,7 +241,7 @@ part_found s h c ks n at t (w ∷ u ∷ v ∷ ws) i = absurd i.1.1
 abbrev NoNumeral : Seen → Type 0
 NoNumeral v = (n : ℤ) (at : ℕ) → v ≡ Numeral n at → ⊥
 
-abbrev Comes : Result Seen RuleErr → ShownAs → ShowPlan → Type 0
+abbrev Comes : Result Seen CheckErr → ShownAs → ShowPlan → Type 0
 Comes r g p = (v : Seen) × (r ≡ Ok v) × Gives v g p × NoNumeral v
 
 part_comes : (of : KindPlan) (p : ShowPlan) → Gives (part_seen of p) (shown_kind of) p × NoNumeral (part_seen of p)
@@ -266,7 +266,7 @@ call_comes s _ _ _ _ (is.of_nums f x g c e t) found i =
 call_comes s _ _ _ _ (is.of_words f x g c e t any) found i =
     rw (e, ← one_found s x (meaning.WordsCell c) (WordList c) t (λ w j. j) found i) (words_come f.at g c any)
 
-outside_applied : (s : Scope) (x : Name) (es : ExprsTree) (f : RuleErr) → OutsideAt s x es f → (found : List Seen) → SeesAll s es found → applied x.at (list_function x.text) found ≡ Err f
+outside_applied : (s : Scope) (x : Name) (es : ExprsTree) (f : CheckErr) → OutsideAt s x es f → (found : List Seen) → SeesAll s es found → applied x.at (list_function x.text) found ≡ Err f
 outside_applied s x es f (h, k, at, e, out, j) found i =
     let all : Parts out.cell out.kinds ∷ Numeral (pos k) at ∷ [] ≡ found = part_found s h out.cell out.kinds (pos k) at out.stands found (subst (λ ds. SeesAll s ds found) e i) in
     rw (part_alone x.text out.is_part, ← all, ← j) (outside_is at out.cell out.kinds k out.outside)
@@ -297,22 +297,22 @@ call_gives s x es (Parts c ks) i = let e = i.1 in absurd (cc)
 abbrev NotOutside : Scope → Name → ExprsTree → Type 0
 NotOutside s x es = (h : Name) (k at : ℕ) → es ≡ More (Named h) (More (Num (pos k) at) End) → IsOutside s x h k → ⊥
 
-abbrev CallFaults : Scope → Name → ExprsTree → RuleErr → Type 0
+abbrev CallFaults : Scope → Name → ExprsTree → CheckErr → Type 0
 CallFaults s x es f = OutsideAt s x es f ⊎ ((GivesSomething s (Call x es) → ⊥) × NotOutside s x es × (broken.Kind x.at ≡ f))
 
 module _ (s : Scope) (x : Name) (es : ExprsTree) (found : List Seen) (all : SeesAll s es found) where
-  comes_to : (r : Result Seen RuleErr) → applied x.at (list_function x.text) found ≡ r → Applied s x es r → Agrees (Sees s (Call x es)) (CallFaults s x es) r
+  comes_to : (r : Result Seen CheckErr) → applied x.at (list_function x.text) found ≡ r → Applied s x es r → Agrees (Sees s (Call x es)) (CallFaults s x es) r
   comes_to _ e (comes v i) = only_value v i one none
     where
       one : (w : Seen) → Sees s (Call x es) w → v ≡ w
       one w j = let k : applied x.at (list_function x.text) found ≡ Ok w = sees_applied s x es found all w j in cc (e, k)
 
-      none : (f : RuleErr) → CallFaults s x es f → ⊥
+      none : (f : CheckErr) → CallFaults s x es f → ⊥
       none f (inl out) = let k : applied x.at (list_function x.text) found ≡ Err f = outside_applied s x es f out found all in cc (e, k)
       none f (inr t) = t.0 (call_gives s x es v i)
   comes_to _ e (outside f out) = only_fault f (inl out) one none
     where
-      one : (g : RuleErr) → CallFaults s x es g → f ≡ g
+      one : (g : CheckErr) → CallFaults s x es g → f ≡ g
       one g (inl o) = let k : applied x.at (list_function x.text) found ≡ Err g = outside_applied s x es g o found all in cc (e, k)
       one g (inr t) = let (h, k, at, i, o, j) = out in absurd (t.1 h k at i o)
 
@@ -326,7 +326,7 @@ module _ (s : Scope) (x : Name) (es : ExprsTree) (found : List Seen) (all : Sees
       inside : NotOutside s x es
       inside h n at i o = let k : applied x.at (list_function x.text) found ≡ Err (broken.Range at) = outside_applied s x es (broken.Range at) (h, n, at, i, o, refl) found all in cc (e, k)
 
-      one : (g : RuleErr) → CallFaults s x es g → broken.Kind x.at ≡ g
+      one : (g : CheckErr) → CallFaults s x es g → broken.Kind x.at ≡ g
       one g (inl o) = let k : applied x.at (list_function x.text) found ≡ Err g = outside_applied s x es g o found all in cc (e, k)
       one g (inr t) = t.2
 
@@ -351,10 +351,10 @@ arguments_seen s x es v i = let (g, p, j) = call_gives s x es v i in call_seen s
 sees_call : (s : Scope) (x : Name) (es : ExprsTree) (v : Seen) → Sees s (Call x es) v → CallSees s x es v
 sees_call s x es v i = let t = seen_are s es (arguments_seen s x es v i).1 in (t.0, t.1, i)
 
-abbrev FunctionFaults : Scope → Name → ExprsTree → RuleErr → Type 0
+abbrev FunctionFaults : Scope → Name → ExprsTree → CheckErr → Type 0
 FunctionFaults s x es f = BreakShown s es f ⊎ ((found : List Seen) × SeesAll s es found × CallFaults s x es f)
 
-call_blamed : (s : Scope) (x : Name) (es : ExprsTree) → IsFunction x → (f : RuleErr) → FunctionFaults s x es f → BreaksShown s (Call x es) f
+call_blamed : (s : Scope) (x : Name) (es : ExprsTree) → IsFunction x → (f : CheckErr) → FunctionFaults s x es f → BreaksShown s (Call x es) f
 call_blamed s x es function f (inl b) = breaks.in_argument x es f function b
 call_blamed s x es function f (inr (found, all, inl (h, k, at, e, out, j))) = rw (e, ← j) (breaks.no_part x h k at out)
 call_blamed s x es function f (inr (found, all, inr (none, inside, e))) = subst (BreaksShown s (Call x es)) e (breaks.wrong_arguments x es function (are_seen s es found all) none inside)
@@ -362,13 +362,13 @@ call_blamed s x es function f (inr (found, all, inr (none, inside, e))) = subst 
 outside_seen : (s : Scope) (x h : Name) (k at : ℕ) (out : IsOutside s x h k) → SeesAll s (More (Named h) (More (Num (pos k) at) End)) (Parts out.cell out.kinds ∷ Numeral (pos k) at ∷ [])
 outside_seen s x h k at out = ((h, refl, out.stands), (refl, tt))
 
-call_blames : (s : Scope) (x : Name) (es : ExprsTree) → IsFunction x → (f : RuleErr) → BreaksShown s (Call x es) f → FunctionFaults s x es f
+call_blames : (s : Scope) (x : Name) (es : ExprsTree) → IsFunction x → (f : CheckErr) → BreaksShown s (Call x es) f → FunctionFaults s x es f
 call_blames s _ _ function _ (breaks.no_function x es none) = absurd (none function)
 call_blames s _ _ function _ (breaks.in_argument x es f _ b) = inl b
 call_blames s _ _ function _ (breaks.no_part x h k at out) = inr (Parts out.cell out.kinds ∷ Numeral (pos k) at ∷ [], outside_seen s x h k at out, inl (h, k, at, refl, out, refl))
 call_blames s _ _ function _ (breaks.wrong_arguments x es _ i none inside) = let t = seen_are s es i in inr (t.0, t.1, inr (none, inside, refl))
 
-no_function_blames : (s : Scope) (x : Name) (es : ExprsTree) → (IsFunction x → ⊥) → (f : RuleErr) → BreaksShown s (Call x es) f → broken.Name x.at ≡ f
+no_function_blames : (s : Scope) (x : Name) (es : ExprsTree) → (IsFunction x → ⊥) → (f : CheckErr) → BreaksShown s (Call x es) f → broken.Name x.at ≡ f
 no_function_blames s _ _ none _ (breaks.no_function x es _) = refl
 no_function_blames s _ _ none _ (breaks.in_argument x es f function b) = absurd (none function)
 no_function_blames s _ _ none _ (breaks.no_part x h k at out) = absurd (none (breaks.of_parts out.is_part))

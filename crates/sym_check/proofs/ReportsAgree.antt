@@ -8,8 +8,8 @@ use Rattle.sym_check.specs.Arithmetic.{and_then}
 use Rattle.sym_check.specs.Columns.{ShownAs, as_number, as_word, as_list}
 use Rattle.sym_check.specs.ShowPlans.{ShowPlan}
 use Rattle.sym_check.specs.ShowPlans as show
-use Rattle.sym_check.specs.declared.elaborate.error.RuleErr.{RuleErr}
-use Rattle.sym_check.specs.declared.elaborate.error.RuleErr.TheVariants as broken
+use Rattle.sym_check.specs.declared.elaborate.error.CheckErr.{CheckErr}
+use Rattle.sym_check.specs.declared.elaborate.error.CheckErr.TheVariants as broken
 use Rattle.sym_check.specs.declared.elaborate.scope.Meaning.{Meaning}
 use Rattle.sym_check.specs.declared.elaborate.scope.Meaning.TheVariants as meaning
 use Rattle.sym_check.specs.Scopes.{Scope, Stands, IsFree, is_cell}
@@ -154,14 +154,14 @@ sees_name s x (Parts c ks) (y, e, t) = (meaning.HoldCell c ks, same_name s x y (
 abbrev pub HasCellsAlone : Scope → Type 0
 HasCellsAlone s = (x : Name) (m : Meaning) → Stands s x m → is_cell m ≡ true
 
-abbrev NameFaults : Scope → Name → RuleErr → Type 0
+abbrev NameFaults : Scope → Name → CheckErr → Type 0
 NameFaults s x f = (IsFree s x × (broken.Name x.at ≡ f)) ⊎ ((m : Meaning) × Stands s x m × (((v : Seen) → NamedSeen m v → ⊥) × (broken.Kind x.at ≡ f)))
 
-name_blamed : (s : Scope) → HasCellsAlone s → (x : Name) (f : RuleErr) → NameFaults s x f → BreaksShown s (Named x) f
+name_blamed : (s : Scope) → HasCellsAlone s → (x : Name) (f : CheckErr) → NameFaults s x f → BreaksShown s (Named x) f
 name_blamed s cells x f (inl (t, e)) = subst (BreaksShown s (Named x)) e (breaks.unknown x t)
 name_blamed s cells x f (inr (m, t, (none, e))) = let v = cell_seen m (cells x m t) in absurd (none v.0 v.1)
 
-name_blames : (s : Scope) (x : Name) (f : RuleErr) → BreaksShown s (Named x) f → NameFaults s x f
+name_blames : (s : Scope) (x : Name) (f : CheckErr) → BreaksShown s (Named x) f → NameFaults s x f
 name_blames s _ _ (breaks.unknown x t) = inl (t, refl)
 
 pub name_sights : (s : Scope) → HasCellsAlone s → (x : Name) → Sights s (Named x)
@@ -185,17 +185,17 @@ sees_neg s e at (NumList c) (x, i, t) = absurd (cc)
 sees_neg s e at (WordList c) (x, i, t) = absurd (cc)
 sees_neg s e at (Parts c ks) (x, i, t) = absurd (cc)
 
-abbrev NegFaults : Scope → ExprTree → ℕ → RuleErr → Type 0
+abbrev NegFaults : Scope → ExprTree → ℕ → CheckErr → Type 0
 NegFaults s e at f = BreaksShown s e f ⊎ ((u : Seen) × Sees s e u × (((p : ShowPlan) → NumberOf u p → ⊥) × (broken.Kind at ≡ f)))
 
-neg_blamed : (s : Scope) (e : ExprTree) (at : ℕ) → Sights s e → (f : RuleErr) → NegFaults s e at f → BreaksShown s (Neg e at) f
+neg_blamed : (s : Scope) (e : ExprTree) (at : ℕ) → Sights s e → (f : CheckErr) → NegFaults s e at f → BreaksShown s (Neg e at) f
 neg_blamed s e at h f (inl b) = breaks.in_negated e at f b
 neg_blamed s e at h f (inr (u, i, (none, k))) = subst (BreaksShown s (Neg e at)) k (breaks.not_negated e at (is_seen s e u i) gives)
   where
     gives : GivesSomething s (Neg e at) → ⊥
     gives (g, p, j) = let t = neg_shown s e at g p j in let w = number_shown s e t.0 t.1 in let same : w.0 ≡ u = one_value h w.0 u w.1 i in none t.0 (subst (λ v. NumberOf v t.0) same w.2)
 
-neg_blames : (s : Scope) (e : ExprTree) (at : ℕ) (f : RuleErr) → BreaksShown s (Neg e at) f → NegFaults s e at f
+neg_blames : (s : Scope) (e : ExprTree) (at : ℕ) (f : CheckErr) → BreaksShown s (Neg e at) f → NegFaults s e at f
 neg_blames s _ _ _ (breaks.in_negated e at f b) = inl b
 neg_blames s _ _ _ (breaks.not_negated e at i none) = let t = seen_is s e i in inr (t.0, t.1, ((λ p j. none (as_number, show.Neg p, is.negative e at p (shows_number s e t.0 p t.1 j))), refl))
 
@@ -211,14 +211,14 @@ not_shown s e at (NumList c) (x, i, t) = cc
 not_shown s e at (WordList c) (x, i, t) = cc
 not_shown s e at (Parts c ks) (x, i, t) = cc
 
-abbrev NotFaults : Scope → ExprTree → ℕ → RuleErr → Type 0
+abbrev NotFaults : Scope → ExprTree → ℕ → CheckErr → Type 0
 NotFaults s e at f = BreaksShown s e f ⊎ ((u : Seen) × Sees s e u × ((Seen → ⊥ → ⊥) × (broken.Kind at ≡ f)))
 
-not_blamed : (s : Scope) (e : ExprTree) (at : ℕ) (f : RuleErr) → NotFaults s e at f → BreaksShown s (Not e at) f
+not_blamed : (s : Scope) (e : ExprTree) (at : ℕ) (f : CheckErr) → NotFaults s e at f → BreaksShown s (Not e at) f
 not_blamed s e at f (inl b) = breaks.in_not e at f b
 not_blamed s e at f (inr (u, i, (none, k))) = subst (BreaksShown s (Not e at)) k (breaks.no_condition e at (is_seen s e u i))
 
-not_blames : (s : Scope) (e : ExprTree) (at : ℕ) (f : RuleErr) → BreaksShown s (Not e at) f → NotFaults s e at f
+not_blames : (s : Scope) (e : ExprTree) (at : ℕ) (f : CheckErr) → BreaksShown s (Not e at) f → NotFaults s e at f
 not_blames s _ _ _ (breaks.in_not e at f b) = inl b
 not_blames s _ _ _ (breaks.no_condition e at i) = let t = seen_is s e i in inr (t.0, t.1, ((λ v j. j), refl))
 
@@ -230,7 +230,7 @@ abbrev Calculated : Option ArithOp → Seen → Seen → Seen → Type 0
 Calculated None t u v = ⊥
 Calculated (Some a) t u v = (p : ShowPlan) × NumberOf t p × ((q : ShowPlan) × NumberOf u q × (Number (show.Bin a p q) ≡ v))
 
-made_kinded : {A B : Type 0} {Is : A → Type 0} {r : Result A RuleErr} (at : ℕ) (make : A → B) → IsKinded Is at r → IsKinded (λ b. (a : A) × Is a × (make a ≡ b)) at (and_then (λ a. Ok (make a)) r)
+made_kinded : {A B : Type 0} {Is : A → Type 0} {r : Result A CheckErr} (at : ℕ) (make : A → B) → IsKinded Is at r → IsKinded (λ b. (a : A) × Is a × (make a ≡ b)) at (and_then (λ a. Ok (make a)) r)
 made_kinded at make h = kinded_then at h (λ a i. of_kind at (make a) refl (λ b e. e))
 
 calculated_kinded : (at : ℕ) (o : Option ArithOp) (t u : Seen) → IsKinded (Calculated o t u) at (calculated_by at o t u)
@@ -262,10 +262,10 @@ sees_bin s o l r at (NumList c) (x, i, t) = absurd (cc)
 sees_bin s o l r at (WordList c) (x, i, t) = absurd (cc)
 sees_bin s o l r at (Parts c ks) (x, i, t) = absurd (cc)
 
-abbrev BinFaults : Scope → BinOp → ExprTree → ExprTree → ℕ → RuleErr → Type 0
+abbrev BinFaults : Scope → BinOp → ExprTree → ExprTree → ℕ → CheckErr → Type 0
 BinFaults s o l r at f = BreaksShown s l f ⊎ ((t : Seen) × Sees s l t × (BreaksShown s r f ⊎ ((u : Seen) × Sees s r u × (((v : Seen) → Calculated (arith_of o) t u v → ⊥) × (broken.Kind at ≡ f)))))
 
-bin_blamed : (s : Scope) (o : BinOp) (l r : ExprTree) (at : ℕ) → Sights s l → Sights s r → (f : RuleErr) → BinFaults s o l r at f → BreaksShown s (Bin o l r at) f
+bin_blamed : (s : Scope) (o : BinOp) (l r : ExprTree) (at : ℕ) → Sights s l → Sights s r → (f : CheckErr) → BinFaults s o l r at f → BreaksShown s (Bin o l r at) f
 bin_blamed s o l r at h k f (inl b) = breaks.in_left o l r at f b
 bin_blamed s o l r at h k f (inr (t, i, inl b)) = breaks.in_right o l r at f (is_seen s l t i) b
 bin_blamed s o l r at h k f (inr (t, i, inr (u, j, (none, e)))) = subst (BreaksShown s (Bin o l r at)) e (breaks.wrong_kinds o l r at (is_seen s l t i) (is_seen s r u j) gives)
@@ -281,7 +281,7 @@ bin_gives : (s : Scope) (o : BinOp) (l r : ExprTree) (at : ℕ) (t u v : Seen) (
 bin_gives s o l r at t u v None e i j k = absurd k
 bin_gives s o l r at t u v (Some a) e i j (p, m, (q, n, k)) = (as_number, show.Bin a p q, is.calculated o a l r at p q e (shows_number s l t p i m) (shows_number s r u q j n))
 
-bin_blames : (s : Scope) (o : BinOp) (l r : ExprTree) (at : ℕ) (f : RuleErr) → BreaksShown s (Bin o l r at) f → BinFaults s o l r at f
+bin_blames : (s : Scope) (o : BinOp) (l r : ExprTree) (at : ℕ) (f : CheckErr) → BreaksShown s (Bin o l r at) f → BinFaults s o l r at f
 bin_blames s _ _ _ _ _ (breaks.in_left o l r at f b) = inl b
 bin_blames s _ _ _ _ _ (breaks.in_right o l r at f i b) = let t = seen_is s l i in inr (t.0, t.1, inl b)
 bin_blames s _ _ _ _ _ (breaks.wrong_kinds o l r at i j none) =

@@ -2,8 +2,8 @@
 use Rattle.std.proofs.Common.{◌≡◌, ◌∙◌, ap, refl, ℕ, Bool, true, false, List, [], ◌∷◌, ◌++◌, Option, Some, None}
 use Rattle.std.specs.Prelude.{if◌then◌else◌, Err}
 use Rattle.sym_base.specs.declared.tree.name.Name.{Name}
-use Rattle.sym_check.specs.declared.elaborate.error.RuleErr.{RuleErr}
-use Rattle.sym_check.specs.declared.elaborate.error.RuleErr.TheVariants as broken
+use Rattle.sym_check.specs.declared.elaborate.error.CheckErr.{CheckErr}
+use Rattle.sym_check.specs.declared.elaborate.error.CheckErr.TheVariants as broken
 use Rattle.sym_check.specs.declared.elaborate.scope.Meaning.{Meaning}
 use Rattle.sym_check.specs.declared.elaborate.scope.Meaning.TheVariants as meaning
 use Rattle.sym_check.specs.declared.elaborate.scope.Entry.{Entry}
@@ -34,7 +34,7 @@ found_earlier s own text m e =
 abbrev own_or_none : Bool → Option Meaning
 own_or_none b = if b then Some meaning.Unfinished else None
 
-abbrev kind_or_name : Bool → ℕ → RuleErr
+abbrev kind_or_name : Bool → ℕ → CheckErr
 kind_or_name b at = if b then broken.Kind at else broken.Name at
 
 not_earlier : (s : Scope) (own : Name) (text : List ℕ) → find s text ≡ None → find (unfinished s own) text ≡ own_or_none (same_word own.text text)

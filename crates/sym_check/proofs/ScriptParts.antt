@@ -9,8 +9,8 @@ use Rattle.sym_check.specs.declared.plan.script.CellPlan.{CellPlan}
 use Rattle.sym_check.specs.PathBounds.{path_bound}
 use Rattle.sym_check.specs.DoPlans as do_
 use Rattle.sym_check.specs.ScriptPlans.{ScriptPlan, TestOf, ColumnOf}
-use Rattle.sym_check.specs.declared.elaborate.error.RuleErr.{RuleErr}
-use Rattle.sym_check.specs.declared.elaborate.error.RuleErr.TheVariants as broken
+use Rattle.sym_check.specs.declared.elaborate.error.CheckErr.{CheckErr}
+use Rattle.sym_check.specs.declared.elaborate.error.CheckErr.TheVariants as broken
 use Rattle.sym_check.specs.Scopes.{Scope, hidden, in_update, in_report}
 use Rattle.sym_check.specs.InOrder.{Each, FirstBroken, Planned}
 use Rattle.sym_check.specs.Declarations.{IsEnumDecl, IsFieldDecl, IsGroup, IsStateDecl, IsTestDecl}
@@ -38,7 +38,7 @@ few_decides n = (leb-true n limit.PATHS_MAX, le-leb n limit.PATHS_MAX)
 abbrev Few : ScriptPlan → ScriptPlan → Type 0
 Few p q = (path_bound p.update ≤ limit.PATHS_MAX) × (p ≡ q)
 
-abbrev Many : ScriptPlan → RuleErr → Type 0
+abbrev Many : ScriptPlan → CheckErr → Type 0
 Many p f = (limit.PATHS_MAX < path_bound p.update) × (broken.Branchy (path_bound p.update) ≡ f)
 
 bounded_agrees : (p : ScriptPlan) → Agrees (Few p) (Many p) (bounded p)
@@ -146,7 +146,7 @@ plan_parted t p i =
       ),
     )
 
-abbrev Faults : ScriptTree → RuleErr → Type 0
+abbrev Faults : ScriptTree → CheckErr → Type 0
 Faults t x =
     FirstBroken IsEnumDecl BreaksEnum [] 0 t.enums x
     ⊎ ((e : Planned (List EnumPlan)) × Enums t e
@@ -180,7 +180,7 @@ no_update = record { plan = do_.End; next = 0 }
 abbrev no_columns : Planned (List ColumnOf)
 no_columns = record { plan = []; scope = [] }
 
-script_blamed : (t : ScriptTree) (x : RuleErr) → Faults t x → BreaksScript t x
+script_blamed : (t : ScriptTree) (x : CheckErr) → Faults t x → BreaksScript t x
 script_blamed t x (inl b) = in_enums x b
 script_blamed t x (inr (e, ie, inl b)) = in_fields (plan_with e no_fields None no_cells no_tests no_update no_columns) e.scope x ie b
 script_blamed t x (inr (e, ie, inr (f, jf, inl b))) = in_group (plan_with e f None no_cells no_tests no_update no_columns) e.scope f.scope x ie jf b
@@ -220,7 +220,7 @@ script_blamed t x (inr (e, ie, inr (f, jf, inr (g, ig, inr (c, ic, inr (k, ik, i
       columns = iq;
     }) many)
 
-script_blames : (t : ScriptTree) (x : RuleErr) → BreaksScript t x → Faults t x
+script_blames : (t : ScriptTree) (x : CheckErr) → BreaksScript t x → Faults t x
 script_blames t _ (in_enums x b) = inl b
 script_blames t _ (in_fields p s x ie b) = inr (record { plan = p.enums; scope = s }, ie, inl b)
 script_blames t _ (in_group p s later x ie jf b) = inr (record { plan = p.enums; scope = s }, ie, inr (record { plan = p.fields; scope = later }, jf, inl b))

@@ -19,8 +19,8 @@ use Rattle.sym_check.specs.declared.plan.script.FieldPlan.{FieldPlan}
 use Rattle.sym_check.specs.declared.plan.script.KindPlan.{KindPlan}
 use Rattle.sym_check.specs.declared.plan.script.CellPlan.{CellPlan}
 use Rattle.sym_check.specs.declared.plan.script.CellPlan.TheVariants as plan
-use Rattle.sym_check.specs.declared.elaborate.error.RuleErr.{RuleErr}
-use Rattle.sym_check.specs.declared.elaborate.error.RuleErr.TheVariants as broken
+use Rattle.sym_check.specs.declared.elaborate.error.CheckErr.{CheckErr}
+use Rattle.sym_check.specs.declared.elaborate.error.CheckErr.TheVariants as broken
 use Rattle.sym_check.specs.declared.elaborate.scope.Variable.TheVariants as var
 use Rattle.sym_check.specs.declared.elaborate.scope.Meaning.{Meaning}
 use Rattle.sym_check.specs.declared.elaborate.scope.Meaning.TheVariants as meaning
@@ -37,7 +37,7 @@ use Rattle.sym_check.proofs.ListsAgree.{Plans, each_agrees}
 use Rattle.sym_check.proofs.DeclarationsAgree.{kind_agrees, literal_agrees, BreaksDefault, default_agrees, enum_kinded, label_kinded, Unmeant, no_enum, enum_not, other_label, label_not}
 
 -- A name that is taken, or free and then a later fault.
-abbrev pub TakenOr : Scope → Name → (RuleErr → Type 0) → RuleErr → Type 0
+abbrev pub TakenOr : Scope → Name → (CheckErr → Type 0) → CheckErr → Type 0
 TakenOr s x Later f = ((m : Meaning) × Stands s x m × (broken.Twice x.at ≡ f)) ⊎ (IsFree s x × Later f)
 
 -- Labels.
@@ -50,11 +50,11 @@ label_joined enum s n x p (t, e) = subst (λ (q : Planned (List ℕ)). IsLabelDe
 label_parted : (enum : ℕ) (s : Scope) (n : ℕ) (x : Name) (l : List ℕ) (later : Scope) → IsLabelDecl enum s n x l later → IsFree s x × (after_label enum s n x ≡ record { plan = l; scope = later })
 label_parted enum _ _ _ _ _ (is.label s n x t) = (t, refl)
 
-label_blamed : (s : Scope) (n : ℕ) (x : Name) (f : RuleErr) → TakenOr s x (λ g. ⊥) f → BreaksLabel s n x f
+label_blamed : (s : Scope) (n : ℕ) (x : Name) (f : CheckErr) → TakenOr s x (λ g. ⊥) f → BreaksLabel s n x f
 label_blamed s n x f (inl (m, t, e)) = subst (BreaksLabel s n x) e (breaks.label_taken x m t)
 label_blamed s n x f (inr (t, e)) = absurd e
 
-label_blames : (s : Scope) (n : ℕ) (x : Name) (f : RuleErr) → BreaksLabel s n x f → TakenOr s x (λ g. ⊥) f
+label_blames : (s : Scope) (n : ℕ) (x : Name) (f : CheckErr) → BreaksLabel s n x f → TakenOr s x (λ g. ⊥) f
 label_blames s n _ _ (breaks.label_taken x m t) = inl (m, t, refl)
 
 label_agrees : (enum : ℕ) → Plans (IsLabelDecl enum) BreaksLabel (label_decl enum)
@@ -73,14 +73,14 @@ enum_joined s n d p (t, (labels, are, e)) = subst (λ (q : Planned EnumPlan). Is
 enum_parted : (s : Scope) (n : ℕ) (d : EnumDecl) (p : EnumPlan) (later : Scope) → IsEnumDecl s n d p later → IsFree s d.name × ((labels : Planned (List (List ℕ))) × Labelled s n d labels × (enum_planned labels ≡ record { plan = p; scope = later }))
 enum_parted _ _ _ _ _ (is.enum s later n d labels t are) = (t, (record { plan = labels; scope = later }, are, refl))
 
-abbrev BreaksLabels : Scope → ℕ → EnumDecl → RuleErr → Type 0
+abbrev BreaksLabels : Scope → ℕ → EnumDecl → CheckErr → Type 0
 BreaksLabels s n d f = FirstBroken (IsLabelDecl n) BreaksLabel (s ++ entry d.name (meaning.Enum n) ∷ []) 0 d.labels f
 
-enum_blamed : (s : Scope) (n : ℕ) (d : EnumDecl) (f : RuleErr) → TakenOr s d.name (BreaksLabels s n d) f → BreaksEnum s n d f
+enum_blamed : (s : Scope) (n : ℕ) (d : EnumDecl) (f : CheckErr) → TakenOr s d.name (BreaksLabels s n d) f → BreaksEnum s n d f
 enum_blamed s n d f (inl (m, t, e)) = subst (BreaksEnum s n d) e (breaks.enum_taken d m t)
 enum_blamed s n d f (inr (t, b)) = breaks.in_labels d f t b
 
-enum_blames : (s : Scope) (n : ℕ) (d : EnumDecl) (f : RuleErr) → BreaksEnum s n d f → TakenOr s d.name (BreaksLabels s n d) f
+enum_blames : (s : Scope) (n : ℕ) (d : EnumDecl) (f : CheckErr) → BreaksEnum s n d f → TakenOr s d.name (BreaksLabels s n d) f
 enum_blames s n _ _ (breaks.enum_taken d m t) = inl (m, t, refl)
 enum_blames s n _ _ (breaks.in_labels d f t b) = inr (t, b)
 
@@ -105,15 +105,15 @@ field_joined s n d p (t, (k, i, (empty, j, e))) = subst (λ (q : Planned FieldPl
 field_parted : (s : Scope) (n : ℕ) (d : FieldDecl) (p : FieldPlan) (later : Scope) → IsFieldDecl s n d p later → IsFieldOf s n d (record { plan = p; scope = later })
 field_parted _ _ _ _ _ (is.field s n d k empty t i j) = (t, (k, i, (empty, j, refl)))
 
-abbrev FieldFaults : Scope → FieldDecl → RuleErr → Type 0
+abbrev FieldFaults : Scope → FieldDecl → CheckErr → Type 0
 FieldFaults s d f = TakenOr s d.name (λ f. BreaksKind (unfinished s d.name) d.kind f ⊎ ((k : KindPlan) × IsKindOf (unfinished s d.name) d.kind k × BreaksDefault (unfinished s d.name) k d.default f)) f
 
-field_blamed : (s : Scope) (n : ℕ) (d : FieldDecl) (f : RuleErr) → FieldFaults s d f → BreaksField s n d f
+field_blamed : (s : Scope) (n : ℕ) (d : FieldDecl) (f : CheckErr) → FieldFaults s d f → BreaksField s n d f
 field_blamed s n d f (inl (m, t, e)) = subst (BreaksField s n d) e (breaks.field_taken d m t)
 field_blamed s n d f (inr (t, inl b)) = breaks.in_field_kind d f t b
 field_blamed s n d f (inr (t, inr (k, i, (l, e, b)))) = breaks.in_default d k l f t i e b
 
-field_blames : (s : Scope) (n : ℕ) (d : FieldDecl) (f : RuleErr) → BreaksField s n d f → FieldFaults s d f
+field_blames : (s : Scope) (n : ℕ) (d : FieldDecl) (f : CheckErr) → BreaksField s n d f → FieldFaults s d f
 field_blames s n _ _ (breaks.field_taken d m t) = inl (m, t, refl)
 field_blames s n _ _ (breaks.in_field_kind d f t b) = inr (t, inl b)
 field_blames s n _ _ (breaks.in_default d k l f t i e b) = inr (t, inr (k, i, (l, e, b)))
@@ -136,15 +136,15 @@ parts_joined s d rest p (k, i, (v, j, (parts, are, e))) = subst (λ (q : Planned
 parts_parted : (s : Scope) (d : Part) (rest : List Part) (ks : List KindPlan) (vs : List Value) → AreParts s (d ∷ rest) ks vs → ArePartsOf s d rest (record { kinds = ks; firsts = vs })
 parts_parted s _ _ _ _ (is.more_parts d rest k ks v vs i j are) = (k, i, (v, j, (record { kinds = ks; firsts = vs }, are, refl)))
 
-abbrev PartsFaults : Scope → Part → List Part → RuleErr → Type 0
+abbrev PartsFaults : Scope → Part → List Part → CheckErr → Type 0
 PartsFaults s d rest f = BreaksKind s d.kind f ⊎ ((k : KindPlan) × IsKindOf s d.kind k × (BreaksLiteral s k d.first f ⊎ ((v : Value) × IsLiteral s k d.first v × BreaksParts s rest f)))
 
-parts_blamed : (s : Scope) (d : Part) (rest : List Part) (f : RuleErr) → PartsFaults s d rest f → BreaksParts s (d ∷ rest) f
+parts_blamed : (s : Scope) (d : Part) (rest : List Part) (f : CheckErr) → PartsFaults s d rest f → BreaksParts s (d ∷ rest) f
 parts_blamed s d rest f (inl b) = breaks.in_part_kind d rest f b
 parts_blamed s d rest f (inr (k, i, inl b)) = breaks.in_part_literal d rest k f i b
 parts_blamed s d rest f (inr (k, i, inr (v, j, b))) = breaks.in_other_parts d rest k v f i j b
 
-parts_blames : (s : Scope) (d : Part) (rest : List Part) (f : RuleErr) → BreaksParts s (d ∷ rest) f → PartsFaults s d rest f
+parts_blames : (s : Scope) (d : Part) (rest : List Part) (f : CheckErr) → BreaksParts s (d ∷ rest) f → PartsFaults s d rest f
 parts_blames s _ _ _ (breaks.in_part_kind d rest f b) = inl b
 parts_blames s _ _ _ (breaks.in_part_literal d rest k f i b) = inr (k, i, inl b)
 parts_blames s _ _ _ (breaks.in_other_parts d rest k v f i j b) = inr (k, i, inr (v, j, b))
@@ -177,7 +177,7 @@ int_alone s n _ _ _ _ _ (is.int lo hi first i) = refl
 int_ranged : (s : Scope) (n : ℕ) (lo hi first : ℤ) (p : CellPlan) (m : Meaning) → IsCellDecl s n (cell.Int lo hi first) p m → InRange lo hi first
 int_ranged s n _ _ _ _ _ (is.int lo hi first i) = i
 
-int_unranged : (s : Scope) (at : ℕ) (lo hi first : ℤ) (f : RuleErr) → BreaksCell s at (cell.Int lo hi first) f → (InRange lo hi first → ⊥) × (broken.Range at ≡ f)
+int_unranged : (s : Scope) (at : ℕ) (lo hi first : ℤ) (f : CheckErr) → BreaksCell s at (cell.Int lo hi first) f → (InRange lo hi first → ⊥) × (broken.Range at ≡ f)
 int_unranged s at _ _ _ _ (breaks.no_int_range lo hi first none) = (none, refl)
 
 nums_alone : (s : Scope) (n : ℕ) (lo hi : ℤ) (p : CellPlan) (m : Meaning) → IsCellDecl s n (cell.Nums lo hi) p m → ◌≡◌ {A = PlannedCell} (record { plan = plan.Nums lo hi; meaning = meaning.NumsCell n }) (record { plan = p; meaning = m })
@@ -186,7 +186,7 @@ nums_alone s n _ _ _ _ (is.nums lo hi i) = refl
 nums_ranged : (s : Scope) (n : ℕ) (lo hi : ℤ) (p : CellPlan) (m : Meaning) → IsCellDecl s n (cell.Nums lo hi) p m → lo ≤ℤ hi
 nums_ranged s n _ _ _ _ (is.nums lo hi i) = i
 
-nums_unranged : (s : Scope) (at : ℕ) (lo hi : ℤ) (f : RuleErr) → BreaksCell s at (cell.Nums lo hi) f → (lo ≤ℤ hi → ⊥) × (broken.Range at ≡ f)
+nums_unranged : (s : Scope) (at : ℕ) (lo hi : ℤ) (f : CheckErr) → BreaksCell s at (cell.Nums lo hi) f → (lo ≤ℤ hi → ⊥) × (broken.Range at ≡ f)
 nums_unranged s at _ _ _ (breaks.no_nums_range lo hi none) = (none, refl)
 
 words_alone : (s : Scope) (n : ℕ) (p : CellPlan) (m : Meaning) → IsCellDecl s n cell.Words p m → ◌≡◌ {A = PlannedCell} (record { plan = plan.Words; meaning = meaning.WordsCell n }) (record { plan = p; meaning = m })
@@ -201,7 +201,7 @@ hold_joined s n parts p (q, are, e) = subst (λ (o : PlannedCell). IsCellDecl s 
 hold_parted : (s : Scope) (n : ℕ) (parts : List Part) (p : CellPlan) (m : Meaning) → IsCellDecl s n (cell.Hold parts) p m → (q : PlannedParts) × AreParts s parts q.kinds q.firsts × (hold_planned n q ≡ record { plan = p; meaning = m })
 hold_parted s n _ _ _ (is.hold parts ks vs are) = (record { kinds = ks; firsts = vs }, are, refl)
 
-hold_blames : (s : Scope) (at : ℕ) (parts : List Part) (f : RuleErr) → BreaksCell s at (cell.Hold parts) f → BreaksParts s parts f
+hold_blames : (s : Scope) (at : ℕ) (parts : List Part) (f : CheckErr) → BreaksCell s at (cell.Hold parts) f → BreaksParts s parts f
 hold_blames s at _ _ (breaks.in_parts parts f b) = b
 
 abbrev enum_cell_planned : ℕ → ℕ → ℕ → PlannedCell
@@ -219,14 +219,14 @@ enum_cell_joined s n of first p (enum, (m, t, i), (l, (k, u, j), e)) = subst (λ
 enum_cell_parted : (s : Scope) (n : ℕ) (of first : Name) (p : CellPlan) (m : Meaning) → IsCellDecl s n (cell.Enum of first) p m → IsEnumCell s n of first (record { plan = p; meaning = m })
 enum_cell_parted s n _ _ _ _ (is.enum_cell of first enum l t u) = (enum, (meaning.Enum enum, t, refl), (l, (meaning.Label enum l, u, refl), refl))
 
-abbrev EnumCellFaults : Scope → Name → Name → RuleErr → Type 0
+abbrev EnumCellFaults : Scope → Name → Name → CheckErr → Type 0
 EnumCellFaults s of first f = Unmeant s of (λ m (n : ℕ). m ≡ meaning.Enum n) f ⊎ ((enum : ℕ) × Means s of (meaning.Enum enum) × Unmeant s first (λ m (l : ℕ). m ≡ meaning.Label enum l) f)
 
-enum_cell_blamed : (s : Scope) (at : ℕ) (of first : Name) (f : RuleErr) → EnumCellFaults s of first f → BreaksCell s at (cell.Enum of first) f
+enum_cell_blamed : (s : Scope) (at : ℕ) (of first : Name) (f : CheckErr) → EnumCellFaults s of first f → BreaksCell s at (cell.Enum of first) f
 enum_cell_blamed s at of first f (inl b) = breaks.in_enum of first f (no_enum s of f b)
 enum_cell_blamed s at of first f (inr (enum, (m, t, i), b)) = breaks.in_label of first enum f (subst (Stands s of) i t) (other_label s enum first f b)
 
-enum_cell_blames : (s : Scope) (at : ℕ) (of first : Name) (f : RuleErr) → BreaksCell s at (cell.Enum of first) f → EnumCellFaults s of first f
+enum_cell_blames : (s : Scope) (at : ℕ) (of first : Name) (f : CheckErr) → BreaksCell s at (cell.Enum of first) f → EnumCellFaults s of first f
 enum_cell_blames s at _ _ _ (breaks.in_enum of first f b) = inl (enum_not s of f b)
 enum_cell_blames s at _ _ _ (breaks.in_label of first enum f t b) = inr (enum, (meaning.Enum enum, t, refl), label_not s enum first f b)
 
@@ -260,11 +260,11 @@ state_joined s n d p (t, (c, i, e)) = subst (λ (q : Planned CellPlan). IsStateD
 state_parted : (s : Scope) (n : ℕ) (d : StateDecl) (p : CellPlan) (later : Scope) → IsStateDecl s n d p later → IsStateOf s n d (record { plan = p; scope = later })
 state_parted _ _ _ _ _ (is.state s n d p m t i) = (t, (record { plan = p; meaning = m }, i, refl))
 
-state_blamed : (s : Scope) (n : ℕ) (d : StateDecl) (f : RuleErr) → TakenOr s d.name (BreaksCell (unfinished s d.name) d.name.at d.cell) f → BreaksState s n d f
+state_blamed : (s : Scope) (n : ℕ) (d : StateDecl) (f : CheckErr) → TakenOr s d.name (BreaksCell (unfinished s d.name) d.name.at d.cell) f → BreaksState s n d f
 state_blamed s n d f (inl (m, t, e)) = subst (BreaksState s n d) e (breaks.state_taken d m t)
 state_blamed s n d f (inr (t, b)) = breaks.in_cell d f t b
 
-state_blames : (s : Scope) (n : ℕ) (d : StateDecl) (f : RuleErr) → BreaksState s n d f → TakenOr s d.name (BreaksCell (unfinished s d.name) d.name.at d.cell) f
+state_blames : (s : Scope) (n : ℕ) (d : StateDecl) (f : CheckErr) → BreaksState s n d f → TakenOr s d.name (BreaksCell (unfinished s d.name) d.name.at d.cell) f
 state_blames s n _ _ (breaks.state_taken d m t) = inl (m, t, refl)
 state_blames s n _ _ (breaks.in_cell d f t b) = inr (t, b)
 

@@ -11,8 +11,8 @@ use Rattle.sym_base.specs.Trees.{ExprTree, TestTree}
 use Rattle.sym_check.specs.declared.plan.script.KindPlan.{KindPlan}
 use Rattle.sym_check.specs.CondPlans.{CondPlan}
 use Rattle.sym_check.specs.ScriptPlans.{TestOf}
-use Rattle.sym_check.specs.declared.elaborate.error.RuleErr.{RuleErr}
-use Rattle.sym_check.specs.declared.elaborate.error.RuleErr.TheVariants as broken
+use Rattle.sym_check.specs.declared.elaborate.error.CheckErr.{CheckErr}
+use Rattle.sym_check.specs.declared.elaborate.error.CheckErr.TheVariants as broken
 use Rattle.sym_check.specs.declared.elaborate.scope.Variable.TheVariants as var
 use Rattle.sym_check.specs.declared.elaborate.scope.Meaning.{Meaning}
 use Rattle.sym_check.specs.declared.elaborate.scope.Meaning.TheVariants as meaning
@@ -40,17 +40,17 @@ same_words a b = slice_eq-Decides Decides-eqb a b (same_word a b) refl
 named_decides : (names : List (List ℕ)) (text : List ℕ) → Decides (list_any (same_word text) names) (Contains names text)
 named_decides names text = (Contains-from_any (λ a b e. (same_words a b).0 e) text names, list_any-from_Contains nat_list_eq_equiv text names)
 
-unnamed_agrees : {A : Type 0} {Is : A → Type 0} {Broken : RuleErr → Type 0} {r : Result A RuleErr} (names : List (List ℕ)) (x : Name) → Agrees Is Broken r → Agrees (λ a. (Contains names x.text → ⊥) × Is a) (λ f. (Contains names x.text × (broken.Twice x.at ≡ f)) ⊎ ((Contains names x.text → ⊥) × Broken f)) (unless_named names x r)
+unnamed_agrees : {A : Type 0} {Is : A → Type 0} {Broken : CheckErr → Type 0} {r : Result A CheckErr} (names : List (List ℕ)) (x : Name) → Agrees Is Broken r → Agrees (λ a. (Contains names x.text → ⊥) × Is a) (λ f. (Contains names x.text × (broken.Twice x.at ≡ f)) ⊎ ((Contains names x.text → ⊥) × Broken f)) (unless_named names x r)
 unnamed_agrees {A} {Is} {Broken} names x h =
     where_true (list_any (same_word x.text) names) (named_decides names x.text)
     (λ i. only_fault (broken.Twice x.at) (inl (i, refl)) (one i) (λ a j. j.0 i))
     (λ none. in_words h (λ a i. (none, i)) (λ a i. i.1) (λ f b. inr (none, b)) (back none))
   where
-    one : Contains names x.text → (f : RuleErr) → (Contains names x.text × (broken.Twice x.at ≡ f)) ⊎ ((Contains names x.text → ⊥) × Broken f) → broken.Twice x.at ≡ f
+    one : Contains names x.text → (f : CheckErr) → (Contains names x.text × (broken.Twice x.at ≡ f)) ⊎ ((Contains names x.text → ⊥) × Broken f) → broken.Twice x.at ≡ f
     one i f (inl t) = t.1
     one i f (inr t) = absurd (t.0 i)
 
-    back : (Contains names x.text → ⊥) → (f : RuleErr) → (Contains names x.text × (broken.Twice x.at ≡ f)) ⊎ ((Contains names x.text → ⊥) × Broken f) → Broken f
+    back : (Contains names x.text → ⊥) → (f : CheckErr) → (Contains names x.text × (broken.Twice x.at ≡ f)) ⊎ ((Contains names x.text → ⊥) × Broken f) → Broken f
     back none f (inl t) = absurd (none t.0)
     back none f (inr t) = t.1
 
@@ -67,10 +67,10 @@ param_joined names s params n d p (new, (t, (k, i, e))) = subst (λ (q : Planned
 param_parted : (names : List (List ℕ)) (s params : Scope) (n : ℕ) (d : Param) (k : KindPlan) (later : Scope) → IsParamDecl names s params n d k later → IsParamOf names s params n d (record { plan = k; scope = later })
 param_parted names s _ _ _ _ _ (is.param params n d k new t i) = (new, (t, (k, i, refl)))
 
-abbrev ParamFaults : List (List ℕ) → Scope → Scope → Param → RuleErr → Type 0
+abbrev ParamFaults : List (List ℕ) → Scope → Scope → Param → CheckErr → Type 0
 ParamFaults names s params d f = (Contains names d.name.text × (broken.Twice d.name.at ≡ f)) ⊎ ((Contains names d.name.text → ⊥) × TakenOr params d.name (BreaksKind s d.kind) f)
 
-param_blamed : (names : List (List ℕ)) (s params : Scope) (n : ℕ) (d : Param) (f : RuleErr) → ParamFaults names s params d f → BreaksParam names s params n d f
+param_blamed : (names : List (List ℕ)) (s params : Scope) (n : ℕ) (d : Param) (f : CheckErr) → ParamFaults names s params d f → BreaksParam names s params n d f
 param_blamed names s params n d f (inl (i, e)) = subst (BreaksParam names s params n d) e (breaks.name_of_script d i)
 param_blamed names s params n d f (inr (new, inl (m, t, e))) = subst (BreaksParam names s params n d) e (breaks.param_taken d m t)
 param_blamed names s params n d f (inr (new, inr (t, b))) = breaks.in_param_kind d f new t b
@@ -79,7 +79,7 @@ either_taken : (names : List (List ℕ)) (s params : Scope) (d : Param) (m : Mea
 either_taken names s params d m t true decides = inl (decides.0 refl, refl)
 either_taken names s params d m t false decides = inr (not_from_Decides false decides refl, inl (m, t, refl))
 
-param_blames : (names : List (List ℕ)) (s params : Scope) (n : ℕ) (d : Param) (f : RuleErr) → BreaksParam names s params n d f → ParamFaults names s params d f
+param_blames : (names : List (List ℕ)) (s params : Scope) (n : ℕ) (d : Param) (f : CheckErr) → BreaksParam names s params n d f → ParamFaults names s params d f
 param_blames names s params n _ _ (breaks.name_of_script d i) = inl (i, refl)
 param_blames names s params n _ _ (breaks.param_taken d m t) = either_taken names s params d m t (list_any (same_word d.name.text) names) (named_decides names d.name.text)
 param_blames names s params n _ _ (breaks.in_param_kind d f new t b) = inr (new, inr (t, b))
@@ -117,17 +117,17 @@ test_joined names s n d p (free, (ks, are, (t, m, (c, i, e)))) =
 test_parted : (names : List (List ℕ)) (s : Scope) (n : ℕ) (d : TestTree) (p : TestOf) (later : Scope) → IsTestDecl names s n d p later → IsTestWith names s n d (record { plan = p; scope = later })
 test_parted names _ _ _ _ _ (is.test s params n d ks c free are i) = (free, (record { plan = ks; scope = params }, are, (Truth c, truth d.body c i, (c, refl, refl))))
 
-abbrev BodyFaults : Scope → ExprTree → RuleErr → Type 0
+abbrev BodyFaults : Scope → ExprTree → CheckErr → Type 0
 BodyFaults s e f = Breaks s e f ⊎ ((t : Typed) × Means s e t × (((c : CondPlan) → t ≡ Truth c → ⊥) × (broken.Kind (place e) ≡ f)))
 
-abbrev TestFaults : List (List ℕ) → Scope → TestTree → RuleErr → Type 0
+abbrev TestFaults : List (List ℕ) → Scope → TestTree → CheckErr → Type 0
 TestFaults names s d f =
     TakenOr s d.name
     (λ f. FirstBroken (IsParamDecl names (unfinished s d.name)) (BreaksParam names (unfinished s d.name)) [] 0 d.params f
     ⊎ ((ks : Planned (List KindPlan)) × HaveParams names s d ks × BodyFaults (in_tests s ++ ks.scope) d.body f))
     f
 
-test_blames : (names : List (List ℕ)) (s : Scope) (n : ℕ) (d : TestTree) (f : RuleErr) → BreaksTest names s n d f → TestFaults names s d f
+test_blames : (names : List (List ℕ)) (s : Scope) (n : ℕ) (d : TestTree) (f : CheckErr) → BreaksTest names s n d f → TestFaults names s d f
 test_blames names s n _ _ (breaks.test_taken d m t) = inl (m, t, refl)
 test_blames names s n _ _ (breaks.in_params d f t b) = inr (t, inl b)
 test_blames names s n _ _ (breaks.in_body d ks params f t are b) = inr (t, inr (record { plan = ks; scope = params }, are, inl b))
@@ -139,7 +139,7 @@ one_meaning s e t c m i =
     let q : infer s e ≡ Ok (Truth c) = (infer_agrees s e).complete (Truth c) (truth e c i) in
     cc (p, q)
 
-test_blamed : (names : List (List ℕ)) (s : Scope) (n : ℕ) (d : TestTree) (f : RuleErr) → TestFaults names s d f → BreaksTest names s n d f
+test_blamed : (names : List (List ℕ)) (s : Scope) (n : ℕ) (d : TestTree) (f : CheckErr) → TestFaults names s d f → BreaksTest names s n d f
 test_blamed names s n d f (inl (m, t, e)) = subst (BreaksTest names s n d) e (breaks.test_taken d m t)
 test_blamed names s n d f (inr (t, inl b)) = breaks.in_params d f t b
 test_blamed names s n d f (inr (t, inr (ks, are, inl b))) = breaks.in_body d ks.plan ks.scope f t are b

@@ -8,7 +8,7 @@ use Rattle.sym_check.specs.declared.plan.script.KindPlan.TheVariants as kind
 use Rattle.sym_check.specs.FixedPlans.{FixedPlan}
 use Rattle.sym_check.specs.FixedPlans as fixed
 use Rattle.sym_check.specs.LinePlans as line
-use Rattle.sym_check.specs.declared.elaborate.error.RuleErr.{RuleErr}
+use Rattle.sym_check.specs.declared.elaborate.error.CheckErr.{CheckErr}
 use Rattle.sym_check.specs.Scopes.{Scope}
 use Rattle.sym_check.specs.Typing.{Typed, Number, Word, Label, EnumCell, HoldCell, Truth, IsLabel, IsValue, AreValues, Means}
 use Rattle.sym_check.specs.Typing as typing
@@ -55,7 +55,7 @@ pub data ValueOutcome (s : Scope) (k : KindPlan) (e : ExprTree) (t : Typed) : Ty
   a_value : (v : FixedPlan) → value_of k (record { at = place e; typed = t }) ≡ Ok v → IsValue s k e v → ValueOutcome s k e t
   wrong_value : value_of k (record { at = place e; typed = t }) ≡ kind_at (place e) → ((v : FixedPlan) → IsValue s k e v → ⊥) → ValueOutcome s k e t
 
-refused_value : (s : Scope) (k : KindPlan) (e : ExprTree) (t : Typed) (f : RuleErr) → Means s e t → value_of k (record { at = place e; typed = t }) ≡ Err f → (v : FixedPlan) → IsValue s k e v → ⊥
+refused_value : (s : Scope) (k : KindPlan) (e : ExprTree) (t : Typed) (f : CheckErr) → Means s e t → value_of k (record { at = place e; typed = t }) ≡ Err f → (v : FixedPlan) → IsValue s k e v → ⊥
 refused_value s k e t f h p v i =
     let r : ValueInferred s k e v = value_inferred s k e v i in
     let q : infer s e ≡ Ok t = means_inferred s e t h in

@@ -2,7 +2,7 @@
 -- number of the next local after them.
 use Rattle.std.specs.Prelude.{ℕ, Result}
 use Rattle.sym_base.specs.Trees.{StmtTree}
-use Rattle.sym_check.specs.declared.elaborate.error.RuleErr.{RuleErr}
+use Rattle.sym_check.specs.declared.elaborate.error.CheckErr.{CheckErr}
 use Rattle.sym_check.specs.declared.elaborate.keeping.KeptCell.{KeptCell}
 use Rattle.sym_check.specs.declared.elaborate.statement.LocalValue.{LocalValue}
 use Rattle.sym_check.specs.declared.elaborate.target.Target.{Target as TargetCell}
@@ -35,5 +35,5 @@ planned_dos next ds = record { plan = dos_plan ds; next = next }
 
 -- The plan of a statement that declares nothing, whatever is hidden and however many locals stand
 -- before it, or why it has none.
-abbrev pub Plans : Scope → StmtTree → Result Do RuleErr → Type 0
+abbrev pub Plans : Scope → StmtTree → Result Do CheckErr → Type 0
 Plans s x result = (hidden : Scope) (n : ℕ) → Answers (planned_do s n) (statement hidden s n x) result

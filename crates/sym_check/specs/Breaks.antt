@@ -8,8 +8,8 @@ use Rattle.sym_base.specs.Trees.{ExprTree, Num, Words, Named, Call, Neg, Not, Bi
 use Rattle.sym_check.specs.declared.plan.script.KindPlan.{KindPlan}
 use Rattle.sym_check.specs.FixedPlans.{FixedPlan}
 use Rattle.sym_check.specs.LinePlans.{TermPlan}
-use Rattle.sym_check.specs.declared.elaborate.error.RuleErr.{RuleErr}
-use Rattle.sym_check.specs.declared.elaborate.error.RuleErr.TheVariants as broken
+use Rattle.sym_check.specs.declared.elaborate.error.CheckErr.{CheckErr}
+use Rattle.sym_check.specs.declared.elaborate.error.CheckErr.TheVariants as broken
 use Rattle.sym_check.specs.declared.elaborate.scope.Meaning.{Meaning}
 use Rattle.sym_check.specs.Scopes.{Scope, Stands, IsFree}
 use Rattle.sym_check.specs.declared.elaborate.scope.Meaning.TheVariants as meaning
@@ -103,13 +103,13 @@ pub data WrongCall (s : Scope) (x : Name) (params : List KindPlan) (n : ℕ) : E
       → WrongCall s x params n e es at
 
 mutual
-  pub data Breaks (s : Scope) : ExprTree → RuleErr → Type 0 where
+  pub data Breaks (s : Scope) : ExprTree → CheckErr → Type 0 where
     unknown : (x : Name) → IsFree s x → Breaks s (Named x) (broken.Name x.at)
     no_value : (x : Name) (m : Meaning)
         → Stands s x m
         → (HasMeaning s (Named x) → ⊥)
         → Breaks s (Named x) (broken.Kind x.at)
-    in_negated : (e : ExprTree) (at : ℕ) (f : RuleErr) → Breaks s e f → Breaks s (Neg e at) f
+    in_negated : (e : ExprTree) (at : ℕ) (f : CheckErr) → Breaks s e f → Breaks s (Neg e at) f
     negated_cell : (e : ExprTree) (at : ℕ) (t : Typed)
         → Means s e t
         → (IsOperand t → ⊥)
@@ -119,7 +119,7 @@ mutual
         → IsOperand t
         → (HasMeaning s (Neg e at) → ⊥)
         → Breaks s (Neg e at) (broken.Kind at)
-    in_not : (e : ExprTree) (at : ℕ) (f : RuleErr) → Breaks s e f → Breaks s (Not e at) f
+    in_not : (e : ExprTree) (at : ℕ) (f : CheckErr) → Breaks s e f → Breaks s (Not e at) f
     not_cell : (e : ExprTree) (at : ℕ) (t : Typed)
         → Means s e t
         → (IsOperand t → ⊥)
@@ -129,14 +129,14 @@ mutual
         → IsOperand t
         → (HasMeaning s (Not e at) → ⊥)
         → Breaks s (Not e at) (broken.Kind at)
-    in_left : (o : BinOp) (l r : ExprTree) (at : ℕ) (f : RuleErr)
+    in_left : (o : BinOp) (l r : ExprTree) (at : ℕ) (f : CheckErr)
         → Breaks s l f
         → Breaks s (Bin o l r at) f
     left_cell : (o : BinOp) (l r : ExprTree) (at : ℕ) (t : Typed)
         → Means s l t
         → (IsLeft o t → ⊥)
         → Breaks s (Bin o l r at) (broken.Kind (place l))
-    in_right : (o : BinOp) (l r : ExprTree) (at : ℕ) (t : Typed) (f : RuleErr)
+    in_right : (o : BinOp) (l r : ExprTree) (at : ℕ) (t : Typed) (f : CheckErr)
         → Means s l t
         → IsLeft o t
         → Breaks s r f
@@ -167,7 +167,7 @@ mutual
     no_arguments : (x : Name) (t : ℕ) (params : List KindPlan)
         → Stands s x (meaning.Test t params)
         → Breaks s (Call x End) (broken.Kind x.at)
-    in_first : (x : Name) (e : ExprTree) (es : ExprsTree) (t : ℕ) (params : List KindPlan) (f : RuleErr)
+    in_first : (x : Name) (e : ExprTree) (es : ExprsTree) (t : ℕ) (params : List KindPlan) (f : CheckErr)
         → Stands s x (meaning.Test t params)
         → Breaks s e f
         → Breaks s (Call x (More e es)) f
@@ -176,7 +176,7 @@ mutual
         → Means s e u
         → (IsFirst u → ⊥)
         → Breaks s (Call x (More e es)) (broken.Kind (place e))
-    in_others : (x : Name) (e : ExprTree) (es : ExprsTree) (t : ℕ) (params : List KindPlan) (u : Typed) (f : RuleErr)
+    in_others : (x : Name) (e : ExprTree) (es : ExprsTree) (t : ℕ) (params : List KindPlan) (u : Typed) (f : CheckErr)
         → Stands s x (meaning.Test t params)
         → Means s e u
         → IsFirst u
@@ -189,15 +189,15 @@ mutual
         → Breaks s (Call x (More e es)) (broken.Kind at)
 
   -- The first broken rule inside operands, one after the other.
-  pub data BreaksOperands (s : Scope) : ExprsTree → RuleErr → Type 0 where
-    in_operand : (e : ExprTree) (es : ExprsTree) (f : RuleErr)
+  pub data BreaksOperands (s : Scope) : ExprsTree → CheckErr → Type 0 where
+    in_operand : (e : ExprTree) (es : ExprsTree) (f : CheckErr)
         → Breaks s e f
         → BreaksOperands s (More e es) f
     operand_cell : (e : ExprTree) (es : ExprsTree) (t : Typed)
         → Means s e t
         → (IsOperand t → ⊥)
         → BreaksOperands s (More e es) (broken.Kind (place e))
-    in_rest : (e : ExprTree) (es : ExprsTree) (t : Typed) (f : RuleErr)
+    in_rest : (e : ExprTree) (es : ExprsTree) (t : Typed) (f : CheckErr)
         → Means s e t
         → IsOperand t
         → BreaksOperands s es f

@@ -19,8 +19,8 @@ use Rattle.sym_base.specs.Trees.{ExprTree, TestTree}
 use Rattle.sym_check.specs.declared.plan.script.KindPlan.{KindPlan}
 use Rattle.sym_check.specs.declared.plan.script.KindPlan.TheVariants as kind
 use Rattle.sym_check.specs.CondPlans.{CondPlan}
-use Rattle.sym_check.specs.declared.elaborate.error.RuleErr.{RuleErr}
-use Rattle.sym_check.specs.declared.elaborate.error.RuleErr.TheVariants as broken
+use Rattle.sym_check.specs.declared.elaborate.error.CheckErr.{CheckErr}
+use Rattle.sym_check.specs.declared.elaborate.error.CheckErr.TheVariants as broken
 use Rattle.sym_check.specs.declared.elaborate.scope.Variable.TheVariants as var
 use Rattle.sym_check.specs.declared.elaborate.scope.Meaning.{Meaning}
 use Rattle.sym_check.specs.Scopes.{Scope, entry, Stands, IsFree, in_tests}
@@ -32,7 +32,7 @@ use Rattle.sym_check.specs.InOrder.{Each, FirstBroken}
 use Rattle.sym_check.specs.Declarations.{unfinished, IsKindOf, IsLiteral, IsLabelDecl, IsParamDecl}
 
 -- A name that is to stand for an enum.
-pub data BreaksKind (s : Scope) : KindRef → RuleErr → Type 0 where
+pub data BreaksKind (s : Scope) : KindRef → CheckErr → Type 0 where
   unknown_kind : (x : Name) → IsFree s x → BreaksKind s (ref.Named x) (broken.Name x.at)
   no_enum : (x : Name) (m : Meaning)
       → Stands s x m
@@ -50,41 +50,41 @@ IsVisible s (literal.Num n at) = Unit {0}
 IsVisible s (literal.Text t at) = Unit {0}
 IsVisible s (literal.Named x) = (m : Meaning) × Stands s x m
 
-pub data BreaksLiteral (s : Scope) (k : KindPlan) : Literal → RuleErr → Type 0 where
+pub data BreaksLiteral (s : Scope) (k : KindPlan) : Literal → CheckErr → Type 0 where
   unknown_label : (x : Name) → IsFree s x → BreaksLiteral s k (literal.Named x) (broken.Name x.at)
   other_kind : (l : Literal)
       → IsVisible s l
       → ((v : Value) → IsLiteral s k l v → ⊥)
       → BreaksLiteral s k l (broken.Kind (literal_place l))
 
-pub data BreaksLabel (s : Scope) (n : ℕ) : Name → RuleErr → Type 0 where
+pub data BreaksLabel (s : Scope) (n : ℕ) : Name → CheckErr → Type 0 where
   label_taken : (x : Name) (m : Meaning) → Stands s x m → BreaksLabel s n x (broken.Twice x.at)
 
-pub data BreaksEnum (s : Scope) (n : ℕ) : EnumDecl → RuleErr → Type 0 where
+pub data BreaksEnum (s : Scope) (n : ℕ) : EnumDecl → CheckErr → Type 0 where
   enum_taken : (d : EnumDecl) (m : Meaning)
       → Stands s d.name m
       → BreaksEnum s n d (broken.Twice d.name.at)
-  in_labels : (d : EnumDecl) (f : RuleErr)
+  in_labels : (d : EnumDecl) (f : CheckErr)
       → IsFree s d.name
       → FirstBroken (IsLabelDecl n) BreaksLabel (s ++ entry d.name (meaning.Enum n) ∷ []) 0 d.labels f
       → BreaksEnum s n d f
 
-pub data BreaksField (s : Scope) (n : ℕ) : FieldDecl → RuleErr → Type 0 where
+pub data BreaksField (s : Scope) (n : ℕ) : FieldDecl → CheckErr → Type 0 where
   field_taken : (d : FieldDecl) (m : Meaning)
       → Stands s d.name m
       → BreaksField s n d (broken.Twice d.name.at)
-  in_field_kind : (d : FieldDecl) (f : RuleErr)
+  in_field_kind : (d : FieldDecl) (f : CheckErr)
       → IsFree s d.name
       → BreaksKind (unfinished s d.name) d.kind f
       → BreaksField s n d f
-  in_default : (d : FieldDecl) (k : KindPlan) (l : Literal) (f : RuleErr)
+  in_default : (d : FieldDecl) (k : KindPlan) (l : Literal) (f : CheckErr)
       → IsFree s d.name
       → IsKindOf (unfinished s d.name) d.kind k
       → d.default ≡ Some l
       → BreaksLiteral (unfinished s d.name) k l f
       → BreaksField s n d f
 
-pub data BreaksGroup (s : Scope) : Option Name → RuleErr → Type 0 where
+pub data BreaksGroup (s : Scope) : Option Name → CheckErr → Type 0 where
   unknown_group : (x : Name) → IsFree s x → BreaksGroup s (Some x) (broken.Name x.at)
   no_field : (x : Name) (m : Meaning)
       → Stands s x m
@@ -92,71 +92,71 @@ pub data BreaksGroup (s : Scope) : Option Name → RuleErr → Type 0 where
       → BreaksGroup s (Some x) (broken.Kind x.at)
 
 -- Parts go one by one, a kind before its literal.
-pub data BreaksParts (s : Scope) : List Part → RuleErr → Type 0 where
-  in_part_kind : (d : Part) (rest : List Part) (f : RuleErr)
+pub data BreaksParts (s : Scope) : List Part → CheckErr → Type 0 where
+  in_part_kind : (d : Part) (rest : List Part) (f : CheckErr)
       → BreaksKind s d.kind f
       → BreaksParts s (d ∷ rest) f
-  in_part_literal : (d : Part) (rest : List Part) (k : KindPlan) (f : RuleErr)
+  in_part_literal : (d : Part) (rest : List Part) (k : KindPlan) (f : CheckErr)
       → IsKindOf s d.kind k
       → BreaksLiteral s k d.first f
       → BreaksParts s (d ∷ rest) f
-  in_other_parts : (d : Part) (rest : List Part) (k : KindPlan) (v : Value) (f : RuleErr)
+  in_other_parts : (d : Part) (rest : List Part) (k : KindPlan) (v : Value) (f : CheckErr)
       → IsKindOf s d.kind k
       → IsLiteral s k d.first v
       → BreaksParts s rest f
       → BreaksParts s (d ∷ rest) f
 
 -- `at` is the place of the state's name.
-pub data BreaksCell (s : Scope) (at : ℕ) : CellDecl → RuleErr → Type 0 where
+pub data BreaksCell (s : Scope) (at : ℕ) : CellDecl → CheckErr → Type 0 where
   no_int_range : (lo hi first : ℤ)
       → (InRange lo hi first → ⊥)
       → BreaksCell s at (cell.Int lo hi first) (broken.Range at)
   no_nums_range : (lo hi : ℤ)
       → (lo ≤ℤ hi → ⊥)
       → BreaksCell s at (cell.Nums lo hi) (broken.Range at)
-  in_parts : (parts : List Part) (f : RuleErr)
+  in_parts : (parts : List Part) (f : CheckErr)
       → BreaksParts s parts f
       → BreaksCell s at (cell.Hold parts) f
-  in_enum : (of first : Name) (f : RuleErr)
+  in_enum : (of first : Name) (f : CheckErr)
       → BreaksKind s (ref.Named of) f
       → BreaksCell s at (cell.Enum of first) f
-  in_label : (of first : Name) (enum : ℕ) (f : RuleErr)
+  in_label : (of first : Name) (enum : ℕ) (f : CheckErr)
       → Stands s of (meaning.Enum enum)
       → BreaksLiteral s (kind.Label enum) (literal.Named first) f
       → BreaksCell s at (cell.Enum of first) f
 
-pub data BreaksState (s : Scope) (n : ℕ) : StateDecl → RuleErr → Type 0 where
+pub data BreaksState (s : Scope) (n : ℕ) : StateDecl → CheckErr → Type 0 where
   state_taken : (d : StateDecl) (m : Meaning)
       → Stands s d.name m
       → BreaksState s n d (broken.Twice d.name.at)
-  in_cell : (d : StateDecl) (f : RuleErr)
+  in_cell : (d : StateDecl) (f : CheckErr)
       → IsFree s d.name
       → BreaksCell (unfinished s d.name) d.name.at d.cell f
       → BreaksState s n d f
 
 -- A parameter's name is taken by any name of the script, or by an earlier parameter.
-pub data BreaksParam (names : List (List ℕ)) (s params : Scope) (n : ℕ) : Param → RuleErr → Type 0 where
+pub data BreaksParam (names : List (List ℕ)) (s params : Scope) (n : ℕ) : Param → CheckErr → Type 0 where
   name_of_script : (d : Param)
       → Contains names d.name.text
       → BreaksParam names s params n d (broken.Twice d.name.at)
   param_taken : (d : Param) (m : Meaning)
       → Stands params d.name m
       → BreaksParam names s params n d (broken.Twice d.name.at)
-  in_param_kind : (d : Param) (f : RuleErr)
+  in_param_kind : (d : Param) (f : CheckErr)
       → (Contains names d.name.text → ⊥)
       → IsFree params d.name
       → BreaksKind s d.kind f
       → BreaksParam names s params n d f
 
-pub data BreaksTest (names : List (List ℕ)) (s : Scope) (n : ℕ) : TestTree → RuleErr → Type 0 where
+pub data BreaksTest (names : List (List ℕ)) (s : Scope) (n : ℕ) : TestTree → CheckErr → Type 0 where
   test_taken : (d : TestTree) (m : Meaning)
       → Stands s d.name m
       → BreaksTest names s n d (broken.Twice d.name.at)
-  in_params : (d : TestTree) (f : RuleErr)
+  in_params : (d : TestTree) (f : CheckErr)
       → IsFree s d.name
       → FirstBroken (IsParamDecl names (unfinished s d.name)) (BreaksParam names (unfinished s d.name)) [] 0 d.params f
       → BreaksTest names s n d f
-  in_body : (d : TestTree) (ks : List KindPlan) (params : Scope) (f : RuleErr)
+  in_body : (d : TestTree) (ks : List KindPlan) (params : Scope) (f : CheckErr)
       → IsFree s d.name
       → Each (IsParamDecl names (unfinished s d.name)) [] 0 d.params ks params
       → Breaks (in_tests s ++ params) d.body f

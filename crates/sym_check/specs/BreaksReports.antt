@@ -7,8 +7,8 @@ use Rattle.sym_check.specs.declared.plan.script.KindPlan.{KindPlan}
 use Rattle.sym_check.specs.declared.plan.show.ShowFn.{ShowFn}
 use Rattle.sym_check.specs.Columns.{ShownAs}
 use Rattle.sym_check.specs.ShowPlans.{ShowPlan}
-use Rattle.sym_check.specs.declared.elaborate.error.RuleErr.{RuleErr}
-use Rattle.sym_check.specs.declared.elaborate.error.RuleErr.TheVariants as broken
+use Rattle.sym_check.specs.declared.elaborate.error.CheckErr.{CheckErr}
+use Rattle.sym_check.specs.declared.elaborate.error.CheckErr.TheVariants as broken
 use Rattle.sym_check.specs.declared.elaborate.scope.Meaning.{Meaning}
 use Rattle.sym_check.specs.Scopes.{Scope, Stands, IsFree}
 use Rattle.sym_check.specs.declared.elaborate.scope.Meaning.TheVariants as meaning
@@ -44,21 +44,21 @@ pub record IsOutside (s : Scope) (f h : Name) (k : ℕ) : Type 0 where
   pub outside : (k ≡ 0) ⊎ (length kinds < k)
 
 mutual
-  pub data BreaksShown (s : Scope) : ExprTree → RuleErr → Type 0 where
+  pub data BreaksShown (s : Scope) : ExprTree → CheckErr → Type 0 where
     unknown : (x : Name) → IsFree s x → BreaksShown s (Named x) (broken.Name x.at)
-    in_negated : (e : ExprTree) (at : ℕ) (f : RuleErr)
+    in_negated : (e : ExprTree) (at : ℕ) (f : CheckErr)
         → BreaksShown s e f
         → BreaksShown s (Neg e at) f
     not_negated : (e : ExprTree) (at : ℕ)
         → IsSeen s e
         → (GivesSomething s (Neg e at) → ⊥)
         → BreaksShown s (Neg e at) (broken.Kind at)
-    in_not : (e : ExprTree) (at : ℕ) (f : RuleErr) → BreaksShown s e f → BreaksShown s (Not e at) f
+    in_not : (e : ExprTree) (at : ℕ) (f : CheckErr) → BreaksShown s e f → BreaksShown s (Not e at) f
     no_condition : (e : ExprTree) (at : ℕ) → IsSeen s e → BreaksShown s (Not e at) (broken.Kind at)
-    in_left : (o : BinOp) (l r : ExprTree) (at : ℕ) (f : RuleErr)
+    in_left : (o : BinOp) (l r : ExprTree) (at : ℕ) (f : CheckErr)
         → BreaksShown s l f
         → BreaksShown s (Bin o l r at) f
-    in_right : (o : BinOp) (l r : ExprTree) (at : ℕ) (f : RuleErr)
+    in_right : (o : BinOp) (l r : ExprTree) (at : ℕ) (f : CheckErr)
         → IsSeen s l
         → BreaksShown s r f
         → BreaksShown s (Bin o l r at) f
@@ -70,7 +70,7 @@ mutual
     no_function : (x : Name) (es : ExprsTree)
         → (IsFunction x → ⊥)
         → BreaksShown s (Call x es) (broken.Name x.at)
-    in_argument : (x : Name) (es : ExprsTree) (f : RuleErr)
+    in_argument : (x : Name) (es : ExprsTree) (f : CheckErr)
         → IsFunction x
         → BreakShown s es f
         → BreaksShown s (Call x es) f
@@ -85,20 +85,20 @@ mutual
         → BreaksShown s (Call x es) (broken.Kind x.at)
 
   -- Arguments, one after the other.
-  pub data BreakShown (s : Scope) : ExprsTree → RuleErr → Type 0 where
-    in_first : (e : ExprTree) (es : ExprsTree) (f : RuleErr)
+  pub data BreakShown (s : Scope) : ExprsTree → CheckErr → Type 0 where
+    in_first : (e : ExprTree) (es : ExprsTree) (f : CheckErr)
         → BreaksShown s e f
         → BreakShown s (More e es) f
-    in_others : (e : ExprTree) (es : ExprsTree) (f : RuleErr)
+    in_others : (e : ExprTree) (es : ExprsTree) (f : CheckErr)
         → IsSeen s e
         → BreakShown s es f
         → BreakShown s (More e es) f
 
-pub data BreaksColumn (s columns : Scope) (n : ℕ) : ColumnTree → RuleErr → Type 0 where
+pub data BreaksColumn (s columns : Scope) (n : ℕ) : ColumnTree → CheckErr → Type 0 where
   column_taken : (d : ColumnTree) (m : Meaning)
       → Stands columns d.name m
       → BreaksColumn s columns n d (broken.Twice d.name.at)
-  in_value : (d : ColumnTree) (f : RuleErr)
+  in_value : (d : ColumnTree) (f : CheckErr)
       → IsFree columns d.name
       → BreaksShown s d.value f
       → BreaksColumn s columns n d f

@@ -7,8 +7,8 @@ use Rattle.sym_check.specs.declared.plan.script.KindPlan.{KindPlan}
 use Rattle.sym_check.specs.FixedPlans.{FixedPlan}
 use Rattle.sym_check.specs.CondPlans.{CondPlan}
 use Rattle.sym_check.specs.DoPlans.{DoPlan, DosPlan}
-use Rattle.sym_check.specs.declared.elaborate.error.RuleErr.{RuleErr}
-use Rattle.sym_check.specs.declared.elaborate.error.RuleErr.TheVariants as broken
+use Rattle.sym_check.specs.declared.elaborate.error.CheckErr.{CheckErr}
+use Rattle.sym_check.specs.declared.elaborate.error.CheckErr.TheVariants as broken
 use Rattle.sym_check.specs.declared.elaborate.scope.Meaning.{Meaning}
 use Rattle.sym_check.specs.Scopes.{Scope, Stands, IsFree}
 use Rattle.sym_check.specs.declared.elaborate.scope.Meaning.TheVariants as meaning
@@ -56,7 +56,7 @@ IsKeptCell (meaning.WordsCell c) = ⊥
 IsKeptCell (meaning.Test t ks) = ⊥
 
 -- A name that is to stand for one of these cells, and doesn't.
-pub data BreaksName (s : Scope) (wanted : Meaning → Type 0) (x : Name) : RuleErr → Type 0 where
+pub data BreaksName (s : Scope) (wanted : Meaning → Type 0) (x : Name) : CheckErr → Type 0 where
   unknown : IsFree s x → BreaksName s wanted x (broken.Name x.at)
   wrong_cell : (m : Meaning)
       → Stands s x m
@@ -74,14 +74,14 @@ abbrev pub HasNoPlan : Scope → Scope → ℕ → StmtTree → Type 0
 HasNoPlan hidden s n d = (p : DoPlan) (later : Scope) (m : ℕ) → IsStmt hidden s n d p later m → ⊥
 
 mutual
-  pub data BreaksStmt (hidden : Scope) : Scope → ℕ → StmtTree → RuleErr → Type 0 where
+  pub data BreaksStmt (hidden : Scope) : Scope → ℕ → StmtTree → CheckErr → Type 0 where
     let_hidden : (s : Scope) (n : ℕ) (x : Name) (e : ExprTree) (m : Meaning)
         → Stands hidden x m
         → BreaksStmt hidden s n (Let x e) (broken.Twice x.at)
     let_taken : (s : Scope) (n : ℕ) (x : Name) (e : ExprTree) (m : Meaning)
         → Stands s x m
         → BreaksStmt hidden s n (Let x e) (broken.Twice x.at)
-    in_let : (s : Scope) (n : ℕ) (x : Name) (e : ExprTree) (f : RuleErr)
+    in_let : (s : Scope) (n : ℕ) (x : Name) (e : ExprTree) (f : CheckErr)
         → IsFree hidden x
         → IsFree s x
         → Breaks s e f
@@ -92,10 +92,10 @@ mutual
         → Means s e t
         → ((k : KindPlan) (v : FixedPlan) → IsValue s k e v → ⊥)
         → BreaksStmt hidden s n (Let x e) (broken.Kind (place e))
-    set_name : (s : Scope) (n : ℕ) (x : Name) (e : ExprTree) (f : RuleErr)
+    set_name : (s : Scope) (n : ℕ) (x : Name) (e : ExprTree) (f : CheckErr)
         → BreaksName s IsAssignedCell x f
         → BreaksStmt hidden s n (Set x e) f
-    in_set : (s : Scope) (n : ℕ) (x : Name) (e : ExprTree) (f : RuleErr)
+    in_set : (s : Scope) (n : ℕ) (x : Name) (e : ExprTree) (f : CheckErr)
         → Names s IsAssignedCell x
         → Breaks s e f
         → BreaksStmt hidden s n (Set x e) f
@@ -104,10 +104,10 @@ mutual
         → Means s e t
         → HasNoPlan hidden s n (Set x e)
         → BreaksStmt hidden s n (Set x e) (broken.Kind (place e))
-    push_name : (s : Scope) (n : ℕ) (x : Name) (e : ExprTree) (f : RuleErr)
+    push_name : (s : Scope) (n : ℕ) (x : Name) (e : ExprTree) (f : CheckErr)
         → BreaksName s IsPushedCell x f
         → BreaksStmt hidden s n (Push x e) f
-    in_push : (s : Scope) (n : ℕ) (x : Name) (e : ExprTree) (f : RuleErr)
+    in_push : (s : Scope) (n : ℕ) (x : Name) (e : ExprTree) (f : CheckErr)
         → Names s IsPushedCell x
         → Breaks s e f
         → BreaksStmt hidden s n (Push x e) f
@@ -116,10 +116,10 @@ mutual
         → Means s e t
         → HasNoPlan hidden s n (Push x e)
         → BreaksStmt hidden s n (Push x e) (broken.Kind (place e))
-    keep_name : (s : Scope) (n : ℕ) (x : Name) (es : ExprsTree) (f : RuleErr)
+    keep_name : (s : Scope) (n : ℕ) (x : Name) (es : ExprsTree) (f : CheckErr)
         → BreaksName s IsKeptCell x f
         → BreaksStmt hidden s n (Keep x es) f
-    in_keep : (s : Scope) (n : ℕ) (x : Name) (es : ExprsTree) (f : RuleErr)
+    in_keep : (s : Scope) (n : ℕ) (x : Name) (es : ExprsTree) (f : CheckErr)
         → Names s IsKeptCell x
         → BreaksOperands s es f
         → BreaksStmt hidden s n (Keep x es) f
@@ -133,10 +133,10 @@ mutual
         → AreOperands s es (length ks)
         → WrongValue s ks es at
         → BreaksStmt hidden s n (Keep x es) (broken.Kind at)
-    keep_from_name : (s : Scope) (n : ℕ) (x y : Name) (f : RuleErr)
+    keep_from_name : (s : Scope) (n : ℕ) (x y : Name) (f : CheckErr)
         → BreaksName s IsKeptCell x f
         → BreaksStmt hidden s n (KeepFrom x y) f
-    from_name : (s : Scope) (n : ℕ) (x y : Name) (f : RuleErr)
+    from_name : (s : Scope) (n : ℕ) (x y : Name) (f : CheckErr)
         → Names s IsKeptCell x
         → BreaksName s IsKeptCell y f
         → BreaksStmt hidden s n (KeepFrom x y) f
@@ -145,28 +145,28 @@ mutual
         → Names s IsKeptCell y
         → HasNoPlan hidden s n (KeepFrom x y)
         → BreaksStmt hidden s n (KeepFrom x y) (broken.Kind y.at)
-    in_if : (s : Scope) (n : ℕ) (e : ExprTree) (a b : StmtsTree) (f : RuleErr)
+    in_if : (s : Scope) (n : ℕ) (e : ExprTree) (a b : StmtsTree) (f : CheckErr)
         → Breaks s e f
         → BreaksStmt hidden s n (If e a b) f
     no_condition : (s : Scope) (n : ℕ) (e : ExprTree) (a b : StmtsTree) (t : Typed)
         → Means s e t
         → ((c : CondPlan) → IsCondition s e c → ⊥)
         → BreaksStmt hidden s n (If e a b) (broken.Kind (place e))
-    in_then : (s : Scope) (n : ℕ) (e : ExprTree) (a b : StmtsTree) (c : CondPlan) (f : RuleErr)
+    in_then : (s : Scope) (n : ℕ) (e : ExprTree) (a b : StmtsTree) (c : CondPlan) (f : CheckErr)
         → IsCondition s e c
         → BreaksBlock hidden s n a f
         → BreaksStmt hidden s n (If e a b) f
-    in_else : (s : Scope) (n m : ℕ) (e : ExprTree) (a b : StmtsTree) (c : CondPlan) (ds : DosPlan) (f : RuleErr)
+    in_else : (s : Scope) (n m : ℕ) (e : ExprTree) (a b : StmtsTree) (c : CondPlan) (ds : DosPlan) (f : CheckErr)
         → IsCondition s e c
         → IsBlock hidden s n a ds m
         → BreaksBlock hidden s m b f
         → BreaksStmt hidden s n (If e a b) f
 
-  pub data BreaksBlock (hidden : Scope) : Scope → ℕ → StmtsTree → RuleErr → Type 0 where
-    in_statement : (s : Scope) (n : ℕ) (first : StmtTree) (rest : StmtsTree) (f : RuleErr)
+  pub data BreaksBlock (hidden : Scope) : Scope → ℕ → StmtsTree → CheckErr → Type 0 where
+    in_statement : (s : Scope) (n : ℕ) (first : StmtTree) (rest : StmtsTree) (f : CheckErr)
         → BreaksStmt hidden s n first f
         → BreaksBlock hidden s n (Then first rest) f
-    in_rest : (s later : Scope) (n m : ℕ) (first : StmtTree) (rest : StmtsTree) (d : DoPlan) (f : RuleErr)
+    in_rest : (s later : Scope) (n m : ℕ) (first : StmtTree) (rest : StmtsTree) (d : DoPlan) (f : CheckErr)
         → IsStmt hidden s n first d later m
         → BreaksBlock hidden later m rest f
         → BreaksBlock hidden s n (Then first rest) f

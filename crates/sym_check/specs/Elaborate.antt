@@ -21,8 +21,8 @@ use Rattle.sym_check.specs.LinePlans.{LinePlan, TermPlan}
 use Rattle.sym_check.specs.LinePlans as line
 use Rattle.sym_check.specs.CondPlans.{CondPlan}
 use Rattle.sym_check.specs.CondPlans as cond
-use Rattle.sym_check.specs.declared.elaborate.error.RuleErr.{RuleErr}
-use Rattle.sym_check.specs.declared.elaborate.error.RuleErr.TheVariants as broken
+use Rattle.sym_check.specs.declared.elaborate.error.CheckErr.{CheckErr}
+use Rattle.sym_check.specs.declared.elaborate.error.CheckErr.TheVariants as broken
 use Rattle.sym_check.specs.declared.elaborate.scope.Variable.{Variable}
 use Rattle.sym_check.specs.declared.elaborate.scope.Meaning.{Meaning}
 use Rattle.sym_check.specs.Scopes.{Scope, find}
@@ -30,14 +30,14 @@ use Rattle.sym_check.specs.declared.elaborate.scope.Meaning.TheVariants as meani
 use Rattle.sym_check.specs.Typing.{num_variable, word_variable, label_variable, turned, Typed, Number, Word, Label, EnumCell, HoldCell, Truth}
 use Rattle.sym_check.specs.Breaks.{place}
 
-abbrev pub kind_at : {A : Type 0} → ℕ → Result A RuleErr
+abbrev pub kind_at : {A : Type 0} → ℕ → Result A CheckErr
 kind_at at = Err (broken.Kind at)
 
 abbrev pub same_kind : KindPlan → KindPlan → Bool
 same_kind k other = (kinds.ghosts).eq k other
 
 -- Cells that have no number are refused where a value is wanted.
-abbrev pub no_cell : ℕ → Typed → Result Typed RuleErr
+abbrev pub no_cell : ℕ → Typed → Result Typed CheckErr
 no_cell at (Number t) = Ok (Number t)
 no_cell at (Word w) = Ok (Word w)
 no_cell at (Label enum l) = Ok (Label enum l)
@@ -46,12 +46,12 @@ no_cell at (HoldCell c ks) = kind_at at
 no_cell at (Truth c) = Ok (Truth c)
 
 -- But an enum cell to the left of `is`,
-abbrev pub left_of : BinOp → ℕ → Typed → Result Typed RuleErr
+abbrev pub left_of : BinOp → ℕ → Typed → Result Typed CheckErr
 left_of op.Is at (EnumCell c enum) = Ok (EnumCell c enum)
 left_of o at t = no_cell at t
 
 -- and a hold cell as the first argument of a call.
-abbrev pub first_of : ℕ → Typed → Result Typed RuleErr
+abbrev pub first_of : ℕ → Typed → Result Typed CheckErr
 first_of at (Number t) = Ok (Number t)
 first_of at (Word w) = Ok (Word w)
 first_of at (Label enum l) = Ok (Label enum l)
@@ -65,7 +65,7 @@ variable kind.Word v = Word (word_variable v)
 variable (kind.Label enum) v = Label enum (label_variable v)
 
 -- What a name stands for in an expression.
-abbrev pub named : ℕ → Option Meaning → Result Typed RuleErr
+abbrev pub named : ℕ → Option Meaning → Result Typed CheckErr
 named at None = Err (broken.Name at)
 named at (Some meaning.Unfinished) = kind_at at
 named at (Some (meaning.Enum enum)) = kind_at at
@@ -83,7 +83,7 @@ pub record TestNamed : Type 0 where
   pub params : List KindPlan
 
 -- The test that a call names.
-abbrev pub test_named : ℕ → Option Meaning → Result TestNamed RuleErr
+abbrev pub test_named : ℕ → Option Meaning → Result TestNamed CheckErr
 test_named at None = Err (broken.Name at)
 test_named at (Some meaning.Unfinished) = kind_at at
 test_named at (Some (meaning.Enum enum)) = kind_at at
@@ -100,70 +100,70 @@ abbrev pub opposite : TermPlan → TermPlan
 opposite (line.OfNum n) = line.OfNum (fixed.Neg n)
 opposite (line.OfLine k) = line.OfLine (line.Neg k)
 
-abbrev pub negated : ℕ → Typed → Result Typed RuleErr
+abbrev pub negated : ℕ → Typed → Result Typed CheckErr
 negated at (Number t) = Ok (Number (opposite t))
 negated at _ = kind_at at
 
-abbrev pub condition : ℕ → Typed → Result CondPlan RuleErr
+abbrev pub condition : ℕ → Typed → Result CondPlan CheckErr
 condition at (Truth c) = Ok c
 condition at _ = kind_at at
 
-abbrev pub inverted : ℕ → Typed → Result Typed RuleErr
+abbrev pub inverted : ℕ → Typed → Result Typed CheckErr
 inverted at t = do
   c ← condition at t
   Ok (Truth (cond.Not c))
 
-abbrev pub both : (CondPlan → CondPlan → CondPlan) → ℕ → Typed → Typed → Result Typed RuleErr
+abbrev pub both : (CondPlan → CondPlan → CondPlan) → ℕ → Typed → Typed → Result Typed CheckErr
 both make at t u = do
   c ← condition at t
   d ← condition at u
   Ok (Truth (make c d))
 
 -- A sum, a difference or a product; a line takes a fixed number beside it.
-abbrev pub added : ℕ → TermPlan → TermPlan → Result TermPlan RuleErr
+abbrev pub added : ℕ → TermPlan → TermPlan → Result TermPlan CheckErr
 added at (line.OfNum m) (line.OfNum n) = Ok (line.OfNum (fixed.Bin arith.Add m n))
 added at (line.OfNum n) (line.OfLine k) = Ok (line.OfLine (line.Add k n))
 added at (line.OfLine k) (line.OfNum n) = Ok (line.OfLine (line.Add k n))
 added at (line.OfLine k) (line.OfLine m) = Err (broken.NotLinear at)
 
-abbrev pub subtracted : ℕ → TermPlan → TermPlan → Result TermPlan RuleErr
+abbrev pub subtracted : ℕ → TermPlan → TermPlan → Result TermPlan CheckErr
 subtracted at (line.OfNum m) (line.OfNum n) = Ok (line.OfNum (fixed.Bin arith.Sub m n))
 subtracted at (line.OfNum n) (line.OfLine k) = Ok (line.OfLine (line.Add (line.Neg k) n))
 subtracted at (line.OfLine k) (line.OfNum n) = Ok (line.OfLine (line.Add k (fixed.Neg n)))
 subtracted at (line.OfLine k) (line.OfLine m) = Err (broken.NotLinear at)
 
-abbrev pub multiplied : ℕ → TermPlan → TermPlan → Result TermPlan RuleErr
+abbrev pub multiplied : ℕ → TermPlan → TermPlan → Result TermPlan CheckErr
 multiplied at (line.OfNum m) (line.OfNum n) = Ok (line.OfNum (fixed.Bin arith.Mul m n))
 multiplied at (line.OfNum n) (line.OfLine k) = Ok (line.OfLine (line.Scale n k))
 multiplied at (line.OfLine k) (line.OfNum n) = Ok (line.OfLine (line.Scale n k))
 multiplied at (line.OfLine k) (line.OfLine m) = Err (broken.NotLinear at)
 
 -- Quotients and remainders are of fixed numbers alone.
-abbrev pub quotient_of : ArithOp → ℕ → TermPlan → TermPlan → Result TermPlan RuleErr
+abbrev pub quotient_of : ArithOp → ℕ → TermPlan → TermPlan → Result TermPlan CheckErr
 quotient_of a at (line.OfNum m) (line.OfNum n) = Ok (line.OfNum (fixed.Bin a m n))
 quotient_of a at (line.OfNum n) (line.OfLine k) = Err (broken.NotLinear at)
 quotient_of a at (line.OfLine k) (line.OfNum n) = Err (broken.NotLinear at)
 quotient_of a at (line.OfLine k) (line.OfLine m) = Err (broken.NotLinear at)
 
 -- A line stands to the left of its comparison in the plan.
-abbrev pub compared : Compare → ℕ → TermPlan → TermPlan → Result CondPlan RuleErr
+abbrev pub compared : Compare → ℕ → TermPlan → TermPlan → Result CondPlan CheckErr
 compared c at (line.OfNum m) (line.OfNum n) = Ok (cond.Compared c (line.OfNum m) n)
 compared c at (line.OfNum n) (line.OfLine k) = Ok (cond.Compared (turned c) (line.OfLine k) n)
 compared c at (line.OfLine k) (line.OfNum n) = Ok (cond.Compared c (line.OfLine k) n)
 compared c at (line.OfLine k) (line.OfLine m) = Err (broken.NotLinear at)
 
-abbrev pub term_of : ℕ → Typed → Result TermPlan RuleErr
+abbrev pub term_of : ℕ → Typed → Result TermPlan CheckErr
 term_of at (Number t) = Ok t
 term_of at _ = kind_at at
 
-abbrev pub arithmetic : (ℕ → TermPlan → TermPlan → Result TermPlan RuleErr) → ℕ → Typed → Typed → Result Typed RuleErr
+abbrev pub arithmetic : (ℕ → TermPlan → TermPlan → Result TermPlan CheckErr) → ℕ → Typed → Typed → Result Typed CheckErr
 arithmetic rule at t u = do
   x ← term_of at t
   y ← term_of at u
   z ← rule at x y
   Ok (Number z)
 
-abbrev pub ordered : Compare → ℕ → Typed → Typed → Result Typed RuleErr
+abbrev pub ordered : Compare → ℕ → Typed → Typed → Result Typed CheckErr
 ordered c at t u = do
   x ← term_of at t
   y ← term_of at u
@@ -171,22 +171,22 @@ ordered c at t u = do
   Ok (Truth z)
 
 -- Two words, or two numbers.
-abbrev pub equal : ℕ → Typed → Typed → Result Typed RuleErr
+abbrev pub equal : ℕ → Typed → Typed → Result Typed CheckErr
 equal at (Word v) (Word w) = Ok (Truth (cond.Words v w))
 equal at t u = ordered compare.Eq at t u
 
-abbrev pub different : ℕ → Typed → Typed → Result Typed RuleErr
+abbrev pub different : ℕ → Typed → Typed → Result Typed CheckErr
 different at (Word v) (Word w) = Ok (Truth (cond.Not (cond.Words v w)))
 different at t u = ordered compare.Ne at t u
 
 -- Labels of one enum, the left one maybe that of a cell.
-abbrev pub labels_joined : ℕ → Typed → Typed → Result Typed RuleErr
+abbrev pub labels_joined : ℕ → Typed → Typed → Result Typed CheckErr
 labels_joined at (Label enum l) (Label other m) = if enum == other then Ok (Truth (cond.LabelIs l m)) else kind_at at
 labels_joined at (EnumCell c enum) (Label other l) = if enum == other then Ok (Truth (cond.CellIs c l)) else kind_at at
 labels_joined at t u = kind_at at
 
 -- What the operator makes of its operands.
-abbrev pub joined : BinOp → ℕ → Typed → Typed → Result Typed RuleErr
+abbrev pub joined : BinOp → ℕ → Typed → Typed → Result Typed CheckErr
 joined op.Or at t u = both cond.Or at t u
 joined op.And at t u = both cond.And at t u
 joined op.Eq at t u = equal at t u
@@ -208,17 +208,17 @@ pub record Located : Type 0 where
   pub typed : Typed
 
 -- The value, where it is of the kind and names no cell.
-abbrev pub value_of : KindPlan → Located → Result FixedPlan RuleErr
+abbrev pub value_of : KindPlan → Located → Result FixedPlan CheckErr
 value_of wanted a = of_kind wanted a.typed
   where
-    of_kind : KindPlan → Typed → Result FixedPlan RuleErr
+    of_kind : KindPlan → Typed → Result FixedPlan CheckErr
     of_kind kind.Num (Number (line.OfNum n)) = Ok (fixed.OfNum n)
     of_kind kind.Word (Word w) = Ok (fixed.OfWord w)
     of_kind (kind.Label enum) (Label other l) = if enum == other then Ok (fixed.OfLabel l) else kind_at a.at
     of_kind _ _ = kind_at a.at
 
 -- As many values as kinds.
-abbrev pub values_of : List KindPlan → List Located → Result (List FixedPlan) RuleErr
+abbrev pub values_of : List KindPlan → List Located → Result (List FixedPlan) CheckErr
 values_of [] located = Ok []
 values_of (k ∷ ks) [] = Ok []
 values_of (k ∷ ks) (a ∷ rest) = do
@@ -231,7 +231,7 @@ pub record Arguments : Type 0 where
   pub others : List Located
 
 -- A call whose arguments are right by themselves: their number first, then the cell, then the others.
-abbrev pub called_on : ℕ → TestNamed → Arguments → Typed → Result Typed RuleErr
+abbrev pub called_on : ℕ → TestNamed → Arguments → Typed → Result Typed CheckErr
 called_on at test args (HoldCell c ks) =
     if length args.others == length test.params - length ks
     then (if pointwise same_kind ks (take (length ks) test.params)
@@ -243,7 +243,7 @@ called_on at test args (HoldCell c ks) =
 called_on at test args _ = kind_at args.first.at
 
 abbrev mutual
-  pub infer : Scope → ExprTree → Result Typed RuleErr
+  pub infer : Scope → ExprTree → Result Typed CheckErr
   infer s (Num n at) = Ok (Number (line.OfNum (fixed.Lit n)))
   infer s (Words t at) = Ok (Word (word.Lit t))
   infer s (Named x) = named x.at (find s x.text)
@@ -267,7 +267,7 @@ abbrev mutual
     joined o at u w
 
   -- The arguments of a call; there is at least one.
-  pub arguments : Scope → ℕ → ExprsTree → Result Arguments RuleErr
+  pub arguments : Scope → ℕ → ExprsTree → Result Arguments CheckErr
   arguments s at End = kind_at at
   arguments s at (More e es) = do
     t ← infer s e
@@ -276,7 +276,7 @@ abbrev mutual
     Ok (record { first = record { at = place e; typed = u }; others = others })
 
   -- Operands, one after the other.
-  pub operands : Scope → ExprsTree → Result (List Located) RuleErr
+  pub operands : Scope → ExprsTree → Result (List Located) CheckErr
   operands s End = Ok []
   operands s (More e es) = do
     t ← infer s e

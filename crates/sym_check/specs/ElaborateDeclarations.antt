@@ -25,8 +25,8 @@ use Rattle.sym_check.specs.declared.plan.script.CellPlan.{CellPlan}
 use Rattle.sym_check.specs.declared.plan.script.CellPlan.TheVariants as plan
 use Rattle.sym_check.specs.Arithmetic.{◌>>=◌, and_then}
 use Rattle.sym_check.specs.ScriptPlans.{TestOf}
-use Rattle.sym_check.specs.declared.elaborate.error.RuleErr.{RuleErr}
-use Rattle.sym_check.specs.declared.elaborate.error.RuleErr.TheVariants as broken
+use Rattle.sym_check.specs.declared.elaborate.error.CheckErr.{CheckErr}
+use Rattle.sym_check.specs.declared.elaborate.error.CheckErr.TheVariants as broken
 use Rattle.sym_check.specs.Conditions.{same_word}
 use Rattle.sym_check.specs.declared.elaborate.scope.Variable.TheVariants as var
 use Rattle.sym_check.specs.declared.elaborate.scope.Meaning.{Meaning}
@@ -39,7 +39,7 @@ use Rattle.sym_check.specs.InOrder.{Planned, each}
 use Rattle.sym_check.specs.Declarations.{unfinished}
 
 -- The enum that a name stands for.
-abbrev pub enum_named : ℕ → Option Meaning → Result ℕ RuleErr
+abbrev pub enum_named : ℕ → Option Meaning → Result ℕ CheckErr
 enum_named at None = Err (broken.Name at)
 enum_named at (Some meaning.Unfinished) = kind_at at
 enum_named at (Some (meaning.Enum enum)) = Ok enum
@@ -53,7 +53,7 @@ enum_named at (Some (meaning.WordsCell c)) = kind_at at
 enum_named at (Some (meaning.Test t ks)) = kind_at at
 
 -- The label of an enum that a name stands for.
-abbrev pub label_named : ℕ → ℕ → Option Meaning → Result ℕ RuleErr
+abbrev pub label_named : ℕ → ℕ → Option Meaning → Result ℕ CheckErr
 label_named wanted at None = Err (broken.Name at)
 label_named wanted at (Some meaning.Unfinished) = kind_at at
 label_named wanted at (Some (meaning.Enum enum)) = kind_at at
@@ -67,7 +67,7 @@ label_named wanted at (Some (meaning.WordsCell c)) = kind_at at
 label_named wanted at (Some (meaning.Test t ks)) = kind_at at
 
 -- The field that a name stands for.
-abbrev pub field_named : ℕ → Option Meaning → Result ℕ RuleErr
+abbrev pub field_named : ℕ → Option Meaning → Result ℕ CheckErr
 field_named at None = Err (broken.Name at)
 field_named at (Some meaning.Unfinished) = kind_at at
 field_named at (Some (meaning.Enum enum)) = kind_at at
@@ -82,7 +82,7 @@ field_named at (Some (meaning.NumsCell c)) = kind_at at
 field_named at (Some (meaning.WordsCell c)) = kind_at at
 field_named at (Some (meaning.Test t ks)) = kind_at at
 
-abbrev pub kind_of : Scope → KindRef → Result KindPlan RuleErr
+abbrev pub kind_of : Scope → KindRef → Result KindPlan CheckErr
 kind_of s ref.Num = Ok kind.Num
 kind_of s ref.Word = Ok kind.Word
 kind_of s (ref.Named x) = do
@@ -90,11 +90,11 @@ kind_of s (ref.Named x) = do
   Ok (kind.Label enum)
 
 -- No label, though its name may stand for something.
-abbrev pub no_label : {A : Type 0} → ℕ → Option Meaning → Result A RuleErr
+abbrev pub no_label : {A : Type 0} → ℕ → Option Meaning → Result A CheckErr
 no_label at None = Err (broken.Name at)
 no_label at (Some m) = kind_at at
 
-abbrev pub literal_of : Scope → KindPlan → Literal → Result Value RuleErr
+abbrev pub literal_of : Scope → KindPlan → Literal → Result Value CheckErr
 literal_of s kind.Num (literal.Num n at) = Ok (value.Num n)
 literal_of s kind.Num (literal.Text t at) = kind_at at
 literal_of s kind.Num (literal.Named x) = no_label x.at (find s x.text)
@@ -107,26 +107,26 @@ literal_of s (kind.Label enum) (literal.Named x) = do
   l ← label_named enum x.at (find s x.text)
   Ok (value.Label l)
 
-abbrev pub default_of : Scope → KindPlan → Option Literal → Result (Option Value) RuleErr
+abbrev pub default_of : Scope → KindPlan → Option Literal → Result (Option Value) CheckErr
 default_of s k None = Ok None
 default_of s k (Some l) = do
   v ← literal_of s k l
   Ok (Some v)
 
-abbrev pub label_decl : ℕ → Scope → ℕ → Name → Result (Planned (List ℕ)) RuleErr
+abbrev pub label_decl : ℕ → Scope → ℕ → Name → Result (Planned (List ℕ)) CheckErr
 label_decl enum s n x =
     unless_taken x.at (find s x.text) (Ok (record {
       plan = x.text;
       scope = s ++ entry x (meaning.Label enum n) ∷ [];
     }))
 
-abbrev pub enum_decl : Scope → ℕ → EnumDecl → Result (Planned EnumPlan) RuleErr
+abbrev pub enum_decl : Scope → ℕ → EnumDecl → Result (Planned EnumPlan) CheckErr
 enum_decl s n d =
     unless_taken d.name.at (find s d.name.text) (do
       labels ← each (label_decl n) (s ++ entry d.name (meaning.Enum n) ∷ []) 0 d.labels
       Ok (record { plan = record { labels = labels.plan }; scope = labels.scope }))
 
-abbrev pub field_decl : Scope → ℕ → FieldDecl → Result (Planned FieldPlan) RuleErr
+abbrev pub field_decl : Scope → ℕ → FieldDecl → Result (Planned FieldPlan) CheckErr
 field_decl s n d =
     unless_taken d.name.at (find s d.name.text) (do
       k ← kind_of (unfinished s d.name) d.kind
@@ -136,7 +136,7 @@ field_decl s n d =
         scope = s ++ entry d.name (meaning.Value k (var.Field n)) ∷ [];
       }))
 
-abbrev pub group_of : Scope → Option Name → Result (Option ℕ) RuleErr
+abbrev pub group_of : Scope → Option Name → Result (Option ℕ) CheckErr
 group_of s None = Ok None
 group_of s (Some x) = do
   n ← field_named x.at (find s x.text)
@@ -146,7 +146,7 @@ pub record PlannedParts : Type 0 where
   pub kinds : List KindPlan
   pub firsts : List Value
 
-abbrev pub parts_of : Scope → List Part → Result PlannedParts RuleErr
+abbrev pub parts_of : Scope → List Part → Result PlannedParts CheckErr
 parts_of s [] = Ok (record { kinds = []; firsts = [] })
 parts_of s (d ∷ rest) = do
   k ← kind_of s d.kind
@@ -159,7 +159,7 @@ pub record PlannedCell : Type 0 where
   pub meaning : Meaning
 
 -- The place is that of the state's name.
-abbrev pub cell_of : Scope → ℕ → ℕ → CellDecl → Result PlannedCell RuleErr
+abbrev pub cell_of : Scope → ℕ → ℕ → CellDecl → Result PlannedCell CheckErr
 cell_of s n at (cell.Int lo hi first) =
     if int_le lo first && int_le first hi
     then Ok (record { plan = plan.Int lo hi first; meaning = meaning.IntCell n })
@@ -177,22 +177,22 @@ cell_of s n at (cell.Enum of first) = do
   l ← label_named enum first.at (find s first.text)
   Ok (record { plan = plan.Enum enum l; meaning = meaning.EnumCell n enum })
 
-abbrev pub state_decl : Scope → ℕ → StateDecl → Result (Planned CellPlan) RuleErr
+abbrev pub state_decl : Scope → ℕ → StateDecl → Result (Planned CellPlan) CheckErr
 state_decl s n d =
     unless_taken d.name.at (find s d.name.text) (do
       c ← cell_of (unfinished s d.name) n d.name.at d.cell
       Ok (record { plan = c.plan; scope = s ++ entry d.name c.meaning ∷ [] }))
 
-abbrev pub unless_named : {A : Type 0} → List (List ℕ) → Name → Result A RuleErr → Result A RuleErr
+abbrev pub unless_named : {A : Type 0} → List (List ℕ) → Name → Result A CheckErr → Result A CheckErr
 unless_named names x next = if list_any (same_word x.text) names then Err (broken.Twice x.at) else next
 
-abbrev pub param_decl : List (List ℕ) → Scope → Scope → ℕ → Param → Result (Planned KindPlan) RuleErr
+abbrev pub param_decl : List (List ℕ) → Scope → Scope → ℕ → Param → Result (Planned KindPlan) CheckErr
 param_decl names s params n d =
     unless_named names d.name (unless_taken d.name.at (find params d.name.text) (do
       k ← kind_of s d.kind
       Ok (record { plan = k; scope = params ++ entry d.name (meaning.Value k (var.Param n)) ∷ [] })))
 
-abbrev pub test_decl : List (List ℕ) → Scope → ℕ → TestTree → Result (Planned TestOf) RuleErr
+abbrev pub test_decl : List (List ℕ) → Scope → ℕ → TestTree → Result (Planned TestOf) CheckErr
 test_decl names s n d =
     unless_taken d.name.at (find s d.name.text) (do
       params ← each (param_decl names (unfinished s d.name)) [] 0 d.params

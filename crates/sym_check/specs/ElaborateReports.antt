@@ -12,8 +12,8 @@ use Rattle.sym_check.specs.Arithmetic.{◌>>=◌, and_then}
 use Rattle.sym_check.specs.ShowPlans.{ShowPlan}
 use Rattle.sym_check.specs.ShowPlans as show
 use Rattle.sym_check.specs.ScriptPlans.{ColumnOf}
-use Rattle.sym_check.specs.declared.elaborate.error.RuleErr.{RuleErr}
-use Rattle.sym_check.specs.declared.elaborate.error.RuleErr.TheVariants as broken
+use Rattle.sym_check.specs.declared.elaborate.error.CheckErr.{CheckErr}
+use Rattle.sym_check.specs.declared.elaborate.error.CheckErr.TheVariants as broken
 use Rattle.sym_check.specs.declared.elaborate.scope.Meaning.{Meaning}
 use Rattle.sym_check.specs.Scopes.{Scope, entry, find}
 use Rattle.sym_check.specs.declared.elaborate.scope.Meaning.TheVariants as meaning
@@ -35,7 +35,7 @@ pub data Seen : Type 0 where
   Parts : ℕ → List KindPlan → Seen
 
 -- What the name of a cell stands for in the report.
-abbrev pub seen : ℕ → Option Meaning → Result Seen RuleErr
+abbrev pub seen : ℕ → Option Meaning → Result Seen CheckErr
 seen at None = Err (broken.Name at)
 seen at (Some meaning.Unfinished) = kind_at at
 seen at (Some (meaning.Enum enum)) = kind_at at
@@ -48,7 +48,7 @@ seen at (Some (meaning.NumsCell c)) = Ok (NumList c)
 seen at (Some (meaning.WordsCell c)) = Ok (WordList c)
 seen at (Some (meaning.Test t ks)) = kind_at at
 
-abbrev pub shown_number : ℕ → Seen → Result ShowPlan RuleErr
+abbrev pub shown_number : ℕ → Seen → Result ShowPlan CheckErr
 shown_number at (Numeral n place) = Ok (show.Num n)
 shown_number at (Number p) = Ok p
 shown_number at (Word p) = kind_at at
@@ -57,7 +57,7 @@ shown_number at (WordList c) = kind_at at
 shown_number at (Parts c ks) = kind_at at
 
 -- A column's whole value; the place is that of the expression.
-abbrev pub shown : ℕ → Seen → Result ShowPlan RuleErr
+abbrev pub shown : ℕ → Seen → Result ShowPlan CheckErr
 shown at (Numeral n place) = Ok (show.Num n)
 shown at (Number p) = Ok p
 shown at (Word p) = Ok p
@@ -65,7 +65,7 @@ shown at (NumList c) = Ok (show.Cell c)
 shown at (WordList c) = Ok (show.Cell c)
 shown at (Parts c ks) = kind_at at
 
-abbrev pub calculated_by : ℕ → Option ArithOp → Seen → Seen → Result Seen RuleErr
+abbrev pub calculated_by : ℕ → Option ArithOp → Seen → Seen → Result Seen CheckErr
 calculated_by at None l r = kind_at at
 calculated_by at (Some a) l r = do
   p ← shown_number at l
@@ -78,20 +78,20 @@ part_seen kind.Word p = Word p
 part_seen (kind.Label enum) p = Word p
 
 -- The part with a number that counts from 1; `place` is that number's.
-abbrev pub part_at : ℕ → ℕ → List KindPlan → ℕ → Result Seen RuleErr
+abbrev pub part_at : ℕ → ℕ → List KindPlan → ℕ → Result Seen CheckErr
 part_at place c ks k = found (slice_get ks (k - 1))
   where
-    found : Option KindPlan → Result Seen RuleErr
+    found : Option KindPlan → Result Seen CheckErr
     found None = Err (broken.Range place)
     found (Some of) = if k == 0 then Err (broken.Range place) else Ok (part_seen of (show.Part c k))
 
 -- A number of an expression has no sign of its own.
-abbrev pub part_by : ℕ → ℕ → ℕ → List KindPlan → ℤ → Result Seen RuleErr
+abbrev pub part_by : ℕ → ℕ → ℕ → List KindPlan → ℤ → Result Seen CheckErr
 part_by at place c ks (pos k) = part_at place c ks k
 part_by at place c ks (negsuc k) = kind_at at
 
 -- The first or the last word of a list of words, or their number.
-abbrev pub of_word_list : ℕ → ShowFn → ℕ → Result Seen RuleErr
+abbrev pub of_word_list : ℕ → ShowFn → ℕ → Result Seen CheckErr
 of_word_list at show_fn.Count c = Ok (Number (show.Call show_fn.Count c))
 of_word_list at show_fn.First c = Ok (Word (show.Call show_fn.First c))
 of_word_list at show_fn.Last c = Ok (Word (show.Call show_fn.Last c))
@@ -99,22 +99,22 @@ of_word_list at show_fn.Sum c = kind_at at
 of_word_list at show_fn.Min c = kind_at at
 of_word_list at show_fn.Max c = kind_at at
 
-abbrev pub of_list : ℕ → ShowFn → List Seen → Result Seen RuleErr
+abbrev pub of_list : ℕ → ShowFn → List Seen → Result Seen CheckErr
 of_list at f (NumList c ∷ []) = Ok (Number (show.Call f c))
 of_list at f (WordList c ∷ []) = of_word_list at f c
 of_list at f _ = kind_at at
 
-abbrev pub of_parts : ℕ → List Seen → Result Seen RuleErr
+abbrev pub of_parts : ℕ → List Seen → Result Seen CheckErr
 of_parts at (Parts c ks ∷ Numeral n place ∷ []) = part_by at place c ks n
 of_parts at _ = kind_at at
 
 -- The function whose name this is, of what its arguments come to.
-abbrev pub applied : ℕ → Option ShowFn → List Seen → Result Seen RuleErr
+abbrev pub applied : ℕ → Option ShowFn → List Seen → Result Seen CheckErr
 applied at (Some f) found = of_list at f found
 applied at None found = of_parts at found
 
 abbrev mutual
-  pub see : Scope → ExprTree → Result Seen RuleErr
+  pub see : Scope → ExprTree → Result Seen CheckErr
   see s (Num n at) = Ok (Numeral n at)
   see s (Words t at) = Ok (Word (show.Text t))
   see s (Named x) = seen x.at (find s x.text)
@@ -136,14 +136,14 @@ abbrev mutual
     u ← see s r
     calculated_by at (arith_of o) t u
 
-  pub see_all : Scope → ExprsTree → Result (List Seen) RuleErr
+  pub see_all : Scope → ExprsTree → Result (List Seen) CheckErr
   see_all s End = Ok []
   see_all s (More e es) = do
     t ← see s e
     rest ← see_all s es
     Ok (t ∷ rest)
 
-abbrev pub column_decl : Scope → Scope → ℕ → ColumnTree → Result (Planned ColumnOf) RuleErr
+abbrev pub column_decl : Scope → Scope → ℕ → ColumnTree → Result (Planned ColumnOf) CheckErr
 column_decl s columns n d =
     unless_taken d.name.at (find columns d.name.text) (do
       t ← see s d.value

@@ -11,8 +11,8 @@ use Rattle.sym_check.specs.FixedPlans as fixed
 use Rattle.sym_check.specs.LinePlans as line
 use Rattle.sym_check.specs.DoPlans.{DoPlan, DosPlan}
 use Rattle.sym_check.specs.DoPlans as plan
-use Rattle.sym_check.specs.declared.elaborate.error.RuleErr.{RuleErr}
-use Rattle.sym_check.specs.declared.elaborate.error.RuleErr.TheVariants as broken
+use Rattle.sym_check.specs.declared.elaborate.error.CheckErr.{CheckErr}
+use Rattle.sym_check.specs.declared.elaborate.error.CheckErr.TheVariants as broken
 use Rattle.sym_check.specs.declared.elaborate.scope.Meaning.{Meaning}
 use Rattle.sym_check.specs.Scopes.{Scope, find}
 use Rattle.sym_check.specs.declared.elaborate.scope.Meaning.TheVariants as meaning
@@ -22,7 +22,7 @@ use Rattle.sym_check.specs.Elaborate.{kind_at, same_kind, Located, values_of, co
 use Rattle.sym_check.specs.Statements.{local_entry}
 
 -- Goes on where a name isn't taken.
-abbrev pub unless_taken : {A : Type 0} → ℕ → Option Meaning → Result A RuleErr → Result A RuleErr
+abbrev pub unless_taken : {A : Type 0} → ℕ → Option Meaning → Result A CheckErr → Result A CheckErr
 unless_taken at None next = next
 unless_taken at (Some m) next = Err (broken.Twice at)
 
@@ -31,7 +31,7 @@ pub record LetValue : Type 0 where
   pub kind : KindPlan
   pub value : FixedPlan
 
-abbrev pub let_value : ℕ → Typed → Result LetValue RuleErr
+abbrev pub let_value : ℕ → Typed → Result LetValue CheckErr
 let_value at (Number (line.OfNum n)) = Ok (record { kind = kind.Num; value = fixed.OfNum n })
 let_value at (Number (line.OfLine k)) = kind_at at
 let_value at (Word w) = Ok (record { kind = kind.Word; value = fixed.OfWord w })
@@ -48,7 +48,7 @@ pub data Target : Type 0 where
   ToWords : ℕ → Target
 
 -- The cell that an assignment names.
-abbrev pub assigned : ℕ → Option Meaning → Result Target RuleErr
+abbrev pub assigned : ℕ → Option Meaning → Result Target CheckErr
 assigned at None = Err (broken.Name at)
 assigned at (Some meaning.Unfinished) = kind_at at
 assigned at (Some (meaning.Enum enum)) = kind_at at
@@ -62,7 +62,7 @@ assigned at (Some (meaning.WordsCell c)) = kind_at at
 assigned at (Some (meaning.Test t ks)) = kind_at at
 
 -- The cell that a push names.
-abbrev pub pushed : ℕ → Option Meaning → Result Target RuleErr
+abbrev pub pushed : ℕ → Option Meaning → Result Target CheckErr
 pushed at None = Err (broken.Name at)
 pushed at (Some meaning.Unfinished) = kind_at at
 pushed at (Some (meaning.Enum enum)) = kind_at at
@@ -80,7 +80,7 @@ pub record Kept : Type 0 where
   pub kinds : List KindPlan
 
 -- The cell that a `keep` names.
-abbrev pub kept : ℕ → Option Meaning → Result Kept RuleErr
+abbrev pub kept : ℕ → Option Meaning → Result Kept CheckErr
 kept at None = Err (broken.Name at)
 kept at (Some meaning.Unfinished) = kind_at at
 kept at (Some (meaning.Enum enum)) = kind_at at
@@ -94,7 +94,7 @@ kept at (Some (meaning.WordsCell c)) = kind_at at
 kept at (Some (meaning.Test t ks)) = kind_at at
 
 -- What is stored in the target; another enum cell is copied.
-abbrev pub placed_in : ℕ → Target → Typed → Result DoPlan RuleErr
+abbrev pub placed_in : ℕ → Target → Typed → Result DoPlan CheckErr
 placed_in at (ToInt c) (Number t) = Ok (plan.SetInt c t)
 placed_in at (ToEnum c enum) (Label other l) = if enum == other then Ok (plan.SetEnum c l) else kind_at at
 placed_in at (ToEnum c enum) (EnumCell d other) = if (enum == other) && not (c == d) then Ok (plan.CopyEnum c d) else kind_at at
@@ -103,7 +103,7 @@ placed_in at (ToWords c) (Word w) = Ok (plan.PushWord c w)
 placed_in at _ _ = kind_at at
 
 -- As many values as parts, else the place is that of the cell's name.
-abbrev pub kept_values : ℕ → Kept → List Located → Result DoPlan RuleErr
+abbrev pub kept_values : ℕ → Kept → List Located → Result DoPlan CheckErr
 kept_values at k found =
     if length found == length k.kinds
     then (do
@@ -111,7 +111,7 @@ kept_values at k found =
       Ok (plan.Keep k.cell vs))
     else kind_at at
 
-abbrev pub kept_from : ℕ → Kept → Kept → Result DoPlan RuleErr
+abbrev pub kept_from : ℕ → Kept → Kept → Result DoPlan CheckErr
 kept_from at k from =
     if pointwise same_kind k.kinds from.kinds && not (k.cell == from.cell)
     then Ok (plan.KeepFrom k.cell from.cell)
@@ -128,7 +128,7 @@ pub record PlannedDos : Type 0 where
   pub next : ℕ
 
 abbrev mutual
-  pub statement : Scope → Scope → ℕ → StmtTree → Result PlannedDo RuleErr
+  pub statement : Scope → Scope → ℕ → StmtTree → Result PlannedDo CheckErr
   statement hidden s n (Let x e) =
       unless_taken x.at (find hidden x.text) (unless_taken x.at (find s x.text) (do
         t ← infer s e
@@ -161,7 +161,7 @@ abbrev mutual
     right ← block hidden s left.next b
     Ok (record { plan = plan.If c left.plan right.plan; scope = s; next = right.next })
 
-  pub block : Scope → Scope → ℕ → StmtsTree → Result PlannedDos RuleErr
+  pub block : Scope → Scope → ℕ → StmtsTree → Result PlannedDos CheckErr
   block hidden s n Done = Ok (record { plan = plan.End; next = n })
   block hidden s n (Then first rest) = do
     d ← statement hidden s n first

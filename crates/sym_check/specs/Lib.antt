@@ -1,6 +1,3 @@
-pub mod CounterTrees
-pub mod Steps
-pub mod CheckedScripts
 pub mod FixedPlans
 pub mod LinePlans
 pub mod CondPlans
@@ -43,4 +40,4 @@ pub mod CalledTests
 pub mod Showing
 pub mod WholeScripts
 pub mod PlanSets
-pub mod CheckedPlans
+pub mod CheckedScripts

@@ -1,6 +1,6 @@
 -- The rules by which operators join their operands.
 use Rattle.std.specs.Prelude.{ℕ, Result, Ok}
-use Rattle.sym_check.specs.declared.elaborate.error.RuleErr.{RuleErr}
+use Rattle.sym_check.specs.declared.elaborate.error.CheckErr.{CheckErr}
 use Rattle.sym_check.specs.declared.plan.expression.ArithOp.{ArithOp}
 use Rattle.sym_check.specs.declared.plan.expression.ArithOp.TheVariants as arith
 use Rattle.sym_check.specs.declared.plan.expression.WordOf.{WordOf}
@@ -12,7 +12,7 @@ use Rattle.sym_check.specs.LinePlans.{TermPlan}
 use Rattle.sym_check.specs.Typing.{Typed, Word, Truth}
 
 -- The rule of an operator of arithmetic.
-abbrev pub rule_of : ArithOp → ℕ → TermPlan → TermPlan → Result TermPlan RuleErr
+abbrev pub rule_of : ArithOp → ℕ → TermPlan → TermPlan → Result TermPlan CheckErr
 rule_of arith.Add = added
 rule_of arith.Sub = subtracted
 rule_of arith.Mul = multiplied
@@ -20,7 +20,7 @@ rule_of arith.Div = quotient_of arith.Div
 rule_of arith.Rem = quotient_of arith.Rem
 
 -- Whether a word is another operand, which is a word too.
-abbrev pub words_joined : ℕ → WordOf → Typed → Result CondPlan RuleErr
+abbrev pub words_joined : ℕ → WordOf → Typed → Result CondPlan CheckErr
 words_joined at v (Word w) = Ok (cond.Words v w)
 words_joined at v _ = kind_at at
 

@@ -17,7 +17,7 @@ use Rattle.sym_check.specs.contracts.plan.script.KindPlan as kind_row
 use Rattle.sym_check.specs.contracts.plan.script.EnumPlan as enum_row
 use Rattle.sym_check.specs.contracts.plan.script.FieldPlan as field_row
 use Rattle.sym_check.specs.contracts.plan.script.CellPlan as cell_row
-use Rattle.sym_check.specs.contracts.elaborate.error.RuleErr as error_row
+use Rattle.sym_check.specs.contracts.elaborate.error.CheckErr as error_row
 use Rattle.sym_check.specs.declared.plan.expression.ArithOp.{ArithOp}
 use Rattle.sym_check.specs.declared.plan.expression.WordOf.{WordOf}
 use Rattle.sym_check.specs.declared.plan.expression.LabelOf.{LabelOf}
@@ -26,7 +26,7 @@ use Rattle.sym_check.specs.declared.plan.script.KindPlan.{KindPlan}
 use Rattle.sym_check.specs.declared.plan.script.EnumPlan.{EnumPlan}
 use Rattle.sym_check.specs.declared.plan.script.FieldPlan.{FieldPlan}
 use Rattle.sym_check.specs.declared.plan.script.CellPlan.{CellPlan}
-use Rattle.sym_check.specs.declared.elaborate.error.RuleErr.{RuleErr}
+use Rattle.sym_check.specs.declared.elaborate.error.CheckErr.{CheckErr}
 use Rattle.sym_check.specs.FixedPlans.{NumPlan, FixedPlan}
 use Rattle.sym_check.specs.FixedPlans as fixed
 use Rattle.sym_check.specs.LinePlans.{LinePlan, TermPlan}
@@ -82,8 +82,8 @@ FieldPlan-set = Coded-set field_row.the_row.coded
 CellPlan-set : IsSet CellPlan
 CellPlan-set = Coded-set cell_row.the_row.coded
 
-RuleErr-set : IsSet RuleErr
-RuleErr-set = Coded-set error_row.the_row.coded
+CheckErr-set : IsSet CheckErr
+CheckErr-set = Coded-set error_row.the_row.coded
 
 data NumCopy : Type 0 where
   num_lit : ℤ → NumCopy
@@ -406,25 +406,25 @@ ScriptPlan-set a b p q = λ i j. record {
 
 data OutcomeCopy : Type 0 where
   outcome_ok : ScriptPlan → OutcomeCopy
-  outcome_err : RuleErr → OutcomeCopy
+  outcome_err : CheckErr → OutcomeCopy
   deriving IsSet as OutcomeCopy-set
 
-abbrev to_outcome : Result ScriptPlan RuleErr → OutcomeCopy
+abbrev to_outcome : Result ScriptPlan CheckErr → OutcomeCopy
 to_outcome (Ok p) = outcome_ok p
 to_outcome (Err e) = outcome_err e
 
-abbrev of_outcome : OutcomeCopy → Result ScriptPlan RuleErr
+abbrev of_outcome : OutcomeCopy → Result ScriptPlan CheckErr
 of_outcome (outcome_ok p) = Ok p
 of_outcome (outcome_err e) = Err e
 
-same_outcome : (x : Result ScriptPlan RuleErr) → of_outcome (to_outcome x) ≡ x
+same_outcome : (x : Result ScriptPlan CheckErr) → of_outcome (to_outcome x) ≡ x
 same_outcome (Ok p) = refl
 same_outcome (Err e) = refl
 
-Outcome-set : IsSet (Result ScriptPlan RuleErr)
+Outcome-set : IsSet (Result ScriptPlan CheckErr)
 Outcome-set =
     retract_set to_outcome of_outcome same_outcome
-    (OutcomeCopy-set ScriptPlan-set RuleErr-set)
+    (OutcomeCopy-set ScriptPlan-set CheckErr-set)
 
 -- The script has this plan, which it has in at most one way.
 abbrev pub IsPlanned : Script → Plan → Type 0

@@ -12,8 +12,8 @@ use Rattle.sym_check.specs.Arithmetic.{◌>>=◌, and_then}
 use Rattle.sym_check.specs.PathBounds.{path_bound}
 use Rattle.sym_check.specs.ScriptPlans.{ScriptPlan, ColumnOf}
 use Rattle.sym_check.specs.DoPlans.{DosPlan}
-use Rattle.sym_check.specs.declared.elaborate.error.RuleErr.{RuleErr}
-use Rattle.sym_check.specs.declared.elaborate.error.RuleErr.TheVariants as broken
+use Rattle.sym_check.specs.declared.elaborate.error.CheckErr.{CheckErr}
+use Rattle.sym_check.specs.declared.elaborate.error.CheckErr.TheVariants as broken
 use Rattle.sym_check.specs.Scopes.{Scope, hidden, in_update, in_report}
 use Rattle.sym_check.specs.InOrder.{Each, FirstBroken, each}
 use Rattle.sym_check.specs.Declarations.{IsEnumDecl, IsFieldDecl, IsGroup, IsStateDecl, IsTestDecl}
@@ -67,33 +67,33 @@ pub record IsAccepted (t : ScriptTree) (p : ScriptPlan) : Type 0 where
   pub few : path_bound p.update ≤ limit.PATHS_MAX
 
 -- The first broken rule of a script. `p` has the plans of what stands before.
-pub data BreaksScript (t : ScriptTree) : RuleErr → Type 0 where
-  in_enums : (f : RuleErr)
+pub data BreaksScript (t : ScriptTree) : CheckErr → Type 0 where
+  in_enums : (f : CheckErr)
       → FirstBroken IsEnumDecl BreaksEnum [] 0 t.enums f
       → BreaksScript t f
-  in_fields : (p : ScriptPlan) (s : Scope) (f : RuleErr)
+  in_fields : (p : ScriptPlan) (s : Scope) (f : CheckErr)
       → Each IsEnumDecl [] 0 t.enums p.enums s
       → FirstBroken IsFieldDecl BreaksField s 0 t.fields f
       → BreaksScript t f
-  in_group : (p : ScriptPlan) (s later : Scope) (f : RuleErr)
+  in_group : (p : ScriptPlan) (s later : Scope) (f : CheckErr)
       → Each IsEnumDecl [] 0 t.enums p.enums s
       → Each IsFieldDecl s 0 t.fields p.fields later
       → BreaksGroup later t.group f
       → BreaksScript t f
-  in_states : (p : ScriptPlan) (s : Scope) (f : RuleErr)
+  in_states : (p : ScriptPlan) (s : Scope) (f : CheckErr)
       → HaveFields t p s
       → FirstBroken IsStateDecl BreaksState s 0 t.states f
       → BreaksScript t f
-  in_tests : (p : ScriptPlan) (s later : Scope) (f : RuleErr)
+  in_tests : (p : ScriptPlan) (s later : Scope) (f : CheckErr)
       → HaveFields t p s
       → Each IsStateDecl s 0 t.states p.cells later
       → FirstBroken (IsTestDecl (names t)) (BreaksTest (names t)) later 0 t.tests f
       → BreaksScript t f
-  in_block : (p : ScriptPlan) (s : Scope) (f : RuleErr)
+  in_block : (p : ScriptPlan) (s : Scope) (f : CheckErr)
       → AreDeclared t p s
       → BreaksBlock (hidden s) (in_update s) 0 t.update f
       → BreaksScript t f
-  in_columns : (p : ScriptPlan) (s : Scope) (locals : ℕ) (f : RuleErr)
+  in_columns : (p : ScriptPlan) (s : Scope) (locals : ℕ) (f : CheckErr)
       → AreDeclared t p s
       → IsBlock (hidden s) (in_update s) 0 t.update p.update locals
       → FirstBroken (IsColumnDecl (in_report s)) (BreaksColumn (in_report s)) [] 0 t.columns f
@@ -104,14 +104,14 @@ pub data BreaksScript (t : ScriptTree) : RuleErr → Type 0 where
       → BreaksScript t (broken.Branchy (path_bound p.update))
 
 -- Tried last, when all else stands.
-abbrev pub bounded : ScriptPlan → Result ScriptPlan RuleErr
+abbrev pub bounded : ScriptPlan → Result ScriptPlan CheckErr
 bounded p =
     if nat_le (path_bound p.update) limit.PATHS_MAX
     then Ok p
     else Err (broken.Branchy (path_bound p.update))
 
 -- The plan of a script, or its first broken rule.
-abbrev pub plan_of : ScriptTree → Result ScriptPlan RuleErr
+abbrev pub plan_of : ScriptTree → Result ScriptPlan CheckErr
 plan_of t = do
   enums ← each enum_decl [] 0 t.enums
   fields ← each field_decl enums.scope 0 t.fields

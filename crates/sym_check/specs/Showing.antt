@@ -1,7 +1,7 @@
 -- What a contract sees of report expressions: what they come to, without boxes.
 use Rattle.std.specs.Prelude.{◌≡◌, ℕ, nat_lt, Bool, true, List, Result, Ok, length}
 use Rattle.std.specs.List.{list_all}
-use Rattle.sym_check.specs.declared.elaborate.error.RuleErr.{RuleErr}
+use Rattle.sym_check.specs.declared.elaborate.error.CheckErr.{CheckErr}
 use Rattle.sym_check.specs.declared.elaborate.seen.Seen.{Seen as SeenTree}
 use Rattle.sym_check.specs.declared.elaborate.seen.Seen.TheVariants as seen
 use Rattle.sym_check.specs.declared.elaborate.scope.Meaning.{Meaning}
@@ -25,13 +25,13 @@ seen_plan (seen.WordList c) = WordList c
 seen_plan (seen.Parts p) = Parts p.cell p.kinds
 
 -- What unary `-` makes of its operand.
-abbrev pub negative : ℕ → Seen → Result Seen RuleErr
+abbrev pub negative : ℕ → Seen → Result Seen CheckErr
 negative at t = do
   p ← shown_number at t
   Ok (Number (show.Neg p))
 
 -- A function of lists of one argument,
-abbrev pub of_one_list : ℕ → ShowFn → Seen → Result Seen RuleErr
+abbrev pub of_one_list : ℕ → ShowFn → Seen → Result Seen CheckErr
 of_one_list at f (NumList c) = Ok (Number (show.Call f c))
 of_one_list at f (WordList c) = of_word_list at f c
 of_one_list at f (Numeral n place) = kind_at at
@@ -40,7 +40,7 @@ of_one_list at f (Word p) = kind_at at
 of_one_list at f (Parts c ks) = kind_at at
 
 -- and the function of hold cells of two, the second of which is a number as it is written.
-abbrev pub of_numeral : ℕ → ℕ → List KindPlan → Seen → Result Seen RuleErr
+abbrev pub of_numeral : ℕ → ℕ → List KindPlan → Seen → Result Seen CheckErr
 of_numeral at c ks (Numeral n place) = part_by at place c ks n
 of_numeral at c ks (Number p) = kind_at at
 of_numeral at c ks (Word p) = kind_at at
@@ -48,7 +48,7 @@ of_numeral at c ks (NumList d) = kind_at at
 of_numeral at c ks (WordList d) = kind_at at
 of_numeral at c ks (Parts d js) = kind_at at
 
-abbrev pub of_hold : ℕ → Seen → Seen → Result Seen RuleErr
+abbrev pub of_hold : ℕ → Seen → Seen → Result Seen CheckErr
 of_hold at (Parts c ks) t = of_numeral at c ks t
 of_hold at (Numeral n place) t = kind_at at
 of_hold at (Number p) t = kind_at at

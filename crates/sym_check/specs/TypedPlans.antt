@@ -1,8 +1,8 @@
 -- What a contract sees of the values that elaborating goes over: plans without their boxes, and the
 -- outcome of a call as that of its definition.
 use Rattle.std.specs.Prelude.{◌≡◌, ◌≢◌, List, map, Result, Ok, Err}
-use Rattle.sym_check.specs.declared.elaborate.error.RuleErr.{RuleErr}
-use Rattle.sym_check.specs.declared.elaborate.error.RuleErr.TheVariants as broken
+use Rattle.sym_check.specs.declared.elaborate.error.CheckErr.{CheckErr}
+use Rattle.sym_check.specs.declared.elaborate.error.CheckErr.TheVariants as broken
 use Rattle.sym_check.specs.declared.elaborate.typed.Typed.{Typed as TypedTree}
 use Rattle.sym_check.specs.declared.elaborate.typed.Typed.TheVariants as typed
 use Rattle.sym_check.specs.declared.elaborate.typed.Located.{Located as LocatedTree}
@@ -27,7 +27,7 @@ abbrev pub arguments_plan : ArgumentTrees → Arguments
 arguments_plan a = record { first = located_plan a.first; others = map located_plan a.others.items }
 
 -- The outcome is that of the definition, or an allocation was refused.
-abbrev pub Answers : {A B : Type 0} → (A → B) → Result B RuleErr → Result A RuleErr → Type 0
+abbrev pub Answers : {A B : Type 0} → (A → B) → Result B CheckErr → Result A CheckErr → Type 0
 Answers view outcome (Ok a) = outcome ≡ Ok (view a)
 Answers view outcome (Err e) = e ≢ broken.NoMemory → outcome ≡ Err e
 

@@ -2,17 +2,16 @@
 ghost use Rattle.std.specs.Prelude.{◌≡◌, ◌≢◌, IfOk, IfErr, Ok, Err};
 ghost use Rattle.sym_base.specs.Lawful.{IsLawful};
 ghost use Rattle.sym_base.specs.Trees.{script_tree};
-ghost use Rattle.sym_check.specs.CheckedPlans.{checked_tree, checked_plan};
+ghost use Rattle.sym_check.specs.CheckedScripts.{checked_tree, checked_plan};
 ghost use Rattle.sym_check.specs.ScriptPlans.{ScriptPlan as Planned};
 ghost use Rattle.sym_check.specs.Scripts.{IsAccepted, BreaksScript};
 ghost use Rattle.sym_check.specs.TypedPlans.{Answers};
-ghost use Rattle.sym_check.specs.declared.elaborate.error.RuleErr.{RuleErr as Fault};
-ghost use Rattle.sym_check.specs.declared.elaborate.error.RuleErr.TheVariants as fault;
+ghost use Rattle.sym_check.specs.declared.elaborate.error.CheckErr.{CheckErr as Fault};
+ghost use Rattle.sym_check.specs.declared.elaborate.error.CheckErr.TheVariants as fault;
 
 mod accepted;
 
-pub use crate::elaborate::error::RuleErr as CheckErr;
-use crate::elaborate::error::RuleErr;
+pub use crate::elaborate::error::CheckErr;
 use crate::elaborate::script::elaborate_script;
 pub use accepted::Checked;
 use std::alloc::Global;
@@ -21,7 +20,7 @@ use sym_base::Script;
 /// Tries the rules in the order of the script's text. `Ok` has the plan of a script that breaks
 /// none; else the first broken rule is returned, with its place. `Branchy` is returned where no
 /// other rule is broken. The script is dropped after an `Err`.
-pub fn check(alloc: Global, script: Script) -> Result<Checked, RuleErr>
+pub fn check(alloc: Global, script: Script) -> Result<Checked, CheckErr>
     requires { IsLawful (script_tree script) }
     ensures script { IfOk result (λ c. checked_tree c ≡ script_tree script) }
     ensures means { IfOk result (λ c. IsAccepted (script_tree script) (checked_plan c)) }

@@ -1,16 +1,14 @@
-//! Which scripts are run, and what one means: the sequential step.
+//! The rules of scripts, the plan of one that keeps them, and what a plan means.
 #![tactic(auto)]
 
-mod checked;
-pub mod checking;
+mod checking;
 mod elaborate;
 mod evaluate;
 pub mod laws;
 mod path_bound;
 mod plan;
-mod rules;
 
-pub use checked::{CheckErr, Checked};
+pub use checking::{CheckErr, Checked, check};
 pub use evaluate::arithmetic::Arith;
 pub use evaluate::calls::{fixed, number, pair, test};
 pub use evaluate::fixed_value::{FixedValue, value_of};
@@ -28,4 +26,3 @@ pub use plan::script::{
 };
 pub use plan::show::{Show, ShowFn};
 pub use plan::statement::{Do, Dos};
-pub use rules::check;

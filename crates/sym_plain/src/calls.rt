@@ -2,7 +2,7 @@
 ghost use Rattle.std.specs.Prelude.{◌≡◌, ◌++◌, ◌∷◌, [], List, IfOk};
 ghost use Rattle.sym_base.specs.declared.values.record.Record.{Record as OneRecord};
 ghost use Rattle.sym_base.specs.declared.values.state.Outcome.TheVariants.{Going};
-ghost use Rattle.sym_check.specs.CheckedPlans.{checked_plan};
+ghost use Rattle.sym_check.specs.CheckedScripts.{checked_plan};
 ghost use Rattle.sym_check.specs.Groups.{key_of, pass};
 ghost use Rattle.sym_check.specs.Updates.{initial, step};
 ghost use Rattle.sym_plain.specs.Pairs.{after_record};
@@ -16,7 +16,7 @@ use crate::states::first_state;
 use crate::steps::step_of;
 use std::alloc::Global;
 use sym_base::{Columns, Key, NoMemory, Outcome, Record, State};
-use sym_check::checking::Checked;
+use sym_check::Checked;
 
 /// The declared initial state, with empty lists.
 pub fn initial(alloc: Global, checked: &Checked) -> Result<State, NoMemory>

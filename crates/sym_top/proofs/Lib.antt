@@ -1,3 +1,5 @@
+pub mod CounterTrees
+pub mod CounterSteps
 pub mod CountersFound
 pub mod Digits
 pub mod FirstLine

@@ -3,7 +3,7 @@ use Rattle.std.proofs.Common.{◌≡◌, ◌⊎◌, inl, inr, nat_lt, ℕ, suc, 
 use Rattle.std.proofs.lemmas.List.{append-nil}
 use Rattle.std.proofs.lemmas.Bool.Decides.{nat_tests}
 use Rattle.sym_base.specs.declared.values.state.Outcome.{Outcome}
-use Rattle.sym_check.specs.Steps.{Update, step}
+use Rattle.sym_top.specs.CounterSteps.{Update, step}
 use Rattle.sym_top.specs.PlainReading.{numbers_behind, number_of, with_number, before, first_line}
 use Rattle.sym_top.specs.Folds.{folded, record_at}
 use Rattle.sym_top.proofs.FirstLine.{by_test, one-add}

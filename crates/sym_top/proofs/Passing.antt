@@ -4,8 +4,8 @@ use Rattle.sym_base.specs.declared.values.value.Key.TheVariants.{Whole}
 use Rattle.sym_base.specs.declared.values.state.State.{State}
 use Rattle.sym_base.specs.declared.values.state.Outcome.{Outcome}
 use Rattle.sym_base.specs.declared.values.state.Outcome.TheVariants.{Going}
-use Rattle.sym_check.specs.Steps.{Update, after, grouped}
-use Rattle.sym_check.proofs.Steps.{grouped-some}
+use Rattle.sym_top.specs.CounterSteps.{Update, after, grouped}
+use Rattle.sym_top.proofs.CounterSteps.{grouped-some}
 use Rattle.sym_top.specs.PlainFiles.{records_from, line_feed, records_of}
 use Rattle.sym_top.specs.PlainReading.{numbers_behind, numbers_of, numbers_in, number_of, with_number, body_of}
 use Rattle.sym_top.specs.Folds.{record_at, folded}

@@ -4,8 +4,8 @@ use Rattle.std.proofs.lemmas.Bool.Decides.{nat_tests}
 use Rattle.std.specs.declared.vec.Vec.{Vec}
 use Rattle.sym_base.specs.Counters.{Counter, counter_tree}
 use Rattle.sym_top.specs.CounterTexts.{IsCounterText}
-use Rattle.sym_check.specs.declared.checked.Checked.{Checked}
-use Rattle.sym_check.specs.CheckedScripts.{checked_tree}
+use Rattle.sym_top.specs.declared.counter.CheckedCounter.{CheckedCounter}
+use Rattle.sym_top.specs.CheckedCounters.{checked_counter_tree}
 use Rattle.sym_top.specs.declared.status.Status.{Status}
 use Rattle.sym_top.specs.declared.status.Status.TheVariants.{Done, Faulted, Usage, Script, Input, ReadFault, WriteFault, TooLarge, NoMemory}
 use Rattle.sym_top.specs.declared.compute.Report.{Report}
@@ -40,7 +40,7 @@ script-stops (Some text) file Input end h e = absurd h
 script-stops (Some text) file WriteFault end h e = absurd h
 
 -- The script is accepted.
-pub script-goes : (o file : Option (List ℕ)) (checked : Checked) (end : End) → IfSome o (λ text. ScriptGives text (Ok checked)) → script_end o file ≡ Some end → (c : Counter) × (checked_tree checked ≡ counter_tree c) × (file_end c file ≡ Some end)
+pub script-goes : (o file : Option (List ℕ)) (checked : CheckedCounter) (end : End) → IfSome o (λ text. ScriptGives text (Ok checked)) → script_end o file ≡ Some end → (c : Counter) × (checked_counter_tree checked ≡ counter_tree c) × (file_end c file ≡ Some end)
 script-goes None file checked end h e = absurd (cc)
 script-goes (Some text) file checked end h e =
     (h.counter, h.tree, sym (rw (within script_max (length text) h.small, h.found) refl) ∙ e)
@@ -80,7 +80,7 @@ report-ends c bytes (Err Usage) end h e = absurd h
 report-ends c bytes (Err WriteFault) end h e = absurd h
 
 -- A script that was accepted is one that may be run.
-pub script-turn : (o : Option (List ℕ)) (checked : Checked) → IfSome o (λ text. ScriptGives text (Ok checked)) → MayRun o
+pub script-turn : (o : Option (List ℕ)) (checked : CheckedCounter) → IfSome o (λ text. ScriptGives text (Ok checked)) → MayRun o
 script-turn None checked h = tt
 script-turn (Some text) checked h = (h.small, (h.counter, (script-agrees text h.counter).1 h.found))
 

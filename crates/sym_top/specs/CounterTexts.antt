@@ -2,7 +2,7 @@
 use Rattle.std.specs.Prelude.{◌≡◌, ◌↔◌, ℕ, List, Option, None, Some, Result, Ok, Err}
 use Rattle.sym_base.specs.Counters.{Counter, IsCounterTree}
 use Rattle.sym_base.specs.Trees.{ScriptTree}
-use Rattle.sym_check.specs.CounterTrees.{counter_of}
+use Rattle.sym_top.specs.CounterTrees.{counter_of}
 use Rattle.sym_parse.specs.declared.error.ParseErr.{ParseErr}
 use Rattle.sym_parse.specs.Answers.{IsScriptOf, parsed}
 

@@ -5,7 +5,7 @@ use Rattle.sym_base.specs.declared.values.value.Key.{Key}
 use Rattle.sym_base.specs.declared.values.state.Outcome.{Outcome}
 use Rattle.sym_base.specs.declared.limits.TheConstants as limit
 use Rattle.sym_base.specs.Counters.{Counter}
-use Rattle.sym_check.specs.Steps.{groups}
+use Rattle.sym_top.specs.CounterSteps.{groups}
 use Rattle.sym_top.specs.CounterTexts.{IsCounterText}
 use Rattle.sym_top.specs.declared.status.Status.{Status}
 use Rattle.sym_top.specs.declared.status.Status.TheVariants as status

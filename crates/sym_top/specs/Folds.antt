@@ -5,7 +5,7 @@ use Rattle.sym_base.specs.declared.values.value.Value.TheVariants.{Num}
 use Rattle.sym_base.specs.declared.values.value.Key.{Key}
 use Rattle.sym_base.specs.declared.values.value.Key.TheVariants.{Whole}
 use Rattle.sym_base.specs.declared.values.state.Outcome.{Outcome}
-use Rattle.sym_check.specs.Steps.{Update, after, grouped}
+use Rattle.sym_top.specs.CounterSteps.{Update, after, grouped}
 use Rattle.sym_top.specs.declared.status.Status.{Status}
 use Rattle.sym_top.specs.declared.status.Status.TheVariants as status
 use Rattle.sym_top.specs.declared.lines.FoldErr.{FoldErr}

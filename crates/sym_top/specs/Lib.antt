@@ -1,6 +1,9 @@
 pub mod Appending
 pub mod Commands
 pub mod EndReading
+pub mod CounterTrees
+pub mod CheckedCounters
+pub mod CounterSteps
 pub mod CounterTexts
 pub mod Ends
 pub mod Folds

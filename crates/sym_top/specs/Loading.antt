@@ -4,25 +4,27 @@ use Rattle.std.specs.declared.vec.Vec.{Vec}
 use Rattle.sym_base.specs.declared.edge.read.ReadErr.{ReadErr}
 use Rattle.sym_base.specs.declared.edge.read.ReadErr.TheVariants as read
 use Rattle.sym_base.specs.Counters.{Counter, counter_tree}
-use Rattle.sym_check.specs.declared.checked.Checked.{Checked}
-use Rattle.sym_check.specs.CheckedScripts.{checked_tree}
+use Rattle.sym_check.specs.declared.elaborate.error.CheckErr.{CheckErr}
+use Rattle.sym_check.specs.declared.elaborate.error.CheckErr.TheVariants as rule
 use Rattle.sym_parse.specs.declared.error.ParseErr.{ParseErr}
 use Rattle.sym_parse.specs.declared.error.ParseErr.TheVariants as parse
+use Rattle.sym_top.specs.CheckedCounters.{checked_counter_tree}
 use Rattle.sym_top.specs.CounterTexts.{counter_at}
+use Rattle.sym_top.specs.declared.counter.CheckedCounter.{CheckedCounter}
 use Rattle.sym_top.specs.declared.compute.Report.{Report}
 use Rattle.sym_top.specs.declared.status.Status.{Status}
 use Rattle.sym_top.specs.declared.status.Status.TheVariants.{Done, Faulted, Script, Input, ReadFault, WriteFault, TooLarge, NoMemory}
 use Rattle.sym_top.specs.Ends.{End, script_max, file_max, refused, report_of}
 use Rattle.sym_top.specs.PlainReading.{numbers_of}
 
--- The checked script of a text.
-pub record IsScriptOf (text : List ℕ) (checked : Checked) : Type 0 where
+-- The checked counter of a text.
+pub record IsScriptOf (text : List ℕ) (checked : CheckedCounter) : Type 0 where
   pub small : length text ≤ script_max
   pub counter : Counter
   pub found : counter_at text ≡ Some counter
-  pub tree : checked_tree checked ≡ counter_tree counter
+  pub tree : checked_counter_tree checked ≡ counter_tree counter
 
-abbrev pub ScriptGives : List ℕ → Result Checked Status → Type 0
+abbrev pub ScriptGives : List ℕ → Result CheckedCounter Status → Type 0
 ScriptGives text (Ok checked) = IsScriptOf text checked
 ScriptGives text (Err TooLarge) = script_max < length text
 ScriptGives text (Err Script) = (length text ≤ script_max) × (counter_at text ≡ None)
@@ -49,6 +51,16 @@ parse_status_of (parse.Lex fault) = Script
 parse_status_of (parse.Expected place) = Script
 parse_status_of (parse.Limit place which) = Script
 parse_status_of parse.NoMemory = NoMemory
+
+-- The status of a script that is refused.
+abbrev pub check_status_of : CheckErr → Status
+check_status_of (rule.Name at) = Script
+check_status_of (rule.Twice at) = Script
+check_status_of (rule.Kind at) = Script
+check_status_of (rule.Range at) = Script
+check_status_of (rule.NotLinear at) = Script
+check_status_of (rule.Branchy paths) = Script
+check_status_of rule.NoMemory = NoMemory
 
 -- The refusals that loading a script, or a file, can come to.
 abbrev pub IsFileRefusal : Status → Type 0

@@ -5,7 +5,7 @@ use Rattle.sym_base.specs.declared.values.state.Cell.TheVariants.{Int}
 use Rattle.sym_base.specs.declared.values.state.State.{State}
 use Rattle.sym_base.specs.Counters.{Counter}
 use Rattle.sym_base.specs.States.{number_at}
-use Rattle.sym_check.specs.Steps.{added, Addend, Number, FieldValue, Update, adding, addend_of}
+use Rattle.sym_top.specs.CounterSteps.{added, Addend, Number, FieldValue, Update, adding, addend_of}
 use Rattle.sym_top.specs.declared.plan.Amount.{Amount}
 use Rattle.sym_top.specs.declared.plan.Amount.TheVariants as amount
 use Rattle.sym_top.specs.declared.plan.Plan.{Plan}

@@ -3,6 +3,7 @@
 
 mod commands;
 mod compute;
+mod counter;
 pub mod laws;
 mod lines;
 mod load;

@@ -2,12 +2,13 @@
 ghost use Rattle.std.specs.Prelude.{◌≡◌, ℕ, ◌≤◌, List, Ok, Err, IfSome, IfOk, IfErr, IsErrOf, length};
 ghost use Rattle.sym_base.specs.Counts.{Rose};
 ghost use Rattle.sym_top.specs.Ends.{file_max, script_max};
-ghost use Rattle.sym_top.specs.Loading.{ScriptGives, FileGives, parse_status_of, read_status_of, IsScriptRefusal, IsFileRefusal};
+ghost use Rattle.sym_top.specs.Loading.{ScriptGives, FileGives, check_status_of, parse_status_of, read_status_of, IsScriptRefusal, IsFileRefusal};
 
+use crate::counter::CheckedCounter;
 use crate::status::Status;
 use std::alloc::Global;
 use sym_base::{FILE_MAX_DEFAULT, ReadErr, SCRIPT_MAX, Store, read_all};
-use sym_check::{CheckErr, Checked, check};
+use sym_check::{CheckErr, check};
 use sym_parse::{ParseErr, is_built, parse};
 
 // What a failed read comes to.
@@ -31,8 +32,23 @@ fn parse_status(error: ParseErr) -> Status
     }
 }
 
-// The checked script of a text.
-fn accept(alloc: Global, text: &[u8]) -> Result<Checked, Status>
+// What a script that is refused comes to.
+fn check_status(error: CheckErr) -> Status
+    ensures { result ≡ check_status_of error }
+{
+    match error {
+        CheckErr::Name { .. }
+        | CheckErr::Twice { .. }
+        | CheckErr::Kind { .. }
+        | CheckErr::Range { .. }
+        | CheckErr::NotLinear { .. }
+        | CheckErr::Branchy { .. } => Status::Script,
+        CheckErr::NoMemory => Status::NoMemory,
+    }
+}
+
+// The checked counter of a text.
+fn accept(alloc: Global, text: &[u8]) -> Result<CheckedCounter, Status>
     requires { length text.now ≤ script_max }
     ensures told { ScriptGives text.now result }
     ensures refused { IfErr result IsScriptRefusal }
@@ -42,13 +58,14 @@ fn accept(alloc: Global, text: &[u8]) -> Result<Checked, Status>
         Ok(script) => script,
         Err(error) => return Err(parse_status(error)),
     };
-    if !is_built(&script) {
+    let checked = match check(alloc, script) {
+        Ok(checked) => checked,
+        Err(error) => return Err(check_status(error)),
+    };
+    if !is_built(checked.script()) {
         return Err(Status::Script);
     }
-    match check(alloc, script) {
-        Ok(checked) => Ok(checked),
-        Err(CheckErr::NoMemory) => Err(Status::NoMemory),
-    }
+    Ok(CheckedCounter::of(checked))
 }
 
 /// Reads, parses and checks the script of this name.
@@ -57,7 +74,11 @@ fn accept(alloc: Global, text: &[u8]) -> Result<Checked, Status>
 ///
 /// `ReadFault` where a read failed, `TooLarge` where the script has more than 65,536 bytes,
 /// `Script` where it isn't one that may be run, `NoMemory`.
-pub fn load_script<F: Store>(alloc: Global, files: &mut F, name: &str) -> Result<Checked, Status>
+pub fn load_script<F: Store>(
+    alloc: Global,
+    files: &mut F,
+    name: &str,
+) -> Result<CheckedCounter, Status>
     ensures told { IfSome (F.holds files.old name.now) (λ text. ScriptGives text result) }
     ensures refused { IfErr result IsScriptRefusal }
     ensures failed { IsErrOf result Status.ReadFault → Rose (F.faults files.old name.now) (F.faults files.new name.now) }

@@ -5,13 +5,13 @@ ghost use Rattle.sym_base.specs.declared.tree.name.Name.{Name as OneName};
 ghost use Rattle.sym_base.specs.declared.tree.expression.BinOp.TheVariants.{Add};
 ghost use Rattle.sym_base.specs.Trees.{script_tree, stmts_tree, expr_tree, Then, Set, Bin, Named, Done};
 ghost use Rattle.sym_base.specs.Counters.{Counter, counter_tree, amount_tree, Amount as OneAmount};
-ghost use Rattle.sym_check.specs.CheckedScripts.{checked_tree};
-ghost use Rattle.sym_check.specs.Steps.{addend_of};
+ghost use Rattle.sym_top.specs.CheckedCounters.{checked_counter_tree};
+ghost use Rattle.sym_top.specs.CounterSteps.{addend_of};
 ghost use Rattle.sym_top.specs.Plans.{IsPlanOf, addend};
 
+use crate::counter::CheckedCounter;
 use crate::plan::{Amount, Plan};
 use sym_base::{BinOp, CellDecl, Expr, Script, Stmt, Stmts};
-use sym_check::Checked;
 
 // What an expression adds, where it is a number or a name.
 fn amount_of(expr: &Expr) -> Option<Amount>
@@ -59,9 +59,9 @@ fn plan_of(script: &Script) -> Option<Plan<'_>>
     })
 }
 
-/// The plan of a checked script.
-pub fn plan(checked: &Checked) -> Plan<'_>
-    ensures { (c : Counter) → checked_tree checked.now ≡ counter_tree c → IsPlanOf c result }
+/// The plan of a checked counter.
+pub fn plan(counter: &CheckedCounter) -> Plan<'_>
+    ensures { (c : Counter) → checked_counter_tree counter.now ≡ counter_tree c → IsPlanOf c result }
 {
-    plan_of(checked.script()).unwrap()
+    plan_of(counter.script()).unwrap()
 }

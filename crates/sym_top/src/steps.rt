@@ -1,6 +1,6 @@
 //! The sequential step.
 ghost use Rattle.std.specs.Prelude.{◌≡◌, ℤ, ◌+ℤ◌, IfOk, int_le, ◌&&◌, Bool, cond, Some, None};
-ghost use Rattle.sym_check.specs.Steps.{num_at, added as added_at, step as one_step, assigned};
+ghost use Rattle.sym_top.specs.CounterSteps.{num_at, added as added_at, step as one_step, assigned};
 ghost use Rattle.sym_top.specs.Plans.{addend, plan_update, plan_initial, sum_of};
 
 use crate::plan::{Amount, Plan};

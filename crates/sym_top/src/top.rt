@@ -4,7 +4,7 @@ ghost use Rattle.std.specs.String.{string_bytes};
 ghost use Rattle.sym_base.specs.Counts.{Rose};
 ghost use Rattle.sym_base.specs.Counters.{Counter, counter_tree};
 ghost use Rattle.sym_base.specs.Transfers.{appended, AppendsPrefix};
-ghost use Rattle.sym_check.specs.CheckedScripts.{checked_tree};
+ghost use Rattle.sym_top.specs.CheckedCounters.{checked_counter_tree};
 ghost use Rattle.sym_top.specs.Commands.{options};
 ghost use Rattle.sym_top.specs.Ends.{End, IsEnd, file_max};
 ghost use Rattle.sym_top.specs.Loading.{ReportGives, IsReportRefusal, EndGives, IsStop};
@@ -12,22 +12,22 @@ ghost use Rattle.sym_top.specs.Promises.{Unless, IsRefusal, IsReported, IsWritte
 
 use crate::commands::read_words;
 use crate::compute::{Report, fold_status, make_report};
+use crate::counter::CheckedCounter;
 use crate::lines::pass;
 use crate::load::{load_file, load_script};
 use crate::planning::plan;
 use crate::status::Status;
 use std::alloc::Global;
 use sym_base::{Sink, SinkErr, Store, write_all};
-use sym_check::Checked;
 
-// The report of a checked script over a file's bytes.
-fn compute(alloc: Global, checked: &Checked, bytes: &[u8]) -> Result<Report, Status>
+// The report of a checked counter over a file's bytes.
+fn compute(alloc: Global, counter: &CheckedCounter, bytes: &[u8]) -> Result<Report, Status>
     requires { length bytes.now ≤ file_max }
-    ensures told { (c : Counter) → checked_tree checked.now ≡ counter_tree c → ReportGives c bytes.now result }
+    ensures told { (c : Counter) → checked_counter_tree counter.now ≡ counter_tree c → ReportGives c bytes.now result }
     ensures refused { IfErr result IsReportRefusal }
     ensures reported { IfOk result (λ report. IsReported report.status) }
 {
-    let plan = plan(checked);
+    let plan = plan(counter);
     let group = match pass(alloc, &plan, bytes) {
         Ok(group) => group,
         Err(error) => return Err(fold_status(error)),
@@ -52,15 +52,15 @@ fn prepare<F: Store>(alloc: Global, words: &[String], files: &mut F) -> Result<R
     let Some(run) = read_words(words) else {
         return Err(Status::Usage);
     };
-    let checked = match load_script(alloc, files, run.script) {
-        Ok(checked) => checked,
+    let counter = match load_script(alloc, files, run.script) {
+        Ok(counter) => counter,
         Err(status) => return Err(status),
     };
     let bytes = match load_file(alloc, files, run.file) {
         Ok(bytes) => bytes,
         Err(status) => return Err(status),
     };
-    compute(alloc, &checked, &bytes)
+    compute(alloc, &counter, &bytes)
 }
 
 // Writes a report.

@@ -5,7 +5,7 @@ use Rattle.sym_parse.specs.Answers.{IsScriptOf}
 use Rattle.sym_check.specs.PathBounds.{path_bound}
 use Rattle.sym_check.specs.ScriptPlans.{ScriptPlan}
 use Rattle.sym_check.specs.Scripts.{IsAccepted, BreaksScript}
-use Rattle.sym_check.specs.declared.elaborate.error.RuleErr.{RuleErr}
+use Rattle.sym_check.specs.declared.elaborate.error.CheckErr.{CheckErr}
 use Rattle.sym_uses.specs.declared.checking.Size.{Size}
 
 -- The text is a script that breaks no rule, and this is its plan.
@@ -15,7 +15,7 @@ pub record IsPlanOf (text : List ℕ) (plan : ScriptPlan) : Type 0 where
   pub accepted : IsAccepted tree plan
 
 -- The text is a script, and this is the first rule that it breaks.
-pub record Breaks (text : List ℕ) (fault : RuleErr) : Type 0 where
+pub record Breaks (text : List ℕ) (fault : CheckErr) : Type 0 where
   pub tree : ScriptTree
   pub script : IsScriptOf text tree
   pub broken : BreaksScript tree fault

@@ -1,9 +1,9 @@
 //! From a script's text to its plan: how large the script is, and how many paths a record has.
 ghost use Rattle.std.specs.Prelude.{◌≡◌, ◌≢◌, ◌<◌, ◌≤◌, ◌^◌, length, IfOk, IsErrOf};
 ghost use Rattle.sym_base.specs.declared.limits.TheConstants as limit;
-ghost use Rattle.sym_check.specs.CheckedPlans.{checked_plan};
-ghost use Rattle.sym_check.specs.declared.elaborate.error.RuleErr.{RuleErr as Fault};
-ghost use Rattle.sym_check.specs.declared.elaborate.error.RuleErr.TheVariants as fault;
+ghost use Rattle.sym_check.specs.CheckedScripts.{checked_plan};
+ghost use Rattle.sym_check.specs.declared.elaborate.error.CheckErr.{CheckErr as Fault};
+ghost use Rattle.sym_check.specs.declared.elaborate.error.CheckErr.TheVariants as fault;
 ghost use Rattle.sym_uses.specs.Checking.{IsPlanOf, IsSizeOf, Breaks};
 
 #[cfg(test)]
@@ -34,7 +34,7 @@ mod tests_of_cells;
 mod whole;
 
 use std::alloc::Global;
-use sym_check::checking::{CheckErr, Checked, check};
+use sym_check::{CheckErr, Checked, check};
 use sym_parse::{ParseErr, parse};
 
 /// Why a text has no plan.

@@ -27,7 +27,7 @@ impl Checked {
     ghost use Rattle.std.specs.Prelude.{◌≤◌, IfOk, IsTrue, length};
     ghost use Rattle.std.specs.List.{list_all};
     ghost use Rattle.sym_base.specs.declared.limits.TheConstants as limit;
-    ghost use Rattle.sym_check.specs.CheckedPlans.{checked_tree, checked_plan};
+    ghost use Rattle.sym_check.specs.CheckedScripts.{checked_tree, checked_plan};
     ghost use Rattle.sym_check.specs.Conditions.{has_fixed_body};
     ghost use Rattle.sym_check.specs.Scripts.{IsAccepted};
     ghost use Rattle.sym_check.specs.WellFormed.{IsWellFormed};

@@ -7,7 +7,7 @@ ghost use Rattle.sym_check.specs.FixedPlans.{fixed_plan};
 ghost use Rattle.sym_check.specs.Scopes.{find};
 ghost use Rattle.sym_check.specs.TypedPlans.{typed_plan, located_plan, arguments_plan, Answers};
 
-use crate::elaborate::error::RuleErr;
+use crate::elaborate::error::CheckErr;
 use crate::elaborate::scope::{Meaning, Scope, found};
 use crate::elaborate::typed::{Arguments, Located, Typed};
 use crate::plan::condition::Cond;
@@ -24,11 +24,11 @@ pub(crate) struct CalledTest<'a> {
 }
 
 /// The test that a call names.
-pub(crate) fn test_named<'a>(scope: &'a Scope, name: &Name) -> Result<CalledTest<'a>, RuleErr>
+pub(crate) fn test_named<'a>(scope: &'a Scope, name: &Name) -> Result<CalledTest<'a>, CheckErr>
     ensures { Answers called_test (test_named name.now.at (find scope.now name.now.text)) result }
 {
     match found(scope, name.text.as_str()) {
-        None => Err(RuleErr::Name { at: name.at }),
+        None => Err(CheckErr::Name { at: name.at }),
         Some(Meaning::Test(test, params)) => Ok(CalledTest {
             number: *test,
             params: params.as_slice(),
@@ -43,11 +43,11 @@ pub(crate) fn test_named<'a>(scope: &'a Scope, name: &Name) -> Result<CalledTest
             | Meaning::HoldCell(..)
             | Meaning::NumsCell(_)
             | Meaning::WordsCell(_),
-        ) => Err(RuleErr::Kind { at: name.at }),
+        ) => Err(CheckErr::Kind { at: name.at }),
     }
 }
 
-fn fixed_number(value: Located) -> Result<Fixed, RuleErr>
+fn fixed_number(value: Located) -> Result<Fixed, CheckErr>
     ensures { Answers fixed_plan (value_of kind.Num (located_plan value)) result }
 {
     let at = value.at;
@@ -58,11 +58,11 @@ fn fixed_number(value: Located) -> Result<Fixed, RuleErr>
         | Typed::Label(..)
         | Typed::EnumCell(..)
         | Typed::HoldCell(..)
-        | Typed::Truth(_) => Err(RuleErr::Kind { at }),
+        | Typed::Truth(_) => Err(CheckErr::Kind { at }),
     }
 }
 
-fn fixed_word(value: Located) -> Result<Fixed, RuleErr>
+fn fixed_word(value: Located) -> Result<Fixed, CheckErr>
     ensures { Answers fixed_plan (value_of kind.Word (located_plan value)) result }
 {
     let at = value.at;
@@ -72,11 +72,11 @@ fn fixed_word(value: Located) -> Result<Fixed, RuleErr>
         | Typed::Label(..)
         | Typed::EnumCell(..)
         | Typed::HoldCell(..)
-        | Typed::Truth(_) => Err(RuleErr::Kind { at }),
+        | Typed::Truth(_) => Err(CheckErr::Kind { at }),
     }
 }
 
-fn fixed_label(of: u16, value: Located) -> Result<Fixed, RuleErr>
+fn fixed_label(of: u16, value: Located) -> Result<Fixed, CheckErr>
     ensures { Answers fixed_plan (value_of (kind.Label of) (located_plan value)) result }
 {
     let at = value.at;
@@ -87,11 +87,11 @@ fn fixed_label(of: u16, value: Located) -> Result<Fixed, RuleErr>
         | Typed::Word(_)
         | Typed::EnumCell(..)
         | Typed::HoldCell(..)
-        | Typed::Truth(_) => Err(RuleErr::Kind { at }),
+        | Typed::Truth(_) => Err(CheckErr::Kind { at }),
     }
 }
 
-fn value_of(wanted: KindPlan, value: Located) -> Result<Fixed, RuleErr>
+fn value_of(wanted: KindPlan, value: Located) -> Result<Fixed, CheckErr>
     ensures { Answers fixed_plan (value_of wanted (located_plan value)) result }
 {
     match wanted {
@@ -106,7 +106,7 @@ pub(crate) fn values_of(
     alloc: Global,
     kinds: &[KindPlan],
     located: Vec<Located>,
-) -> Result<FixedList, RuleErr>
+) -> Result<FixedList, CheckErr>
     ensures { Answers (λ v. map fixed_plan v)
         (values_of kinds.now (map located_plan located.items)) result }
 {
@@ -127,19 +127,19 @@ fn called_with(
     test: CalledTest<'_>,
     first: &Located,
     others: Vec<Located>,
-) -> Result<Typed, RuleErr>
+) -> Result<Typed, CheckErr>
     ensures { Answers typed_plan (called_on at (called_test test.entry)
         (record { first = located_plan first.now; others = map located_plan others.items })
         (typed_plan first.now.typed)) result }
 {
     let Typed::HoldCell(cell, kinds) = &first.typed else {
-        return Err(RuleErr::Kind { at: first.at });
+        return Err(CheckErr::Kind { at: first.at });
     };
     if others.len() != test.params.len().saturating_sub(kinds.len()) {
-        return Err(RuleErr::Kind { at });
+        return Err(CheckErr::Kind { at });
     }
     if !test.params.starts_with(kinds.as_slice()) {
-        return Err(RuleErr::Kind { at: first.at });
+        return Err(CheckErr::Kind { at: first.at });
     }
     let args = values_of(alloc, &test.params[kinds.len()..], others)?;
     Ok(Typed::Truth(Cond::Test {
@@ -155,7 +155,7 @@ pub(crate) fn called_on(
     at: u32,
     test: CalledTest<'_>,
     arguments: Arguments,
-) -> Result<Typed, RuleErr>
+) -> Result<Typed, CheckErr>
     ensures { Answers typed_plan (called_on at (called_test test.entry)
         (arguments_plan arguments) (typed_plan arguments.first.typed)) result }
 {

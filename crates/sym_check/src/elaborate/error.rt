@@ -1,6 +1,6 @@
 //! The first broken rule of a script.
 ghost use Rattle.std.specs.Prelude.{◌≡◌};
-ghost use Rattle.sym_check.specs.declared.elaborate.error.RuleErr.TheVariants as rule_err;
+ghost use Rattle.sym_check.specs.declared.elaborate.error.CheckErr.TheVariants as rule_err;
 
 use std::alloc::{AllocError, AllocFailed};
 use sym_base::NoMemory;
@@ -8,7 +8,7 @@ use thiserror::Error;
 
 /// Why a script isn't accepted: the first broken rule, with the place of its first byte.
 #[derive(Clone, Copy, Debug, PartialEq, Eq, Error)]
-pub enum RuleErr {
+pub enum CheckErr {
     /// A name that is used isn't visible there.
     #[error("Name")]
     Name { at: u32 },
@@ -32,26 +32,26 @@ pub enum RuleErr {
     NoMemory,
 }
 
-impl From<NoMemory> for RuleErr {
+impl From<NoMemory> for CheckErr {
     ghost from_gives = { λ _ e. e ≡ rule_err.NoMemory };
 
-    fn from(_refused: NoMemory) -> RuleErr {
-        RuleErr::NoMemory
+    fn from(_refused: NoMemory) -> CheckErr {
+        CheckErr::NoMemory
     }
 }
 
-impl From<AllocError> for RuleErr {
+impl From<AllocError> for CheckErr {
     ghost from_gives = { λ _ e. e ≡ rule_err.NoMemory };
 
-    fn from(_refused: AllocError) -> RuleErr {
-        RuleErr::NoMemory
+    fn from(_refused: AllocError) -> CheckErr {
+        CheckErr::NoMemory
     }
 }
 
-impl<T: Drop> From<AllocFailed<T>> for RuleErr {
+impl<T: Drop> From<AllocFailed<T>> for CheckErr {
     ghost from_gives = { λ _ e. e ≡ rule_err.NoMemory };
 
-    fn from(_refused: AllocFailed<T>) -> RuleErr {
-        RuleErr::NoMemory
+    fn from(_refused: AllocFailed<T>) -> CheckErr {
+        CheckErr::NoMemory
     }
 }

@@ -10,7 +10,7 @@ ghost use Rattle.sym_check.specs.TypedPlans.{typed_plan, located_plan, arguments
 ghost use Rattle.sym_check.specs.Typing.{num_variable, word_variable, label_variable};
 
 use crate::elaborate::call::{called_on, test_named};
-use crate::elaborate::error::RuleErr;
+use crate::elaborate::error::CheckErr;
 use crate::elaborate::operators::{inverted, joined, negated};
 use crate::elaborate::scope::{Meaning, Scope, Variable, found};
 use crate::elaborate::typed::{Arguments, Located, Typed};
@@ -73,7 +73,7 @@ fn typed_variable(kind: KindPlan, variable: Variable) -> Typed
     }
 }
 
-fn meant(alloc: Global, at: u32, meaning: &Meaning) -> Result<Typed, RuleErr>
+fn meant(alloc: Global, at: u32, meaning: &Meaning) -> Result<Typed, CheckErr>
     ensures { Answers typed_plan (named at (Some meaning.now)) result }
 {
     match meaning {
@@ -86,22 +86,22 @@ fn meant(alloc: Global, at: u32, meaning: &Meaning) -> Result<Typed, RuleErr>
         | Meaning::Enum(_)
         | Meaning::NumsCell(_)
         | Meaning::WordsCell(_)
-        | Meaning::Test(..) => Err(RuleErr::Kind { at }),
+        | Meaning::Test(..) => Err(CheckErr::Kind { at }),
     }
 }
 
-fn named(alloc: Global, scope: &Scope, name: &Name) -> Result<Typed, RuleErr>
+fn named(alloc: Global, scope: &Scope, name: &Name) -> Result<Typed, CheckErr>
     ensures { Answers typed_plan (named name.now.at (find scope.now name.now.text)) result }
 {
     match found(scope, name.text.as_str()) {
-        None => Err(RuleErr::Name { at: name.at }),
+        None => Err(CheckErr::Name { at: name.at }),
         Some(meaning) => meant(alloc, name.at, meaning),
     }
 }
 
 /// What an expression stands for.
 #[cycle(infer)]
-pub(crate) fn infer(alloc: Global, scope: &Scope, expr: &Expr) -> Result<Typed, RuleErr>
+pub(crate) fn infer(alloc: Global, scope: &Scope, expr: &Expr) -> Result<Typed, CheckErr>
     ensures { Answers typed_plan (infer scope.now (expr_tree expr.now)) result }
 {
     match expr {
@@ -130,7 +130,7 @@ pub(crate) fn infer(alloc: Global, scope: &Scope, expr: &Expr) -> Result<Typed, 
 }
 
 #[cycle(infer)]
-fn call(alloc: Global, scope: &Scope, name: &Name, values: &Exprs) -> Result<Typed, RuleErr>
+fn call(alloc: Global, scope: &Scope, name: &Name, values: &Exprs) -> Result<Typed, CheckErr>
     ensures { Answers typed_plan (infer scope.now (Call name.now (exprs_tree values.now))) result }
 {
     let test = test_named(scope, name)?;
@@ -140,11 +140,11 @@ fn call(alloc: Global, scope: &Scope, name: &Name, values: &Exprs) -> Result<Typ
 
 // The arguments of a call; there is at least one.
 #[cycle(infer)]
-fn arguments(alloc: Global, scope: &Scope, at: u32, values: &Exprs) -> Result<Arguments, RuleErr>
+fn arguments(alloc: Global, scope: &Scope, at: u32, values: &Exprs) -> Result<Arguments, CheckErr>
     ensures { Answers arguments_plan (arguments scope.now at (exprs_tree values.now)) result }
 {
     match values {
-        Exprs::End => Err(RuleErr::Kind { at }),
+        Exprs::End => Err(CheckErr::Kind { at }),
         Exprs::More(first, rest) => {
             let at = place(first);
             let typed = infer(alloc, scope, first)?;
@@ -164,7 +164,7 @@ pub(crate) fn operands(
     alloc: Global,
     scope: &Scope,
     values: &Exprs,
-) -> Result<Vec<Located>, RuleErr>
+) -> Result<Vec<Located>, CheckErr>
     ensures { Answers (λ v. map located_plan v.items)
         (operands scope.now (exprs_tree values.now)) result }
 {

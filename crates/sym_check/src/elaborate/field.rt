@@ -6,7 +6,7 @@ ghost use Rattle.sym_check.specs.ElaborateDeclarations.{field_decl, group_of};
 ghost use Rattle.sym_check.specs.InOrder.{each};
 ghost use Rattle.sym_check.specs.TypedPlans.{Answers, itself};
 
-use crate::elaborate::error::RuleErr;
+use crate::elaborate::error::CheckErr;
 use crate::elaborate::literal::{default_of, kind_of};
 use crate::elaborate::naming::{declare, field_named, free};
 use crate::elaborate::scope::{Meaning, Scope, Variable, found};
@@ -29,7 +29,7 @@ fn field_decl(
     scope: &mut Scope,
     number: u16,
     decl: &FieldDecl,
-) -> Result<FieldPlan, RuleErr>
+) -> Result<FieldPlan, CheckErr>
     ensures { Declares itself (field_decl scope.old number decl.now) result scope.new }
 {
     free(scope, &decl.name)?;
@@ -50,7 +50,7 @@ pub(crate) fn field_decls(
     alloc: Global,
     scope: &mut Scope,
     decls: &FieldDecls,
-) -> Result<FieldPlans, RuleErr>
+) -> Result<FieldPlans, CheckErr>
     requires { length decls.now < 65536 }
     ensures { Declares itself (each field_decl scope.old 0 decls.now) result scope.new }
 {
@@ -63,7 +63,7 @@ pub(crate) fn field_decls(
 }
 
 /// The field that the group line names.
-pub(crate) fn group_of(scope: &Scope, group: &Option<Name>) -> Result<Option<u16>, RuleErr>
+pub(crate) fn group_of(scope: &Scope, group: &Option<Name>) -> Result<Option<u16>, CheckErr>
     ensures { Answers itself (group_of scope.now group.now) result }
 {
     match group {

@@ -7,7 +7,7 @@ ghost use Rattle.sym_check.specs.Scopes.{find};
 ghost use Rattle.sym_check.specs.TypedPlans.{located_plan, Answers};
 
 use crate::elaborate::call::values_of;
-use crate::elaborate::error::RuleErr;
+use crate::elaborate::error::CheckErr;
 use crate::elaborate::scope::{Meaning, Scope, found};
 use crate::elaborate::typed::Located;
 use crate::plan::script::KindPlan;
@@ -23,11 +23,11 @@ pub(crate) struct KeptCell<'a> {
 }
 
 /// The hold cell that a `keep` names.
-pub(crate) fn kept<'a>(scope: &'a Scope, name: &Name) -> Result<KeptCell<'a>, RuleErr>
+pub(crate) fn kept<'a>(scope: &'a Scope, name: &Name) -> Result<KeptCell<'a>, CheckErr>
     ensures { Answers kept_plan (kept name.now.at (find scope.now name.now.text)) result }
 {
     match found(scope, name.text.as_str()) {
-        None => Err(RuleErr::Name { at: name.at }),
+        None => Err(CheckErr::Name { at: name.at }),
         Some(Meaning::HoldCell(cell, kinds)) => Ok(KeptCell {
             cell: *cell,
             kinds: kinds.as_slice(),
@@ -42,7 +42,7 @@ pub(crate) fn kept<'a>(scope: &'a Scope, name: &Name) -> Result<KeptCell<'a>, Ru
             | Meaning::NumsCell(_)
             | Meaning::WordsCell(_)
             | Meaning::Test(..),
-        ) => Err(RuleErr::Kind { at: name.at }),
+        ) => Err(CheckErr::Kind { at: name.at }),
     }
 }
 
@@ -52,7 +52,7 @@ pub(crate) fn kept_values(
     at: u32,
     kept: KeptCell<'_>,
     values: Vec<Located>,
-) -> Result<Do, RuleErr>
+) -> Result<Do, CheckErr>
     ensures { Answers do_plan
         (kept_values at (kept_plan kept.entry) (map located_plan values.items)) result }
 {
@@ -60,17 +60,17 @@ pub(crate) fn kept_values(
         let values = values_of(alloc, kept.kinds, values)?;
         Ok(Do::Keep(kept.cell, values))
     } else {
-        Err(RuleErr::Kind { at })
+        Err(CheckErr::Kind { at })
     }
 }
 
 /// The cell with the parts of another one, which has the same kinds.
-pub(crate) fn kept_from(at: u32, kept: KeptCell<'_>, from: KeptCell<'_>) -> Result<Do, RuleErr>
+pub(crate) fn kept_from(at: u32, kept: KeptCell<'_>, from: KeptCell<'_>) -> Result<Do, CheckErr>
     ensures { Answers do_plan (kept_from at (kept_plan kept.entry) (kept_plan from.entry)) result }
 {
     if kept.kinds == from.kinds && kept.cell != from.cell {
         Ok(Do::KeepFrom(kept.cell, from.cell))
     } else {
-        Err(RuleErr::Kind { at })
+        Err(CheckErr::Kind { at })
     }
 }

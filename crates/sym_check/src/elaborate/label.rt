@@ -7,7 +7,7 @@ ghost use Rattle.sym_check.specs.ElaborateDeclarations.{label_decl, enum_decl};
 ghost use Rattle.sym_check.specs.InOrder.{each};
 ghost use Rattle.sym_check.specs.TypedPlans.{itself};
 
-use crate::elaborate::error::RuleErr;
+use crate::elaborate::error::CheckErr;
 use crate::elaborate::naming::{declare, free};
 use crate::elaborate::scope::{Meaning, Scope};
 use crate::plan::script::{EnumPlan, EnumPlans};
@@ -20,7 +20,7 @@ fn label_decl(
     of: u16,
     number: u8,
     name: &Name,
-) -> Result<Text, RuleErr>
+) -> Result<Text, CheckErr>
     ensures { Declares itself (label_decl of scope.old number name.now) result scope.new }
 {
     free(scope, name)?;
@@ -28,7 +28,7 @@ fn label_decl(
     Ok(name.text.copy(alloc)?)
 }
 
-fn label_decls(alloc: Global, scope: &mut Scope, of: u16, names: &Names) -> Result<Texts, RuleErr>
+fn label_decls(alloc: Global, scope: &mut Scope, of: u16, names: &Names) -> Result<Texts, CheckErr>
     requires { length names.now < 256 }
     ensures { Declares itself (each (label_decl of) scope.old 0 names.now) result scope.new }
 {
@@ -45,7 +45,7 @@ fn enum_decl(
     scope: &mut Scope,
     number: u16,
     decl: &EnumDecl,
-) -> Result<EnumPlan, RuleErr>
+) -> Result<EnumPlan, CheckErr>
     requires { length decl.now.labels < 256 }
     ensures { Declares itself (enum_decl scope.old number decl.now) result scope.new }
 {
@@ -60,7 +60,7 @@ pub(crate) fn enum_decls(
     alloc: Global,
     scope: &mut Scope,
     decls: &EnumDecls,
-) -> Result<EnumPlans, RuleErr>
+) -> Result<EnumPlans, CheckErr>
     requires few { length decls.now < 65536 }
     requires labels { list_all is_lawful_enum decls.now ≡ true }
     ensures { Declares itself (each enum_decl scope.old 0 decls.now) result scope.new }

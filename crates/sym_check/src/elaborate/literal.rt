@@ -4,7 +4,7 @@ ghost use Rattle.sym_check.specs.ElaborateDeclarations.{kind_of, literal_of, def
 ghost use Rattle.sym_check.specs.TypedPlans.{Answers, itself};
 ghost use Rattle.sym_check.specs.declared.plan.script.KindPlan.TheVariants as kind_plan;
 
-use crate::elaborate::error::RuleErr;
+use crate::elaborate::error::CheckErr;
 use crate::elaborate::naming::{enum_named, label_named, no_label};
 use crate::elaborate::scope::Scope;
 use crate::plan::script::KindPlan;
@@ -12,7 +12,7 @@ use std::alloc::Global;
 use sym_base::{KindRef, Literal, Name, Value};
 
 /// The kind that is written in the declaration of `own`.
-pub(crate) fn kind_of(scope: &Scope, own: &Name, kind: &KindRef) -> Result<KindPlan, RuleErr>
+pub(crate) fn kind_of(scope: &Scope, own: &Name, kind: &KindRef) -> Result<KindPlan, CheckErr>
     ensures { Answers itself (kind_of (unfinished scope.now own.now) kind.now) result }
 {
     match kind {
@@ -25,13 +25,13 @@ pub(crate) fn kind_of(scope: &Scope, own: &Name, kind: &KindRef) -> Result<KindP
     }
 }
 
-fn num_literal(scope: &Scope, own: &Name, literal: &Literal) -> Result<Value, RuleErr>
+fn num_literal(scope: &Scope, own: &Name, literal: &Literal) -> Result<Value, CheckErr>
     ensures { let seen = unfinished scope.now own.now in
         Answers itself (literal_of seen kind_plan.Num literal.now) result }
 {
     match literal {
         Literal::Num { value, .. } => Ok(Value::Num(*value)),
-        Literal::Text { at, .. } => Err(RuleErr::Kind { at: *at }),
+        Literal::Text { at, .. } => Err(CheckErr::Kind { at: *at }),
         Literal::Named(name) => Err(no_label(scope, own, name)),
     }
 }
@@ -41,24 +41,24 @@ fn word_literal(
     scope: &Scope,
     own: &Name,
     literal: &Literal,
-) -> Result<Value, RuleErr>
+) -> Result<Value, CheckErr>
     ensures { let seen = unfinished scope.now own.now in
         Answers itself (literal_of seen kind_plan.Word literal.now) result }
 {
     match literal {
-        Literal::Num { at, .. } => Err(RuleErr::Kind { at: *at }),
+        Literal::Num { at, .. } => Err(CheckErr::Kind { at: *at }),
         Literal::Text { text, .. } => Ok(Value::Word(text.copy(alloc)?)),
         Literal::Named(name) => Err(no_label(scope, own, name)),
     }
 }
 
-fn label_literal(scope: &Scope, own: &Name, of: u16, literal: &Literal) -> Result<Value, RuleErr>
+fn label_literal(scope: &Scope, own: &Name, of: u16, literal: &Literal) -> Result<Value, CheckErr>
     ensures { let seen = unfinished scope.now own.now in
         Answers itself (literal_of seen (kind_plan.Label of) literal.now) result }
 {
     match literal {
-        Literal::Num { at, .. } => Err(RuleErr::Kind { at: *at }),
-        Literal::Text { at, .. } => Err(RuleErr::Kind { at: *at }),
+        Literal::Num { at, .. } => Err(CheckErr::Kind { at: *at }),
+        Literal::Text { at, .. } => Err(CheckErr::Kind { at: *at }),
         Literal::Named(name) => {
             let label = label_named(scope, own, of, name)?;
             Ok(Value::Label(label))
@@ -73,7 +73,7 @@ pub(crate) fn literal_of(
     own: &Name,
     kind: KindPlan,
     literal: &Literal,
-) -> Result<Value, RuleErr>
+) -> Result<Value, CheckErr>
     ensures { let seen = unfinished scope.now own.now in
         Answers itself (literal_of seen kind literal.now) result }
 {
@@ -91,7 +91,7 @@ pub(crate) fn default_of(
     own: &Name,
     kind: KindPlan,
     default: &Option<Literal>,
-) -> Result<Option<Value>, RuleErr>
+) -> Result<Option<Value>, CheckErr>
     ensures { let seen = unfinished scope.now own.now in
         Answers itself (default_of seen kind default.now) result }
 {

@@ -6,22 +6,22 @@ ghost use Rattle.sym_check.specs.Declaring.{unseen_by};
 ghost use Rattle.sym_check.specs.ElaborateDeclarations.{enum_named, label_named, no_label, field_named};
 ghost use Rattle.sym_check.specs.Scopes.{entry, find};
 ghost use Rattle.sym_check.specs.TypedPlans.{Answers, itself};
-ghost use Rattle.sym_check.specs.declared.elaborate.error.RuleErr.TheVariants as rule_err;
+ghost use Rattle.sym_check.specs.declared.elaborate.error.CheckErr.TheVariants as rule_err;
 
-use crate::elaborate::error::RuleErr;
+use crate::elaborate::error::CheckErr;
 use crate::elaborate::scope::{Entry, Meaning, Scope, Variable, found};
 use std::alloc::Global;
 use sym_base::{Name, NoMemory};
 
 /// Whether a name may be declared: it is `Twice` where it stands for something.
-pub(crate) fn free(scope: &Scope, name: &Name) -> Result<(), RuleErr>
+pub(crate) fn free(scope: &Scope, name: &Name) -> Result<(), CheckErr>
     ensures free { OnOk result (find scope.now name.now.text ≡ None) }
     ensures at { IfErr result (λ e. e ≡ rule_err.Twice name.now.at) }
     ensures taken { OnErr result (IsSome (find scope.now name.now.text)) }
 {
     match found(scope, name.text.as_str()) {
         None => Ok(()),
-        Some(_) => Err(RuleErr::Twice { at: name.at }),
+        Some(_) => Err(CheckErr::Twice { at: name.at }),
     }
 }
 
@@ -40,17 +40,17 @@ pub(crate) fn declare(
 }
 
 // Why a name that nothing declared earlier has can't be used in the declaration of `own`.
-fn unseen(own: &Name, name: &Name) -> RuleErr
+fn unseen(own: &Name, name: &Name) -> CheckErr
     ensures { result ≡ unseen_by own.now name.now }
 {
     if own.text.as_str() == name.text.as_str() {
-        RuleErr::Kind { at: name.at }
+        CheckErr::Kind { at: name.at }
     } else {
-        RuleErr::Name { at: name.at }
+        CheckErr::Name { at: name.at }
     }
 }
 
-fn enum_in(at: u32, meaning: &Meaning) -> Result<u16, RuleErr>
+fn enum_in(at: u32, meaning: &Meaning) -> Result<u16, CheckErr>
     ensures { Answers itself (enum_named at (Some meaning.now)) result }
 {
     match meaning {
@@ -63,13 +63,13 @@ fn enum_in(at: u32, meaning: &Meaning) -> Result<u16, RuleErr>
         | Meaning::HoldCell(..)
         | Meaning::NumsCell(..)
         | Meaning::WordsCell(..)
-        | Meaning::Test(..) => Err(RuleErr::Kind { at }),
+        | Meaning::Test(..) => Err(CheckErr::Kind { at }),
     }
 }
 
 /// The enum that a name stands for in the declaration of `own`.
 #[tactic(auto, using(crate::proofs::ScopeLaws::enum_beside))]
-pub(crate) fn enum_named(scope: &Scope, own: &Name, name: &Name) -> Result<u16, RuleErr>
+pub(crate) fn enum_named(scope: &Scope, own: &Name, name: &Name) -> Result<u16, CheckErr>
     ensures { let meaning = find (unfinished scope.now own.now) name.now.text in
         Answers itself (enum_named name.now.at meaning) result }
 {
@@ -79,7 +79,7 @@ pub(crate) fn enum_named(scope: &Scope, own: &Name, name: &Name) -> Result<u16, 
     }
 }
 
-fn label_in(wanted: u16, at: u32, meaning: &Meaning) -> Result<u8, RuleErr>
+fn label_in(wanted: u16, at: u32, meaning: &Meaning) -> Result<u8, CheckErr>
     ensures { Answers itself (label_named wanted at (Some meaning.now)) result }
 {
     match meaning {
@@ -93,7 +93,7 @@ fn label_in(wanted: u16, at: u32, meaning: &Meaning) -> Result<u8, RuleErr>
         | Meaning::HoldCell(..)
         | Meaning::NumsCell(..)
         | Meaning::WordsCell(..)
-        | Meaning::Test(..) => Err(RuleErr::Kind { at }),
+        | Meaning::Test(..) => Err(CheckErr::Kind { at }),
     }
 }
 
@@ -104,7 +104,7 @@ pub(crate) fn label_named(
     own: &Name,
     wanted: u16,
     name: &Name,
-) -> Result<u8, RuleErr>
+) -> Result<u8, CheckErr>
     ensures { let meaning = find (unfinished scope.now own.now) name.now.text in
         Answers itself (label_named wanted name.now.at meaning) result }
 {
@@ -116,22 +116,22 @@ pub(crate) fn label_named(
 
 /// Why a name is no literal of a kind that has no labels, in the declaration of `own`.
 #[tactic(auto, using(crate::proofs::ScopeLaws::none_beside))]
-pub(crate) fn no_label(scope: &Scope, own: &Name, name: &Name) -> RuleErr
+pub(crate) fn no_label(scope: &Scope, own: &Name, name: &Name) -> CheckErr
     ensures { let meaning = find (unfinished scope.now own.now) name.now.text in
         no_label {A = OneValue} name.now.at meaning ≡ Err result }
 {
     match found(scope, name.text.as_str()) {
-        Some(_) => RuleErr::Kind { at: name.at },
+        Some(_) => CheckErr::Kind { at: name.at },
         None => unseen(own, name),
     }
 }
 
 /// The field that a name stands for.
-pub(crate) fn field_named(at: u32, found: Option<&Meaning>) -> Result<u16, RuleErr>
+pub(crate) fn field_named(at: u32, found: Option<&Meaning>) -> Result<u16, CheckErr>
     ensures { Answers itself (field_named at (option_copied found.entry)) result }
 {
     let Some(meaning) = found else {
-        return Err(RuleErr::Name { at });
+        return Err(CheckErr::Name { at });
     };
     match meaning {
         Meaning::Value(_, Variable::Field(field)) => Ok(*field),
@@ -144,6 +144,6 @@ pub(crate) fn field_named(at: u32, found: Option<&Meaning>) -> Result<u16, RuleE
         | Meaning::HoldCell(..)
         | Meaning::NumsCell(..)
         | Meaning::WordsCell(..)
-        | Meaning::Test(..) => Err(RuleErr::Kind { at }),
+        | Meaning::Test(..) => Err(CheckErr::Kind { at }),
     }
 }

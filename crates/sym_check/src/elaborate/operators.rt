@@ -12,7 +12,7 @@ ghost use Rattle.sym_check.specs.TypedPlans.{typed_plan, Answers};
 ghost use Rattle.sym_check.specs.Typing.{turned};
 ghost use Rattle.sym_check.specs.Typing as typing;
 
-use crate::elaborate::error::RuleErr;
+use crate::elaborate::error::CheckErr;
 use crate::elaborate::typed::Typed;
 use crate::plan::condition::Cond;
 use crate::plan::expression::{ArithOp, LabelOf, Line, Num, Term, WordOf};
@@ -79,7 +79,7 @@ fn opposite(alloc: Global, term: Term) -> Result<Term, NoMemory>
     }
 }
 
-fn added(alloc: Global, at: u32, left: Term, right: Term) -> Result<Term, RuleErr>
+fn added(alloc: Global, at: u32, left: Term, right: Term) -> Result<Term, CheckErr>
     ensures { Answers term_plan (added at (term_plan left) (term_plan right)) result }
 {
     match (left, right) {
@@ -92,11 +92,11 @@ fn added(alloc: Global, at: u32, left: Term, right: Term) -> Result<Term, RuleEr
         (Term::Fixed(by), Term::Line(line)) | (Term::Line(line), Term::Fixed(by)) => {
             Ok(Term::Line(raised(alloc, line, by)?))
         }
-        (Term::Line(_), Term::Line(_)) => Err(RuleErr::NotLinear { at }),
+        (Term::Line(_), Term::Line(_)) => Err(CheckErr::NotLinear { at }),
     }
 }
 
-fn subtracted(alloc: Global, at: u32, left: Term, right: Term) -> Result<Term, RuleErr>
+fn subtracted(alloc: Global, at: u32, left: Term, right: Term) -> Result<Term, CheckErr>
     ensures { Answers term_plan (subtracted at (term_plan left) (term_plan right)) result }
 {
     match (left, right) {
@@ -114,11 +114,11 @@ fn subtracted(alloc: Global, at: u32, left: Term, right: Term) -> Result<Term, R
             let by = negative_number(alloc, by)?;
             Ok(Term::Line(raised(alloc, line, by)?))
         }
-        (Term::Line(_), Term::Line(_)) => Err(RuleErr::NotLinear { at }),
+        (Term::Line(_), Term::Line(_)) => Err(CheckErr::NotLinear { at }),
     }
 }
 
-fn multiplied(alloc: Global, at: u32, left: Term, right: Term) -> Result<Term, RuleErr>
+fn multiplied(alloc: Global, at: u32, left: Term, right: Term) -> Result<Term, CheckErr>
     ensures { Answers term_plan (multiplied at (term_plan left) (term_plan right)) result }
 {
     match (left, right) {
@@ -131,7 +131,7 @@ fn multiplied(alloc: Global, at: u32, left: Term, right: Term) -> Result<Term, R
         (Term::Fixed(by), Term::Line(line)) | (Term::Line(line), Term::Fixed(by)) => {
             Ok(Term::Line(scaled(alloc, by, line)?))
         }
-        (Term::Line(_), Term::Line(_)) => Err(RuleErr::NotLinear { at }),
+        (Term::Line(_), Term::Line(_)) => Err(CheckErr::NotLinear { at }),
     }
 }
 
@@ -141,7 +141,7 @@ fn quotient_of(
     at: u32,
     left: Term,
     right: Term,
-) -> Result<Term, RuleErr>
+) -> Result<Term, CheckErr>
     ensures { Answers term_plan
         (quotient_of operator at (term_plan left) (term_plan right)) result }
 {
@@ -151,7 +151,7 @@ fn quotient_of(
         }
         (Term::Fixed(_), Term::Line(_))
         | (Term::Line(_), Term::Fixed(_))
-        | (Term::Line(_), Term::Line(_)) => Err(RuleErr::NotLinear { at }),
+        | (Term::Line(_), Term::Line(_)) => Err(CheckErr::NotLinear { at }),
     }
 }
 
@@ -168,7 +168,7 @@ fn turned(compare: Compare) -> Compare
     }
 }
 
-fn compared(compare: Compare, at: u32, left: Term, right: Term) -> Result<Cond, RuleErr>
+fn compared(compare: Compare, at: u32, left: Term, right: Term) -> Result<Cond, CheckErr>
     ensures { Answers cond_plan (compared compare at (term_plan left) (term_plan right)) result }
 {
     match (left, right) {
@@ -181,7 +181,7 @@ fn compared(compare: Compare, at: u32, left: Term, right: Term) -> Result<Cond, 
         (Term::Line(line), Term::Fixed(number)) => {
             Ok(Cond::Compare(compare, Term::Line(line), number))
         }
-        (Term::Line(_), Term::Line(_)) => Err(RuleErr::NotLinear { at }),
+        (Term::Line(_), Term::Line(_)) => Err(CheckErr::NotLinear { at }),
     }
 }
 
@@ -191,7 +191,7 @@ fn calculated(
     at: u32,
     left: Term,
     right: Term,
-) -> Result<Term, RuleErr>
+) -> Result<Term, CheckErr>
     ensures { Answers term_plan (rule_of operator at (term_plan left) (term_plan right)) result }
 {
     match operator {
@@ -208,7 +208,7 @@ fn arithmetic(
     at: u32,
     left: Typed,
     right: Typed,
-) -> Result<Typed, RuleErr>
+) -> Result<Typed, CheckErr>
     ensures { Answers typed_plan
         (arithmetic (rule_of operator) at (typed_plan left) (typed_plan right)) result }
 {
@@ -217,7 +217,7 @@ fn arithmetic(
     Ok(Typed::Number(calculated(alloc, operator, at, left, right)?))
 }
 
-fn ordered(compare: Compare, at: u32, left: Typed, right: Typed) -> Result<Typed, RuleErr>
+fn ordered(compare: Compare, at: u32, left: Typed, right: Typed) -> Result<Typed, CheckErr>
     ensures { Answers typed_plan (ordered compare at (typed_plan left) (typed_plan right)) result }
 {
     let left = left.term(at)?;
@@ -225,7 +225,7 @@ fn ordered(compare: Compare, at: u32, left: Typed, right: Typed) -> Result<Typed
     Ok(Typed::Truth(compared(compare, at, left, right)?))
 }
 
-fn both(alloc: Global, at: u32, left: Typed, right: Typed) -> Result<Typed, RuleErr>
+fn both(alloc: Global, at: u32, left: Typed, right: Typed) -> Result<Typed, CheckErr>
     ensures { Answers typed_plan (both plan.And at (typed_plan left) (typed_plan right)) result }
 {
     let left = left.condition(at)?;
@@ -233,7 +233,7 @@ fn both(alloc: Global, at: u32, left: Typed, right: Typed) -> Result<Typed, Rule
     Ok(Typed::Truth(conjunction(alloc, left, right)?))
 }
 
-fn either(alloc: Global, at: u32, left: Typed, right: Typed) -> Result<Typed, RuleErr>
+fn either(alloc: Global, at: u32, left: Typed, right: Typed) -> Result<Typed, CheckErr>
     ensures { Answers typed_plan (both plan.Or at (typed_plan left) (typed_plan right)) result }
 {
     let left = left.condition(at)?;
@@ -241,7 +241,7 @@ fn either(alloc: Global, at: u32, left: Typed, right: Typed) -> Result<Typed, Ru
     Ok(Typed::Truth(disjunction(alloc, left, right)?))
 }
 
-fn equal(at: u32, left: Typed, right: Typed) -> Result<Typed, RuleErr>
+fn equal(at: u32, left: Typed, right: Typed) -> Result<Typed, CheckErr>
     ensures { Answers typed_plan (equal at (typed_plan left) (typed_plan right)) result }
 {
     match left {
@@ -251,12 +251,12 @@ fn equal(at: u32, left: Typed, right: Typed) -> Result<Typed, RuleErr>
             Ok(Typed::Truth(compared(Compare::Eq, at, left, right)?))
         }
         Typed::Label(..) | Typed::EnumCell(..) | Typed::HoldCell(..) | Typed::Truth(_) => {
-            Err(RuleErr::Kind { at })
+            Err(CheckErr::Kind { at })
         }
     }
 }
 
-fn different(alloc: Global, at: u32, left: Typed, right: Typed) -> Result<Typed, RuleErr>
+fn different(alloc: Global, at: u32, left: Typed, right: Typed) -> Result<Typed, CheckErr>
     ensures { Answers typed_plan (different at (typed_plan left) (typed_plan right)) result }
 {
     match left {
@@ -269,12 +269,12 @@ fn different(alloc: Global, at: u32, left: Typed, right: Typed) -> Result<Typed,
             Ok(Typed::Truth(compared(Compare::Ne, at, left, right)?))
         }
         Typed::Label(..) | Typed::EnumCell(..) | Typed::HoldCell(..) | Typed::Truth(_) => {
-            Err(RuleErr::Kind { at })
+            Err(CheckErr::Kind { at })
         }
     }
 }
 
-fn same_words(at: u32, left: WordOf, right: Typed) -> Result<Cond, RuleErr>
+fn same_words(at: u32, left: WordOf, right: Typed) -> Result<Cond, CheckErr>
     ensures { Answers cond_plan (words_joined at left (typed_plan right)) result }
 {
     match right {
@@ -283,11 +283,11 @@ fn same_words(at: u32, left: WordOf, right: Typed) -> Result<Cond, RuleErr>
         | Typed::Label(..)
         | Typed::EnumCell(..)
         | Typed::HoldCell(..)
-        | Typed::Truth(_) => Err(RuleErr::Kind { at }),
+        | Typed::Truth(_) => Err(CheckErr::Kind { at }),
     }
 }
 
-fn label_is(at: u32, of: u16, left: LabelOf, right: &Typed) -> Result<Cond, RuleErr>
+fn label_is(at: u32, of: u16, left: LabelOf, right: &Typed) -> Result<Cond, CheckErr>
     ensures { Answers truth_plan
         (labels_joined at (typing.Label of left) (typed_plan right.now)) result }
 {
@@ -298,11 +298,11 @@ fn label_is(at: u32, of: u16, left: LabelOf, right: &Typed) -> Result<Cond, Rule
         | Typed::Word(_)
         | Typed::EnumCell(..)
         | Typed::HoldCell(..)
-        | Typed::Truth(_) => Err(RuleErr::Kind { at }),
+        | Typed::Truth(_) => Err(CheckErr::Kind { at }),
     }
 }
 
-fn cell_is(at: u32, cell: u16, of: u16, right: &Typed) -> Result<Cond, RuleErr>
+fn cell_is(at: u32, cell: u16, of: u16, right: &Typed) -> Result<Cond, CheckErr>
     ensures { Answers truth_plan
         (labels_joined at (typing.EnumCell cell of) (typed_plan right.now)) result }
 {
@@ -313,11 +313,11 @@ fn cell_is(at: u32, cell: u16, of: u16, right: &Typed) -> Result<Cond, RuleErr>
         | Typed::Word(_)
         | Typed::EnumCell(..)
         | Typed::HoldCell(..)
-        | Typed::Truth(_) => Err(RuleErr::Kind { at }),
+        | Typed::Truth(_) => Err(CheckErr::Kind { at }),
     }
 }
 
-fn labels_joined(at: u32, left: &Typed, right: &Typed) -> Result<Typed, RuleErr>
+fn labels_joined(at: u32, left: &Typed, right: &Typed) -> Result<Typed, CheckErr>
     ensures { Answers typed_plan
         (labels_joined at (typed_plan left.now) (typed_plan right.now)) result }
 {
@@ -325,13 +325,13 @@ fn labels_joined(at: u32, left: &Typed, right: &Typed) -> Result<Typed, RuleErr>
         Typed::Label(of, label) => Ok(Typed::Truth(label_is(at, *of, *label, right)?)),
         Typed::EnumCell(cell, of) => Ok(Typed::Truth(cell_is(at, *cell, *of, right)?)),
         Typed::Number(_) | Typed::Word(_) | Typed::HoldCell(..) | Typed::Truth(_) => {
-            Err(RuleErr::Kind { at })
+            Err(CheckErr::Kind { at })
         }
     }
 }
 
 /// What unary `-` makes of its operand.
-pub(crate) fn negated(alloc: Global, at: u32, operand: Typed) -> Result<Typed, RuleErr>
+pub(crate) fn negated(alloc: Global, at: u32, operand: Typed) -> Result<Typed, CheckErr>
     ensures { Answers typed_plan (negated at (typed_plan operand)) result }
 {
     let term = operand.term(at)?;
@@ -339,7 +339,7 @@ pub(crate) fn negated(alloc: Global, at: u32, operand: Typed) -> Result<Typed, R
 }
 
 /// What `not` makes of its operand.
-pub(crate) fn inverted(alloc: Global, at: u32, operand: Typed) -> Result<Typed, RuleErr>
+pub(crate) fn inverted(alloc: Global, at: u32, operand: Typed) -> Result<Typed, CheckErr>
     ensures { Answers typed_plan (inverted at (typed_plan operand)) result }
 {
     let condition = operand.condition(at)?;
@@ -353,7 +353,7 @@ pub(crate) fn joined(
     at: u32,
     left: Typed,
     right: Typed,
-) -> Result<Typed, RuleErr>
+) -> Result<Typed, CheckErr>
     ensures { Answers typed_plan (joined operator at (typed_plan left) (typed_plan right)) result }
 {
     match operator {

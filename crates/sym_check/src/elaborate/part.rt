@@ -5,7 +5,7 @@ ghost use Rattle.sym_check.specs.Declaring.{part_plans};
 ghost use Rattle.sym_check.specs.ElaborateDeclarations.{parts_of};
 ghost use Rattle.sym_check.specs.TypedPlans.{Answers};
 
-use crate::elaborate::error::RuleErr;
+use crate::elaborate::error::CheckErr;
 use crate::elaborate::literal::{kind_of, literal_of};
 use crate::elaborate::scope::Scope;
 use crate::plan::script::KindPlans;
@@ -25,7 +25,7 @@ pub(crate) fn parts_of(
     scope: &Scope,
     own: &Name,
     parts: &Parts,
-) -> Result<PartPlans, RuleErr>
+) -> Result<PartPlans, CheckErr>
     ensures { let seen = unfinished scope.now own.now in
         Answers part_plans (parts_of seen parts.now) result }
 {

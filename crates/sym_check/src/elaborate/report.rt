@@ -9,7 +9,7 @@ ghost use Rattle.sym_check.specs.Scopes.{find};
 ghost use Rattle.sym_check.specs.Showing.{seen_plan, has_few_parts, HaveFewParts};
 ghost use Rattle.sym_check.specs.TypedPlans.{Answers};
 
-use crate::elaborate::error::RuleErr;
+use crate::elaborate::error::CheckErr;
 use crate::elaborate::expression::place;
 use crate::elaborate::naming::{declare, free};
 use crate::elaborate::scope::{Meaning, Scope, found};
@@ -28,7 +28,7 @@ fn parts_seen(alloc: Global, cell: u16, kinds: &KindPlans) -> Result<Seen, NoMem
     Ok(Seen::Parts(HoldParts { cell, kinds }))
 }
 
-fn meaning_seen(alloc: Global, at: u32, meaning: &Meaning) -> Result<Seen, RuleErr>
+fn meaning_seen(alloc: Global, at: u32, meaning: &Meaning) -> Result<Seen, CheckErr>
     requires { IsTrue (has_few_parts meaning.now) }
     ensures { Answers seen_plan (seen at (Some meaning.now)) result }
 {
@@ -42,23 +42,23 @@ fn meaning_seen(alloc: Global, at: u32, meaning: &Meaning) -> Result<Seen, RuleE
         | Meaning::Enum(_)
         | Meaning::Label(..)
         | Meaning::Value(..)
-        | Meaning::Test(..) => Err(RuleErr::Kind { at }),
+        | Meaning::Test(..) => Err(CheckErr::Kind { at }),
     }
 }
 
 #[tactic(auto, using(crate::proofs::FewParts::found_few))]
-fn name_seen(alloc: Global, scope: &Scope, name: &Name) -> Result<Seen, RuleErr>
+fn name_seen(alloc: Global, scope: &Scope, name: &Name) -> Result<Seen, CheckErr>
     requires { HaveFewParts scope.now }
     ensures { Answers seen_plan (seen name.now.at (find scope.now name.now.text)) result }
 {
     match found(scope, name.text.as_str()) {
         Some(meaning) => meaning_seen(alloc, name.at, meaning),
-        None => Err(RuleErr::Name { at: name.at }),
+        None => Err(CheckErr::Name { at: name.at }),
     }
 }
 
 #[cycle(see)]
-fn see(alloc: Global, scope: &Scope, expr: &Expr) -> Result<Seen, RuleErr>
+fn see(alloc: Global, scope: &Scope, expr: &Expr) -> Result<Seen, CheckErr>
     requires { HaveFewParts scope.now }
     ensures { Answers seen_plan (see scope.now (expr_tree expr.now)) result }
 {
@@ -73,7 +73,7 @@ fn see(alloc: Global, scope: &Scope, expr: &Expr) -> Result<Seen, RuleErr>
         }
         Expr::Not(operand, at) => {
             let _operand = see(alloc, scope, operand)?;
-            Err(RuleErr::Kind { at: *at })
+            Err(CheckErr::Kind { at: *at })
         }
         Expr::Bin(operator, left, right, at) => {
             let left = see(alloc, scope, left)?;
@@ -84,20 +84,20 @@ fn see(alloc: Global, scope: &Scope, expr: &Expr) -> Result<Seen, RuleErr>
 }
 
 #[cycle(see)]
-fn call_seen(alloc: Global, scope: &Scope, name: &Name, values: &Exprs) -> Result<Seen, RuleErr>
+fn call_seen(alloc: Global, scope: &Scope, name: &Name, values: &Exprs) -> Result<Seen, CheckErr>
     requires { HaveFewParts scope.now }
     ensures { Answers seen_plan (see scope.now (Call name.now (exprs_tree values.now))) result }
 {
     let function = list_function(name.text.as_str());
     if function.is_none() && !is_part(name.text.as_str()) {
-        return Err(RuleErr::Name { at: name.at });
+        return Err(CheckErr::Name { at: name.at });
     }
     let found = see_all(alloc, scope, values)?;
     applied(name.at, function, found.as_slice())
 }
 
 #[cycle(see)]
-fn see_all(alloc: Global, scope: &Scope, values: &Exprs) -> Result<Sequence<Seen>, RuleErr>
+fn see_all(alloc: Global, scope: &Scope, values: &Exprs) -> Result<Sequence<Seen>, CheckErr>
     requires { HaveFewParts scope.now }
     ensures { Answers (map seen_plan) (see_all scope.now (exprs_tree values.now)) result }
 {
@@ -117,7 +117,7 @@ fn column_decl(
     columns: &mut Scope,
     number: u16,
     decl: &ColumnDecl,
-) -> Result<ColumnPlan, RuleErr>
+) -> Result<ColumnPlan, CheckErr>
     requires { HaveFewParts scope.now }
     ensures { let column = column_decl scope.now columns.old number (column_tree decl.now) in
         Declares column_plan column result columns.new }
@@ -136,7 +136,7 @@ pub(crate) fn column_decls(
     scope: &Scope,
     names: &mut Scope,
     decls: &ColumnDecls,
-) -> Result<ColumnPlans, RuleErr>
+) -> Result<ColumnPlans, CheckErr>
     requires count { length decls.now < 65536 }
     requires parts { HaveFewParts scope.now }
     ensures { let outcome = each (column_decl scope.now) names.old 0 (map column_tree decls.now) in

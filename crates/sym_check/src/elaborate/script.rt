@@ -10,7 +10,7 @@ ghost use Rattle.sym_check.specs.Showing.{HaveFewParts};
 ghost use Rattle.sym_check.specs.TypedPlans.{Answers};
 ghost use Rattle.sym_check.specs.WholeScripts.{update_plan, column_plans};
 
-use crate::elaborate::error::RuleErr;
+use crate::elaborate::error::CheckErr;
 use crate::elaborate::field::{field_decls, group_of};
 use crate::elaborate::label::enum_decls;
 use crate::elaborate::names::names_of;
@@ -26,7 +26,7 @@ use std::alloc::Global;
 use sym_base::{ColumnDecls, PATHS_MAX, Script, Stmts};
 
 // The plan of an update, in the scope of all declarations.
-fn update_of(alloc: Global, scope: &Scope, update: &Stmts) -> Result<Dos, RuleErr>
+fn update_of(alloc: Global, scope: &Scope, update: &Stmts) -> Result<Dos, CheckErr>
     requires { stmts_count (stmts_tree update.now) < 65536 }
     ensures { Answers dos_plan (update_plan scope.now (stmts_tree update.now)) result }
 {
@@ -38,7 +38,7 @@ fn update_of(alloc: Global, scope: &Scope, update: &Stmts) -> Result<Dos, RuleEr
 
 // The plans of the report's columns, in the scope of all declarations.
 #[tactic(auto, using(crate::proofs::FewParts::visible_few))]
-fn columns_of(alloc: Global, scope: &Scope, columns: &ColumnDecls) -> Result<ColumnPlans, RuleErr>
+fn columns_of(alloc: Global, scope: &Scope, columns: &ColumnDecls) -> Result<ColumnPlans, CheckErr>
     requires count { length columns.now < 65536 }
     requires parts { HaveFewParts scope.now }
     ensures { let trees = map column_tree columns.now in
@@ -50,19 +50,19 @@ fn columns_of(alloc: Global, scope: &Scope, columns: &ColumnDecls) -> Result<Col
 }
 
 // The last rule: few paths.
-fn bounded(plan: Plan) -> Result<Plan, RuleErr>
+fn bounded(plan: Plan) -> Result<Plan, CheckErr>
     ensures { Answers script_plan (bounded (script_plan plan)) result }
 {
     let paths = path_bound_of(&plan.update);
     if paths <= PATHS_MAX {
         Ok(plan)
     } else {
-        Err(RuleErr::Branchy { paths })
+        Err(CheckErr::Branchy { paths })
     }
 }
 
 /// The plan of a script, or its first broken rule.
-pub(crate) fn elaborate_script(alloc: Global, script: &Script) -> Result<Plan, RuleErr>
+pub(crate) fn elaborate_script(alloc: Global, script: &Script) -> Result<Plan, CheckErr>
     requires { IsLawful (script_tree script.now) }
     ensures { Answers script_plan (plan_of (script_tree script.now)) result }
 {

@@ -8,7 +8,7 @@ ghost use Rattle.sym_check.specs.ShowPlans.{show_plan};
 ghost use Rattle.sym_check.specs.TypedPlans.{Answers};
 ghost use Rattle.sym_check.specs.Typing.{arith_of};
 
-use crate::elaborate::error::RuleErr;
+use crate::elaborate::error::CheckErr;
 use crate::elaborate::seen::{HoldParts, Seen};
 use crate::plan::expression::ArithOp;
 use crate::plan::script::KindPlan;
@@ -17,27 +17,27 @@ use std::alloc::Global;
 use sym_base::{BinOp, NoMemory};
 
 /// The number, where this is one.
-pub(crate) fn shown_number(at: u32, seen: Seen) -> Result<Show, RuleErr>
+pub(crate) fn shown_number(at: u32, seen: Seen) -> Result<Show, CheckErr>
     ensures { Answers show_plan (shown_number at (seen_plan seen)) result }
 {
     match seen {
         Seen::Numeral(number, _) => Ok(Show::Num(number)),
         Seen::Number(show) => Ok(show),
         Seen::Word(_) | Seen::NumList(_) | Seen::WordList(_) | Seen::Parts(_) => {
-            Err(RuleErr::Kind { at })
+            Err(CheckErr::Kind { at })
         }
     }
 }
 
 /// The value of a column whose expression stands at this place.
-pub(crate) fn shown(at: u32, seen: Seen) -> Result<Show, RuleErr>
+pub(crate) fn shown(at: u32, seen: Seen) -> Result<Show, CheckErr>
     ensures { Answers show_plan (shown at (seen_plan seen)) result }
 {
     match seen {
         Seen::Numeral(number, _) => Ok(Show::Num(number)),
         Seen::Number(show) | Seen::Word(show) => Ok(show),
         Seen::NumList(cell) | Seen::WordList(cell) => Ok(Show::Cell(cell)),
-        Seen::Parts(_) => Err(RuleErr::Kind { at }),
+        Seen::Parts(_) => Err(CheckErr::Kind { at }),
     }
 }
 
@@ -48,7 +48,7 @@ fn opposite(alloc: Global, show: Show) -> Result<Show, NoMemory>
 }
 
 /// What unary `-` makes of its operand.
-pub(crate) fn negative(alloc: Global, at: u32, seen: Seen) -> Result<Seen, RuleErr>
+pub(crate) fn negative(alloc: Global, at: u32, seen: Seen) -> Result<Seen, CheckErr>
     ensures { Answers seen_plan (negative at (seen_plan seen)) result }
 {
     let show = shown_number(at, seen)?;
@@ -91,12 +91,12 @@ pub(crate) fn calculated(
     at: u32,
     left: Seen,
     right: Seen,
-) -> Result<Seen, RuleErr>
+) -> Result<Seen, CheckErr>
     ensures { let whole = calculated_by at (arith_of operator) (seen_plan left) (seen_plan right) in
         Answers seen_plan whole result }
 {
     let Some(operator) = arith_of(operator) else {
-        return Err(RuleErr::Kind { at });
+        return Err(CheckErr::Kind { at });
     };
     let left = shown_number(at, left)?;
     let right = shown_number(at, right)?;
@@ -113,74 +113,74 @@ fn part_seen(kind: KindPlan, show: Show) -> Seen
 }
 
 // The part with this number, counted from 1; the place is the number's.
-fn part_at(place: u32, parts: &HoldParts, number: u16) -> Result<Seen, RuleErr>
+fn part_at(place: u32, parts: &HoldParts, number: u16) -> Result<Seen, CheckErr>
     ensures { Answers seen_plan (part_at place parts.now.cell parts.now.kinds number) result }
 {
     if number == 0 {
-        return Err(RuleErr::Range { at: place });
+        return Err(CheckErr::Range { at: place });
     }
     match parts.kinds.get(usize::from(number) - 1) {
         Some(kind) => Ok(part_seen(*kind, Show::Part(parts.cell, number))),
-        None => Err(RuleErr::Range { at: place }),
+        None => Err(CheckErr::Range { at: place }),
     }
 }
 
-fn part_by(at: u32, place: u32, parts: &HoldParts, number: i64) -> Result<Seen, RuleErr>
+fn part_by(at: u32, place: u32, parts: &HoldParts, number: i64) -> Result<Seen, CheckErr>
     ensures { let part = part_by at place parts.now.cell parts.now.kinds number in
         Answers seen_plan part result }
 {
     if number < 0 {
-        return Err(RuleErr::Kind { at });
+        return Err(CheckErr::Kind { at });
     }
     match u16::try_from(number) {
         Ok(number) => part_at(place, parts, number),
-        Err(_) => Err(RuleErr::Range { at: place }),
+        Err(_) => Err(CheckErr::Range { at: place }),
     }
 }
 
-fn of_word_list(at: u32, function: ShowFn, cell: u16) -> Result<Seen, RuleErr>
+fn of_word_list(at: u32, function: ShowFn, cell: u16) -> Result<Seen, CheckErr>
     ensures { Answers seen_plan (of_word_list at function cell) result }
 {
     match function {
         ShowFn::Count => Ok(Seen::Number(Show::Call(function, cell))),
         ShowFn::First | ShowFn::Last => Ok(Seen::Word(Show::Call(function, cell))),
-        ShowFn::Sum | ShowFn::Min | ShowFn::Max => Err(RuleErr::Kind { at }),
+        ShowFn::Sum | ShowFn::Min | ShowFn::Max => Err(CheckErr::Kind { at }),
     }
 }
 
-fn of_one_list(at: u32, function: ShowFn, list: &Seen) -> Result<Seen, RuleErr>
+fn of_one_list(at: u32, function: ShowFn, list: &Seen) -> Result<Seen, CheckErr>
     ensures { Answers seen_plan (of_one_list at function (seen_plan list.now)) result }
 {
     match list {
         Seen::NumList(cell) => Ok(Seen::Number(Show::Call(function, *cell))),
         Seen::WordList(cell) => of_word_list(at, function, *cell),
         Seen::Numeral(..) | Seen::Number(_) | Seen::Word(_) | Seen::Parts(_) => {
-            Err(RuleErr::Kind { at })
+            Err(CheckErr::Kind { at })
         }
     }
 }
 
-fn of_list(at: u32, function: ShowFn, found: &[Seen]) -> Result<Seen, RuleErr>
+fn of_list(at: u32, function: ShowFn, found: &[Seen]) -> Result<Seen, CheckErr>
     ensures { Answers seen_plan (of_list at function (map seen_plan found.now)) result }
 {
     match found {
         [list] => of_one_list(at, function, list),
-        _ => Err(RuleErr::Kind { at }),
+        _ => Err(CheckErr::Kind { at }),
     }
 }
 
-fn of_numeral(at: u32, parts: &HoldParts, number: &Seen) -> Result<Seen, RuleErr>
+fn of_numeral(at: u32, parts: &HoldParts, number: &Seen) -> Result<Seen, CheckErr>
     ensures { let part = of_numeral at parts.now.cell parts.now.kinds (seen_plan number.now) in
         Answers seen_plan part result }
 {
     match number {
         Seen::Numeral(number, place) => part_by(at, *place, parts, *number),
         Seen::Number(_) | Seen::Word(_) | Seen::NumList(_) | Seen::WordList(_) | Seen::Parts(_) =>
-            Err(RuleErr::Kind { at }),
+            Err(CheckErr::Kind { at }),
     }
 }
 
-fn of_hold(at: u32, hold: &Seen, number: &Seen) -> Result<Seen, RuleErr>
+fn of_hold(at: u32, hold: &Seen, number: &Seen) -> Result<Seen, CheckErr>
     ensures { let part = of_hold at (seen_plan hold.now) (seen_plan number.now) in
         Answers seen_plan part result }
 {
@@ -190,22 +190,22 @@ fn of_hold(at: u32, hold: &Seen, number: &Seen) -> Result<Seen, RuleErr>
         | Seen::Number(_)
         | Seen::Word(_)
         | Seen::NumList(_)
-        | Seen::WordList(_) => Err(RuleErr::Kind { at }),
+        | Seen::WordList(_) => Err(CheckErr::Kind { at }),
     }
 }
 
-fn of_parts(at: u32, found: &[Seen]) -> Result<Seen, RuleErr>
+fn of_parts(at: u32, found: &[Seen]) -> Result<Seen, CheckErr>
     ensures { Answers seen_plan (of_parts at (map seen_plan found.now)) result }
 {
     match found {
         [hold, number] => of_hold(at, hold, number),
-        _ => Err(RuleErr::Kind { at }),
+        _ => Err(CheckErr::Kind { at }),
     }
 }
 
 /// What the function of a call gives for what its arguments come to; `part` where it is none of
 /// a list.
-pub(crate) fn applied(at: u32, function: Option<ShowFn>, found: &[Seen]) -> Result<Seen, RuleErr>
+pub(crate) fn applied(at: u32, function: Option<ShowFn>, found: &[Seen]) -> Result<Seen, CheckErr>
     ensures { Answers seen_plan (applied at function (map seen_plan found.now)) result }
 {
     match function {

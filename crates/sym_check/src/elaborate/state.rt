@@ -7,7 +7,7 @@ ghost use Rattle.sym_check.specs.ElaborateDeclarations.{cell_of, state_decl};
 ghost use Rattle.sym_check.specs.InOrder.{each};
 ghost use Rattle.sym_check.specs.TypedPlans.{Answers, itself};
 
-use crate::elaborate::error::RuleErr;
+use crate::elaborate::error::CheckErr;
 use crate::elaborate::naming::{declare, enum_named, free, label_named};
 use crate::elaborate::part::{PartPlans, parts_of};
 use crate::elaborate::scope::{Meaning, Scope};
@@ -28,7 +28,7 @@ fn hold_cell(
     own: &Name,
     number: u16,
     parts: &Parts,
-) -> Result<NamedCell, RuleErr>
+) -> Result<NamedCell, CheckErr>
     ensures { let seen = unfinished scope.now own.now in
         Answers named_cell (cell_of seen number own.now.at (cell.Hold parts.now)) result }
 {
@@ -47,7 +47,7 @@ fn enum_cell(
     number: u16,
     of: &Name,
     first: &Name,
-) -> Result<NamedCell, RuleErr>
+) -> Result<NamedCell, CheckErr>
     ensures { let seen = unfinished scope.now own.now in
         Answers named_cell (cell_of seen number own.now.at (cell.Enum of.now first.now)) result }
 {
@@ -65,7 +65,7 @@ fn cell_of(
     own: &Name,
     number: u16,
     decl: &CellDecl,
-) -> Result<NamedCell, RuleErr>
+) -> Result<NamedCell, CheckErr>
     ensures { let seen = unfinished scope.now own.now in
         Answers named_cell (cell_of seen number own.now.at decl.now) result }
 {
@@ -82,7 +82,7 @@ fn cell_of(
             plan: CellPlan::Nums { lo: *lo, hi: *hi },
             meaning: Meaning::NumsCell(number),
         }),
-        CellDecl::Int { .. } | CellDecl::Nums { .. } => Err(RuleErr::Range { at: own.at }),
+        CellDecl::Int { .. } | CellDecl::Nums { .. } => Err(CheckErr::Range { at: own.at }),
         CellDecl::Words => Ok(NamedCell {
             plan: CellPlan::Words,
             meaning: Meaning::WordsCell(number),
@@ -97,7 +97,7 @@ fn state_decl(
     scope: &mut Scope,
     number: u16,
     decl: &StateDecl,
-) -> Result<CellPlan, RuleErr>
+) -> Result<CellPlan, CheckErr>
     ensures { Declares itself (state_decl scope.old number decl.now) result scope.new }
 {
     free(scope, &decl.name)?;
@@ -111,7 +111,7 @@ pub(crate) fn state_decls(
     alloc: Global,
     scope: &mut Scope,
     decls: &StateDecls,
-) -> Result<CellPlans, RuleErr>
+) -> Result<CellPlans, CheckErr>
     requires { length decls.now < 65536 }
     ensures { Declares itself (each state_decl scope.old 0 decls.now) result scope.new }
 {

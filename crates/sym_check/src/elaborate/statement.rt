@@ -8,7 +8,7 @@ ghost use Rattle.sym_check.specs.ElaborateStatements as spec;
 ghost use Rattle.sym_check.specs.ElaborateStatements.{let_value, statement, block};
 ghost use Rattle.sym_check.specs.TypedPlans.{typed_plan, Answers};
 
-use crate::elaborate::error::RuleErr;
+use crate::elaborate::error::CheckErr;
 use crate::elaborate::expression::{infer, operands, place};
 use crate::elaborate::keeping::{kept, kept_from, kept_values};
 use crate::elaborate::naming::{declare, free};
@@ -29,7 +29,7 @@ pub(crate) struct LocalValue {
     pub value: Fixed,
 }
 
-fn let_value(at: u32, typed: Typed) -> Result<LocalValue, RuleErr>
+fn let_value(at: u32, typed: Typed) -> Result<LocalValue, CheckErr>
     ensures { Answers local_plan (let_value at (typed_plan typed)) result }
 {
     match typed {
@@ -48,7 +48,7 @@ fn let_value(at: u32, typed: Typed) -> Result<LocalValue, RuleErr>
         Typed::Number(Term::Line(_))
         | Typed::EnumCell(..)
         | Typed::HoldCell(..)
-        | Typed::Truth(_) => Err(RuleErr::Kind { at }),
+        | Typed::Truth(_) => Err(CheckErr::Kind { at }),
     }
 }
 
@@ -59,7 +59,7 @@ fn local(
     next: &mut u16,
     name: &Name,
     value: &Expr,
-) -> Result<Do, RuleErr>
+) -> Result<Do, CheckErr>
     requires { next.old + 1 < 65536 }
     ensures plan { Answers (planned_do scope.new next.new)
         (statement hidden.now scope.old next.old (Let name.now (expr_tree value.now))) result }
@@ -77,7 +77,7 @@ fn local(
     Ok(Do::Let(number, local.value))
 }
 
-fn set(alloc: Global, scope: &Scope, name: &Name, value: &Expr) -> Result<Do, RuleErr>
+fn set(alloc: Global, scope: &Scope, name: &Name, value: &Expr) -> Result<Do, CheckErr>
     ensures { Plans scope.now (Set name.now (expr_tree value.now)) result }
 {
     let target = assigned(scope, name)?;
@@ -85,7 +85,7 @@ fn set(alloc: Global, scope: &Scope, name: &Name, value: &Expr) -> Result<Do, Ru
     placed_in(place(value), target, typed)
 }
 
-fn push(alloc: Global, scope: &Scope, name: &Name, value: &Expr) -> Result<Do, RuleErr>
+fn push(alloc: Global, scope: &Scope, name: &Name, value: &Expr) -> Result<Do, CheckErr>
     ensures { Plans scope.now (Push name.now (expr_tree value.now)) result }
 {
     let target = pushed(scope, name)?;
@@ -93,7 +93,7 @@ fn push(alloc: Global, scope: &Scope, name: &Name, value: &Expr) -> Result<Do, R
     placed_in(place(value), target, typed)
 }
 
-fn keep(alloc: Global, scope: &Scope, name: &Name, values: &Exprs) -> Result<Do, RuleErr>
+fn keep(alloc: Global, scope: &Scope, name: &Name, values: &Exprs) -> Result<Do, CheckErr>
     ensures { Plans scope.now (Keep name.now (exprs_tree values.now)) result }
 {
     let cell = kept(scope, name)?;
@@ -101,7 +101,7 @@ fn keep(alloc: Global, scope: &Scope, name: &Name, values: &Exprs) -> Result<Do,
     kept_values(alloc, name.at, cell, values)
 }
 
-fn keep_from(scope: &Scope, name: &Name, source: &Name) -> Result<Do, RuleErr>
+fn keep_from(scope: &Scope, name: &Name, source: &Name) -> Result<Do, CheckErr>
     ensures { Plans scope.now (KeepFrom name.now source.now) result }
 {
     let cell = kept(scope, name)?;
@@ -132,7 +132,7 @@ fn statement(
     scope: &mut Scope,
     next: &mut u16,
     statement: &Stmt,
-) -> Result<Do, RuleErr>
+) -> Result<Do, CheckErr>
     requires { next.old + stmt_count (stmt_tree statement.now) < 65536 }
     ensures plan { Answers (planned_do scope.new next.new)
         (spec.statement hidden.now scope.old next.old (stmt_tree statement.now)) result }
@@ -164,7 +164,7 @@ pub(crate) fn block(
     scope: &mut Scope,
     next: &mut u16,
     statements: &Stmts,
-) -> Result<Dos, RuleErr>
+) -> Result<Dos, CheckErr>
     requires { next.old + stmts_count (stmts_tree statements.now) < 65536 }
     ensures plan { Answers (planned_dos next.new)
         (block hidden.now scope.old next.old (stmts_tree statements.now)) result }

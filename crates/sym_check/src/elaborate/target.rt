@@ -6,7 +6,7 @@ ghost use Rattle.sym_check.specs.ElaborateStatements.{ToInt, ToEnum, ToNums, ToW
 ghost use Rattle.sym_check.specs.Scopes.{find};
 ghost use Rattle.sym_check.specs.TypedPlans.{typed_plan, Answers};
 
-use crate::elaborate::error::RuleErr;
+use crate::elaborate::error::CheckErr;
 use crate::elaborate::scope::{Meaning, Scope, found};
 use crate::elaborate::typed::Typed;
 use crate::plan::statement::Do;
@@ -23,11 +23,11 @@ pub(crate) enum Target {
 }
 
 /// The cell that an assignment names.
-pub(crate) fn assigned(scope: &Scope, name: &Name) -> Result<Target, RuleErr>
+pub(crate) fn assigned(scope: &Scope, name: &Name) -> Result<Target, CheckErr>
     ensures { Answers target_plan (assigned name.now.at (find scope.now name.now.text)) result }
 {
     match found(scope, name.text.as_str()) {
-        None => Err(RuleErr::Name { at: name.at }),
+        None => Err(CheckErr::Name { at: name.at }),
         Some(Meaning::IntCell(cell)) => Ok(Target::Int(*cell)),
         Some(Meaning::EnumCell(cell, of)) => Ok(Target::Enum(*cell, *of)),
         Some(
@@ -39,16 +39,16 @@ pub(crate) fn assigned(scope: &Scope, name: &Name) -> Result<Target, RuleErr>
             | Meaning::NumsCell(_)
             | Meaning::WordsCell(_)
             | Meaning::Test(..),
-        ) => Err(RuleErr::Kind { at: name.at }),
+        ) => Err(CheckErr::Kind { at: name.at }),
     }
 }
 
 /// The cell that a push names.
-pub(crate) fn pushed(scope: &Scope, name: &Name) -> Result<Target, RuleErr>
+pub(crate) fn pushed(scope: &Scope, name: &Name) -> Result<Target, CheckErr>
     ensures { Answers target_plan (pushed name.now.at (find scope.now name.now.text)) result }
 {
     match found(scope, name.text.as_str()) {
-        None => Err(RuleErr::Name { at: name.at }),
+        None => Err(CheckErr::Name { at: name.at }),
         Some(Meaning::NumsCell(cell)) => Ok(Target::Nums(*cell)),
         Some(Meaning::WordsCell(cell)) => Ok(Target::Words(*cell)),
         Some(
@@ -60,11 +60,11 @@ pub(crate) fn pushed(scope: &Scope, name: &Name) -> Result<Target, RuleErr>
             | Meaning::EnumCell(..)
             | Meaning::HoldCell(..)
             | Meaning::Test(..),
-        ) => Err(RuleErr::Kind { at: name.at }),
+        ) => Err(CheckErr::Kind { at: name.at }),
     }
 }
 
-fn set_int(at: u32, cell: u16, typed: Typed) -> Result<Do, RuleErr>
+fn set_int(at: u32, cell: u16, typed: Typed) -> Result<Do, CheckErr>
     ensures { Answers do_plan (placed_in at (ToInt cell) (typed_plan typed)) result }
 {
     match typed {
@@ -73,11 +73,11 @@ fn set_int(at: u32, cell: u16, typed: Typed) -> Result<Do, RuleErr>
         | Typed::Label(..)
         | Typed::EnumCell(..)
         | Typed::HoldCell(..)
-        | Typed::Truth(_) => Err(RuleErr::Kind { at }),
+        | Typed::Truth(_) => Err(CheckErr::Kind { at }),
     }
 }
 
-fn set_enum(at: u32, cell: u16, of: u16, typed: &Typed) -> Result<Do, RuleErr>
+fn set_enum(at: u32, cell: u16, of: u16, typed: &Typed) -> Result<Do, CheckErr>
     ensures { Answers do_plan (placed_in at (ToEnum cell of) (typed_plan typed.now)) result }
 {
     match typed {
@@ -90,11 +90,11 @@ fn set_enum(at: u32, cell: u16, of: u16, typed: &Typed) -> Result<Do, RuleErr>
         | Typed::Number(_)
         | Typed::Word(_)
         | Typed::HoldCell(..)
-        | Typed::Truth(_) => Err(RuleErr::Kind { at }),
+        | Typed::Truth(_) => Err(CheckErr::Kind { at }),
     }
 }
 
-fn push_num(at: u32, cell: u16, typed: Typed) -> Result<Do, RuleErr>
+fn push_num(at: u32, cell: u16, typed: Typed) -> Result<Do, CheckErr>
     ensures { Answers do_plan (placed_in at (ToNums cell) (typed_plan typed)) result }
 {
     match typed {
@@ -103,11 +103,11 @@ fn push_num(at: u32, cell: u16, typed: Typed) -> Result<Do, RuleErr>
         | Typed::Label(..)
         | Typed::EnumCell(..)
         | Typed::HoldCell(..)
-        | Typed::Truth(_) => Err(RuleErr::Kind { at }),
+        | Typed::Truth(_) => Err(CheckErr::Kind { at }),
     }
 }
 
-fn push_word(at: u32, cell: u16, typed: Typed) -> Result<Do, RuleErr>
+fn push_word(at: u32, cell: u16, typed: Typed) -> Result<Do, CheckErr>
     ensures { Answers do_plan (placed_in at (ToWords cell) (typed_plan typed)) result }
 {
     match typed {
@@ -116,12 +116,12 @@ fn push_word(at: u32, cell: u16, typed: Typed) -> Result<Do, RuleErr>
         | Typed::Label(..)
         | Typed::EnumCell(..)
         | Typed::HoldCell(..)
-        | Typed::Truth(_) => Err(RuleErr::Kind { at }),
+        | Typed::Truth(_) => Err(CheckErr::Kind { at }),
     }
 }
 
 /// What is stored in the target; another enum cell is copied.
-pub(crate) fn placed_in(at: u32, target: Target, typed: Typed) -> Result<Do, RuleErr>
+pub(crate) fn placed_in(at: u32, target: Target, typed: Typed) -> Result<Do, CheckErr>
     ensures { Answers do_plan (placed_in at (target_plan target) (typed_plan typed)) result }
 {
     match target {

@@ -12,9 +12,9 @@ ghost use Rattle.sym_check.specs.InOrder.{each};
 ghost use Rattle.sym_check.specs.Scopes.{in_tests};
 ghost use Rattle.sym_check.specs.ScriptPlans.{test_plan};
 ghost use Rattle.sym_check.specs.TypedPlans.{Answers, itself};
-ghost use Rattle.sym_check.specs.declared.elaborate.error.RuleErr.TheVariants as rule_err;
+ghost use Rattle.sym_check.specs.declared.elaborate.error.CheckErr.TheVariants as rule_err;
 
-use crate::elaborate::error::RuleErr;
+use crate::elaborate::error::CheckErr;
 use crate::elaborate::expression::{infer, place};
 use crate::elaborate::literal::kind_of;
 use crate::elaborate::naming::{declare, free};
@@ -25,14 +25,14 @@ use std::alloc::Global;
 use sym_base::{Expr, Name, NoMemory, Param, Params, Sequence, TestDecl, TestDecls, Texts};
 
 // Whether none of the names is this one; it is `Twice` where one is.
-fn unnamed(names: &Texts, name: &Name) -> Result<(), RuleErr>
+fn unnamed(names: &Texts, name: &Name) -> Result<(), CheckErr>
     ensures free { OnOk result (list_any (same_word name.now.text) names.now ≡ false) }
     ensures at { IfErr result (λ e. e ≡ rule_err.Twice name.now.at) }
     ensures taken { OnErr result (list_any (same_word name.now.text) names.now ≡ true) }
 {
     'names: for text in names.as_slice() {
         if name.text.as_str() == text.as_str() {
-            return Err(RuleErr::Twice { at: name.at });
+            return Err(CheckErr::Twice { at: name.at });
         }
     }
     Ok(())
@@ -47,7 +47,7 @@ fn param_decl(
     params: &mut Scope,
     number: u16,
     decl: &Param,
-) -> Result<KindPlan, RuleErr>
+) -> Result<KindPlan, CheckErr>
     ensures { let seen = unfinished scope.now own.now in
         Declares itself (param_decl names.now seen params.old number decl.now) result params.new }
 {
@@ -66,7 +66,7 @@ fn param_decls(
     own: &Name,
     params: &mut Scope,
     decls: &Params,
-) -> Result<KindPlans, RuleErr>
+) -> Result<KindPlans, CheckErr>
     requires { length decls.now < 65536 }
     ensures { let one = param_decl names.now (unfinished scope.now own.now) in
         Declares itself (each one params.old 0 decls.now) result params.new }
@@ -90,7 +90,7 @@ fn in_body(alloc: Global, scope: &Scope, params: Scope) -> Result<Scope, NoMemor
 }
 
 // The condition of a test's body.
-fn body_of(alloc: Global, scope: &Scope, params: Scope, body: &Expr) -> Result<Cond, RuleErr>
+fn body_of(alloc: Global, scope: &Scope, params: Scope, body: &Expr) -> Result<Cond, CheckErr>
     ensures { Answers cond_plan (body_of scope.now params (expr_tree body.now)) result }
 {
     let seen = in_body(alloc, scope, params)?;
@@ -104,7 +104,7 @@ fn test_decl(
     scope: &mut Scope,
     number: u16,
     decl: &TestDecl,
-) -> Result<TestPlan, RuleErr>
+) -> Result<TestPlan, CheckErr>
     requires { length decl.now.params < 65536 }
     ensures { let tree = test_tree decl.now in
         Declares test_plan (test_decl names.now scope.old number tree) result scope.new }
@@ -124,7 +124,7 @@ pub(crate) fn test_decls(
     names: &Texts,
     scope: &mut Scope,
     decls: &TestDecls,
-) -> Result<TestPlans, RuleErr>
+) -> Result<TestPlans, CheckErr>
     requires few { length decls.now < 65536 }
     requires lawful { list_all is_lawful_test (map test_tree decls.now) ≡ true }
     ensures { let outcome = each (test_decl names.now) scope.old 0 (map test_tree decls.now) in

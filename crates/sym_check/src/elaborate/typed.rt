@@ -6,7 +6,7 @@ ghost use Rattle.sym_check.specs.LinePlans.{term_plan};
 ghost use Rattle.sym_check.specs.TypedPlans.{typed_plan, Answers};
 ghost use Rattle.sym_base.specs.declared.tree.expression.BinOp.TheVariants.{Is};
 
-use crate::elaborate::error::RuleErr;
+use crate::elaborate::error::CheckErr;
 use crate::plan::condition::Cond;
 use crate::plan::expression::{LabelOf, Term, WordOf};
 use crate::plan::script::KindPlans;
@@ -43,11 +43,11 @@ pub struct Arguments {
 
 impl Typed {
     /// What stands here, where a value is wanted.
-    pub(crate) fn no_cell(self, at: u32) -> Result<Typed, RuleErr>
+    pub(crate) fn no_cell(self, at: u32) -> Result<Typed, CheckErr>
         ensures { Answers typed_plan (no_cell at (typed_plan self)) result }
     {
         match self {
-            Typed::EnumCell(..) | Typed::HoldCell(..) => Err(RuleErr::Kind { at }),
+            Typed::EnumCell(..) | Typed::HoldCell(..) => Err(CheckErr::Kind { at }),
             Typed::Number(term) => Ok(Typed::Number(term)),
             Typed::Word(word) => Ok(Typed::Word(word)),
             Typed::Label(of, label) => Ok(Typed::Label(of, label)),
@@ -56,7 +56,7 @@ impl Typed {
     }
 
     /// What stands to the left of an operator: a value, or an enum cell where that is `is`.
-    pub(crate) fn left_of(self, operator: BinOp, at: u32) -> Result<Typed, RuleErr>
+    pub(crate) fn left_of(self, operator: BinOp, at: u32) -> Result<Typed, CheckErr>
         ensures { Answers typed_plan (left_of operator at (typed_plan self)) result }
     {
         match operator {
@@ -77,12 +77,12 @@ impl Typed {
         }
     }
 
-    fn left_of_is(self, at: u32) -> Result<Typed, RuleErr>
+    fn left_of_is(self, at: u32) -> Result<Typed, CheckErr>
         ensures { Answers typed_plan (left_of Is at (typed_plan self)) result }
     {
         match self {
             Typed::EnumCell(cell, of) => Ok(Typed::EnumCell(cell, of)),
-            Typed::HoldCell(..) => Err(RuleErr::Kind { at }),
+            Typed::HoldCell(..) => Err(CheckErr::Kind { at }),
             Typed::Number(term) => Ok(Typed::Number(term)),
             Typed::Word(word) => Ok(Typed::Word(word)),
             Typed::Label(of, label) => Ok(Typed::Label(of, label)),
@@ -91,11 +91,11 @@ impl Typed {
     }
 
     /// What stands as the first argument of a call: a value, or a hold cell.
-    pub(crate) fn first_of(self, at: u32) -> Result<Typed, RuleErr>
+    pub(crate) fn first_of(self, at: u32) -> Result<Typed, CheckErr>
         ensures { Answers typed_plan (first_of at (typed_plan self)) result }
     {
         match self {
-            Typed::EnumCell(..) => Err(RuleErr::Kind { at }),
+            Typed::EnumCell(..) => Err(CheckErr::Kind { at }),
             Typed::HoldCell(cell, kinds) => Ok(Typed::HoldCell(cell, kinds)),
             Typed::Number(term) => Ok(Typed::Number(term)),
             Typed::Word(word) => Ok(Typed::Word(word)),
@@ -105,7 +105,7 @@ impl Typed {
     }
 
     /// The condition, where this is one.
-    pub(crate) fn condition(self, at: u32) -> Result<Cond, RuleErr>
+    pub(crate) fn condition(self, at: u32) -> Result<Cond, CheckErr>
         ensures { Answers cond_plan (condition at (typed_plan self)) result }
     {
         match self {
@@ -114,12 +114,12 @@ impl Typed {
             | Typed::Word(_)
             | Typed::Label(..)
             | Typed::EnumCell(..)
-            | Typed::HoldCell(..) => Err(RuleErr::Kind { at }),
+            | Typed::HoldCell(..) => Err(CheckErr::Kind { at }),
         }
     }
 
     /// The number, where this is one.
-    pub(crate) fn term(self, at: u32) -> Result<Term, RuleErr>
+    pub(crate) fn term(self, at: u32) -> Result<Term, CheckErr>
         ensures { Answers term_plan (term_of at (typed_plan self)) result }
     {
         match self {
@@ -128,7 +128,7 @@ impl Typed {
             | Typed::Label(..)
             | Typed::EnumCell(..)
             | Typed::HoldCell(..)
-            | Typed::Truth(_) => Err(RuleErr::Kind { at }),
+            | Typed::Truth(_) => Err(CheckErr::Kind { at }),
         }
     }
 }

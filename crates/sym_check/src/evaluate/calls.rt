@@ -10,7 +10,7 @@ ghost use Rattle.sym_check.specs.LineValues.{pair};
 ghost use Rattle.sym_check.specs.ScriptPlans.{script_plan};
 ghost use Rattle.sym_check.specs.Updates.{environment};
 
-use crate::checked::Checked;
+use crate::checking::Checked;
 use crate::evaluate::arithmetic::Arith;
 use crate::evaluate::fixed_value::{FixedValue, value_of};
 use crate::evaluate::known::Known;

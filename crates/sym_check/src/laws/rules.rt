@@ -2,7 +2,7 @@
 ghost use Rattle.std.specs.Prelude.{◌≡◌, ◌↔◌, ℕ, Ok, Err};
 ghost use Rattle.sym_base.specs.Trees.{ExprTree, ScriptTree, StmtsTree};
 ghost use Rattle.sym_base.specs.Counters.{Counter, IsCounterTree};
-ghost use Rattle.sym_check.specs.declared.elaborate.error.RuleErr.{RuleErr as Fault};
+ghost use Rattle.sym_check.specs.declared.elaborate.error.CheckErr.{CheckErr as Fault};
 ghost use Rattle.sym_check.specs.DoPlans.{DosPlan};
 ghost use Rattle.sym_check.specs.ScriptPlans.{ScriptPlan};
 ghost use Rattle.sym_check.specs.Scopes.{Scope as Names};

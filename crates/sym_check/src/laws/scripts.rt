@@ -2,7 +2,7 @@
 ghost use Rattle.std.specs.Prelude.{◌≡◌, ◌↔◌, ◌⊎◌, Ok, Err};
 ghost use Rattle.sym_base.specs.Lawful.{IsLawful};
 ghost use Rattle.sym_base.specs.Trees.{ScriptTree};
-ghost use Rattle.sym_check.specs.declared.elaborate.error.RuleErr.{RuleErr as Fault};
+ghost use Rattle.sym_check.specs.declared.elaborate.error.CheckErr.{CheckErr as Fault};
 ghost use Rattle.sym_check.specs.ScriptPlans.{ScriptPlan};
 ghost use Rattle.sym_check.specs.Scripts.{IsAccepted, BreaksScript, plan_of};
 ghost use Rattle.sym_check.specs.WellFormed.{IsWellFormed};

@@ -2,7 +2,7 @@
 use std::alloc::{AllocError, Global};
 use std::process::Abort;
 use std::test::Fail;
-use sym_check::checking::{CheckErr, check};
+use sym_check::{CheckErr, check};
 use sym_parse::parse;
 
 /// What a row wants. A fault's place is the `@` in the row's text, which isn't in the script.

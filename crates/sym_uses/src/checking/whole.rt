@@ -1,7 +1,7 @@
 //! Whole scripts: examples, refusals with their places, and the order of a script's parts.
 use crate::checking::rows::{Wanted, answer_to, check_text};
 use std::test::Fail;
-use sym_check::checking::CheckErr;
+use sym_check::CheckErr;
 
 /// Scripts that are accepted, with their path bounds.
 const ACCEPTED: [(&str, u32); 11] = [

@@ -3,7 +3,7 @@ use Rattle.std.proofs.Common.{rules, ◌≡◌, Ok, Err}
 use Rattle.sym_base.specs.Trees.{script_tree}
 use Rattle.sym_check.specs.ScriptPlans.{script_plan}
 use Rattle.sym_check.specs.Scripts.{BreaksScript, plan_of}
-use Rattle.sym_check.specs.declared.elaborate.error.RuleErr.{RuleErr}
+use Rattle.sym_check.specs.declared.elaborate.error.CheckErr.{CheckErr}
 use Rattle.sym_check.proofs.PlannedScripts.{accepted_answer, broken_answer}
 use Rattle.sym_check.proofs.ScriptsAgree.{planned_accepted, planned_breaks, accepted_planned, breaks_planned}
 use Rattle.sym_check.proofs.checking.check.Goals as goal
@@ -22,7 +22,7 @@ returns-clause-only c p i =
 
 pub returns-in_err-plan-clause-breaks : goal.returns-in_err-plan-clause-breaks
 returns-in_err-plan-clause-breaks c =
-    let known : (f : RuleErr) → plan_of (script_tree c.args.script) ≡ Err f → BreaksScript (script_tree c.args.script) f =
+    let known : (f : CheckErr) → plan_of (script_tree c.args.script) ≡ Err f → BreaksScript (script_tree c.args.script) f =
     planned_breaks (script_tree c.args.script) in search (rules, known)
 
 pub returns-in_err-plan-clause-broken : goal.returns-in_err-plan-clause-broken

@@ -14,18 +14,18 @@ returns-in-Err-clause-told g c end is =
 
 pub returns-in-Err-load_file-clause-told : goal.returns-in-Err-load_file-clause-told
 returns-in-Err-load_file-clause-told g c end is =
-    let goes = script-goes _ _ c.in-Ok.checked end c.in-Ok.ensures.told (ap (λ o. run_end o (g.F.Store.holds c.args.files.now)) c.in-Some.ensures ∙ found _ _ end is) in
+    let goes = script-goes _ _ c.in-Ok.counter end c.in-Ok.ensures.told (ap (λ o. run_end o (g.F.Store.holds c.args.files.now)) c.in-Some.ensures ∙ found _ _ end is) in
     file-stops Global goes.0 _ c.in-Err-load_file.status end c.in-Err-load_file.ensures.told (ap (λ h. file_end goes.0 (h c.in-Some.run'.file.now)) c.in-Ok.ensures.same ∙ goes.2)
 
 pub returns-in-Err-load_file-clause-failed : goal.returns-in-Err-load_file-clause-failed
 returns-in-Err-load_file-clause-failed g c failed =
     let same : c.in-Err-load_file.status ≡ ReadFault = cc in
     subst (λ o. ReadFailed (g.F.Store.holds c.args.files.now) (g.F.Store.faults c.args.files.now) (g.F.Store.faults c.load_file.new.files) o) c.in-Some.ensures
-    (inr (script-turn _ c.in-Ok.checked c.in-Ok.ensures.told, rose-later _ _ _ (c.in-Ok.ensures.later c.in-Some.run'.file.now) (c.in-Err-load_file.ensures.failed (ap Err same))))
+    (inr (script-turn _ c.in-Ok.counter c.in-Ok.ensures.told, rose-later _ _ _ (c.in-Ok.ensures.later c.in-Some.run'.file.now) (c.in-Err-load_file.ensures.failed (ap Err same))))
 
 pub returns-clause-told : goal.returns-clause-told
 returns-clause-told g c end is =
-    let goes = script-goes _ _ c.in-Ok.checked end c.in-Ok.ensures.told (ap (λ o. run_end o (g.F.Store.holds c.args.files.now)) c.in-Some.ensures ∙ found _ _ end is) in
+    let goes = script-goes _ _ c.in-Ok.counter end c.in-Ok.ensures.told (ap (λ o. run_end o (g.F.Store.holds c.args.files.now)) c.in-Some.ensures ∙ found _ _ end is) in
     let reads = file-goes goes.0 _ c.in-Ok-load_file.bytes end c.in-Ok-load_file.ensures.told (ap (λ h. file_end goes.0 (h c.in-Some.run'.file.now)) c.in-Ok.ensures.same ∙ goes.2) in
     report-ends goes.0 _ c.compute.result end (c.compute.ensures.told goes.0 goes.1)
     (ap (λ b. numbers_end goes.0 (numbers_of goes.0.field.text b)) c.deref.ensures.value ∙ reads)

@@ -1,7 +1,7 @@
 -- The plan is that of the parts.
 use Rattle.std.proofs.Common.{rules, ◌≡◌, Err, map}
 use Rattle.sym_base.specs.Trees.{column_tree, script_tree, stmts_tree}
-use Rattle.sym_check.specs.declared.elaborate.error.RuleErr.{RuleErr}
+use Rattle.sym_check.specs.declared.elaborate.error.CheckErr.{CheckErr}
 use Rattle.sym_check.specs.Scripts.{plan_of}
 use Rattle.sym_check.specs.WholeScripts.{update_plan, column_plans}
 use Rattle.sym_check.specs.DoPlans.{dos_plan}
@@ -36,7 +36,7 @@ returns-in_err-update c =
       cells = c.in_ok-cells.ensures;
       tests = search rules;
     } in
-    let broken : (e : RuleErr) → update_plan c.test_decls.new.scope (stmts_tree c.args.script.now.update) ≡ Err e → plan_of (script_tree c.args.script.now) ≡ Err e = λ e h. update_breaks (script_tree c.args.script.now) c.in_ok-enums.enums c.in_ok-fields.fields c.in_ok-group.group c.in_ok-cells.cells (map test_plan c.in_ok-tests.tests) c.test_decls.new.scope e d h in
+    let broken : (e : CheckErr) → update_plan c.test_decls.new.scope (stmts_tree c.args.script.now.update) ≡ Err e → plan_of (script_tree c.args.script.now) ≡ Err e = λ e h. update_breaks (script_tree c.args.script.now) c.in_ok-enums.enums c.in_ok-fields.fields c.in_ok-group.group c.in_ok-cells.cells (map test_plan c.in_ok-tests.tests) c.test_decls.new.scope e d h in
     search (rules, broken)
 
 pub returns-in_err-columns : goal.returns-in_err-columns
@@ -51,7 +51,7 @@ returns-in_err-columns c =
       cells = c.in_ok-cells.ensures;
       tests = search rules;
     } in
-    let broken : (e : RuleErr) → column_plans c.test_decls.new.scope (map column_tree c.args.script.now.columns) ≡ Err e → plan_of (script_tree c.args.script.now) ≡ Err e = λ e h. columns_break (script_tree c.args.script.now) c.in_ok-enums.enums c.in_ok-fields.fields c.in_ok-group.group c.in_ok-cells.cells (map test_plan c.in_ok-tests.tests) c.test_decls.new.scope (dos_plan c.in_ok-update.update) e d c.in_ok-update.ensures h in
+    let broken : (e : CheckErr) → column_plans c.test_decls.new.scope (map column_tree c.args.script.now.columns) ≡ Err e → plan_of (script_tree c.args.script.now) ≡ Err e = λ e h. columns_break (script_tree c.args.script.now) c.in_ok-enums.enums c.in_ok-fields.fields c.in_ok-group.group c.in_ok-cells.cells (map test_plan c.in_ok-tests.tests) c.test_decls.new.scope (dos_plan c.in_ok-update.update) e d c.in_ok-update.ensures h in
     search (rules, broken)
 
 pub returns : goal.returns

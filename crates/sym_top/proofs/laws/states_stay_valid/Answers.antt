@@ -1,5 +1,5 @@
-use Rattle.sym_check.proofs.Steps.{initial-valid, step-valid}
-use Rattle.sym_check.proofs.laws.states_stay_valid.Goals as goal
+use Rattle.sym_top.proofs.CounterSteps.{initial-valid, step-valid}
+use Rattle.sym_top.proofs.laws.states_stay_valid.Goals as goal
 
 pub returns-clause-first : goal.returns-clause-first
 returns-clause-first c = initial-valid

@@ -7,10 +7,10 @@ use Rattle.sym_base.specs.declared.values.state.Outcome.TheVariants.{Going, Ende
 use Rattle.sym_base.specs.declared.values.state.Cell.TheVariants.{Int}
 use Rattle.sym_base.specs.declared.values.state.FaultKind.TheVariants.{Over}
 use Rattle.sym_base.specs.States.{number_at, with_int}
-use Rattle.sym_check.proofs.CounterTrees.{le-Decides}
+use Rattle.sym_top.proofs.CounterTrees.{le-Decides}
 use Rattle.sym_base.specs.declared.values.record.Record.{Record}
 use Rattle.sym_base.specs.declared.values.state.Outcome.{Outcome}
-use Rattle.sym_check.specs.Steps.{Update, step, after, initial, counting, IsValid, IsValidOutcome, added, addend_of, records_with, without, keys, grouped}
+use Rattle.sym_top.specs.CounterSteps.{Update, step, after, initial, counting, IsValid, IsValidOutcome, added, addend_of, records_with, without, keys, grouped}
 
 pub after-snoc : (update : Update) (records : List Record) (rec : Record) (outcome : Outcome) → after update (records ++ rec ∷ []) outcome ≡ step update (after update records outcome) rec
 after-snoc update [] rec outcome = refl

@@ -17,7 +17,7 @@ use Rattle.sym_base.specs.declared.tree.declaration.Literal.{Literal}
 use Rattle.sym_base.specs.Trees.{ScriptTree, TestTree, ColumnTree, ExprTree, Num, Named, Bin, StmtsTree, Set, Then, Done}
 use Rattle.sym_base.specs.Counters.{Counter, Amount, Fixed, OfField, IsAmount, IsCounter, IsCounterTree, counter_tree, amount_tree, num_max}
 use Rattle.sym_base.proofs.Numbers.{number-Decides}
-use Rattle.sym_check.specs.CounterTrees.{counter_of, is_counter, is_amount, only_counter, same_text, amount_of, change_with, change_of, range_of, name_of, plain_field, counter_of_lists, Range, Change, counter_of_parts}
+use Rattle.sym_top.specs.CounterTrees.{counter_of, is_counter, is_amount, only_counter, same_text, amount_of, change_with, change_of, range_of, name_of, plain_field, counter_of_lists, Range, Change, counter_of_parts}
 
 pub le-Decides : (a b : ℤ) → Decides (int_le a b) (a ≤ℤ b)
 le-Decides a b = (λ e. grind (arith, ints), λ h. grind (arith, ints))
