@@ -1,5 +1,5 @@
 -- Locals that were there before a statement are there after it.
-use Rattle.std.proofs.Common.{◌≡◌, ◌∙◌, ap, sym, refl, subst, ℕ, ◌≤◌, List, [], ◌∷◌, ◌++◌, take, length, arith, length-take, pos, replicate, ◌-◌, Result, Ok, Err, OnOk}
+use Rattle.std.proofs.Common.{◌≡◌, ◌∙◌, ap, sym, refl, ℕ, ◌≤◌, List, [], ◌∷◌, ◌++◌, take, length, arith, length-take, pos, replicate, ◌-◌, Result, Ok, Err, OnOk}
 use Rattle.std.proofs.lemmas.List.{take_all, take_at, take-take}
 use Rattle.sym_base.specs.declared.values.value.Value.{Value}
 use Rattle.sym_base.specs.declared.values.value.Value.TheVariants as value

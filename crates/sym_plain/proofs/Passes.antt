@@ -1,7 +1,7 @@
 -- One record more of the sequential pass.
 use Rattle.std.proofs.Common.{◌≡◌, ◌∙◌, ap, sym, refl, Bool, true, false, not, cond, ◌||◌, if◌then◌else◌, List, [], ◌∷◌, ◌++◌, map, append-nil, true≢false, Option, Some, None}
 use Rattle.std.specs.List.{filter, list_any}
-use Rattle.std.specs.Map.{keys_of, lookup}
+use Rattle.std.specs.Map.{lookup}
 use Rattle.std.proofs.lemmas.List.{map-append}
 use Rattle.std.proofs.lemmas.List.Elements.{filter-append}
 use Rattle.sym_base.specs.declared.values.record.Record.{Record}

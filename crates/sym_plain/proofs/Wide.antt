@@ -1,5 +1,5 @@
 -- Which numbers 128 bits hold.
-use Rattle.std.proofs.Common.{◌≡◌, ◌∙◌, ◌≤◌, ◌<◌, ◌^◌, ◌-◌, ℤ, pos, negsuc, neg_ℤ, ◌≤ℤ◌, true, false, Bool, ap, sym, refl, if◌then◌else◌, Option, Some, None, FitsSigned, SomeIff, arith, unsigned_abs}
+use Rattle.std.proofs.Common.{◌≡◌, ◌∙◌, ◌^◌, ◌-◌, ℤ, pos, negsuc, neg_ℤ, ◌≤ℤ◌, true, false, Bool, ap, sym, refl, if◌then◌else◌, Option, Some, None, FitsSigned, SomeIff, arith}
 use Rattle.std.specs.Prelude.{int_le, ◌&&◌}
 use Rattle.std.specs.Bool.{Decides}
 use Rattle.std.specs.Cmp.Derive.{both_true}

@@ -1,4 +1,4 @@
-use Rattle.std.proofs.Common.{◌≡◌, ◌∙◌, ap, sym}
+use Rattle.std.proofs.Common.{◌∙◌, ap, sym}
 use Rattle.std.specs.Map.{set_value}
 use Rattle.sym_check.specs.Groups.{is_key}
 use Rattle.sym_check.specs.ScriptPlans.{script_plan}
