@@ -1,10 +1,11 @@
 //! Whole runs over stores and sinks in memory.
-use crate::load::load_script;
 use crate::status::Status;
 use crate::top::symple;
 use std::alloc::{AllocError, Global};
 use std::test::Fail;
 use sym_base::{MemSink, MemStore, NoMemory};
+use sym_check::check;
+use sym_parse::parse;
 
 // Counts records up to three.
 const COUNTER: &str =
@@ -246,14 +247,16 @@ fn a_file_that_is_absent_is_a_failed_read(rt: HostRuntime) -> Result<(), Fail> {
 
 #[test]
 fn a_checked_script_is_copied(rt: HostRuntime) -> Result<(), Fail> {
-    let mut files = store_of(rt.alloc(), BALANCE, "")?;
-    let checked = match load_script(rt.alloc(), &mut files, "script") {
-        Ok(checked) => checked,
-        Err(status) => return Err(Fail::from(format!(in rt.alloc(); "{status:?}")?)),
+    let Ok(script) = parse(rt.alloc(), BALANCE.as_bytes()) else {
+        return Err(Fail::from("no script"));
+    };
+    let Ok(checked) = check(rt.alloc(), script) else {
+        return Err(Fail::from("a broken rule"));
     };
     let copy = checked.copy(rt.alloc())?;
     assert!(rt; copy.script().fields == checked.script().fields);
     assert!(rt; copy.script().states == checked.script().states);
+    assert_eq!(rt; copy.path_bound(), checked.path_bound());
     Ok(())
 }
 
