@@ -11,3 +11,4 @@ pub mod Pulled
 pub mod Possibly
 pub mod Joined
 pub mod TakenValues
+pub mod JoinedFits

@@ -62,13 +62,13 @@ module _ (when : List Part) where
   number_taken f h = record { one = λ d x e o. absurd (h d x e o); more = λ none. refl }
 
 -- Lists of number forms that are taken on a constraint, after a change of each.
-taken_lists : (v w : List Part) (R : IntForm → IntForm → Type 0) (fs gs : List IntForm) → ((f g : IntForm) → R f g → NumberIsTakenTo v f f → NumberIsTakenTo w g g) → AllZip R fs gs → AllZip (NumberIsTakenTo v) fs fs → AllZip (NumberIsTakenTo w) gs gs
+pub taken_lists : (v w : List Part) (R : IntForm → IntForm → Type 0) (fs gs : List IntForm) → ((f g : IntForm) → R f g → NumberIsTakenTo v f f → NumberIsTakenTo w g g) → AllZip R fs gs → AllZip (NumberIsTakenTo v) fs fs → AllZip (NumberIsTakenTo w) gs gs
 taken_lists v w R [] [] step r h = tt
 taken_lists v w R [] (g ∷ gs) step r h = absurd r
 taken_lists v w R (f ∷ fs) [] step r h = absurd r
 taken_lists v w R (f ∷ fs) (g ∷ gs) step r h = (step f g r.0 h.0, taken_lists v w R fs gs step r.1 h.1)
 
-same_lists : {A : Type 0} (fs : List A) → AllZip (λ f g. g ≡ f) fs fs
+pub same_lists : {A : Type 0} (fs : List A) → AllZip (λ f g. g ≡ f) fs fs
 same_lists [] = tt
 same_lists (f ∷ fs) = (refl, same_lists fs)
 

@@ -173,13 +173,13 @@ share_left : (x l m : Bool) → (x && (l || m)) ≡ ((x && l) || (x && m))
 share_left true l m = refl
 share_left false l m = refl
 
-same_rest : {A : Type 0} (v w : List A) → ((c : ℕ) → slice_get v c ≡ slice_get w c) → v ≡ w
-same_rest [] [] h = refl
-same_rest [] (y ∷ w) h = absurd (let z : None ≡ Some y = h 0 in cc)
-same_rest (x ∷ v) [] h = absurd (let z : Some x ≡ None = h 0 in cc)
-same_rest (x ∷ v) (y ∷ w) h =
+pub same_everywhere : {A : Type 0} (v w : List A) → ((c : ℕ) → slice_get v c ≡ slice_get w c) → v ≡ w
+same_everywhere [] [] h = refl
+same_everywhere [] (y ∷ w) h = absurd (let z : None ≡ Some y = h 0 in cc)
+same_everywhere (x ∷ v) [] h = absurd (let z : Some x ≡ None = h 0 in cc)
+same_everywhere (x ∷ v) (y ∷ w) h =
     let first : x ≡ y = (let z : Some x ≡ Some y = h 0 in cc) in
-    let rest = same_rest v w (λ c. h (suc c)) in
+    let rest = same_everywhere v w (λ c. h (suc c)) in
     λ i. first i ∷ rest i
 
 pub admits_united : (truth : Truth) (v w : List Part) (cs : List Cell) (k : ℕ) (a b u : Part) → slice_get v k ≡ Some a → slice_get w k ≡ Some b → ((c : ℕ) → c ≢ k → slice_get v c ≡ slice_get w c) → IsUnited a b u → admits truth (slice_set v k u) cs ≡ (admits truth v cs || admits truth w cs)
@@ -190,7 +190,7 @@ admits_united truth (x ∷ v) (y ∷ w) [] (suc k) a b u e f same h = refl
 admits_united truth (x ∷ v) (y ∷ w) (c ∷ cs) zero a b u e f same h =
     let p : a ≡ x = cc in
     let q : b ≡ y = cc in
-    let rest : v ≡ w = same_rest v w (λ i. same (suc i) (λ z. cc)) in
+    let rest : v ≡ w = same_everywhere v w (λ i. same (suc i) (λ z. cc)) in
     let head : part_admits truth u c ≡ (part_admits truth x c || part_admits truth y c) = h truth c ∙ ap (λ (z : Part). part_admits truth z c || part_admits truth b c) p ∙ ap (λ (z : Part). part_admits truth x c || part_admits truth z c) q in
     ap (λ z. z && admits truth v cs) head ∙ share_right (part_admits truth x c) (part_admits truth y c) (admits truth v cs) ∙ ap (λ (z : List Part). (part_admits truth x c && admits truth v cs) || (part_admits truth y c && admits truth z cs)) rest
 admits_united truth (x ∷ v) (y ∷ w) (c ∷ cs) (suc k) a b u e f same h =
@@ -214,3 +214,6 @@ joined_second p q when h kept = record {
   first = λ truth s a. kept_end truth p.when s ((admits_decided truth p.when s).0 a) q.end p.end kept;
   second = λ truth s a. refl;
 }
+
+pub set_united : (truth : Truth) (v w r : List Part) (cs : List Cell) (k : ℕ) (a b u : Part) → r ≡ slice_set v k u → slice_get v k ≡ Some a → slice_get w k ≡ Some b → ((c : ℕ) → c ≢ k → slice_get v c ≡ slice_get w c) → IsUnited a b u → admits truth r cs ≡ (admits truth v cs || admits truth w cs)
+set_united truth v w r cs k a b u is e f same h = ap (λ (x : List Part). admits truth x cs) is ∙ admits_united truth v w cs k a b u e f same h

@@ -1,14 +1,16 @@
 -- Paths that can be joined, and settled lists of paths, as in the SYMPLE paper (SOSP 2015) in
 -- outline; which parts unite is this project's profile.
-use Rattle.std.specs.Prelude.{◌≡◌, ◌≢◌, ℕ, true, ◌||◌, List, Option, None, Some, slice_get, ◌⊎◌}
+use Rattle.std.specs.Prelude.{◌≡◌, ◌≢◌, ℕ, Bool, true, ◌||◌, ◌↔◌, slice_set, List, Option, None, Some, slice_get, ◌⊎◌}
 use Rattle.std.specs.List.{AllPairs}
 use Rattle.sym_base.specs.Tests.{Truth}
 use Rattle.sym_base.specs.declared.values.state.Cell.{Cell}
 use Rattle.sym_base.specs.declared.values.state.State.{State}
+use Rattle.sym_enum.specs.Labels.{has_label}
 use Rattle.sym_int.specs.Points.{IsUnion}
+use Rattle.sym_pred.specs.Facts.{Atom}
 use Rattle.sym_int.specs.declared.form.IntForm.{IntForm}
 use Rattle.sym_int.specs.declared.span.Span.{Span}
-use Rattle.sym_pred.specs.Meaning.{Unite}
+use Rattle.sym_pred.specs.Meaning.{Stands, Unite}
 use Rattle.sym_path.specs.declared.part.Part.{Part}
 use Rattle.sym_path.specs.declared.part.Part.TheVariants as part
 use Rattle.sym_path.specs.declared.path.PathEnd.{PathEnd}
@@ -93,3 +95,27 @@ EndKept when (Next fs) (Next gs) = AreTakenTo when fs gs
 EndKept when (Next fs) (Ended b) = ⊥
 EndKept when (Ended a) (Next gs) = ⊥
 EndKept when (Ended a) (Ended b) = a ≡ b
+
+-- The third part is the union of two: the labels of either, the numbers of either, or the literals
+-- of both.
+abbrev pub PartIsUnion : Part → Part → Part → Type 0
+PartIsUnion (part.Set a) (part.Set b) (part.Set u) = (l : ℕ) → has_label u l ≡ (has_label a l || has_label b l)
+PartIsUnion (part.Span a) (part.Span b) (part.Span u) = IsUnion u a b
+PartIsUnion (part.Facts a) (part.Facts b) (part.Facts u) = (atom : Atom) (outcome : Bool) → Stands u atom outcome ↔ (Stands a atom outcome × Stands b atom outcome)
+PartIsUnion part.Free part.Free part.Free = Unit {0}
+PartIsUnion a b u = ⊥
+
+-- A constraint with the union of the parts of the one cell in which two constraints differ.
+pub record UnitedInOne (v w r : List Part) : Type 0 where
+  pub cell : ℕ
+  pub first : Part
+  pub second : Part
+  pub union : Part
+  pub in_first : slice_get v cell ≡ Some first
+  pub in_second : slice_get w cell ≡ Some second
+  pub others : (c : ℕ) → c ≢ cell → slice_get v c ≡ slice_get w c
+  pub united : PartIsUnion first second union
+  pub result : r ≡ slice_set v cell union
+
+abbrev pub ConstraintIsUnion : List Part → List Part → List Part → Type 0
+ConstraintIsUnion v w r = ((r ≡ v) × (v ≡ w)) ⊎ UnitedInOne v w r

@@ -2,7 +2,9 @@
 ghost use Rattle.std.specs.Prelude.{◌≡◌, ◌↔◌, ◌≤◌, ◌+ℤ◌, ◌*ℤ◌, ℕ, ℤ, ◌||◌, IfOk, List, IsTrue, MatchBool, MatchOption, length, option_copied};
 ghost use Rattle.sym_int.specs.Elements.{IsConstant};
 ghost use Rattle.std.specs.List.{AllZip};
-ghost use Rattle.sym_path.specs.Joining.{ElementIsTakenTo, PartsUnite, ConstraintsUnite, EndsAgree, Joinable, IsUnited, EndKept, IsJoined};
+ghost use Rattle.sym_path.specs.Joining.{ElementIsTakenTo, PartsUnite, ConstraintsUnite, EndsAgree, Joinable, IsUnited, EndKept, IsJoined, PartIsUnion, ConstraintIsUnion};
+ghost use Rattle.sym_check.specs.ScriptPlans.{ScriptPlan};
+ghost use Rattle.sym_path.specs.Fitting.{PathFits};
 ghost use Rattle.sym_base.specs.Tests.{Truth};
 ghost use Rattle.sym_base.specs.declared.values.state.Cell.{Cell as OneCell};
 ghost use Rattle.sym_path.specs.Admitting.{admits};
@@ -210,7 +212,8 @@ pub fn joinable(p: &Path, q: &Path) -> bool
 /// The part that admits what either of two parts that unite admits.
 fn united(alloc: Global, first: &Part, second: &Part) -> Result<Part, NoMemory>
     requires { PartsUnite first.now second.now }
-    ensures { IfOk result (IsUnited first.now second.now) }
+    ensures admits { IfOk result (IsUnited first.now second.now) }
+    ensures part { IfOk result (PartIsUnion first.now second.now) }
 {
     match first {
         Part::Set(set) => match second {
@@ -245,8 +248,9 @@ fn constraint_united(
     second: &Constraint,
 ) -> Result<Constraint, NoMemory>
     requires { ConstraintsUnite first second.now }
-    ensures { IfOk result (λ when. (truth : Truth) (cells : List OneCell) →
+    ensures admits { IfOk result (λ when. (truth : Truth) (cells : List OneCell) →
         admits truth when cells ≡ (admits truth first cells || admits truth second.now cells)) }
+    ensures union { IfOk result (ConstraintIsUnion first second.now) }
 {
     let (parts, others) = (first.as_slice(), second.as_slice());
     match first_difference(parts, others, 0) {
@@ -280,7 +284,9 @@ impl Path {
     /// gives what that one gives.
     pub fn join(self, alloc: Global, other: Path) -> Result<Path, NoMemory>
         requires { Joinable self other }
-        ensures { IfOk result (IsJoined self other) }
+        ensures joined { IfOk result (IsJoined self other) }
+        ensures fits { IfOk result (λ path. (script : ScriptPlan) →
+            PathFits script self → PathFits script other → PathFits script path) }
     {
         let keeps = keeps_first(&self, &other);
         let Path { when, end } = self;
@@ -303,7 +309,9 @@ impl Path {
 /// The path of two that can be joined: it admits what either admits and gives what that one gives.
 pub fn join_paths(alloc: Global, p: &Path, q: &Path) -> Result<Path, NoMemory>
     requires { Joinable p.now q.now }
-    ensures { IfOk result (IsJoined p.now q.now) }
+    ensures joined { IfOk result (IsJoined p.now q.now) }
+    ensures fits { IfOk result (λ path. (script : ScriptPlan) →
+        PathFits script p.now → PathFits script q.now → PathFits script path) }
 {
     p.copy(alloc)?.join(alloc, q.copy(alloc)?)
 }
