@@ -11,7 +11,7 @@ use crate::part::Part;
 use crate::path::Path;
 use sym_base::{Cell, State, Values};
 use sym_check::laws::plans::well_formed_tests_are_fixed;
-use sym_check::{Plan, test};
+use sym_check::{Plan, answer_at};
 use sym_pred::{Facts, Literal};
 
 /// Whether the parts of a hold cell give the literal's outcome.
@@ -20,7 +20,8 @@ fn gives(plan: &Plan, parts: &Values, literal: &Literal) -> bool
     ensures { result ≡
         gives_outcome (test_truth (script_plan plan.now).tests) parts.now literal.now }
 {
-    let answer = test(plan, literal.test, parts, &literal.args);
+    let args = literal.args.as_slice();
+    let answer = answer_at(&plan.tests, literal.test, parts.as_slice(), args);
     if literal.outcome { answer } else { !answer }
 }
 

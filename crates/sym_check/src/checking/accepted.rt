@@ -78,7 +78,8 @@ impl Checked {
 
     /// How many paths the symbolic execution of one record can have at most.
     pub fn path_bound(&self) -> u32
-        ensures { result ≡ paths_of (checked_plan self.now).update }
+        ensures bound { result ≡ paths_of (checked_plan self.now).update }
+        ensures few { result ≤ limit.PATHS_MAX }
     {
         self.path_bound
     }

@@ -1,13 +1,12 @@
 //! What the expressions of a checked script stand for at a record.
-ghost use Rattle.std.specs.Prelude.{◌≡◌, IfOk, IsTrue};
-ghost use Rattle.std.specs.List.{list_all};
-ghost use Rattle.sym_check.specs.Conditions.{has_fixed_body, test_truth};
+ghost use Rattle.std.specs.Prelude.{◌≡◌, IfOk};
+ghost use Rattle.sym_check.specs.CheckedScripts.{checked_plan};
+ghost use Rattle.sym_check.specs.Conditions.{test_truth};
 ghost use Rattle.sym_check.specs.FixedPlans.{num_plan, fixed_plan};
 ghost use Rattle.sym_check.specs.FixedValues.{number, fixed_value};
 ghost use Rattle.sym_check.specs.KnownValues.{known_values, fixed_result};
 ghost use Rattle.sym_check.specs.LinePlans.{line_plan};
 ghost use Rattle.sym_check.specs.LineValues.{pair};
-ghost use Rattle.sym_check.specs.ScriptPlans.{script_plan};
 ghost use Rattle.sym_check.specs.Updates.{environment};
 
 use crate::checking::Checked;
@@ -18,7 +17,6 @@ use crate::evaluate::numbers::{number_of, pair_of};
 use crate::evaluate::pairs::Pair;
 use crate::evaluate::truth::answer_at;
 use crate::plan::expression::{Fixed, Line, Num};
-use crate::plan::script::Plan;
 use std::alloc::Global;
 use sym_base::{NoMemory, Record, Values};
 
@@ -76,9 +74,8 @@ pub fn fixed(
 /// The answer of the test with this number, counted from 0, for the parts of a hold cell and the
 /// arguments: whether its body is true. A body whose arithmetic fails is false, and so is the
 /// answer where no test has this number. It takes no memory.
-pub fn test(plan: &Plan, id: u16, parts: &Values, args: &Values) -> bool
-    requires { IsTrue (list_all has_fixed_body (script_plan plan.now).tests) }
-    ensures { result ≡ test_truth (script_plan plan.now).tests id args.now parts.now }
+pub fn test(checked: &Checked, id: u16, parts: &Values, args: &Values) -> bool
+    ensures { result ≡ test_truth (checked_plan checked.now).tests id args.now parts.now }
 {
-    answer_at(&plan.tests, id, parts.as_slice(), args.as_slice())
+    answer_at(&checked.plan().tests, id, parts.as_slice(), args.as_slice())
 }
