@@ -4,3 +4,7 @@ pub mod Blanks
 pub mod Cells
 pub mod FieldFacts
 pub mod Firsts
+pub mod Marks
+pub mod Readers
+pub mod FoundColumns
+pub mod Openings

@@ -3,12 +3,19 @@
 #![tactic(auto)]
 
 mod bad;
+mod chunk;
+mod columns;
+mod cutter;
 mod decoding;
 mod header;
+mod mark;
+mod reader;
 mod reading;
 mod row;
 
 pub use bad::{Bad, BadCause, Decoded};
+pub use chunk::{Chunk, Chunks};
+pub use cutter::Cutter;
 pub use decoding::{decode, decode_into};
-pub use header::{Header, Places};
+pub use header::{HeadErr, HeadFault, Header, Places};
 pub use row::{Row, Rows};

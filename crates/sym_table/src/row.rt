@@ -10,7 +10,7 @@ use sym_base::{NoMemory, Sequence};
 /// A row: the bytes of each field. A contract sees a list of byte strings.
 #[derive(Drop)]
 pub struct Row {
-    fields: ByteRecord,
+    pub(crate) fields: ByteRecord,
 }
 
 /// Rows, in order.
