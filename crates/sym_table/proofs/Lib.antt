@@ -1,0 +1,10 @@
+pub mod ReadFields
+pub mod Numbers
+pub mod Blanks
+pub mod Cells
+pub mod FieldFacts
+pub mod Firsts
+pub mod Marks
+pub mod Readers
+pub mod FoundColumns
+pub mod Openings

@@ -1,0 +1,8 @@
+-- The rows so far are the first of those that were left.
+use Rattle.std.proofs.Common.{◌≡◌, ◌++◌, length, List, Some}
+use Rattle.sym_table.specs.Reading.{Row}
+use Rattle.sym_table.proofs.cutter.take_rows.Given as goal
+
+abbrev pub invariant-rows : goal.invariant-rows
+invariant-rows l =
+    (left : List Row) × (l.fn.reader ≡ Some (l.rows ++ left)) × (l.reader ≡ Some left) × (length l.rows ≡ l._at)

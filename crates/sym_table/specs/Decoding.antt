@@ -1,0 +1,32 @@
+-- What a row is decoded to: the record, or why there is none.
+use Rattle.std.specs.Prelude.{◌≡◌, ℕ, List, Result, Ok, Err, Option, Some, None}
+use Rattle.sym_base.specs.declared.values.value.Value.{Value}
+use Rattle.sym_base.specs.declared.values.record.Record.{Record}
+use Rattle.sym_table.specs.declared.bad.BadCause.{BadCause}
+use Rattle.sym_table.specs.declared.bad.Bad.{Bad}
+use Rattle.sym_table.specs.declared.bad.Decoded.{Decoded}
+use Rattle.sym_table.specs.declared.bad.Decoded.TheVariants as decoded
+use Rattle.sym_table.specs.declared.reading.stop.Stop.{Stop}
+use Rattle.sym_table.specs.declared.reading.stop.Stop.TheVariants as stop
+
+-- The record with this number, or the rule that it breaks.
+abbrev pub numbered : ℕ → Result (List Value) BadCause → Decoded
+numbered n (Ok values) = decoded.Is (record { no = n; fields = values })
+numbered n (Err why) = decoded.Bad (record { no = n; cause = why })
+
+-- The record is there where nothing is wrong with the row.
+abbrev pub Fills : Option Bad → Record → Decoded → Type 0
+Fills None rec d = d ≡ decoded.Is rec
+Fills (Some bad) rec d = d ≡ decoded.Bad bad
+
+-- The value, or the rule that is broken; where memory is out, anything.
+abbrev pub Gives : {A : Type 0} → Result A Stop → Result A BadCause → Type 0
+Gives (Ok x) meaning = meaning ≡ Ok x
+Gives (Err (stop.Cause why)) meaning = meaning ≡ Err why
+Gives (Err stop.NoMemory) meaning = Unit {0}
+
+-- The same of what is left behind a reference.
+abbrev pub Leaves : {A B : Type 0} → Result A Stop → B → Result B BadCause → Type 0
+Leaves (Ok x) left meaning = meaning ≡ Ok left
+Leaves (Err (stop.Cause why)) left meaning = meaning ≡ Err why
+Leaves (Err stop.NoMemory) left meaning = Unit {0}

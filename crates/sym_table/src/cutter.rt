@@ -1,0 +1,183 @@
+//! Cutting a file into chunks of rows.
+ghost use Rattle.std.specs.Prelude.{◌≡◌, ◌≤◌, ◌+◌, ◌^◌, ◌<◌, IfOk, IfSome, IsSome, length};
+ghost use Rattle.std.specs.List.{All};
+ghost use Rattle.sym_base.specs.declared.limits.TheConstants as limit;
+ghost use Rattle.sym_table.specs.Cutting.{Cuts, HeadsBy, Opens, Takes, TakesRows};
+ghost use Rattle.sym_table.specs.FileRows.{file_rows};
+ghost use Rattle.sym_table.specs.Rows.{FitsHeader};
+
+use crate::chunk::Chunk;
+use crate::columns::columns_of;
+use crate::header::{HeadErr, Header, Places};
+use crate::mark::without_mark;
+use crate::reader::RowReader;
+use crate::row::{Row, Rows};
+use std::alloc::Global;
+use std::marker::Model;
+use sym_base::NoMemory;
+use sym_check::{FieldPlan, Plan};
+
+/// Reads a file's rows from its bytes where they lie, in chunks or one by one. A contract sees the
+/// rows that are left, `None` after memory was refused; the header; the number of the next row;
+/// and how many rows a full chunk has.
+#[derive(Drop)]
+pub struct Cutter<'a> {
+    rows: RowReader<'a>,
+    header: Header,
+    next_no: u64,
+    chunk: u32,
+}
+
+impl<'a> Model for Cutter<'a> {
+    ghost use Rattle.sym_table.specs.Cutting.{Cutting, IsCutting};
+
+    ghost Value = { Cutting };
+
+    ghost view = { λ c. record { left = c.rows; header = c.header; next_no = c.next_no; chunk = c.chunk } };
+
+    ghost invariant = { λ c. IsCutting c.rows c.next_no c.chunk };
+}
+
+// The next rows, `count` of them or those that are left.
+fn take_rows(alloc: Global, reader: &mut RowReader<'_>, count: u32) -> Result<Rows, NoMemory>
+    requires { 1 ≤ count }
+    ensures { TakesRows count reader.old reader.new result }
+{
+    if reader.has_failed() {
+        return Err(NoMemory);
+    }
+    let mut rows = Rows::new(alloc);
+    'rows: for _at in 0..count {
+        let mut row = Row::new(alloc);
+        if !reader.read(&mut row)? {
+            return Ok(rows);
+        }
+        if rows.push(row).is_err() {
+            reader.fail();
+            return Err(NoMemory);
+        }
+    }
+    Ok(rows)
+}
+
+// The header of a file that has no rows: nothing is read by it.
+fn unused_header(alloc: Global, count: usize) -> Result<Header, NoMemory>
+    ensures count { IfOk result (λ h. length h.places ≡ count) }
+    ensures within { IfOk result (λ h. All (λ place. place < h.columns) h.places) }
+{
+    let mut places = Places::new(alloc);
+    'places: for _place in 0..count {
+        places.push(0)?;
+    }
+    Ok(Header { places, columns: 1 })
+}
+
+// The header by the first row, where there is one.
+fn read_header(
+    alloc: Global,
+    fields: &[FieldPlan],
+    reader: &mut RowReader<'_>,
+) -> Result<Header, HeadErr>
+    requires few { length fields.now ≤ limit.FIELDS_MAX }
+    requires reading { IsSome reader.old }
+    ensures reads { IfSome reader.old (λ rows. HeadsBy fields.now rows reader.new result) }
+    ensures fits { IfOk result (λ h. FitsHeader fields.now h) }
+{
+    let mut row = Row::new(alloc);
+    if reader.read(&mut row)? {
+        let places = columns_of(alloc, &row, fields)?;
+        Ok(Header {
+            places,
+            columns: row.len() as u64,
+        })
+    } else {
+        Ok(unused_header(alloc, fields.len())?)
+    }
+}
+
+impl<'a> Cutter<'a> {
+    /// Opens a file: its first row is the header, by which each field has its column. The rows
+    /// after it are numbered from `first_no` on. A file of no rows gives a cutter of no chunks.
+    pub fn open(
+        alloc: Global,
+        plan: &Plan,
+        bytes: &'a [u8],
+        first_no: u64,
+        chunk: u32,
+    ) -> Result<Cutter<'a>, HeadErr>
+        requires fields { length plan.now.fields ≤ limit.FIELDS_MAX }
+        requires size { length bytes.now ≤ limit.FILE_MAX }
+        requires first { first_no ≤ 2 ^ 62 }
+        requires some { 1 ≤ chunk }
+        requires most { chunk ≤ limit.CHUNK_MAX }
+        ensures opens { Opens plan.now.fields (file_rows bytes.now) result }
+        ensures fits { IfOk result (λ c. FitsHeader plan.now.fields c.header) }
+        ensures numbers { IfOk result (λ c. c.next_no ≡ first_no) }
+        ensures chunk { IfOk result (λ c. c.chunk ≡ chunk) }
+    {
+        let mut rows = RowReader::over(alloc, without_mark(bytes));
+        let header = read_header(alloc, plan.fields.as_slice(), &mut rows)?;
+        Ok(Cutter {
+            rows,
+            header,
+            next_no: first_no,
+            chunk,
+        })
+    }
+
+    /// The next chunk: as many rows as a chunk has, or the fewer that are left. `None` exactly
+    /// where no row is left. After an `Err` each later call answers one.
+    pub fn next(&mut self, alloc: Global) -> Result<Option<Chunk>, NoMemory>
+        ensures cuts { Cuts self.old self.new result }
+        ensures header { self.new.header ≡ self.old.header }
+        ensures chunk { self.new.chunk ≡ self.old.chunk }
+    {
+        let rows = take_rows(alloc, &mut self.rows, self.chunk)?;
+        if rows.is_empty() {
+            return Ok(None);
+        }
+        match self.header.copy(alloc) {
+            Ok(header) => {
+                let first_no = self.next_no;
+                self.next_no += rows.len() as u64;
+                Ok(Some(Chunk {
+                    first_no,
+                    header,
+                    rows,
+                }))
+            }
+            Err(refused) => {
+                self.rows.fail();
+                Err(refused)
+            }
+        }
+    }
+
+    /// Reads the next row over the memory of `row`: whether there was one. After an `Err` each
+    /// later call answers one, and `row` may be any.
+    pub fn next_row(&mut self, row: &mut Row) -> Result<bool, NoMemory>
+        ensures takes { Takes self.old self.new row.new result }
+        ensures header { self.new.header ≡ self.old.header }
+        ensures chunk { self.new.chunk ≡ self.old.chunk }
+    {
+        let found = self.rows.read(row)?;
+        if found {
+            self.next_no += 1;
+        }
+        Ok(found)
+    }
+
+    /// The number of the next row.
+    pub fn next_no(&self) -> u64
+        ensures { result ≡ self.now.next_no }
+    {
+        self.next_no
+    }
+
+    /// The file's header.
+    pub fn header(&self) -> &Header
+        ensures { result.now ≡ self.now.header }
+    {
+        &self.header
+    }
+}

@@ -1,0 +1,21 @@
+//! Records of files: the rows that CSV gives, the columns of a script's fields, and the values that
+//! the fields read.
+#![tactic(auto)]
+
+mod bad;
+mod chunk;
+mod columns;
+mod cutter;
+mod decoding;
+mod header;
+mod mark;
+mod reader;
+mod reading;
+mod row;
+
+pub use bad::{Bad, BadCause, Decoded};
+pub use chunk::{Chunk, Chunks};
+pub use cutter::Cutter;
+pub use decoding::{decode, decode_into};
+pub use header::{HeadErr, HeadFault, Header, Places};
+pub use row::{Row, Rows};
