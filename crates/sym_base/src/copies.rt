@@ -1,4 +1,7 @@
 //! With ample memory each type of plain values gives its copy.
+ghost use Rattle.std.specs.Prelude.{IfOk, IsTrue};
+ghost use Rattle.sym_base.specs.States.{has_nums, has_words};
+
 use crate::*;
 use std::alloc::{AllocError, Global};
 use std::process::Abort;
@@ -38,7 +41,10 @@ fn nums(alloc: Global) -> Result<Nums, NoMemory> {
 }
 
 // A state with a cell of each kind.
-fn state(alloc: Global) -> Result<State, NoMemory> {
+fn state(alloc: Global) -> Result<State, NoMemory>
+    ensures nums { IfOk result (λ s. IsTrue (has_nums s 3)) }
+    ensures words { IfOk result (λ s. IsTrue (has_words s 4)) }
+{
     let mut cells = Cells::new(alloc);
     cells.push(Cell::Enum(2))?;
     cells.push(Cell::Int(-4))?;
@@ -292,11 +298,13 @@ fn lists_of_a_state_are_seen_where_they_lie(rt: HostRuntime) -> Result<(), Fail>
 
 #[test]
 fn lists_of_a_state_grow(rt: HostRuntime) -> Result<(), Fail> {
-    let mut state = state(rt.alloc())?;
-    state.push_num(3, 8)?;
-    state.push_word(4, word(rt.alloc())?)?;
-    assert!(rt; state.nums_at(3) == [-1, NUM_MAX, 8].as_slice());
-    assert!(rt; state.words_at(4).len() == 3 && state.number_at(1) == -4);
+    let mut more_nums = state(rt.alloc())?;
+    more_nums.push_num(3, 8)?;
+    assert!(rt; more_nums.nums_at(3) == [-1, NUM_MAX, 8].as_slice());
+    assert!(rt; more_nums.words_at(4).len() == 2 && more_nums.number_at(1) == -4);
+    let mut more_words = state(rt.alloc())?;
+    more_words.push_word(4, word(rt.alloc())?)?;
+    assert!(rt; more_words.words_at(4).len() == 3 && more_words.nums_at(3).len() == 2);
     let mut values = values(rt.alloc())?;
     assert!(rt; values.replace(0, Value::Num(6)) == Some(Value::Num(-5)));
     assert!(rt; values.replace(3, Value::Num(6)) == None && values.len() == 3);
