@@ -8,3 +8,6 @@ pub mod Marks
 pub mod Readers
 pub mod FoundColumns
 pub mod Openings
+pub mod Said
+pub mod FieldsAgree
+pub mod RowsAgree

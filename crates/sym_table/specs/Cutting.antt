@@ -43,14 +43,16 @@ pub record IsNext (old new : Cutting) (cut : Chunk) : Type 0 where
 
 -- The next chunk, or none where no row is left. A cutter that was refused memory stays so.
 abbrev pub Cuts : Cutting → Cutting → Result (Option Chunk) NoMemory → Type 0
-Cuts old new (Ok None) = (old.left ≡ Some []) × (new.left ≡ Some [])
+Cuts old new (Ok None) =
+    (old.left ≡ Some []) × (new.left ≡ Some []) × (new.next_no ≡ old.next_no)
 Cuts old new (Ok (Some cut)) = IsNext old new cut
 Cuts old new (Err e) = new.left ≡ None
 
 -- The same of one row.
 abbrev pub Takes : Cutting → Cutting → Row → Result Bool NoMemory → Type 0
 Takes old new row (Ok true) = (rest : List Row) × (old.left ≡ Some (row ∷ rest)) × (new.left ≡ Some rest) × (new.next_no ≡ old.next_no + 1)
-Takes old new row (Ok false) = (old.left ≡ Some []) × (new.left ≡ Some [])
+Takes old new row (Ok false) =
+    (old.left ≡ Some []) × (new.left ≡ Some []) × (new.next_no ≡ old.next_no)
 Takes old new row (Err e) = new.left ≡ None
 
 -- The columns, or the first fault; where memory is out, anything.

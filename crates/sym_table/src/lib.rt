@@ -8,6 +8,7 @@ mod columns;
 mod cutter;
 mod decoding;
 mod header;
+pub mod laws;
 mod mark;
 mod reader;
 mod reading;

@@ -135,11 +135,31 @@ fn fields_read_their_texts(rt: HostRuntime) -> Result<(), Fail> {
         (0, b"007".as_slice(), Want::Num(7)),
         (0, b" \t 5\t ".as_slice(), Want::Num(5)),
         (0, b"1000000000000".as_slice(), Want::Num(1_000_000_000_000)),
-        (0, b"-1000000000000".as_slice(), Want::Num(-1_000_000_000_000)),
-        (0, b"00000000000000000000000000000000003".as_slice(), Want::Num(3)),
-        (0, b"1000000000001".as_slice(), Want::Bad(BadCause::Number(0))),
-        (0, b"-1000000000001".as_slice(), Want::Bad(BadCause::Number(0))),
-        (0, b"99999999999999999999999999".as_slice(), Want::Bad(BadCause::Number(0))),
+        (
+            0,
+            b"-1000000000000".as_slice(),
+            Want::Num(-1_000_000_000_000),
+        ),
+        (
+            0,
+            b"00000000000000000000000000000000003".as_slice(),
+            Want::Num(3),
+        ),
+        (
+            0,
+            b"1000000000001".as_slice(),
+            Want::Bad(BadCause::Number(0)),
+        ),
+        (
+            0,
+            b"-1000000000001".as_slice(),
+            Want::Bad(BadCause::Number(0)),
+        ),
+        (
+            0,
+            b"99999999999999999999999999".as_slice(),
+            Want::Bad(BadCause::Number(0)),
+        ),
         (0, b"".as_slice(), Want::Bad(BadCause::Number(0))),
         (0, b"  ".as_slice(), Want::Bad(BadCause::Number(0))),
         (0, b"+".as_slice(), Want::Bad(BadCause::Number(0))),
@@ -149,7 +169,11 @@ fn fields_read_their_texts(rt: HostRuntime) -> Result<(), Fail> {
         (0, b"5 5".as_slice(), Want::Bad(BadCause::Number(0))),
         (0, b"5.0".as_slice(), Want::Bad(BadCause::Number(0))),
         (0, b"5\n".as_slice(), Want::Bad(BadCause::Number(0))),
-        (0, b"\xef\xbb\xbf5".as_slice(), Want::Bad(BadCause::Number(0))),
+        (
+            0,
+            b"\xef\xbb\xbf5".as_slice(),
+            Want::Bad(BadCause::Number(0)),
+        ),
         (0, b"5\xff".as_slice(), Want::Bad(BadCause::Utf8(0))),
         (1, b"".as_slice(), Want::Word("")),
         (1, b" a b\t".as_slice(), Want::Word(" a b\t")),
@@ -172,7 +196,10 @@ fn fields_read_their_texts(rt: HostRuntime) -> Result<(), Fail> {
         (5, b"blue".as_slice(), Want::Bad(BadCause::Label(5))),
     ] {
         let found = decoded_with(rt.alloc(), which, text)?;
-        assert!(rt; is_as_wanted(&found, which, &want), "field {which}: {want:?}");
+        assert!(rt;
+            is_as_wanted(&found, which, &want),
+            "field {which}: {want:?}"
+        );
     }
     let first = decoded_with(rt.alloc(), 0, b"x\xff")?;
     assert!(rt; is_as_wanted(&first, 0, &Want::Bad(BadCause::Utf8(0))));
@@ -187,8 +214,14 @@ fn the_first_broken_rule_is_answered(rt: HostRuntime) -> Result<(), Fail> {
         ([a].as_slice(), BadCause::Fields(1)),
         ([a, a, a, a, a, a].as_slice(), BadCause::Fields(6)),
         ([a, a, a, a, a, a, a, a].as_slice(), BadCause::Fields(8)),
-        ([a, a, b"\xff".as_slice(), a, a, a, a].as_slice(), BadCause::Number(0)),
-        ([a, b"1".as_slice(), a, a, a, a, a].as_slice(), BadCause::Label(2)),
+        (
+            [a, a, b"\xff".as_slice(), a, a, a, a].as_slice(),
+            BadCause::Number(0),
+        ),
+        (
+            [a, b"1".as_slice(), a, a, a, a, a].as_slice(),
+            BadCause::Label(2),
+        ),
     ] {
         match decoded(rt.alloc(), texts)? {
             Decoded::Bad(bad) => assert_eq!(rt; bad, Bad { no: 9, cause }),
@@ -244,15 +277,51 @@ fn files_are_cut_into_rows(rt: HostRuntime) -> Result<(), Fail> {
         (b"".as_slice(), 2, b"".as_slice()),
         (b"\xef\xbb\xbf".as_slice(), 2, b"".as_slice()),
         (b"n,w,c,n2,w2,c2".as_slice(), 2, b"".as_slice()),
-        (b"w,c2,n,c,n2,w2\n1\n2\n3\n".as_slice(), 2, b"1|1;|2;3|3;".as_slice()),
-        (b"n,w,c,n2,w2,c2\n1\n2\n".as_slice(), 2, b"1|1;|2;".as_slice()),
-        (b"n,w,c,n2,w2,c2\r\na,b\r\n\r\n ,\r\n".as_slice(), 9, b"1|a|b;| |;".as_slice()),
-        (b"\xef\xbb\xbfn,w,c,n2,w2,c2\n1".as_slice(), 9, b"1|1;".as_slice()),
-        (b"\xef\xbb\xbf\xef\xbb\xbfn,w,c,n2,w2,c2\n1".as_slice(), 9, b"1|1;".as_slice()),
-        (b"\xef\xbb\xbf\xef\xbb\xbf\xef\xbb\xbfn,w,c,n2,w2,c2\n1".as_slice(), 9, b"-0".as_slice()),
-        (b"n,w,c,n2,w2,c2\n\"a,\"\"b\"\n\"c\nd".as_slice(), 9, b"1|a,\"b;|c\nd;".as_slice()),
-        (b"n,w,c,n2,w2,c2\ra\rb".as_slice(), 1, b"1|a;2|b;".as_slice()),
-        (b"n,w,c,n2,w2,c2\n\x00\xff".as_slice(), 1, b"1|\x00\xff;".as_slice()),
+        (
+            b"w,c2,n,c,n2,w2\n1\n2\n3\n".as_slice(),
+            2,
+            b"1|1;|2;3|3;".as_slice(),
+        ),
+        (
+            b"n,w,c,n2,w2,c2\n1\n2\n".as_slice(),
+            2,
+            b"1|1;|2;".as_slice(),
+        ),
+        (
+            b"n,w,c,n2,w2,c2\r\na,b\r\n\r\n ,\r\n".as_slice(),
+            9,
+            b"1|a|b;| |;".as_slice(),
+        ),
+        (
+            b"\xef\xbb\xbfn,w,c,n2,w2,c2\n1".as_slice(),
+            9,
+            b"1|1;".as_slice(),
+        ),
+        (
+            b"\xef\xbb\xbf\xef\xbb\xbfn,w,c,n2,w2,c2\n1".as_slice(),
+            9,
+            b"1|1;".as_slice(),
+        ),
+        (
+            b"\xef\xbb\xbf\xef\xbb\xbf\xef\xbb\xbfn,w,c,n2,w2,c2\n1".as_slice(),
+            9,
+            b"-0".as_slice(),
+        ),
+        (
+            b"n,w,c,n2,w2,c2\n\"a,\"\"b\"\n\"c\nd".as_slice(),
+            9,
+            b"1|a,\"b;|c\nd;".as_slice(),
+        ),
+        (
+            b"n,w,c,n2,w2,c2\ra\rb".as_slice(),
+            1,
+            b"1|a;2|b;".as_slice(),
+        ),
+        (
+            b"n,w,c,n2,w2,c2\n\x00\xff".as_slice(),
+            1,
+            b"1|\x00\xff;".as_slice(),
+        ),
         (b"w,c,n2,w2,c2\n1".as_slice(), 9, b"-0".as_slice()),
         (b"n,w,c,n2,w2\n1".as_slice(), 9, b"-5".as_slice()),
         (b"n,w,c,n2,w2,C2\n1".as_slice(), 9, b"-5".as_slice()),
