@@ -21,6 +21,8 @@ mod names;
 #[cfg(test)]
 mod paths;
 #[cfg(test)]
+mod plain;
+#[cfg(test)]
 mod repeated;
 #[cfg(test)]
 mod reports;
