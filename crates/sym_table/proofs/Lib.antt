@@ -11,3 +11,4 @@ pub mod Openings
 pub mod Said
 pub mod FieldsAgree
 pub mod RowsAgree
+pub mod HeadersAgree

@@ -144,7 +144,7 @@ within [] i x d e = cc e
 within (y ∷ xs) zero x d e = (omega arith, cc e)
 within (y ∷ xs) (suc i) x d e = let rest = within xs i x d e in (omega (arith, rest.0), rest.1)
 
-is_text : (a b : List ℕ) → pointwise nat_eq a b ≡ true → a ≡ b
+pub is_text : (a b : List ℕ) → pointwise nat_eq a b ≡ true → a ≡ b
 is_text a b e = (slice_eq-Decides Decides-eqb a b (pointwise nat_eq a b) refl).0 e
 
 text_is : (a b : List ℕ) → a ≡ b → pointwise nat_eq a b ≡ true
@@ -157,7 +157,7 @@ no_text a b h = go (pointwise nat_eq a b) refl
     go true e = absurd (h (is_text a b e))
     go false e = e
 
-other_text : (a b : List ℕ) → pointwise nat_eq a b ≡ false → a ≢ b
+pub other_text : (a b : List ℕ) → pointwise nat_eq a b ≡ false → a ≢ b
 other_text a b e same = let yes = text_is a b same in cc (e, yes)
 
 pub label_said : (labels : List (List ℕ)) (text : List ℕ) (l : ℕ) → label_in labels text ≡ Some l → SaysLabel labels text l

@@ -5,6 +5,8 @@ ghost use Rattle.sym_check.specs.declared.plan.script.EnumPlan.{EnumPlan as OneE
 ghost use Rattle.sym_check.specs.declared.plan.script.FieldPlan.{FieldPlan as OneField};
 ghost use Rattle.sym_table.specs.declared.bad.BadCause.{BadCause as Cause};
 ghost use Rattle.sym_table.specs.declared.header.Header.{Header as OneHeader};
+ghost use Rattle.sym_table.specs.declared.header.HeadFault.{HeadFault as HeaderFault};
+ghost use Rattle.sym_table.specs.Headers.{AreColumns, FirstHeadFault, columns_of};
 ghost use Rattle.sym_table.specs.Rows.{HasValues, BreaksRow, read_row};
 
 /// The values of a row's fields, and the first rule that the row breaks, are what the function
@@ -18,4 +20,13 @@ pub fn rows_have_values_or_a_fault()
         (row : List (List ℕ)) (why : Cause) →
         length header.places ≡ length fields →
         BreaksRow enums fields header row why ↔ (read_row enums fields header row ≡ Err why) }
+{}
+
+/// The columns of the fields, and the first field that has none or two, are what the function
+/// answers. So a header has one list of columns or one first fault, and never both.
+pub fn headers_have_columns_or_a_fault()
+    ensures columns { (fields : List OneField) (row : List (List ℕ)) (places : List ℕ) →
+        AreColumns row fields places ↔ (columns_of row 0 fields ≡ Ok places) }
+    ensures fault { (fields : List OneField) (row : List (List ℕ)) (why : HeaderFault) →
+        FirstHeadFault row 0 fields why ↔ (columns_of row 0 fields ≡ Err why) }
 {}
