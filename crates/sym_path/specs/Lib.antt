@@ -1,10 +1,11 @@
 pub mod Admitting
-pub mod Differing
 pub mod Fitting
 pub mod Giving
 pub mod Joining
+pub mod Joins
 pub mod Narrowing
 pub mod Possible
 pub mod Pulling
+pub mod Settling
 pub mod Standing
 pub mod Taking

@@ -1,70 +1,26 @@
-//! Whether two paths can be joined into one.
-ghost use Rattle.std.specs.Prelude.{◌≡◌, ◌↔◌, ◌≤◌, ◌+ℤ◌, ◌*ℤ◌, ℕ, ℤ, ◌||◌, IfOk, List, IsTrue, MatchBool, MatchOption, length, option_copied};
-ghost use Rattle.sym_int.specs.Elements.{IsConstant};
+//! Which paths can be joined, and the paths that they become.
+ghost use Rattle.std.specs.Prelude.{◌≡◌, ◌≤◌, ◌↔◌, ℕ, ℤ, IfOk, IsTrue, MatchOption, length, slice_set};
 ghost use Rattle.std.specs.List.{AllZip};
-ghost use Rattle.sym_path.specs.Joining.{ElementIsTakenTo, PartsUnite, ConstraintsUnite, EndsAgree, Joinable, IsUnited, EndKept, IsJoined, PartIsUnion, ConstraintIsUnion};
-ghost use Rattle.sym_check.specs.ScriptPlans.{ScriptPlan};
-ghost use Rattle.sym_path.specs.Fitting.{PathFits};
-ghost use Rattle.sym_base.specs.Tests.{Truth};
-ghost use Rattle.sym_base.specs.declared.values.state.Cell.{Cell as OneCell};
-ghost use Rattle.sym_path.specs.Admitting.{admits};
+ghost use Rattle.sym_int.specs.Points.{IsUnion};
+ghost use Rattle.sym_int.specs.declared.span.Span.{Span as OneSpan};
+ghost use Rattle.sym_pred.specs.Meaning.{Unite};
+ghost use Rattle.sym_path.specs.Joining.{PartsUnite, ConstraintsUnite, EndsAgree, Joinable};
+ghost use Rattle.sym_path.specs.Joins.{AddedIsTaken, AreUnited, AreUnitedFacts, EndIsTakenTo, IsDifference, IsJoin, IsJoinedEnd, IsUnitedInOne, IsUnitedPart};
 ghost use Rattle.sym_path.specs.Taking.{HasOneLabel, HasOneNumber, LabelIsTakenTo, NumberIsTakenTo, IsTakenTo, AreTakenTo};
-ghost use Rattle.sym_path.specs.Differing.{IsFirstDifference};
 
 use crate::form::Form;
 use crate::part::{Constraint, Part};
 use crate::path::{Path, PathEnd};
 use std::alloc::Global;
-use sym_base::NoMemory;
+use sym_base::{Fault, NoMemory, Text};
 use sym_enum::EnumForm;
-use sym_int::{IntForm, Line};
+use sym_int::{IntForm, Number, Span};
+use sym_pred::{Facts, HoldForm};
 use sym_vector::ListForm;
 
-/// Whether two parts unite.
-fn unite(first: &Part, second: &Part) -> bool
-    ensures { IsTrue result ↔ PartsUnite first.now second.now }
-{
-    match (first, second) {
-        (Part::Set(_), Part::Set(_)) => true,
-        (Part::Span(first), Part::Span(second)) => first.unite(second).is_some(),
-        (Part::Facts(first), Part::Facts(second)) => first.unites(second),
-        (Part::Free, Part::Free) => true,
-        _ => false,
-    }
-}
-
-/// The first cell from `start` on in which two constraints differ.
-fn first_difference(first: &[Part], second: &[Part], start: usize) -> Option<usize>
-    requires lengths { length first.now ≡ length second.now }
-    requires within { start ≤ length first.now }
-    ensures { IsFirstDifference first.now second.now start result }
-{
-    'cells: for index in start..first.len() {
-        if first[index] != second[index] {
-            return Some(index);
-        }
-    }
-    None
-}
-
-/// Whether two constraints are equal, or equal but for one cell whose parts unite.
-fn constraints_unite(first: &[Part], second: &[Part]) -> bool
-    ensures { IsTrue result ↔ ConstraintsUnite first.now second.now }
-{
-    if first.len() != second.len() {
-        return false;
-    }
-    match first_difference(first, second, 0) {
-        None => true,
-        Some(cell) => {
-            unite(&first[cell], &second[cell])
-                && first_difference(first, second, cell + 1).is_none()
-        }
-    }
-}
-
-/// The one label that the constraint leaves of an enum cell; `None` where it leaves more.
-fn one_label(when: &[Part], cell: u16) -> Option<u8>
+/// The only label that the constraint leaves the enum cell with this number; `None` where there is
+/// none.
+fn only_label(when: &Constraint, cell: u16) -> Option<u8>
     ensures { MatchOption result ((l : ℕ) → HasOneLabel when.now cell l → ⊥)
         (λ l. HasOneLabel when.now cell l) }
 {
@@ -77,14 +33,15 @@ fn one_label(when: &[Part], cell: u16) -> Option<u8>
     }
 }
 
-/// The one number that the constraint leaves of an integer cell; `None` where it leaves more.
-fn one_number(when: &[Part], cell: u16) -> Option<i64>
+/// The only number that the constraint leaves the integer cell with this number; `None` where there
+/// is none.
+fn only_number(when: &Constraint, cell: u16) -> Option<i64>
     ensures { MatchOption result ((x : ℤ) → HasOneNumber when.now cell x → ⊥)
         (λ x. HasOneNumber when.now cell x) }
 {
     match when.get(usize::from(cell)) {
-        Some(Part::Span(span)) => span.only(),
         Some(Part::Set(_)) => None,
+        Some(Part::Span(span)) => span.only(),
         Some(Part::Facts(_)) => None,
         Some(Part::Free) => None,
         None => None,
@@ -92,226 +49,323 @@ fn one_number(when: &[Part], cell: u16) -> Option<i64>
 }
 
 /// Whether the second label form is the first one on the constraint.
-fn label_is_taken_to(when: &[Part], form: &EnumForm, other: &EnumForm) -> bool
+fn label_is_taken(when: &Constraint, form: &EnumForm, other: &EnumForm) -> bool
     ensures { IsTrue result ↔ LabelIsTakenTo when.now form.now other.now }
 {
     match form {
         EnumForm::Const(_) => other == form,
-        EnumForm::Copy(cell) => match one_label(when, *cell) {
+        EnumForm::Copy(cell) => match only_label(when, *cell) {
             Some(label) => *other == EnumForm::Const(label),
             None => other == form,
         },
     }
 }
 
-/// Whether the form is the constant that a line is where its cell holds the number.
-fn is_line_at(line: &Line, x: i64, other: &IntForm) -> bool
-    ensures { IsTrue result ↔ IsConstant (line.now.a *ℤ x +ℤ line.now.b) other.now }
+fn is_number(number: &Number, x: i128) -> bool
+    ensures { IsTrue result ↔ (number.now.value ≡ x) }
 {
-    match other {
-        IntForm::Const(number) => number.value as i128 == line.at(x),
-        IntForm::Line(_) => false,
-    }
+    i128::from(number.value) == x
 }
 
 /// Whether the second integer form is the first one on the constraint.
-fn number_is_taken_to(when: &[Part], form: &IntForm, other: &IntForm) -> bool
+fn number_is_taken(when: &Constraint, form: &IntForm, other: &IntForm) -> bool
     ensures { IsTrue result ↔ NumberIsTakenTo when.now form.now other.now }
 {
     match form {
         IntForm::Const(_) => other == form,
-        IntForm::Line(line) => match one_number(when, line.cell) {
-            Some(x) => is_line_at(line, x, other),
+        IntForm::Line(line) => match only_number(when, line.cell) {
+            Some(x) => match other {
+                IntForm::Const(number) => is_number(number, line.at(x)),
+                IntForm::Line(_) => false,
+            },
             None => other == form,
         },
     }
 }
 
-/// Whether the elements of the second list form are those of the first one on the constraint.
-fn numbers_are_taken_to(when: &[Part], form: &ListForm<IntForm>, other: &ListForm<IntForm>) -> bool
+/// Whether the added number at `index` of the second list is that of the first one on the
+/// constraint.
+fn added_is_taken(
+    when: &Constraint,
+    form: &ListForm<IntForm>,
+    other: &ListForm<IntForm>,
+    index: usize,
+) -> bool
+    ensures { IsTrue result ↔ AddedIsTaken when.now form.now other.now index }
+{
+    match form.at(index) {
+        Some(one) => match other.at(index) {
+            Some(taken) => number_is_taken(when, one, taken),
+            None => true,
+        },
+        None => true,
+    }
+}
+
+/// Whether the added numbers of the second list are those of the first one on the constraint.
+fn numbers_are_taken(when: &Constraint, form: &ListForm<IntForm>, other: &ListForm<IntForm>) -> bool
     ensures { IsTrue result ↔ AllZip (NumberIsTakenTo when.now) form.now other.now }
 {
     if form.len() != other.len() {
         return false;
     }
-    'elements: for index in 0..form.len() {
-        if !element_is_taken_to(when, form.at(index), other.at(index)) {
+    'added: for index in 0..form.len() {
+        if !added_is_taken(when, form, other, index) {
             return false;
         }
     }
     true
 }
 
-fn element_is_taken_to(when: &[Part], form: Option<&IntForm>, other: Option<&IntForm>) -> bool
-    ensures { IsTrue result ↔ ElementIsTakenTo when.now
-        (option_copied form.entry) (option_copied other.entry) }
+fn same_parts(form: &HoldForm, other: &HoldForm) -> bool
+    ensures { IsTrue result ↔ (other.now ≡ form.now) }
 {
-    match form {
-        Some(form) => match other {
-            Some(other) => number_is_taken_to(when, form, other),
-            None => false,
-        },
-        None => false,
-    }
+    other == form
+}
+
+fn same_words(form: &ListForm<Text>, other: &ListForm<Text>) -> bool
+    ensures { IsTrue result ↔ (other.now ≡ form.now) }
+{
+    other == form
 }
 
 /// Whether the second form is the first one on the constraint.
-fn is_taken_to(when: &[Part], form: &Form, other: &Form) -> bool
+fn is_taken(when: &Constraint, form: &Form, other: &Form) -> bool
     ensures { IsTrue result ↔ IsTakenTo when.now form.now other.now }
 {
     match (form, other) {
-        (Form::Enum(form), Form::Enum(other)) => label_is_taken_to(when, form, other),
-        (Form::Int(form), Form::Int(other)) => number_is_taken_to(when, form, other),
-        (Form::Nums(form), Form::Nums(other)) => numbers_are_taken_to(when, form, other),
-        (Form::Hold(form), Form::Hold(other)) => other == form,
-        (Form::Words(form), Form::Words(other)) => other == form,
+        (Form::Enum(form), Form::Enum(other)) => label_is_taken(when, form, other),
+        (Form::Int(form), Form::Int(other)) => number_is_taken(when, form, other),
+        (Form::Hold(form), Form::Hold(other)) => same_parts(form, other),
+        (Form::Nums(form), Form::Nums(other)) => numbers_are_taken(when, form, other),
+        (Form::Words(form), Form::Words(other)) => same_words(form, other),
         _ => false,
     }
 }
 
 /// Whether the second forms are the first ones on the constraint.
-fn are_taken_to(when: &[Part], forms: &[Form], others: &[Form]) -> bool
+fn are_taken(when: &Constraint, forms: &[Form], others: &[Form]) -> bool
     ensures { IsTrue result ↔ AreTakenTo when.now forms.now others.now }
 {
     if forms.len() != others.len() {
         return false;
     }
     'cells: for index in 0..forms.len() {
-        if !is_taken_to(when, &forms[index], &others[index]) {
+        if !is_taken(when, &forms[index], &others[index]) {
             return false;
         }
     }
     true
 }
 
-/// Whether two paths end by the same fault, or the forms of one, taken on the constraint of the
-/// other, are the forms of the other.
-fn ends_agree(p: &Path, q: &Path) -> bool
-    ensures { IsTrue result ↔ EndsAgree p.now q.now }
+fn same_fault(fault: &Fault, other: &Fault) -> bool
+    ensures { IsTrue result ↔ (fault.now ≡ other.now) }
 {
-    match (&p.end, &q.end) {
-        (PathEnd::Next(first), PathEnd::Next(second)) => {
-            let (first, second) = (first.as_slice(), second.as_slice());
-            are_taken_to(q.when.as_slice(), first, second)
-                || are_taken_to(p.when.as_slice(), second, first)
+    fault == other
+}
+
+/// Whether the second end is the first one on the constraint: the same fault, or its forms. It
+/// takes no memory.
+pub(crate) fn end_is_taken(when: &Constraint, end: &PathEnd, other: &PathEnd) -> bool
+    ensures { IsTrue result ↔ EndIsTakenTo when.now end.now other.now }
+{
+    match (end, other) {
+        (PathEnd::Next(forms), PathEnd::Next(others)) => {
+            are_taken(when, forms.as_slice(), others.as_slice())
         }
-        (PathEnd::Ended(first), PathEnd::Ended(second)) => first == second,
+        (PathEnd::Ended(fault), PathEnd::Ended(other)) => same_fault(fault, other),
         _ => false,
     }
 }
 
-/// Whether two paths can be joined: their constraints are equal, or equal but for one cell whose
-/// parts unite, and they end by the same fault, or the forms of one, taken on the constraint of the
-/// other, are the forms of the other. It takes no memory.
-pub fn joinable(p: &Path, q: &Path) -> bool
-    ensures { IsTrue result ↔ Joinable p.now q.now }
+/// Whether the ends are the same fault, or the forms of one path, taken on the other's constraint,
+/// are the other's forms.
+fn ends_agree(p: &Path, q: &Path) -> bool
+    ensures { IsTrue result ↔ EndsAgree p.now q.now }
 {
-    ends_agree(p, q) && constraints_unite(p.when.as_slice(), q.when.as_slice())
+    end_is_taken(&q.when, &p.end, &q.end) || end_is_taken(&p.when, &q.end, &p.end)
 }
 
-/// The part that admits what either of two parts that unite admits.
-fn united(alloc: Global, first: &Part, second: &Part) -> Result<Part, NoMemory>
-    requires { PartsUnite first.now second.now }
-    ensures admits { IfOk result (IsUnited first.now second.now) }
-    ensures part { IfOk result (PartIsUnion first.now second.now) }
+/// Whether two parts unite.
+fn parts_unite(first: &Part, second: &Part) -> bool
+    ensures { IsTrue result ↔ PartsUnite first.now second.now }
 {
-    match first {
-        Part::Set(set) => match second {
-            Part::Set(other) => Ok(Part::Set(set.unite(other))),
-            _ => unreachable!(),
-        },
-        Part::Span(span) => match second {
-            Part::Span(other) => match span.unite(other) {
-                Some(union) => Ok(Part::Span(union)),
-                None => unreachable!(),
-            },
-            _ => unreachable!(),
-        },
-        Part::Facts(facts) => match second {
-            Part::Facts(other) => match facts.unite(alloc, other)? {
-                Some(union) => Ok(Part::Facts(union)),
-                None => unreachable!(),
-            },
-            _ => unreachable!(),
-        },
-        Part::Free => match second {
-            Part::Free => Ok(Part::Free),
-            _ => unreachable!(),
-        },
+    match (first, second) {
+        (Part::Set(_), Part::Set(_)) => true,
+        (Part::Span(left), Part::Span(right)) => left.unite(right).is_some(),
+        (Part::Facts(left), Part::Facts(right)) => left.unites(right),
+        (Part::Free, Part::Free) => true,
+        _ => false,
     }
 }
 
-/// The constraint that admits what either of two that unite admits.
-fn constraint_united(
-    alloc: Global,
-    first: Constraint,
-    second: &Constraint,
-) -> Result<Constraint, NoMemory>
-    requires { ConstraintsUnite first second.now }
-    ensures admits { IfOk result (λ when. (truth : Truth) (cells : List OneCell) →
-        admits truth when cells ≡ (admits truth first cells || admits truth second.now cells)) }
-    ensures union { IfOk result (ConstraintIsUnion first second.now) }
+fn same_part(first: &Part, second: &Part) -> bool
+    ensures { IsTrue result ↔ (first.now ≡ second.now) }
 {
-    let (parts, others) = (first.as_slice(), second.as_slice());
-    match first_difference(parts, others, 0) {
-        None => Ok(first),
-        Some(cell) => {
-            let part = united(alloc, &parts[cell], &others[cell])?;
-            let mut when = first;
+    first == second
+}
+
+/// The first cell, from this one on, in which two constraints differ; their length where there is
+/// none.
+pub(crate) fn difference(v: &[Part], w: &[Part], from: usize) -> usize
+    requires lengths { length v.now ≡ length w.now }
+    requires within { from ≤ length v.now }
+    ensures { IsDifference v.now w.now from result }
+{
+    'cells: for index in from..v.len() {
+        if !same_part(&v[index], &w[index]) {
+            return index;
+        }
+    }
+    v.len()
+}
+
+/// Whether two constraints are equal, or equal but for one cell whose parts unite.
+fn constraints_unite(v: &[Part], w: &[Part]) -> bool
+    ensures { IsTrue result ↔ ConstraintsUnite v.now w.now }
+{
+    if v.len() != w.len() {
+        return false;
+    }
+    let cell = difference(v, w, 0);
+    if cell == v.len() {
+        return true;
+    }
+    if difference(v, w, cell + 1) != v.len() {
+        return false;
+    }
+    parts_unite(&v[cell], &w[cell])
+}
+
+/// Whether the ends are the same fault, or both go on.
+fn ends_are_alike(p: &Path, q: &Path) -> bool
+    ensures { EndsAgree p.now q.now → IsTrue result }
+{
+    match (&p.end, &q.end) {
+        (PathEnd::Next(_), PathEnd::Next(_)) => true,
+        (PathEnd::Ended(fault), PathEnd::Ended(other)) => same_fault(fault, other),
+        _ => false,
+    }
+}
+
+/// Whether the two paths can be joined: their constraints are equal in all cells or in all but one,
+/// in which the parts unite; and their ends are the same fault, or the forms of one path, taken on
+/// the other's constraint, are the other's forms. It takes no memory.
+pub fn joinable(p: &Path, q: &Path) -> bool
+    ensures { IsTrue result ↔ Joinable p.now q.now }
+{
+    ends_are_alike(p, q)
+        && constraints_unite(p.when.as_slice(), q.when.as_slice())
+        && ends_agree(p, q)
+}
+
+fn united_span(left: &Span, right: &Span) -> Span
+    requires { (union : OneSpan) × IsUnion union left.now right.now }
+    ensures { IsUnion result left.now right.now }
+{
+    match left.unite(right) {
+        Some(span) => span,
+        None => unreachable!(),
+    }
+}
+
+fn united_facts(alloc: Global, left: &Facts, right: &Facts) -> Result<Facts, NoMemory>
+    requires { Unite left.now right.now }
+    ensures { IfOk result (AreUnitedFacts left.now right.now) }
+{
+    match left.unite(alloc, right)? {
+        Some(facts) => Ok(facts),
+        None => unreachable!(),
+    }
+}
+
+/// The union of two parts that unite.
+fn united_part(alloc: Global, first: &Part, second: &Part) -> Result<Part, NoMemory>
+    requires { PartsUnite first.now second.now }
+    ensures { IfOk result (IsUnitedPart first.now second.now) }
+{
+    match (first, second) {
+        (Part::Set(left), Part::Set(right)) => Ok(Part::Set(left.unite(right))),
+        (Part::Span(left), Part::Span(right)) => Ok(Part::Span(united_span(left, right))),
+        (Part::Facts(left), Part::Facts(right)) => {
+            Ok(Part::Facts(united_facts(alloc, left, right)?))
+        }
+        (Part::Free, Part::Free) => Ok(Part::Free),
+        _ => unreachable!(),
+    }
+}
+
+/// The cell in which two constraints that unite differ, with the union of its parts; `None` where
+/// they are equal.
+fn united_cell(alloc: Global, v: &[Part], w: &[Part]) -> Result<Option<(usize, Part)>, NoMemory>
+    requires { ConstraintsUnite v.now w.now }
+    ensures { IfOk result (λ found. MatchOption found (v.now ≡ w.now)
+        (λ x. IsUnitedInOne v.now w.now (slice_set v.now x.0 x.1))) }
+{
+    let cell = difference(v, w, 0);
+    if cell == v.len() {
+        return Ok(None);
+    }
+    let part = united_part(alloc, &v[cell], &w[cell])?;
+    Ok(Some((cell, part)))
+}
+
+/// The union of a constraint and another one, with which it unites. It takes memory only for facts
+/// that differ.
+fn united(alloc: Global, v: Constraint, w: &Constraint) -> Result<Constraint, NoMemory>
+    requires { ConstraintsUnite v w.now }
+    ensures { IfOk result (AreUnited v w.now) }
+{
+    let mut when = v;
+    match united_cell(alloc, when.as_slice(), w.as_slice())? {
+        None => Ok(when),
+        Some((cell, part)) => {
             when.set(cell, part);
             Ok(when)
         }
     }
 }
 
-/// Whether the end of the first of two paths that can be joined serves for both; else that of the
-/// second does.
-fn keeps_first(p: &Path, q: &Path) -> bool
-    requires { EndsAgree p.now q.now }
-    ensures { MatchBool result (EndKept q.now.when p.now.end q.now.end)
-        (EndKept p.now.when q.now.end p.now.end) }
+/// The end of the path that two joinable paths become.
+fn joined_end(alloc: Global, p: &Path, q: &Path) -> Result<PathEnd, NoMemory>
+    requires { Joinable p.now q.now }
+    ensures { IfOk result (IsJoinedEnd p.now q.now) }
 {
-    match (&p.end, &q.end) {
-        (PathEnd::Next(first), PathEnd::Next(second)) => {
-            are_taken_to(q.when.as_slice(), first.as_slice(), second.as_slice())
-        }
-        _ => true,
+    if end_is_taken(&q.when, &p.end, &q.end) {
+        p.end.copy(alloc)
+    } else {
+        q.end.copy(alloc)
     }
 }
 
+/// The path that two joinable paths become: it admits the states that either admits, and gives
+/// there what they give.
+pub fn join_paths(alloc: Global, p: &Path, q: &Path) -> Result<Path, NoMemory>
+    requires { Joinable p.now q.now }
+    ensures { IfOk result (IsJoin p.now q.now) }
+{
+    let when = united(alloc, p.when.copy(alloc)?, &q.when)?;
+    let end = joined_end(alloc, p, q)?;
+    Ok(Path { when, end })
+}
+
 impl Path {
-    /// The path of two that can be joined, which are given away: it admits what either admits and
-    /// gives what that one gives.
+    /// `join_paths` of paths that are given away: what they have is moved. After an `Err` both are
+    /// dropped.
     pub fn join(self, alloc: Global, other: Path) -> Result<Path, NoMemory>
         requires { Joinable self other }
-        ensures joined { IfOk result (IsJoined self other) }
-        ensures fits { IfOk result (λ path. (script : ScriptPlan) →
-            PathFits script self → PathFits script other → PathFits script path) }
+        ensures { IfOk result (IsJoin self other) }
     {
-        let keeps = keeps_first(&self, &other);
+        let first = end_is_taken(&other.when, &self.end, &other.end);
         let Path { when, end } = self;
-        let Path {
-            when: others,
-            end: other_end,
-        } = other;
-        let when = constraint_united(alloc, when, &others)?;
-        if keeps {
+        let when = united(alloc, when, &other.when)?;
+        if first {
             Ok(Path { when, end })
         } else {
             Ok(Path {
                 when,
-                end: other_end,
+                end: other.end,
             })
         }
     }
-}
-
-/// The path of two that can be joined: it admits what either admits and gives what that one gives.
-pub fn join_paths(alloc: Global, p: &Path, q: &Path) -> Result<Path, NoMemory>
-    requires { Joinable p.now q.now }
-    ensures joined { IfOk result (IsJoined p.now q.now) }
-    ensures fits { IfOk result (λ path. (script : ScriptPlan) →
-        PathFits script p.now → PathFits script q.now → PathFits script path) }
-{
-    p.copy(alloc)?.join(alloc, q.copy(alloc)?)
 }

@@ -12,6 +12,8 @@ ghost use Rattle.sym_path.specs.Fitting.{SegmentFits};
 ghost use Rattle.sym_path.specs.Giving.{IsOnlyOutcome, outcomes};
 ghost use Rattle.sym_path.specs.Standing.{EndsAmong, StandsFor, GivesExactly};
 
+pub mod settling;
+
 /// The test that computes says whether a constraint admits a state.
 #[tactic(auto, using(crate::proofs::Decided::admits_decided))]
 pub fn admitting_is_decided()

@@ -13,6 +13,7 @@ mod path;
 mod possible_pairs;
 mod pulling;
 mod segment;
+mod settling;
 
 pub use form::{Form, Forms};
 pub use joining::{join_paths, joinable};
@@ -20,6 +21,9 @@ pub use part::{Constraint, Part};
 pub use path::{Path, PathEnd};
 pub use possible_pairs::possible;
 pub use segment::Segment;
+pub use settling::settle;
 
+#[cfg(test)]
+mod joining_tests;
 #[cfg(test)]
 mod tests;

@@ -1,0 +1,251 @@
+-- What paths give of which two are joined.
+use Rattle.std.proofs.Common.{get_or, ◌≡◌, ◌<◌, ◌≤◌, ◌+◌, ◌-◌, ℕ, zero, suc, Bool, true, false, List, [], ◌∷◌, ◌++◌, Some, ◌⊎◌, inl, inr, length, take, drop, refl, sym, ap, ◌∙◌, subst, arith, append_assoc, append-nil, length-append, below_more}
+use Rattle.std.proofs.lemmas.List.Edits.{length-insert, length-remove, remove-append_left}
+use Rattle.std.proofs.lemmas.List.{take_all}
+use Rattle.std.proofs.lemmas.List.Elements.{All-append, All-take}
+use Rattle.std.proofs.lemmas.List.Quantifiers.{all_pairs_push, all_pairs_remove}
+use Rattle.std.proofs.lemmas.Option.{slice_get-get_or, get_or_from_slice_get}
+use Rattle.std.specs.Prelude.{slice_get, if◌then◌else◌}
+use Rattle.std.specs.List.{All, Any, insert, remove}
+use Rattle.sym_base.specs.declared.values.state.State.{State}
+use Rattle.sym_base.specs.declared.values.state.Outcome.{Outcome}
+use Rattle.sym_base.specs.Tests.{Truth}
+use Rattle.sym_path.specs.declared.path.Path.{Path}
+use Rattle.sym_path.specs.declared.path.PathEnd.{PathEnd}
+use Rattle.sym_path.specs.Admitting.{admits}
+use Rattle.sym_path.specs.Fitting.{PathFits}
+use Rattle.sym_path.specs.Giving.{end_at, given, outcomes}
+use Rattle.sym_path.specs.Joining.{Joinable, IsSettled}
+use Rattle.sym_path.specs.Joins.{IsJoin}
+use Rattle.sym_path.specs.Settling.{CannotJoin, IsPairJoined, GivesSame, IsReduced, IsSettling}
+use Rattle.sym_path.proofs.Decided.{admits_decided}
+use Rattle.sym_path.proofs.Lists.{all_from, all_at, take_get, get_within}
+
+-- ---- lists
+
+front : {A : Type 0} (xs ys : List A) (n : ℕ) → length xs ≡ n → take n (xs ++ ys) ≡ xs
+front [] [] zero e = refl
+front [] (y ∷ ys) zero e = refl
+front [] ys (suc n) e = cc
+front (x ∷ xs) ys zero e = cc
+front (x ∷ xs) ys (suc n) e = ap (λ zs. x ∷ zs) (front xs ys n (omega arith))
+
+length_front : {A : Type 0} (xs : List A) (n : ℕ) → n ≤ length xs → length (take n xs) ≡ n
+length_front [] zero h = refl
+length_front [] (suc n) h = omega arith
+length_front (x ∷ xs) zero h = refl
+length_front (x ∷ xs) (suc n) h = ap suc (length_front xs n (omega arith))
+
+-- A list about one of its items.
+around : {A : Type 0} (xs : List A) (i : ℕ) (x : A) → slice_get xs i ≡ Some x → xs ≡ take i xs ++ x ∷ drop (suc i) xs
+around [] i x e = absurd (cc)
+around (y ∷ xs) zero x e = let same : y ≡ x = cc in ap (λ z. z ∷ xs) same
+around (y ∷ xs) (suc i) x e = ap (λ zs. y ∷ zs) (around xs i x e)
+
+parted : {A : Type 0} (xs : List A) (i : ℕ) → xs ≡ take i xs ++ drop i xs
+parted [] zero = refl
+parted [] (suc i) = refl
+parted (x ∷ xs) zero = refl
+parted (x ∷ xs) (suc i) = ap (λ zs. x ∷ zs) (parted xs i)
+
+get_front : {A : Type 0} (xs ys : List A) (i : ℕ) → i < length xs → slice_get (xs ++ ys) i ≡ slice_get xs i
+get_front [] ys i h = absurd (omega arith)
+get_front (x ∷ xs) ys zero h = refl
+get_front (x ∷ xs) ys (suc i) h = get_front xs ys i (omega arith)
+
+get_taken : {A : Type 0} (xs : List A) (n i : ℕ) → i < n → slice_get (take n xs) i ≡ slice_get xs i
+get_taken xs zero i h = absurd (omega arith)
+get_taken [] (suc n) i h = refl
+get_taken (x ∷ xs) (suc n) zero h = refl
+get_taken (x ∷ xs) (suc n) (suc i) h = get_taken xs n i (omega arith)
+
+-- An item before a removed one.
+get_before : {A : Type 0} (xs : List A) (n i : ℕ) → i < n → n < length xs → slice_get (remove xs n) i ≡ slice_get xs i
+get_before xs n i h l = get_front (take n xs) (drop (suc n) xs) i (omega (arith, length_front xs n (omega arith))) ∙ get_taken xs n i h
+
+-- The first items once two are taken out and one is put in.
+front_after : {A : Type 0} (xs : List A) (f n : ℕ) (x : A) → f < n → n < length xs → take (n - 1) (insert (remove (remove xs n) f) (n - 1) x) ≡ remove (take n xs) f
+front_after xs f n x h l =
+    let first : length (take n xs) ≡ n = length_front xs n (omega arith) in
+    let kept : remove (remove xs n) f ≡ remove (take n xs) f ++ drop (suc n) xs = remove-append_left (take n xs) (drop (suc n) xs) f (omega arith) in
+    let shorter : length (remove (take n xs) f) ≡ n - 1 = omega (arith, length-remove (take n xs) f (omega arith)) in
+    let both : take (n - 1) (remove (remove xs n) f) ≡ remove (take n xs) f = ap (take (n - 1)) kept ∙ front (remove (take n xs) f) (drop (suc n) xs) (n - 1) shorter in
+    let enough : length (take (n - 1) (remove (remove xs n) f)) ≡ n - 1 = ap length both ∙ shorter in
+    front (take (n - 1) (remove (remove xs n) f)) (x ∷ drop (n - 1) (remove (remove xs n) f)) (n - 1) enough ∙ both
+
+-- ---- all items
+
+module _ {A : Type 0} (P : A → Type 0) where
+  all_cons : (x : A) (xs : List A) → P x → All P xs → All P (x ∷ xs)
+  all_cons x xs p h = all_from P (x ∷ xs) each
+    where
+      each : (i : ℕ) (y : A) → slice_get (x ∷ xs) i ≡ Some y → P y
+      each zero y e = let same : x ≡ y = cc in subst P same p
+      each (suc i) y e = all_at P xs i y h e
+
+  all_drop : (xs : List A) (n : ℕ) → All P xs → All P (drop n xs)
+  all_drop xs zero h = h
+  all_drop [] (suc n) h = h
+  all_drop (x ∷ xs) (suc n) h = all_drop xs n (all_from P xs (λ i y e. all_at P (x ∷ xs) (suc i) y h e))
+
+  pub all_remove : (xs : List A) (n : ℕ) → All P xs → All P (remove xs n)
+  all_remove xs n h = All-append P (take n xs) (drop (suc n) xs) (All-take P n xs h) (all_drop xs (suc n) h)
+
+  pub all_insert : (xs : List A) (n : ℕ) (x : A) → All P xs → P x → All P (insert xs n x)
+  all_insert xs n x h p = All-append P (take n xs) (x ∷ drop n xs) (All-take P n xs h) (all_cons x (drop n xs) p (all_drop xs n h))
+
+-- ---- outcomes
+
+module _ (truth : Truth) (s : State) where
+  gives_append : (xs ys : List Path) → outcomes truth (xs ++ ys) s ≡ outcomes truth xs s ++ outcomes truth ys s
+  gives_append [] ys = refl
+  gives_append (x ∷ xs) ys = ap (λ o. given truth x s ++ o) (gives_append xs ys) ∙ sym (append_assoc (given truth x s) (outcomes truth xs s) (outcomes truth ys s))
+
+  -- Two lists of which at most one has an item.
+  swapped : (a b : List Outcome) → length (a ++ b) ≤ 1 → b ++ a ≡ a ++ b
+  swapped [] b h = append-nil b
+  swapped (x ∷ a) [] h = sym (append-nil (x ∷ a))
+  swapped (x ∷ a) (y ∷ b) h = absurd (omega (arith, length-append a (y ∷ b)))
+
+  to_front : (x g y : List Outcome) → length (x ++ (g ++ y)) ≤ 1 → g ++ (x ++ y) ≡ x ++ (g ++ y)
+  to_front x g y h =
+      let few : length (x ++ g) ≤ 1 = omega (arith, length-append x (g ++ y), length-append g y, length-append x g) in
+      sym (append_assoc g x y) ∙ ap (λ o. o ++ y) (swapped x g few) ∙ append_assoc x g y
+
+  taken_out : (xs : List Path) (i : ℕ) (p : Path) → slice_get xs i ≡ Some p → length (outcomes truth xs s) ≤ 1 → given truth p s ++ outcomes truth (remove xs i) s ≡ outcomes truth xs s
+  taken_out xs i p e h =
+      let first : List Outcome = outcomes truth (take i xs) s in
+      let rest : List Outcome = outcomes truth (drop (suc i) xs) s in
+      let all : outcomes truth xs s ≡ first ++ (given truth p s ++ rest) = ap (λ ps. outcomes truth ps s) (around xs i p e) ∙ gives_append (take i xs) (p ∷ drop (suc i) xs) in
+      let few : length (first ++ (given truth p s ++ rest)) ≤ 1 = subst (λ (o : List Outcome). length o ≤ 1) all h in
+      ap (λ o. given truth p s ++ o) (gives_append (take i xs) (drop (suc i) xs)) ∙ to_front first (given truth p s) rest few ∙ sym all
+
+  put_in : (xs : List Path) (i : ℕ) (p : Path) → length (given truth p s ++ outcomes truth xs s) ≤ 1 → outcomes truth (insert xs i p) s ≡ given truth p s ++ outcomes truth xs s
+  put_in xs i p h =
+      let first : List Outcome = outcomes truth (take i xs) s in
+      let rest : List Outcome = outcomes truth (drop i xs) s in
+      let all : outcomes truth xs s ≡ first ++ rest = ap (λ ps. outcomes truth ps s) (parted xs i) ∙ gives_append (take i xs) (drop i xs) in
+      let whole : length (given truth p s ++ (first ++ rest)) ≤ 1 = subst (λ (o : List Outcome). length (given truth p s ++ o) ≤ 1) all h in
+      let few : length (first ++ (given truth p s ++ rest)) ≤ 1 = omega (arith, length-append first (given truth p s ++ rest), length-append (given truth p s) rest, length-append (given truth p s) (first ++ rest), length-append first rest) in
+      gives_append (take i xs) (p ∷ drop i xs) ∙ sym (to_front first (given truth p s) rest few) ∙ ap (λ o. given truth p s ++ o) (sym all)
+
+  -- What a joined path gives.
+  joined_gives : (a b c : Bool) (x y z : Outcome) → (c ≡ true → (a ≡ true) ⊎ (b ≡ true)) → (a ≡ true → c ≡ true) → (b ≡ true → c ≡ true) → (a ≡ true → z ≡ x) → (b ≡ true → z ≡ y) → length ((if b then y ∷ [] else []) ++ (if a then x ∷ [] else [])) ≤ 1 → (if c then z ∷ [] else []) ≡ (if b then y ∷ [] else []) ++ (if a then x ∷ [] else [])
+  joined_gives true true c x y z from one two first second h = absurd (omega arith)
+  joined_gives true false true x y z from one two first second h = ap (λ o. o ∷ []) (first refl)
+  joined_gives true false false x y z from one two first second h = absurd (let e = one refl in cc)
+  joined_gives false true true x y z from one two first second h = ap (λ o. o ∷ []) (second refl)
+  joined_gives false true false x y z from one two first second h = absurd (let e = two refl in cc)
+  joined_gives false false true x y z from one two first second h = absurd (elim (from refl) [ inl e ↦ cc | inr e ↦ cc ])
+  joined_gives false false false x y z from one two first second h = refl
+
+  join_gives : (p q j : Path) → IsJoin p q j → length (given truth q s ++ given truth p s) ≤ 1 → given truth j s ≡ given truth q s ++ given truth p s
+  join_gives p q j h few =
+      joined_gives (admits truth p.when s.cells) (admits truth q.when s.cells) (admits truth j.when s.cells) (end_at p.end s) (end_at q.end s) (end_at j.end s)
+      (λ e. elim ((h.admits truth s).0 ((admits_decided truth j.when s).0 e)) [ inl a ↦ inl ((admits_decided truth p.when s).1 a) | inr b ↦ inr ((admits_decided truth q.when s).1 b) ])
+      (λ e. (admits_decided truth j.when s).1 ((h.admits truth s).1 (inl ((admits_decided truth p.when s).0 e))))
+      (λ e. (admits_decided truth j.when s).1 ((h.admits truth s).1 (inr ((admits_decided truth q.when s).0 e))))
+      (λ e. h.first truth s ((admits_decided truth p.when s).0 e))
+      (λ e. h.second truth s ((admits_decided truth q.when s).0 e))
+      few
+
+module _ (old new : List Path) (f n : ℕ) (earlier : f < n) (within : n < length old) (j : IsPairJoined old f n new) where
+  abbrev without_one : List Path
+  without_one = remove old n
+
+  abbrev without_both : List Path
+  without_both = remove without_one f
+
+  new_is : new ≡ insert without_both (n - 1) j.joined
+  new_is = j.is
+
+  first_there : slice_get without_one f ≡ Some j.p
+  first_there = get_before old n f (omega arith) within ∙ j.at_first
+
+  pub pair_gives : GivesSame old new
+  pair_gives truth s few =
+      let gp : List Outcome = given truth j.p s in
+      let gq : List Outcome = given truth j.q s in
+      let left : List Outcome = outcomes truth without_both s in
+      let one : gq ++ outcomes truth without_one s ≡ outcomes truth old s = taken_out truth s old n j.q j.at_second few in
+      let few_one : length (outcomes truth without_one s) ≤ 1 = omega (arith, length-append gq (outcomes truth without_one s), ap length one) in
+      let two : gp ++ left ≡ outcomes truth without_one s = taken_out truth s without_one f j.p first_there few_one in
+      let all : (gq ++ gp) ++ left ≡ outcomes truth old s = append_assoc gq gp left ∙ ap (λ o. gq ++ o) two ∙ one in
+      let few_two : length (gq ++ gp) ≤ 1 = omega (arith, length-append (gq ++ gp) left, ap length all) in
+      let same : given truth j.joined s ≡ gq ++ gp = join_gives truth s j.p j.q j.joined j.join few_two in
+      let whole : given truth j.joined s ++ left ≡ outcomes truth old s = ap (λ o. o ++ left) same ∙ all in
+      ap (λ ps. outcomes truth ps s) new_is ∙ put_in truth s without_both (n - 1) j.joined (omega (arith, ap length whole)) ∙ whole
+
+  -- What holds of all paths before, and of what two of them become, holds of all after.
+  all_after : (P : Path → Type 0) → ((p q joined : Path) → IsJoin p q joined → P p → P q → P joined) → All P old → All P new
+  all_after P step all =
+      subst (λ (ps : List Path). All P ps) (sym new_is)
+      (all_insert P without_both (n - 1) j.joined (all_remove P without_one f (all_remove P old n all))
+      (step j.p j.q j.joined j.join (all_at P old f j.p all j.at_first) (all_at P old n j.q all j.at_second)))
+
+  pub pair_length : length new + 1 ≡ length old
+  pair_length =
+      let a = length-remove old n within in
+      let b = length-remove without_one f (omega (arith, a)) in
+      omega (arith, ap length new_is, length-insert without_both (n - 1) j.joined (omega (arith, a, b)), a, b)
+
+  pub pair_settled : IsSettled (take n old) → IsSettled (take (n - 1) new)
+  pair_settled h =
+      let first : take (n - 1) new ≡ remove (take n old) f = ap (take (n - 1)) new_is ∙ front_after old f n j.joined earlier within in
+      let long : length (take n old) ≡ n = length_front old n (omega arith) in
+      subst (λ (ps : List Path). IsSettled ps) (sym first) (all_pairs_remove (λ p q. Joinable p q → ⊥) (take n old) f (omega arith) h)
+
+  pub pair_reduced : (start : List Path) → IsReduced start old → IsReduced start new
+  pair_reduced start h = record {
+    same = λ truth s few.
+        let before : outcomes truth old s ≡ outcomes truth start s = h.same truth s few in
+        pair_gives truth s (omega (arith, ap length before)) ∙ before;
+    fits = λ plan a. all_after (PathFits plan) (λ p q joined i x y. i.fits plan x y) (h.fits plan a);
+    ends = all_after (λ path. Any (λ q. q.end ≡ path.end) start) ends_so h.ends;
+    few = let a = h.few in omega (arith, pair_length);
+  }
+    where
+      ends_so : (p q joined : Path) → IsJoin p q joined → Any (λ (x : Path). x.end ≡ p.end) start → Any (λ (x : Path). x.end ≡ q.end) start → Any (λ (x : Path). x.end ≡ joined.end) start
+      ends_so p q joined i a b = elim i.end [
+        | inl e ↦ subst (λ (z : PathEnd). Any (λ (x : Path). x.end ≡ z) start) (sym e) a
+        | inr e ↦ subst (λ (z : PathEnd). Any (λ (x : Path). x.end ≡ z) start) (sym e) b
+      ]
+
+-- ---- the loops
+
+-- Whether two paths can be joined decides it at their indices.
+pub cannot_here : (paths : List Path) (i k : ℕ) (a b : Path) → a ≡ get_or paths i a → b ≡ get_or paths k b → (Joinable a b → ⊥) → CannotJoin paths i k
+cannot_here paths i k a b e f apart = λ p q at_i at_k joinable.
+    let first : a ≡ p = e ∙ get_or_from_slice_get paths i p a at_i in
+    let second : b ≡ q = f ∙ get_or_from_slice_get paths k q b at_k in
+    apart (subst (λ (x : Path). Joinable x b) (sym first) (subst (λ (y : Path). Joinable p y) (sym second) joinable))
+
+pub more_apart : (paths : List Path) (i k : ℕ) → ((d : ℕ) → d < i → CannotJoin paths d k) → CannotJoin paths i k → (d : ℕ) → d < i + 1 → CannotJoin paths d k
+more_apart paths i k before here = below_more (λ d. CannotJoin paths d k) i before here
+
+pub one_more_settled : (paths items : List Path) (n : ℕ) → items ≡ paths → n < length paths → ((i : ℕ) → i < n → CannotJoin items i n) → IsSettled (take n paths) → IsSettled (take (n + 1) paths)
+one_more_settled paths items n same within apart h =
+    let (x, at) = get_within paths n within in
+    subst (λ (ps : List Path). IsSettled ps) (sym (take_get paths n x at))
+    (all_pairs_push (λ p q. Joinable p q → ⊥) (take n paths) x h (each x at))
+  where
+    each : (x : Path) → slice_get paths n ≡ Some x → (k : ℕ) (d : Path) → k < length (take n paths) → Joinable (get_or (take n paths) k d) x → ⊥
+    each x at k d l =
+        let long : length (take n paths) ≡ n = length_front paths n (omega arith) in
+        let below : k < n = omega arith in
+        let there : slice_get paths k ≡ Some (get_or (take n paths) k d) = sym (get_taken paths n k below) ∙ slice_get-get_or (take n paths) k d l in
+        apart k below (get_or (take n paths) k d) x (ap (λ ps. slice_get ps k) same ∙ there) (ap (λ ps. slice_get ps n) same ∙ at)
+
+pub reduced_self : (paths : List Path) → IsReduced paths paths
+reduced_self paths = record {
+  same = λ truth s few. refl;
+  fits = λ plan a. a;
+  ends = λ k d l. (k, get_or paths k d, l, get_or_from_slice_get paths k (get_or paths k d) (get_or paths k d) (slice_get-get_or paths k d l), refl);
+  few = omega arith;
+}
+
+pub settling_of : (start paths result : List Path) (n : ℕ) → result ≡ paths → length paths ≤ n → IsSettled (take n paths) → IsReduced start paths → IsSettling start result
+settling_of start paths result n is past h reduced = subst (λ (ps : List Path). IsSettling start ps) (sym is) (record {
+  settled = subst (λ (ps : List Path). IsSettled ps) (take_all n paths past) h;
+  reduced = reduced;
+})
