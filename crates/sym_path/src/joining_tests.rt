@@ -16,7 +16,7 @@ struct Row {
     b: i64,
 }
 
-fn row(lo: i64, hi: i64, a: i128, b: i64) -> Row {
+fn of_row(lo: i64, hi: i64, a: i128, b: i64) -> Row {
     Row { lo, hi, a, b }
 }
 
@@ -59,16 +59,40 @@ fn fault(no: u64) -> PathEnd {
 fn numbers_join_where_spans_touch_and_forms_agree(rt: HostRuntime) -> Result<(), Fail> {
     let alloc = rt.alloc();
     let rows = [
-        (row(0, 4, 1, 0), row(5, 10, 1, 0), Some(row(0, 10, 1, 0))),
-        (row(0, 3, 1, 0), row(5, 10, 1, 0), None),
-        (row(3, 3, 0, 3), row(4, 10, 1, 0), Some(row(3, 10, 1, 0))),
-        (row(3, 3, 0, 4), row(4, 10, 1, 0), None),
-        (row(3, 3, 0, 4), row(4, 10, 1, 1), Some(row(3, 10, 1, 1))),
-        (row(3, 3, 0, 3), row(4, 4, 0, 3), Some(row(3, 4, 0, 3))),
-        (row(3, 3, 0, 3), row(4, 4, 0, 4), None),
-        (row(-2, 1, -2, 1), row(2, 2, 0, -3), Some(row(-2, 2, -2, 1))),
-        (row(-2, 1, -2, 1), row(2, 3, -2, 2), None),
-        (row(-2, 1, 0, 1), row(0, 3, 0, 1), Some(row(-2, 3, 0, 1))),
+        (
+            of_row(0, 4, 1, 0),
+            of_row(5, 10, 1, 0),
+            Some(of_row(0, 10, 1, 0)),
+        ),
+        (of_row(0, 3, 1, 0), of_row(5, 10, 1, 0), None),
+        (
+            of_row(3, 3, 0, 3),
+            of_row(4, 10, 1, 0),
+            Some(of_row(3, 10, 1, 0)),
+        ),
+        (of_row(3, 3, 0, 4), of_row(4, 10, 1, 0), None),
+        (
+            of_row(3, 3, 0, 4),
+            of_row(4, 10, 1, 1),
+            Some(of_row(3, 10, 1, 1)),
+        ),
+        (
+            of_row(3, 3, 0, 3),
+            of_row(4, 4, 0, 3),
+            Some(of_row(3, 4, 0, 3)),
+        ),
+        (of_row(3, 3, 0, 3), of_row(4, 4, 0, 4), None),
+        (
+            of_row(-2, 1, -2, 1),
+            of_row(2, 2, 0, -3),
+            Some(of_row(-2, 2, -2, 1)),
+        ),
+        (of_row(-2, 1, -2, 1), of_row(2, 3, -2, 2), None),
+        (
+            of_row(-2, 1, 0, 1),
+            of_row(0, 3, 0, 1),
+            Some(of_row(-2, 3, 0, 1)),
+        ),
     ];
     for (first, second, wanted) in rows {
         let p = number_path(alloc, first)?.ok_or("first")?;
@@ -106,8 +130,8 @@ fn labels_join_where_forms_agree(rt: HostRuntime) -> Result<(), Fail> {
 #[test]
 fn paths_with_the_same_fault_join(rt: HostRuntime) -> Result<(), Fail> {
     let alloc = rt.alloc();
-    let mut first = number_path(alloc, row(0, 4, 1, 0))?.ok_or("first")?;
-    let mut second = number_path(alloc, row(5, 9, 1, 0))?.ok_or("second")?;
+    let mut first = number_path(alloc, of_row(0, 4, 1, 0))?.ok_or("first")?;
+    let mut second = number_path(alloc, of_row(5, 9, 1, 0))?.ok_or("second")?;
     first.end = fault(3);
     assert!(rt; !joinable(&first, &second) && !joinable(&second, &first));
     second.end = fault(4);
@@ -121,12 +145,17 @@ fn paths_with_the_same_fault_join(rt: HostRuntime) -> Result<(), Fail> {
 fn a_joined_path_is_tried_against_all_others(rt: HostRuntime) -> Result<(), Fail> {
     let alloc = rt.alloc();
     let mut paths = Vec::new(alloc);
-    for row in [row(0, 0, 0, 0), row(7, 9, 1, 0), row(2, 5, 1, 0), row(1, 1, 0, 1)] {
+    for row in [
+        of_row(0, 0, 0, 0),
+        of_row(7, 9, 1, 0),
+        of_row(2, 5, 1, 0),
+        of_row(1, 1, 0, 1),
+    ] {
         paths.push(number_path(alloc, row)?.ok_or("path")?)?;
     }
     let segment = settle(alloc, paths)?;
     assert_eq!(rt; segment.paths().len(), 2);
-    for wanted in [row(0, 5, 1, 0), row(7, 9, 1, 0)] {
+    for wanted in [of_row(0, 5, 1, 0), of_row(7, 9, 1, 0)] {
         let path = number_path(alloc, wanted)?.ok_or("wanted")?;
         assert!(rt; segment.paths().contains(&path));
     }
