@@ -6,7 +6,6 @@ ghost use Rattle.sym_check.specs.ScriptPlans.{script_plan, test_plan};
 
 use crate::folding::fold_record;
 use crate::groups::Groups;
-use crate::keys::record_key;
 use crate::report::shown::shown_columns;
 use crate::states::first_state;
 use crate::steps::step_of;
@@ -422,51 +421,6 @@ fn an_outcome_is_put_in_the_place_of_its_keys(rt: HostRuntime) -> Result<(), Fai
             _ => (0, 0),
         };
         assert_eq!(rt; found, (number, wanted));
-    }
-    Ok(())
-}
-
-// Walks over all records for one key alone.
-fn walked(
-    alloc: Global,
-    plan: &Plan,
-    records: &[(i64, &str)],
-    key: &Key,
-) -> Result<Outcome, NoMemory>
-    requires { IsTrue (list_all has_fixed_body (script_plan plan.now).tests) }
-{
-    let mut outcome = Outcome::Going(first_state(alloc, plan)?);
-    let mut no = 0u64;
-    'records: for (number, word) in records {
-        no = no.wrapping_add(1);
-        let rec = record(alloc, no, *number, word)?;
-        if record_key(alloc, plan, &rec)? == *key {
-            outcome = match outcome {
-                Outcome::Going(state) => step_of(alloc, plan, state, &rec)?,
-                Outcome::Ended(fault) => Outcome::Ended(fault),
-            };
-        }
-    }
-    Ok(outcome)
-}
-
-#[test]
-fn groups_are_those_of_a_walk_for_each_key(rt: HostRuntime) -> Result<(), Fail> {
-    let alloc = rt.alloc();
-    let words = ["a", "b", "c", "d"];
-    let mut records = [(0, "a"); 60];
-    let mut seed = 7u32;
-    for record in records.iter_mut() {
-        seed = seed.wrapping_mul(1_103_515_245).wrapping_add(12_345);
-        *record = (i64::from(seed >> 20), words[(seed >> 16) as usize % 4]);
-    }
-    let plan = sessions(alloc, 0)?;
-    let groups = folded(alloc, &plan, &records)?;
-    assert_eq!(rt; groups.len(), 4);
-    for index in 0..groups.len() {
-        if let Some((key, outcome)) = groups.at(index) {
-            assert!(rt; walked(alloc, &plan, &records, key)? == *outcome);
-        }
     }
     Ok(())
 }
