@@ -20,6 +20,3 @@ pub use cutter::Cutter;
 pub use decoding::{decode, decode_into};
 pub use header::{HeadErr, HeadFault, Header, Places};
 pub use row::{Row, Rows};
-
-#[cfg(test)]
-mod tests;
