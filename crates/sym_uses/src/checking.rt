@@ -21,8 +21,6 @@ mod names;
 #[cfg(test)]
 mod paths;
 #[cfg(test)]
-mod plain;
-#[cfg(test)]
 mod repeated;
 #[cfg(test)]
 mod reports;
