@@ -1,8 +1,8 @@
 pub mod Comparing
-pub mod Counters
 pub mod Counts
 pub mod InMemory
 pub mod Lawful
+pub mod Lending
 pub mod Limits
 pub mod Names
 pub mod Order

@@ -1,5 +1,6 @@
 //! The one list type of plain values.
-ghost use Rattle.std.specs.Prelude.{◌≡◌, ◌++◌, ◌∷◌, [], IfOk, OnOk, OnErr, length, slice_get, slice_set, option_copied, ◌==◌, refl};
+ghost use Rattle.std.specs.Prelude.{◌≡◌, ◌↔◌, ◌<◌, ◌++◌, ◌∷◌, [], IsSome, IfOk, OnOk, OnErr, length, slice_get, slice_set, option_copied, ◌==◌, refl};
+ghost use Rattle.std.specs.Option.{option_copied_mut};
 ghost use Rattle.std.specs.Cmp.Lexicographic.{pointwise, lists_equiv, lists_per, slice_cmp, slice_partial_cmp, lists_total, lists_ties, lists_agrees, lists_po};
 
 use crate::values::memory::NoMemory;
@@ -79,6 +80,21 @@ impl<T> Sequence<T> {
         ensures { option_copied result ≡ slice_get self.now index }
     {
         self.items.as_slice().get(index)
+    }
+}
+
+impl<T> Sequence<T> {
+    ghost use Rattle.std.specs.Borrow.{sem};
+    ghost use Rattle.sym_base.specs.Lending.{lends_item};
+
+    /// The item at `index`, counted from 0, which can be written; `None` where there are at most
+    /// `index` items.
+    pub fn get_mut(&mut self, index: usize) -> Option<&mut T>
+        ensures* writes_back { sem 𝓛 (lends_item T.row self.entry index result) }
+        ensures item { option_copied_mut result ≡ slice_get self.old index }
+        ensures found { IsSome result ↔ (index < length self.old) }
+    {
+        self.items.get_mut(index)
     }
 }
 

@@ -72,6 +72,20 @@ impl Cell {
     }
 }
 
+impl Cell {
+    // Makes this an integer cell with this number. A number has no memory to give up.
+    fn set_int(&mut self, number: i64)
+        ensures { self.new ≡ Cell.Int number }
+    {
+        match self {
+            Cell::Int(held) => *held = number,
+            Cell::Enum(_) | Cell::Hold(_) | Cell::Nums(_) | Cell::Words(_) => {
+                *self = Cell::Int(number);
+            }
+        }
+    }
+}
+
 impl Plain for Cell {
     fn copied(&self, alloc: Global) -> Result<Cell, NoMemory> {
         self.copy(alloc)
@@ -161,6 +175,16 @@ impl State {
 }
 
 impl State {
+    /// Puts a number into the cell with this number, counted from 0, which becomes an integer cell.
+    /// Where the state has no such cell, it is as before.
+    pub fn set_int(&mut self, cell: u16, number: i64)
+        ensures { self.new ≡ with_int self.old cell number }
+    {
+        if let Some(cell) = self.cells.get_mut(usize::from(cell)) {
+            cell.set_int(number);
+        }
+    }
+
     /// Adds a number as the last one of the `nums` cell with this number, counted from 0. After an
     /// `Err` the state is as before.
     pub fn push_num(&mut self, cell: u16, number: i64) -> Result<(), NoMemory>

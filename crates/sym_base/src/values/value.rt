@@ -46,6 +46,18 @@ impl Value {
     }
 }
 
+impl Value {
+    /// Makes this a number, where it lies.
+    pub fn set_num(&mut self, number: i64)
+        ensures { self.new ≡ Value.Num number }
+    {
+        match self {
+            Value::Num(held) => *held = number,
+            Value::Word(_) | Value::Label(_) => *self = Value::Num(number),
+        }
+    }
+}
+
 impl Plain for Value {
     fn copied(&self, alloc: Global) -> Result<Value, NoMemory> {
         self.copy(alloc)
