@@ -16,7 +16,7 @@ use Rattle.sym_parse.specs.Steps.{Input, Parser, ◌>>=◌, next, next_of, passe
 use Rattle.sym_parse.specs.Syntax.Declarations as syntax
 use Rattle.sym_parse.specs.Syntax.Declarations.{AreItems, AreFurther, AreAtMost, AreSome, AreSeparated, IsOneName, IsNum, IsLiteral, IsKind, IsEnum, IsHeader, IsDefault, IsField, IsGroup, IsRange, IsPart, IsCell, IsState, IsParam, IsTest, IsColumn}
 use Rattle.sym_parse.specs.Parsing.Expressions.{expression}
-use Rattle.sym_parse.specs.Parsing.Declarations.{num, literal_value, begins_kind, kind_ref, header, default_value, field, group, range, part, param, labels, enum_decl, parts, int_cell, nums_cell, hold_cell, label_cell, cell_decl, state, params, test, column}
+use Rattle.sym_parse.specs.Parsing.Declarations.{num, literal_value, begins_kind, kind_ref, header, default_value, field, group, range, part, param, labels, enum_decl, parts, int_cell, nums_cell, hold_cell, label_cell, cell_decl, state, params, test_decl, column}
 use Rattle.sym_parse.proofs.Reaching.{at, yes, no, sees-word, sees-sign, sees-word-as, sees-sign-as, sees-name-as, sees-text-as, passes, stands, word-goes, sign-goes, name-goes, number-goes, text-goes}
 use Rattle.sym_parse.proofs.ExpressionsComplete.{expression-reads}
 use Rattle.sym_parse.proofs.StatementsComplete.{semicolon-loose}
@@ -250,8 +250,8 @@ module _ (most : LimitKind → ℕ) where
       ap (λ (m : List Lexeme). cell_decl most (at m st 0)) (append_assoc xs (end ∷ []) rest) ∙ cell-reads xs (end ∷ rest) c st p in
       rw (word-goes w (l ∷ colon ∷ tail) st 0 keyword.State a, name-goes l (colon ∷ tail) st 0 n b, sign-goes colon tail st 0 symbol.Colon d, inside, sign-goes end rest st 0 symbol.Semicolon z) refl
 
-  pub test-reads : Reads (test most) (IsTest most)
-  unfolding test params
+  pub test-reads : Reads (test_decl most) (IsTest most)
+  unfolding test_decl params
   test-reads _ rest _ st (syntax.declared {n} {xs} {ys} {params = ps} {body} w l begin close equals end a b c p d e q z) =
       let tail : List Lexeme = (xs ++ close ∷ equals ∷ (ys ++ end ∷ [])) ++ rest in
       let after : List Lexeme = ys ++ end ∷ rest in

@@ -23,7 +23,7 @@ use Rattle.sym_parse.specs.Steps.{Input, Parser, ◌>>=◌, full, refuse, place,
 use Rattle.sym_parse.specs.Syntax.Declarations as syntax
 use Rattle.sym_parse.specs.Syntax.Declarations.{AreItems, AreFurther, AreAtMost, AreSome, AreSeparated, IsOneName, IsNum, IsLiteral, IsKind, IsEnum, IsHeader, IsDefault, IsField, IsGroup, IsRange, IsPart, IsCell, IsState, IsParam, IsTest, IsColumn}
 use Rattle.sym_parse.specs.Parsing.Expressions.{expression}
-use Rattle.sym_parse.specs.Parsing.Declarations.{num, literal_value, begins_kind, kind_ref, header, default_value, field, group, range, part, param, labels, enum_decl, parts, int_cell, nums_cell, hold_cell, label_cell, cell_decl, state, params, test, column}
+use Rattle.sym_parse.specs.Parsing.Declarations.{num, literal_value, begins_kind, kind_ref, header, default_value, field, group, range, part, param, labels, enum_decl, parts, int_cell, nums_cell, hold_cell, label_cell, cell_decl, state, params, test_decl, column}
 use Rattle.sym_parse.proofs.Taking.{ended, ok_parts, after, by_test, tail_of, bump-word, bump-sign, word-ok, sign-ok, name-ok, number-ok, text-ok, Took, took_along}
 use Rattle.sym_parse.proofs.ExpressionsFound.{expression-found, joins, closes, place-is}
 
@@ -456,8 +456,8 @@ module _ (most : LimitKind → ℕ) (some : (k : LimitKind) → 1 ≤ most k) wh
         means = syntax.declared w.lexeme n.lexeme q.lexeme z.lexeme w.is n.is q.is x.means z.is;
       })
 
-  pub test-found : (i j : Input) (d : TestTree) → test most i ≡ Ok (d, j) → Took (IsTest most) i d j
-  unfolding test params
+  pub test-found : (i j : Input) (d : TestTree) → test_decl most i ≡ Ok (d, j) → Took (IsTest most) i d j
+  unfolding test_decl params
   test-found i j d e =
       let a = after (word keyword.Test i) _ d j e in
       let w = word-ok keyword.Test i a.input a.value a.first in

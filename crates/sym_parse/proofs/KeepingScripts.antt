@@ -11,7 +11,7 @@ use Rattle.sym_parse.specs.declared.error.LimitKind.TheVariants as limit
 use Rattle.sym_parse.specs.declared.stop.Stop.TheVariants as stop
 use Rattle.sym_parse.specs.Steps.{Input, next, place, name_of, is_there, named, sees_word, sees_name, name}
 use Rattle.sym_parse.specs.Parsing.Expressions.{expression}
-use Rattle.sym_parse.specs.Parsing.Declarations.{num, literal_value, begins_kind, kind_ref, header, default_value, field, group, range, part, param, labels, enum_decl, parts, int_cell, nums_cell, hold_cell, label_cell, cell_decl, state, params, test, column}
+use Rattle.sym_parse.specs.Parsing.Declarations.{num, literal_value, begins_kind, kind_ref, header, default_value, field, group, range, part, param, labels, enum_decl, parts, int_cell, nums_cell, hold_cell, label_cell, cell_decl, state, params, test_decl, column}
 use Rattle.sym_parse.specs.Parsing.Scripts.{enums, fields, states, tests, columns, report, script}
 use Rattle.sym_parse.proofs.Keeping.{Keeps, Even, then-keeps, choose-keeps, pure-keeps, sees-word-even, sees-sign-even, sees-name-even, sees-text-even, here-keeps, bump-keeps, word-keeps, sign-keeps, name-keeps, number-keeps, text-keeps, done-keeps, repeated-keeps, separated-keeps}
 use Rattle.sym_parse.proofs.KeepingExpressions.{expression-keeps}
@@ -144,8 +144,8 @@ module _ (m n : LimitKind → ℕ) (wider : (k : LimitKind) → m k ≤ n k) whe
   value-keeps : Keeps (expression m (m limit.Depth)) (expression n (n limit.Depth))
   value-keeps = expression-keeps m n wider (m limit.Depth) (n limit.Depth) (wider limit.Depth)
 
-  test-keeps : Keeps (test m) (test n)
-  unfolding test
+  test-keeps : Keeps (test_decl m) (test_decl n)
+  unfolding test_decl
   test-keeps = then-keeps (word-keeps keyword.Test) (λ u. then-keeps name-keeps (λ x. then-keeps (sign-keeps symbol.OpenParen) (λ v. then-keeps params-keeps (λ ps.
       then-keeps (sign-keeps symbol.CloseParen) (λ w. then-keeps (sign-keeps symbol.Assign) (λ y. then-keeps value-keeps (λ e. then-keeps (sign-keeps symbol.Semicolon) (λ z.
       pure-keeps (record { name = x; params = ps; body = e })))))))))
@@ -168,7 +168,7 @@ module _ (m n : LimitKind → ℕ) (wider : (k : LimitKind) → m k ≤ n k) whe
 
   tests-keeps : Keeps (tests m) (tests n)
   unfolding tests
-  tests-keeps = repeated-keeps limit.Tests (sees_word keyword.Test) (sees-word-even keyword.Test) (test m) (test n) test-keeps (m limit.Tests) (n limit.Tests) (wider limit.Tests) []
+  tests-keeps = repeated-keeps limit.Tests (sees_word keyword.Test) (sees-word-even keyword.Test) (test_decl m) (test_decl n) test-keeps (m limit.Tests) (n limit.Tests) (wider limit.Tests) []
 
   columns-keeps : Keeps (columns m) (columns n)
   unfolding columns

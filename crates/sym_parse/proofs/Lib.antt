@@ -16,7 +16,6 @@ pub mod StatementsComplete
 pub mod DeclarationsComplete
 pub mod ScriptsComplete
 pub mod Answering
-pub mod BuiltTrees
 pub mod LawfulExpressions
 pub mod LawfulScripts
 pub mod Printout

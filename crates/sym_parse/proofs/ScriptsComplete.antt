@@ -18,7 +18,7 @@ use Rattle.sym_parse.specs.Syntax.Declarations as items
 use Rattle.sym_parse.specs.Syntax.Declarations.{AreItems, AreAtMost, AreSome, IsEnum, IsField, IsGroup, IsState, IsTest, IsColumn}
 use Rattle.sym_parse.specs.Syntax.Scripts as syntax
 use Rattle.sym_parse.specs.Syntax.Scripts.{IsUpdate, IsReport, IsScript}
-use Rattle.sym_parse.specs.Parsing.Declarations.{enum_decl, field, state, test, column}
+use Rattle.sym_parse.specs.Parsing.Declarations.{enum_decl, field, state, test_decl, column}
 use Rattle.sym_parse.specs.Parsing.Scripts.{enums, fields, states, tests, columns, report, script, start}
 use Rattle.sym_parse.proofs.Reaching.{at, sees-word, sees-name-as, word-goes, sign-goes}
 use Rattle.sym_parse.proofs.StatementsComplete.{update-reads}
@@ -112,7 +112,7 @@ module _ (most : LimitKind → ℕ) where
       let group-read = group-reads gs r4 c 0 r (begins-other keyword.State keyword.Group ss r5 state-first refl) in
       let states-read = some-reads limit.Cells (sees_word keyword.State) (state most) (IsState most) (state-reads most) (λ ls rest x st p. begins-seen keyword.State ls rest st (state-begins ls x p)) (most limit.Cells) ss r5 d 0 u
       (word-in keyword.State r5 0 0 ∙ any-other keyword.Test keyword.State keyword.Update (most limit.Tests) (IsTest most) test-begins ts r6 e v (begins-more keyword.Update us rs update-first) refl refl) in
-      let tests-read = any-reads limit.Tests (sees_word keyword.Test) (test most) (IsTest most) (test-reads most) (λ ls rest x st p. begins-seen keyword.Test ls rest st (test-begins ls x p)) (most limit.Tests) ts r6 e 0 v
+      let tests-read = any-reads limit.Tests (sees_word keyword.Test) (test_decl most) (IsTest most) (test-reads most) (λ ls rest x st p. begins-seen keyword.Test ls rest st (test-begins ls x p)) (most limit.Tests) ts r6 e 0 v
       (word-in keyword.Test r6 0 0 ∙ begins-other keyword.Update keyword.Test us rs update-first refl) in
       let update-read = update-reads most us rs f 0 w in
       let last : report most (at rs (stmts_count f) 0) ≡ Ok (g, at [] (stmts_count f) 0) =

@@ -11,7 +11,7 @@ use Rattle.sym_parse.specs.Steps.{Input, next, next_of, is_there, is_done, done,
 use Rattle.sym_parse.specs.Syntax.Declarations.{IsEnum, IsField, IsState, IsTest, IsColumn}
 use Rattle.sym_parse.specs.Syntax.Scripts as syntax
 use Rattle.sym_parse.specs.Syntax.Scripts.{IsReport, IsScript}
-use Rattle.sym_parse.specs.Parsing.Declarations.{enum_decl, field, group, state, test, column}
+use Rattle.sym_parse.specs.Parsing.Declarations.{enum_decl, field, group, state, test_decl, column}
 use Rattle.sym_parse.specs.Parsing.Statements.{update}
 use Rattle.sym_parse.specs.Parsing.Scripts.{enums, fields, states, tests, columns, report, script, start}
 use Rattle.sym_parse.proofs.Taking.{ok_parts, after, by_test, tail_of, word-ok, sign-ok, Took, took_along}
@@ -70,7 +70,7 @@ module _ (most : LimitKind → ℕ) (some : (k : LimitKind) → 1 ≤ most k) wh
       let d = after (states most c.input) _ s j c.rest in
       let ss = some-found limit.Cells (sees_word keyword.State) (state most) (IsState most) (state-found most some) (most limit.Cells) c.input d.input d.value (some limit.Cells) d.first in
       let e = after (tests most d.input) _ s j d.rest in
-      let ts = any-found limit.Tests (sees_word keyword.Test) (test most) (IsTest most) (test-found most some) (most limit.Tests) d.input e.input e.value e.first in
+      let ts = any-found limit.Tests (sees_word keyword.Test) (test_decl most) (IsTest most) (test-found most some) (most limit.Tests) d.input e.input e.value e.first in
       let f = after (update most e.input) _ s j e.rest in
       let u = update-found most e.input f.input f.value f.first in
       let m = after (report most f.input) _ s j f.rest in

@@ -6,6 +6,5 @@ pub mod Parsing
 pub mod Views
 pub mod Answers
 pub mod Sentences
-pub mod Built
 pub mod Bare
 pub mod Printed

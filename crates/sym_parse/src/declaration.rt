@@ -396,9 +396,10 @@ fn params(alloc: Global, cursor: &mut Cursor<'_>) -> Result<Vec<Param>, Stop>
 }
 
 /// `test NAME ( param {, param} ) = expr ;`
-#[tactic(auto, unfolding(crate::specs::Parsing::Declarations::test))]
-pub fn test(alloc: Global, cursor: &mut Cursor<'_>) -> Result<TestDecl, Stop>
-    ensures reads { Parses test_tree (spec.test most (input cursor.old)) result (input cursor.new) }
+#[tactic(auto, unfolding(crate::specs::Parsing::Declarations::test_decl))]
+pub fn test_decl(alloc: Global, cursor: &mut Cursor<'_>) -> Result<TestDecl, Stop>
+    ensures reads { Parses test_tree (spec.test_decl most (input cursor.old))
+        result (input cursor.new) }
     ensures shorter { OnOk result (length cursor.new.rest.now < length cursor.old.rest.now) }
 {
     cursor.word(Keyword::Test)?;

@@ -2,7 +2,6 @@
 #![tactic(auto)]
 
 mod build;
-mod built;
 mod cursor;
 mod declaration;
 mod error;
@@ -16,10 +15,7 @@ mod script;
 mod state;
 mod statement;
 mod stop;
-#[cfg(test)]
-mod tests;
 
-pub use built::is_built;
 pub use error::{LimitKind, ParseErr};
 pub use laws::limits_change_nothing_before_them;
 pub use parser::parse;

@@ -5,6 +5,4 @@ mod expression;
 mod item;
 pub mod script;
 mod statement;
-#[cfg(test)]
-mod tests;
 mod token;

@@ -9,7 +9,7 @@ ghost use Rattle.sym_parse.specs.Parsing.Scripts as spec;
 ghost use Rattle.sym_parse.specs.Steps.{Parses, repeated, sees_name, sees_word};
 ghost use Rattle.sym_parse.specs.Views.{input};
 
-use crate::declaration::{column, enum_decl, field, group, state, test};
+use crate::declaration::{column, enum_decl, field, group, state, test_decl};
 use crate::error::LimitKind;
 use crate::state::Cursor;
 use crate::statement::update;
@@ -126,7 +126,7 @@ fn tests_from(
     mut found: Vec<TestDecl>,
 ) -> Result<Vec<TestDecl>, Stop>
     ensures reads { Parses (λ v. map test_tree v.items)
-        (repeated limit.Tests (sees_word keyword.Test) (declarations.test most)
+        (repeated limit.Tests (sees_word keyword.Test) (declarations.test_decl most)
         (TESTS_MAX - length (map test_tree found.items)) (map test_tree found.items)
         (input cursor.old)) result (input cursor.new) }
     ensures shorter { OnOk result (length cursor.new.rest.now ≤ length cursor.old.rest.now) }
@@ -135,7 +135,7 @@ fn tests_from(
         return Ok(found);
     }
     cursor.one_more(found.len(), TESTS_MAX, LimitKind::Tests, true)?;
-    let test_decl = test(alloc, cursor)?;
+    let test_decl = test_decl(alloc, cursor)?;
     found.push(test_decl)?;
     tests_from(alloc, cursor, found)
 }

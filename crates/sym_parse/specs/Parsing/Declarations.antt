@@ -175,8 +175,8 @@ module _ (most : LimitKind → ℕ) where
     separated limit.Parameters sees_name param (most limit.Parameters - 1) (p ∷ [])
 
   -- test = "test" NAME "(" param {"," param} ")" "=" expr ";"
-  unfoldable pub test : Parser TestTree
-  test = do
+  unfoldable pub test_decl : Parser TestTree
+  test_decl = do
     word keyword.Test
     n ← name
     sign symbol.OpenParen

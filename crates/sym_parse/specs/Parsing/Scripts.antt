@@ -11,7 +11,7 @@ use Rattle.sym_parse.specs.declared.error.LimitKind.TheVariants as limit
 use Rattle.sym_parse.specs.Lexemes.{Lexeme}
 use Rattle.sym_parse.specs.Steps.{Input, Parser, ◌>>=◌, ◌>>◌, pure, sees_word, sees_name, word, sign, done, repeated}
 use Rattle.sym_parse.specs.Parsing.Statements.{update}
-use Rattle.sym_parse.specs.Parsing.Declarations.{enum_decl, field, group, state, test, column}
+use Rattle.sym_parse.specs.Parsing.Declarations.{enum_decl, field, group, state, test_decl, column}
 
 module _ (most : LimitKind → ℕ) where
   -- {enum}
@@ -32,7 +32,7 @@ module _ (most : LimitKind → ℕ) where
 
   -- {test}
   unfoldable pub tests : Parser (List TestTree)
-  tests = repeated limit.Tests (sees_word keyword.Test) (test most) (most limit.Tests) []
+  tests = repeated limit.Tests (sees_word keyword.Test) (test_decl most) (most limit.Tests) []
 
   -- column {column}
   unfoldable pub columns : Parser (List ColumnTree)
