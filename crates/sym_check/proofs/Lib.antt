@@ -14,11 +14,10 @@ pub mod BlocksNamed
 pub mod AcceptedPlans
 mod Examples
 mod ZippedLists
-mod ValidSteps
+pub mod ValidSteps
 mod TestAnswers
-mod PlanLaws
+pub mod PlanLaws
 mod CheckedExamples
-pub mod CountersAccepted
 mod Fits
 mod ScopeLaws
 mod Done

@@ -34,21 +34,18 @@ use Rattle.sym_check.specs.DoPlans.{DoPlan, DosPlan}
 use Rattle.sym_check.specs.ScriptPlans.{ScriptPlan}
 use Rattle.sym_check.specs.Arithmetic.{and_then, within, divided, calculated, failed}
 use Rattle.sym_check.specs.FixedValues.{Environment, value_number, value_label, number, label_of, word_of, fixed_value, fixed_values}
-use Rattle.sym_check.specs.LineValues.{term_number}
+use Rattle.sym_check.specs.LinePlans.{LinePlan}
+use Rattle.sym_check.specs.LinePlans as line
+use Rattle.sym_check.specs.declared.evaluate.pairs.Pair.{Pair}
+use Rattle.sym_check.specs.LineValues.{pair, pair_within, term_number}
 use Rattle.sym_check.specs.Conditions.{truth, test_truth}
 use Rattle.sym_check.specs.Updates.{first_cell, initial, in_range, or_fault, stored, environment, with_local, with_result, environment_after, do_step, dos_step, at_record, step}
 use Rattle.sym_check.specs.Validity.{label_count, IsOfKind, AreOfKinds, field_kinds, IsRecord, InRange, IsValidCell, IsValid, IsValidOutcome}
 use Rattle.sym_check.specs.Validity as valid
-use Rattle.sym_check.specs.WellFormed.{Kinds, IsNum, IsLabel, IsFixed, IsKept, with_kind, IsDo, IsDos, IsCell, IsWellFormed, known_kinds}
+use Rattle.sym_check.specs.WellFormed.{Kinds, IsKnown, IsNum, IsLabel, IsFixed, IsLine, IsKept, with_kind, IsDo, IsDos, IsCell, IsWellFormed, known_kinds}
 use Rattle.sym_check.specs.CellKinds as kinds_of
 use Rattle.sym_check.specs.WellFormed as well
 use Rattle.sym_check.proofs.ZippedLists.{zip_get, zip_set, zip_append, zip_replicate}
-
--- What is known is of these kinds.
-pub record IsKnown (enums : List EnumPlan) (k : Kinds) (v : Environment) : Type 0 where
-  pub fields : AreOfKinds enums k.fields v.fields
-  pub locals : AreOfKinds enums k.locals v.locals
-  pub params : AreOfKinds enums k.params v.params
 
 within_is : (z x : ℤ) → within z ≡ Ok x → IsNumber x
 within_is z x = go (nat_le (unsigned_abs z) num_max) refl
@@ -93,7 +90,7 @@ label_in_is enums kinds values enum i h e = go (zip_get (IsOfKind enums) kinds v
     go (value.Word t, is, h) = absurd h
     go (value.Label l, is, h) = rw is h
 
-number_is : (enums : List EnumPlan) (k : Kinds) (v : Environment) → IsKnown enums k v → (n : NumPlan) (x : ℤ) → IsNum k n → number v n ≡ Ok x → IsNumber x
+pub number_is : (enums : List EnumPlan) (k : Kinds) (v : Environment) → IsKnown enums k v → (n : NumPlan) (x : ℤ) → IsNum k n → number v n ≡ Ok x → IsNumber x
 number_is enums k v h (fixed.Lit n) x t e = let same : n ≡ x = cc in subst IsNumber same t
 number_is enums k v h (fixed.Field i) x t e = let same : value_number (slice_get v.fields i) ≡ x = cc in subst IsNumber same (number_in_is enums k.fields v.fields i h.fields t)
 number_is enums k v h (fixed.Local i) x t e = let same : value_number (slice_get v.locals i) ≡ x = cc in subst IsNumber same (number_in_is enums k.locals v.locals i h.locals t)
@@ -104,14 +101,48 @@ number_is enums k v h (fixed.Bin o l r) x t e =
     (λ y p q. then_is IsNumber (λ (z : ℤ). calculated o y z) (number v r) x (λ z p' q'. calculated_is o y z x q') q)
     e
 
-label_is : (enums : List EnumPlan) (k : Kinds) (v : Environment) (enum : ℕ) → IsKnown enums k v → (l : LabelOf) → IsLabel enums k enum l → label_of v l < label_count enums enum
+pub label_is : (enums : List EnumPlan) (k : Kinds) (v : Environment) (enum : ℕ) → IsKnown enums k v → (l : LabelOf) → IsLabel enums k enum l → label_of v l < label_count enums enum
 label_is enums k v enum h (label.Lit l) t = t
 label_is enums k v enum h (label.Field i) t = label_in_is enums k.fields v.fields enum i h.fields t
 label_is enums k v enum h (label.Local i) t = label_in_is enums k.locals v.locals enum i h.locals t
 label_is enums k v enum h (label.Param i) t = label_in_is enums k.params v.params enum i h.params t
 
+-- A pair is over an integer cell, and its numbers are those of a script.
+abbrev IsPairOf : List CellPlan → Pair → Type 0
+IsPairOf cells p = kinds_of.IsIntCell cells p.cell × IsNumber p.a × IsNumber p.b
+
+pair_within_is : (cells : List CellPlan) (c : ℕ) (a b : ℤ) (p : Pair) → kinds_of.IsIntCell cells c → pair_within c a b ≡ Ok p → IsPairOf cells p
+pair_within_is cells c a b p h e =
+    then_is (IsPairOf cells) (λ (x : ℤ). and_then (λ (y : ℤ). Ok (record { cell = c; a = x; b = y })) (within b)) (within a) p
+    (λ x q f. then_is (IsPairOf cells) (λ (y : ℤ). Ok (record { cell = c; a = x; b = y })) (within b) p
+    (λ y r g. let same : record { cell = c; a = x; b = y } ≡ p = cc in subst (IsPairOf cells) same (h, within_is a x q, within_is b y r))
+    f)
+    e
+
+pub pair_is : (enums : List EnumPlan) (cells : List CellPlan) (k : Kinds) (v : Environment) (l : LinePlan) (p : Pair) → IsKnown enums k v → IsLine cells k l → pair v l ≡ Ok p → IsPairOf cells p
+pair_is enums cells k v (line.Cell c) p h t e = let same : record { cell = c; a = pos 1; b = pos 0 } ≡ p = cc in subst (IsPairOf cells) same (t, omega arith, omega arith)
+pair_is enums cells k v (line.Neg l) p h t e =
+    then_is (IsPairOf cells) (λ (q : Pair). pair_within q.cell (neg_ℤ q.a) (neg_ℤ q.b)) (pair v l) p
+    (λ q r f. pair_within_is cells q.cell (neg_ℤ q.a) (neg_ℤ q.b) p (pair_is enums cells k v l q h t r).0 f)
+    e
+pair_is enums cells k v (line.Add l n) p h t e =
+    then_is (IsPairOf cells) (λ (x : ℤ). and_then (λ (q : Pair). pair_within q.cell q.a (q.b +ℤ x)) (pair v l)) (number v n) p
+    (λ x _ g. then_is (IsPairOf cells) (λ (q : Pair). pair_within q.cell q.a (q.b +ℤ x)) (pair v l) p
+    (λ q r f. pair_within_is cells q.cell q.a (q.b +ℤ x) p (pair_is enums cells k v l q h t.0 r).0 f)
+    g)
+    e
+pair_is enums cells k v (line.Scale n l) p h t e =
+    then_is (IsPairOf cells) (λ (x : ℤ). and_then (λ (q : Pair). pair_within q.cell (x *ℤ q.a) (x *ℤ q.b)) (pair v l)) (number v n) p
+    (λ x _ g. then_is (IsPairOf cells) (λ (q : Pair). pair_within q.cell (x *ℤ q.a) (x *ℤ q.b)) (pair v l) p
+    (λ q r f. pair_within_is cells q.cell (x *ℤ q.a) (x *ℤ q.b) p (pair_is enums cells k v l q h t.1 r).0 f)
+    g)
+    e
+
+pub record_known : (p : ScriptPlan) (rec : Record) → IsRecord p rec → IsKnown p.enums (known_kinds p) (environment rec [])
+record_known p rec h = record { fields = h; locals = tt; params = tt }
+
 -- A value is of the kind of its expression.
-fixed_is : (enums : List EnumPlan) (k : Kinds) (v : Environment) → IsKnown enums k v → (wanted : KindPlan) (e : FixedPlan) (x : Value) → IsFixed enums k wanted e → fixed_value v e ≡ Ok x → IsOfKind enums wanted x
+pub fixed_is : (enums : List EnumPlan) (k : Kinds) (v : Environment) → IsKnown enums k v → (wanted : KindPlan) (e : FixedPlan) (x : Value) → IsFixed enums k wanted e → fixed_value v e ≡ Ok x → IsOfKind enums wanted x
 fixed_is enums k v h _ _ x (well.of_num n t) e =
     then_is (IsOfKind enums kind.Num) (λ (y : ℤ). Ok (value.Num y)) (number v n) x
     (λ y p q. let P : Value → Type 0 = IsOfKind enums kind.Num in let same : value.Num y ≡ x = cc in subst P same (number_is enums k v h n y t p))
@@ -119,7 +150,7 @@ fixed_is enums k v h _ _ x (well.of_num n t) e =
 fixed_is enums k v h _ _ x (well.of_word w t) e = let P : Value → Type 0 = IsOfKind enums kind.Word in let same : value.Word (word_of v w) ≡ x = cc in subst P same tt
 fixed_is enums k v h _ _ x (well.of_label enum l t) e = let P : Value → Type 0 = IsOfKind enums (kind.Label enum) in let same : value.Label (label_of v l) ≡ x = cc in subst P same (label_is enums k v enum h l t)
 
-all_fixed_are : (enums : List EnumPlan) (k : Kinds) (v : Environment) → IsKnown enums k v → (kinds : List KindPlan) (es : List FixedPlan) (xs : List Value) → AllZip (IsFixed enums k) kinds es → fixed_values v es ≡ Ok xs → AreOfKinds enums kinds xs
+pub all_fixed_are : (enums : List EnumPlan) (k : Kinds) (v : Environment) → IsKnown enums k v → (kinds : List KindPlan) (es : List FixedPlan) (xs : List Value) → AllZip (IsFixed enums k) kinds es → fixed_values v es ≡ Ok xs → AreOfKinds enums kinds xs
 all_fixed_are enums k v h [] [] xs t e = let P : List Value → Type 0 = AreOfKinds enums [] in let same : [] ≡ xs = cc in subst P same tt
 all_fixed_are enums k v h [] (x ∷ es) xs t e = absurd t
 all_fixed_are enums k v h (a ∷ kinds) [] xs t e = absurd t
@@ -133,7 +164,7 @@ all_fixed_are enums k v h (a ∷ kinds) (x ∷ es) xs t e =
     e
 
 -- One local more is of its kind.
-more_known : (enums : List EnumPlan) (k : Kinds) (v : Environment) (n : ℕ) (last : KindPlan) (x : Value) → IsKnown enums k v → IsOfKind enums last x → IsKnown enums (with_kind k n last) (with_local v n x)
+pub more_known : (enums : List EnumPlan) (k : Kinds) (v : Environment) (n : ℕ) (last : KindPlan) (x : Value) → IsKnown enums k v → IsOfKind enums last x → IsKnown enums (with_kind k n last) (with_local v n x)
 more_known enums k v n last x h t =
     let long : length v.locals ≡ length k.locals = AllZip-long (IsOfKind enums) k.locals v.locals h.locals in
     let zero_is : IsOfKind enums kind.Num (value.Num (pos 0)) = omega arith in

@@ -36,4 +36,5 @@ planned_dos next ds = record { plan = dos_plan ds; next = next }
 -- The plan of a statement that declares nothing, whatever is hidden and however many locals stand
 -- before it, or why it has none.
 abbrev pub Plans : Scope → StmtTree → Result Do CheckErr → Type 0
-Plans s x result = (hidden : Scope) (n : ℕ) → Answers (planned_do s n) (statement hidden s n x) result
+Plans s x result =
+    (hidden : Scope) (n : ℕ) → Answers (planned_do s n) (statement hidden s n x) result

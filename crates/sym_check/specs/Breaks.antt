@@ -74,14 +74,16 @@ pub data WrongValue (s : Scope) : List KindPlan → ExprsTree → ℕ → Type 0
   here : (k : KindPlan) (ks : List KindPlan) (e : ExprTree) (es : ExprsTree)
       → ((v : FixedPlan) → IsValue s k e v → ⊥)
       → WrongValue s (k ∷ ks) (More e es) (place e)
-  later : (k : KindPlan) (ks : List KindPlan) (e : ExprTree) (es : ExprsTree) (v : FixedPlan) (at : ℕ)
+  later : (k : KindPlan) (ks : List KindPlan) (e : ExprTree) (es : ExprsTree) (v : FixedPlan)
+      (at : ℕ)
       → IsValue s k e v
       → WrongValue s ks es at
       → WrongValue s (k ∷ ks) (More e es) at
 
 -- What is wrong with a call whose name and n further arguments are right by themselves. They are
 -- as many as the parameters after those of the cell's parts.
-pub data WrongCall (s : Scope) (x : Name) (params : List KindPlan) (n : ℕ) : ExprTree → ExprsTree → ℕ → Type 0 where
+pub data WrongCall (s : Scope) (x : Name) (params : List KindPlan) (n : ℕ)
+    : ExprTree → ExprsTree → ℕ → Type 0 where
   no_hold_cell : (e : ExprTree) (es : ExprsTree) (t : Typed)
       → Means s e t
       → IsOperand t
@@ -159,7 +161,9 @@ mutual
         → (TakesNumbers s o l r → ⊥)
         → (HasMeaning s (Bin o l r at) → ⊥)
         → Breaks s (Bin o l r at) (broken.Kind at)
-    unknown_call : (x : Name) (es : ExprsTree) → IsFree s x → Breaks s (Call x es) (broken.Name x.at)
+    unknown_call : (x : Name) (es : ExprsTree)
+        → IsFree s x
+        → Breaks s (Call x es) (broken.Name x.at)
     no_test : (x : Name) (es : ExprsTree) (m : Meaning)
         → Stands s x m
         → ((t : ℕ) (params : List KindPlan) → m ≡ meaning.Test t params → ⊥)
@@ -167,16 +171,19 @@ mutual
     no_arguments : (x : Name) (t : ℕ) (params : List KindPlan)
         → Stands s x (meaning.Test t params)
         → Breaks s (Call x End) (broken.Kind x.at)
-    in_first : (x : Name) (e : ExprTree) (es : ExprsTree) (t : ℕ) (params : List KindPlan) (f : CheckErr)
+    in_first : (x : Name) (e : ExprTree) (es : ExprsTree) (t : ℕ) (params : List KindPlan)
+        (f : CheckErr)
         → Stands s x (meaning.Test t params)
         → Breaks s e f
         → Breaks s (Call x (More e es)) f
-    first_cell : (x : Name) (e : ExprTree) (es : ExprsTree) (t : ℕ) (params : List KindPlan) (u : Typed)
+    first_cell : (x : Name) (e : ExprTree) (es : ExprsTree) (t : ℕ) (params : List KindPlan)
+        (u : Typed)
         → Stands s x (meaning.Test t params)
         → Means s e u
         → (IsFirst u → ⊥)
         → Breaks s (Call x (More e es)) (broken.Kind (place e))
-    in_others : (x : Name) (e : ExprTree) (es : ExprsTree) (t : ℕ) (params : List KindPlan) (u : Typed) (f : CheckErr)
+    in_others : (x : Name) (e : ExprTree) (es : ExprsTree) (t : ℕ) (params : List KindPlan)
+        (u : Typed) (f : CheckErr)
         → Stands s x (meaning.Test t params)
         → Means s e u
         → IsFirst u

@@ -66,7 +66,8 @@ pub data BreaksEnum (s : Scope) (n : ℕ) : EnumDecl → CheckErr → Type 0 whe
       → BreaksEnum s n d (broken.Twice d.name.at)
   in_labels : (d : EnumDecl) (f : CheckErr)
       → IsFree s d.name
-      → FirstBroken (IsLabelDecl n) BreaksLabel (s ++ entry d.name (meaning.Enum n) ∷ []) 0 d.labels f
+      → FirstBroken (IsLabelDecl n) BreaksLabel (s ++ entry d.name (meaning.Enum n) ∷ []) 0
+      d.labels f
       → BreaksEnum s n d f
 
 pub data BreaksField (s : Scope) (n : ℕ) : FieldDecl → CheckErr → Type 0 where
@@ -135,7 +136,8 @@ pub data BreaksState (s : Scope) (n : ℕ) : StateDecl → CheckErr → Type 0 w
       → BreaksState s n d f
 
 -- A parameter's name is taken by any name of the script, or by an earlier parameter.
-pub data BreaksParam (names : List (List ℕ)) (s params : Scope) (n : ℕ) : Param → CheckErr → Type 0 where
+pub data BreaksParam (names : List (List ℕ)) (s params : Scope) (n : ℕ)
+    : Param → CheckErr → Type 0 where
   name_of_script : (d : Param)
       → Contains names d.name.text
       → BreaksParam names s params n d (broken.Twice d.name.at)
@@ -154,7 +156,8 @@ pub data BreaksTest (names : List (List ℕ)) (s : Scope) (n : ℕ) : TestTree �
       → BreaksTest names s n d (broken.Twice d.name.at)
   in_params : (d : TestTree) (f : CheckErr)
       → IsFree s d.name
-      → FirstBroken (IsParamDecl names (unfinished s d.name)) (BreaksParam names (unfinished s d.name)) [] 0 d.params f
+      → FirstBroken (IsParamDecl names (unfinished s d.name))
+      (BreaksParam names (unfinished s d.name)) [] 0 d.params f
       → BreaksTest names s n d f
   in_body : (d : TestTree) (ks : List KindPlan) (params : Scope) (f : CheckErr)
       → IsFree s d.name

@@ -81,7 +81,8 @@ mutual
         → IsFunction x
         → AreSeen s es
         → (GivesSomething s (Call x es) → ⊥)
-        → ((h : Name) (k at : ℕ) → es ≡ More (Named h) (More (Num (pos k) at) End) → IsOutside s x h k → ⊥)
+        → ((h : Name) (k at : ℕ) → es ≡ More (Named h) (More (Num (pos k) at) End)
+        → IsOutside s x h k → ⊥)
         → BreaksShown s (Call x es) (broken.Kind x.at)
 
   -- Arguments, one after the other.

@@ -123,7 +123,8 @@ mutual
         → Names s IsKeptCell x
         → BreaksOperands s es f
         → BreaksStmt hidden s n (Keep x es) f
-    wrong_number : (s : Scope) (n : ℕ) (x : Name) (es : ExprsTree) (c count : ℕ) (ks : List KindPlan)
+    wrong_number : (s : Scope) (n : ℕ) (x : Name) (es : ExprsTree) (c count : ℕ)
+        (ks : List KindPlan)
         → Stands s x (meaning.HoldCell c ks)
         → AreOperands s es count
         → count ≢ length ks
@@ -156,7 +157,8 @@ mutual
         → IsCondition s e c
         → BreaksBlock hidden s n a f
         → BreaksStmt hidden s n (If e a b) f
-    in_else : (s : Scope) (n m : ℕ) (e : ExprTree) (a b : StmtsTree) (c : CondPlan) (ds : DosPlan) (f : CheckErr)
+    in_else : (s : Scope) (n m : ℕ) (e : ExprTree) (a b : StmtsTree) (c : CondPlan) (ds : DosPlan)
+        (f : CheckErr)
         → IsCondition s e c
         → IsBlock hidden s n a ds m
         → BreaksBlock hidden s m b f
@@ -166,7 +168,8 @@ mutual
     in_statement : (s : Scope) (n : ℕ) (first : StmtTree) (rest : StmtsTree) (f : CheckErr)
         → BreaksStmt hidden s n first f
         → BreaksBlock hidden s n (Then first rest) f
-    in_rest : (s later : Scope) (n m : ℕ) (first : StmtTree) (rest : StmtsTree) (d : DoPlan) (f : CheckErr)
+    in_rest : (s later : Scope) (n m : ℕ) (first : StmtTree) (rest : StmtsTree) (d : DoPlan)
+        (f : CheckErr)
         → IsStmt hidden s n first d later m
         → BreaksBlock hidden later m rest f
         → BreaksBlock hidden s n (Then first rest) f

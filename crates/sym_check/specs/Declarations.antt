@@ -89,7 +89,8 @@ pub data IsGroup (s : Scope) : Option Name → Option ℕ → Type 0 where
 -- Parts with their kinds and first values.
 pub data AreParts (s : Scope) : List Part → List KindPlan → List Value → Type 0 where
   no_parts : AreParts s [] [] []
-  more_parts : (d : Part) (rest : List Part) (k : KindPlan) (ks : List KindPlan) (v : Value) (vs : List Value)
+  more_parts : (d : Part) (rest : List Part) (k : KindPlan) (ks : List KindPlan)
+      (v : Value) (vs : List Value)
       → IsKindOf s d.kind k
       → IsLiteral s k d.first v
       → AreParts s rest ks vs
@@ -120,12 +121,14 @@ pub data IsStateDecl : Scope → ℕ → StateDecl → CellPlan → Scope → Ty
 
 -- A parameter has a name of its own among all of the script, and among the test's parameters so
 -- far, which are its scope.
-pub data IsParamDecl (names : List (List ℕ)) (s : Scope) : Scope → ℕ → Param → KindPlan → Scope → Type 0 where
+pub data IsParamDecl (names : List (List ℕ)) (s : Scope)
+    : Scope → ℕ → Param → KindPlan → Scope → Type 0 where
   param : (params : Scope) (n : ℕ) (d : Param) (k : KindPlan)
       → (Contains names d.name.text → ⊥)
       → IsFree params d.name
       → IsKindOf s d.kind k
-      → IsParamDecl names s params n d k (params ++ entry d.name (meaning.Value k (var.Param n)) ∷ [])
+      → IsParamDecl names s params n d k
+      (params ++ entry d.name (meaning.Value k (var.Param n)) ∷ [])
 
 -- In the body of a test its parameters and the labels are visible.
 pub data IsTestDecl (names : List (List ℕ)) : Scope → ℕ → TestTree → TestOf → Scope → Type 0 where

@@ -156,7 +156,8 @@ abbrev pub term_of : ℕ → Typed → Result TermPlan CheckErr
 term_of at (Number t) = Ok t
 term_of at _ = kind_at at
 
-abbrev pub arithmetic : (ℕ → TermPlan → TermPlan → Result TermPlan CheckErr) → ℕ → Typed → Typed → Result Typed CheckErr
+abbrev pub arithmetic : (ℕ → TermPlan → TermPlan → Result TermPlan CheckErr) → ℕ → Typed → Typed
+    → Result Typed CheckErr
 arithmetic rule at t u = do
   x ← term_of at t
   y ← term_of at u
@@ -181,8 +182,10 @@ different at t u = ordered compare.Ne at t u
 
 -- Labels of one enum, the left one maybe that of a cell.
 abbrev pub labels_joined : ℕ → Typed → Typed → Result Typed CheckErr
-labels_joined at (Label enum l) (Label other m) = if enum == other then Ok (Truth (cond.LabelIs l m)) else kind_at at
-labels_joined at (EnumCell c enum) (Label other l) = if enum == other then Ok (Truth (cond.CellIs c l)) else kind_at at
+labels_joined at (Label enum l) (Label other m) =
+    if enum == other then Ok (Truth (cond.LabelIs l m)) else kind_at at
+labels_joined at (EnumCell c enum) (Label other l) =
+    if enum == other then Ok (Truth (cond.CellIs c l)) else kind_at at
 labels_joined at t u = kind_at at
 
 -- What the operator makes of its operands.
@@ -214,7 +217,8 @@ value_of wanted a = of_kind wanted a.typed
     of_kind : KindPlan → Typed → Result FixedPlan CheckErr
     of_kind kind.Num (Number (line.OfNum n)) = Ok (fixed.OfNum n)
     of_kind kind.Word (Word w) = Ok (fixed.OfWord w)
-    of_kind (kind.Label enum) (Label other l) = if enum == other then Ok (fixed.OfLabel l) else kind_at a.at
+    of_kind (kind.Label enum) (Label other l) =
+        if enum == other then Ok (fixed.OfLabel l) else kind_at a.at
     of_kind _ _ = kind_at a.at
 
 -- As many values as kinds.
@@ -230,7 +234,8 @@ pub record Arguments : Type 0 where
   pub first : Located
   pub others : List Located
 
--- A call whose arguments are right by themselves: their number first, then the cell, then the others.
+-- A call whose arguments are right by themselves: their number first, then the cell, then the
+-- others.
 abbrev pub called_on : ℕ → TestNamed → Arguments → Typed → Result Typed CheckErr
 called_on at test args (HoldCell c ks) =
     if length args.others == length test.params - length ks

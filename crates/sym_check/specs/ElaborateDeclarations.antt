@@ -183,14 +183,20 @@ state_decl s n d =
       c ← cell_of (unfinished s d.name) n d.name.at d.cell
       Ok (record { plan = c.plan; scope = s ++ entry d.name c.meaning ∷ [] }))
 
-abbrev pub unless_named : {A : Type 0} → List (List ℕ) → Name → Result A CheckErr → Result A CheckErr
-unless_named names x next = if list_any (same_word x.text) names then Err (broken.Twice x.at) else next
+abbrev pub unless_named : {A : Type 0} → List (List ℕ) → Name → Result A CheckErr
+    → Result A CheckErr
+unless_named names x next =
+    if list_any (same_word x.text) names then Err (broken.Twice x.at) else next
 
-abbrev pub param_decl : List (List ℕ) → Scope → Scope → ℕ → Param → Result (Planned KindPlan) CheckErr
+abbrev pub param_decl : List (List ℕ) → Scope → Scope → ℕ → Param
+    → Result (Planned KindPlan) CheckErr
 param_decl names s params n d =
     unless_named names d.name (unless_taken d.name.at (find params d.name.text) (do
       k ← kind_of s d.kind
-      Ok (record { plan = k; scope = params ++ entry d.name (meaning.Value k (var.Param n)) ∷ [] })))
+      Ok (record {
+        plan = k;
+        scope = params ++ entry d.name (meaning.Value k (var.Param n)) ∷ [];
+      })))
 
 abbrev pub test_decl : List (List ℕ) → Scope → ℕ → TestTree → Result (Planned TestOf) CheckErr
 test_decl names s n d =

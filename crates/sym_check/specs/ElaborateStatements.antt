@@ -96,8 +96,10 @@ kept at (Some (meaning.Test t ks)) = kind_at at
 -- What is stored in the target; another enum cell is copied.
 abbrev pub placed_in : ℕ → Target → Typed → Result DoPlan CheckErr
 placed_in at (ToInt c) (Number t) = Ok (plan.SetInt c t)
-placed_in at (ToEnum c enum) (Label other l) = if enum == other then Ok (plan.SetEnum c l) else kind_at at
-placed_in at (ToEnum c enum) (EnumCell d other) = if (enum == other) && not (c == d) then Ok (plan.CopyEnum c d) else kind_at at
+placed_in at (ToEnum c enum) (Label other l) =
+    if enum == other then Ok (plan.SetEnum c l) else kind_at at
+placed_in at (ToEnum c enum) (EnumCell d other) =
+    if (enum == other) && not (c == d) then Ok (plan.CopyEnum c d) else kind_at at
 placed_in at (ToNums c) (Number t) = Ok (plan.PushNum c t)
 placed_in at (ToWords c) (Word w) = Ok (plan.PushWord c w)
 placed_in at _ _ = kind_at at
@@ -133,7 +135,11 @@ abbrev mutual
       unless_taken x.at (find hidden x.text) (unless_taken x.at (find s x.text) (do
         t ← infer s e
         v ← let_value (place e) t
-        Ok (record { plan = plan.Let n v.value; scope = s ++ local_entry x n v.kind ∷ []; next = n + 1 })))
+        Ok (record {
+          plan = plan.Let n v.value;
+          scope = s ++ local_entry x n v.kind ∷ [];
+          next = n + 1;
+        })))
   statement hidden s n (Set x e) = do
     target ← assigned x.at (find s x.text)
     t ← infer s e

@@ -19,7 +19,8 @@ pub data FitsCell : CellPlan → Cell → Type 0 where
   int : (lo hi first x : ℤ) → FitsCell (plan.Int lo hi first) (cell.Int x)
   nums : (lo hi : ℤ) (xs : List ℤ) → FitsCell (plan.Nums lo hi) (cell.Nums xs)
   words : (ts : List (List ℕ)) → FitsCell plan.Words (cell.Words ts)
-  hold : (kinds : List KindPlan) (first parts : List Value) → FitsCell (plan.Hold kinds first) (cell.Hold parts)
+  hold : (kinds : List KindPlan) (first parts : List Value)
+      → FitsCell (plan.Hold kinds first) (cell.Hold parts)
   enum : (of first l : ℕ) → FitsCell (plan.Enum of first) (cell.Enum l)
 
 -- The state has one cell for each that the script declares, of its kind.

@@ -44,4 +44,5 @@ keys p records = distinct (map (key_of p) records)
 
 -- Each key with how its group stands after its records.
 abbrev pub pass : ScriptPlan → List Record → List (Key × Outcome)
-pass p records = map (λ k. (k, after p (records_of p k records) (Going (initial p)))) (keys p records)
+pass p records =
+    map (λ k. (k, after p (records_of p k records) (Going (initial p)))) (keys p records)

@@ -5,7 +5,8 @@ use Rattle.sym_check.specs.declared.elaborate.error.CheckErr.{CheckErr}
 use Rattle.sym_check.specs.Scopes.{Scope}
 
 -- Each declaration, by its number, has its plan, and leads to the scope of the next one.
-pub data Each {A B : Type 0} (One : Scope → ℕ → A → B → Scope → Type 0) : Scope → ℕ → List A → List B → Scope → Type 0 where
+pub data Each {A B : Type 0} (One : Scope → ℕ → A → B → Scope → Type 0)
+    : Scope → ℕ → List A → List B → Scope → Type 0 where
   none : (s : Scope) (n : ℕ) → Each One s n [] [] s
   one_more : (s m later : Scope) (n : ℕ) (a : A) (rest : List A) (b : B) (bs : List B)
       → One s n a b m
@@ -13,7 +14,9 @@ pub data Each {A B : Type 0} (One : Scope → ℕ → A → B → Scope → Type
       → Each One s n (a ∷ rest) (b ∷ bs) later
 
 -- One declaration breaks a rule, and those before it have their plans.
-pub data FirstBroken {A B : Type 0} (One : Scope → ℕ → A → B → Scope → Type 0) (Broken : Scope → ℕ → A → CheckErr → Type 0) : Scope → ℕ → List A → CheckErr → Type 0 where
+pub data FirstBroken {A B : Type 0} (One : Scope → ℕ → A → B → Scope → Type 0)
+    (Broken : Scope → ℕ → A → CheckErr → Type 0)
+    : Scope → ℕ → List A → CheckErr → Type 0 where
   here : (s : Scope) (n : ℕ) (a : A) (rest : List A) (f : CheckErr)
       → Broken s n a f
       → FirstBroken One Broken s n (a ∷ rest) f
@@ -28,7 +31,8 @@ pub record Planned (B : Type 0) : Type 0 where
   pub scope : Scope
 
 -- The plans in order, or the first broken rule.
-abbrev pub each : {A B : Type 0} → (Scope → ℕ → A → Result (Planned B) CheckErr) → Scope → ℕ → List A → Result (Planned (List B)) CheckErr
+abbrev pub each : {A B : Type 0} → (Scope → ℕ → A → Result (Planned B) CheckErr) → Scope → ℕ
+    → List A → Result (Planned (List B)) CheckErr
 each one s n [] = Ok (record { plan = []; scope = s })
 each one s n (a ∷ rest) = do
   b ← one s n a

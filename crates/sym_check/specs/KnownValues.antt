@@ -10,7 +10,11 @@ use Rattle.sym_check.specs.FixedValues.{Environment}
 
 -- The parameters are the parts and then the arguments.
 abbrev pub known_values : Known → Environment
-known_values k = record { fields = k.fields.now; locals = k.locals.now; params = k.parts.now ++ k.args.now }
+known_values k = record {
+  fields = k.fields.now;
+  locals = k.locals.now;
+  params = k.parts.now ++ k.args.now;
+}
 
 abbrev pub fixed_result : FixedValue → Result Value Arith
 fixed_result (fixed.Is v) = Ok v

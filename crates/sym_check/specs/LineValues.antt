@@ -1,4 +1,5 @@
--- What lines stand for: a pair (a, b) over a cell, whose number where the cell holds x is a * x + b.
+-- What lines stand for: a pair (a, b) over a cell, whose number where the cell holds x is
+-- a * x + b.
 use Rattle.std.specs.Prelude.{ℕ, ℤ, pos, neg_ℤ, ◌+ℤ◌, ◌*ℤ◌, Result, Ok}
 use Rattle.sym_base.specs.declared.values.state.State.{State}
 use Rattle.sym_base.specs.States.{number_at}

@@ -53,7 +53,8 @@ pub data IsShown (s : Scope) : ExprTree → ShownAs → ShowPlan → Type 0 wher
       → Stands s h (meaning.HoldCell c ks)
       → 1 ≤ k
       → slice_get ks (k - 1) ≡ Some of
-      → IsShown s (Call f (More (Named h) (More (Num (pos k) at) End))) (shown_kind of) (show.Part c k)
+      → IsShown s (Call f (More (Named h) (More (Num (pos k) at) End))) (shown_kind of)
+      (show.Part c k)
   of_nums : (f x : Name) (g : ShowFn) (c : ℕ)
       → list_function f.text ≡ Some g
       → Stands s x (meaning.NumsCell c)

@@ -1,5 +1,5 @@
--- Scripts that break no rule, with their plan; the first broken rule of the others; and the function
--- that tries the rules in the order of the text.
+-- Scripts that break no rule, with their plan; the first broken rule of the others; and the
+-- function that tries the rules in the order of the text.
 use Rattle.std.specs.Prelude.{◌≡◌, ℕ, ◌<◌, ◌≤◌, nat_le, if◌then◌else◌, List, [], ◌∷◌, ◌++◌, map, Result, Ok, Err}
 use Rattle.std.specs.List.{flat_map}
 use Rattle.sym_base.specs.declared.limits.TheConstants as limit

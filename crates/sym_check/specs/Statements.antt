@@ -50,7 +50,8 @@ mutual
         → Stands s x (meaning.WordsCell c)
         → IsWord s e w
         → IsStmt hidden s n (Push x e) (plan.PushWord c w) s n
-    keep : (s : Scope) (n : ℕ) (x : Name) (es : ExprsTree) (c : ℕ) (ks : List KindPlan) (vs : List FixedPlan)
+    keep : (s : Scope) (n : ℕ) (x : Name) (es : ExprsTree) (c : ℕ) (ks : List KindPlan)
+        (vs : List FixedPlan)
         → Stands s x (meaning.HoldCell c ks)
         → AreValues s ks es vs
         → IsStmt hidden s n (Keep x es) (plan.Keep c vs) s n
@@ -59,7 +60,8 @@ mutual
         → Stands s y (meaning.HoldCell d ks)
         → c ≢ d
         → IsStmt hidden s n (KeepFrom x y) (plan.KeepFrom c d) s n
-    branch : (s : Scope) (n m later : ℕ) (e : ExprTree) (a b : StmtsTree) (c : CondPlan) (left right : DosPlan)
+    branch : (s : Scope) (n m later : ℕ) (e : ExprTree) (a b : StmtsTree) (c : CondPlan)
+        (left right : DosPlan)
         → IsCondition s e c
         → IsBlock hidden s n a left m
         → IsBlock hidden s m b right later
@@ -68,7 +70,8 @@ mutual
   -- The number after the block is that of the next local in the text.
   pub data IsBlock (hidden : Scope) : Scope → ℕ → StmtsTree → DosPlan → ℕ → Type 0 where
     finished : (s : Scope) (n : ℕ) → IsBlock hidden s n Done plan.End n
-    followed : (s t : Scope) (n m later : ℕ) (first : StmtTree) (rest : StmtsTree) (d : DoPlan) (ds : DosPlan)
+    followed : (s t : Scope) (n m later : ℕ) (first : StmtTree) (rest : StmtsTree) (d : DoPlan)
+        (ds : DosPlan)
         → IsStmt hidden s n first d t m
         → IsBlock hidden t m rest ds later
         → IsBlock hidden s n (Then first rest) (plan.Then d ds) later

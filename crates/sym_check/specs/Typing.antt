@@ -158,7 +158,8 @@ pub data IsValue (s : Scope) : KindPlan → ExprTree → FixedPlan → Type 0 wh
 -- Values of these kinds, one of each, in order.
 pub data AreValues (s : Scope) : List KindPlan → ExprsTree → List FixedPlan → Type 0 where
   no_values : AreValues s [] End []
-  more_values : (k : KindPlan) (ks : List KindPlan) (e : ExprTree) (es : ExprsTree) (v : FixedPlan) (vs : List FixedPlan)
+  more_values : (k : KindPlan) (ks : List KindPlan) (e : ExprTree) (es : ExprsTree) (v : FixedPlan)
+      (vs : List FixedPlan)
       → IsValue s k e v
       → AreValues s ks es vs
       → AreValues s (k ∷ ks) (More e es) (v ∷ vs)

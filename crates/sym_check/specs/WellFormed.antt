@@ -1,5 +1,6 @@
 -- Plans whose numbers name what their places need: each field, local, parameter, cell, part, label
--- and test is there and of the kind wanted, and the numbers that stand in them are those of a script.
+-- and test is there and of the kind wanted, and the numbers that stand in them are those of a
+-- script.
 use Rattle.std.specs.Prelude.{◌≡◌, ℕ, ℤ, ◌-◌, ◌<◌, ◌≤◌, ◌≤ℤ◌, List, [], ◌∷◌, ◌++◌, replicate, length, Some, slice_get, IfSome}
 use Rattle.std.specs.List.{All, AllZip}
 use Rattle.sym_base.specs.declared.values.value.Value.{Value}
@@ -17,6 +18,7 @@ use Rattle.sym_check.specs.declared.plan.script.CellPlan.{CellPlan}
 use Rattle.sym_check.specs.declared.plan.script.CellPlan.TheVariants as plan
 use Rattle.sym_check.specs.FixedPlans.{NumPlan, FixedPlan, OfWord, OfLabel}
 use Rattle.sym_check.specs.FixedPlans as fixed
+use Rattle.sym_check.specs.FixedValues.{Environment}
 use Rattle.sym_check.specs.LinePlans.{LinePlan, TermPlan}
 use Rattle.sym_check.specs.LinePlans as line
 use Rattle.sym_check.specs.CondPlans.{CondPlan, Compared, Words, CellIs, LabelIs, Test, Not, And, Or}
@@ -31,6 +33,12 @@ pub record Kinds : Type 0 where
   pub fields : List KindPlan
   pub locals : List KindPlan
   pub params : List KindPlan
+
+-- What is known is of these kinds.
+pub record IsKnown (enums : List EnumPlan) (k : Kinds) (v : Environment) : Type 0 where
+  pub fields : AreOfKinds enums k.fields v.fields
+  pub locals : AreOfKinds enums k.locals v.locals
+  pub params : AreOfKinds enums k.params v.params
 
 abbrev pub IsNum : Kinds → NumPlan → Type 0
 IsNum k (fixed.Lit n) = IsNumber n
@@ -72,7 +80,8 @@ IsTerm cells k (line.OfNum n) = IsNum k n
 IsTerm cells k (line.OfLine l) = IsLine cells k l
 
 -- The first parameters of a test are of the parts' kinds, the others of the arguments'.
-pub record IsCalled (p : ScriptPlan) (k : Kinds) (test cell : ℕ) (args : List FixedPlan) : Type 0 where
+pub record IsCalled (p : ScriptPlan) (k : Kinds) (test cell : ℕ) (args : List FixedPlan)
+    : Type 0 where
   pub called : TestOf
   pub is_test : slice_get p.tests test ≡ Some called
   pub parts : List KindPlan
@@ -178,7 +187,8 @@ pub record IsField (enums : List EnumPlan) (f : FieldPlan) : Type 0 where
   pub kind : IsKind enums f.kind
   pub empty : IfSome f.default (λ v. IsOfKind enums f.kind v)
 
--- Ranges are of numbers, with an end that is no less than the beginning; the first content is valid.
+-- Ranges are of numbers, with an end that is no less than the beginning; the first content is
+-- valid.
 abbrev pub IsCell : List EnumPlan → CellPlan → Type 0
 IsCell enums (plan.Int lo hi first) = IsNumber lo × IsNumber hi × InRange lo hi first
 IsCell enums (plan.Nums lo hi) = IsNumber lo × IsNumber hi × (lo ≤ℤ hi)

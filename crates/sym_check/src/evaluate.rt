@@ -5,6 +5,4 @@ pub mod fixed_value;
 pub mod known;
 pub mod numbers;
 pub mod pairs;
-#[cfg(test)]
-mod tests;
 pub mod truth;

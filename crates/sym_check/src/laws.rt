@@ -3,3 +3,4 @@
 pub mod plans;
 pub mod rules;
 pub mod scripts;
+pub mod values;

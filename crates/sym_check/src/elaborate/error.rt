@@ -55,27 +55,3 @@ impl<T: Drop> From<AllocFailed<T>> for CheckErr {
         CheckErr::NoMemory
     }
 }
-
-#[cfg(test)]
-mod tests {
-    use super::*;
-    use std::test::Fail;
-
-    #[test]
-    fn the_text_of_an_error_is_its_variant(rt: HostRuntime) -> Result<(), Fail> {
-        let texts = [
-            (CheckErr::Name { at: 1 }, "Name"),
-            (CheckErr::Twice { at: 2 }, "Twice"),
-            (CheckErr::Kind { at: 3 }, "Kind"),
-            (CheckErr::Range { at: 4 }, "Range"),
-            (CheckErr::NotLinear { at: 5 }, "NotLinear"),
-            (CheckErr::Branchy { paths: 2048 }, "Branchy"),
-            (CheckErr::NoMemory, "NoMemory"),
-        ];
-        'texts: for (error, wanted) in texts {
-            let text = format!(in rt.alloc(); "{}", error)?;
-            assert_eq!(rt; text.as_str(), wanted);
-        }
-        Ok(())
-    }
-}

@@ -56,6 +56,7 @@ impl<'a> Known<'a> {
         self.locals.get(usize::from(local))
     }
 
+    #[inline(always)]
     fn param(&self, param: u16) -> Option<&'a Value>
         ensures { option_copied result ≡ slice_get (known_values self.now).params param }
     {
@@ -68,6 +69,7 @@ impl<'a> Known<'a> {
     }
 
     /// The number of a field; 0 where no number field has this number.
+    #[inline(always)]
     pub(crate) fn field_number(&self, field: u16) -> i64
         ensures { result ≡ value_number (slice_get (known_values self.now).fields field) }
     {
@@ -75,6 +77,7 @@ impl<'a> Known<'a> {
     }
 
     /// The number of a local; 0 where no number has this number.
+    #[inline(always)]
     pub(crate) fn local_number(&self, local: u16) -> i64
         ensures { result ≡ value_number (slice_get (known_values self.now).locals local) }
     {
@@ -82,6 +85,7 @@ impl<'a> Known<'a> {
     }
 
     /// The number of a parameter; 0 where no number has this number.
+    #[inline(always)]
     pub(crate) fn param_number(&self, param: u16) -> i64
         ensures { result ≡ value_number (slice_get (known_values self.now).params param) }
     {

@@ -1,5 +1,5 @@
 //! Numbers of fixed expressions, and the pairs of lines.
-ghost use Rattle.std.specs.Prelude.{◌≡◌, neg_ℤ, ◌+ℤ◌, ◌*ℤ◌};
+ghost use Rattle.std.specs.Prelude.{◌≡◌, neg_ℤ, ◌+ℤ◌, ◌*ℤ◌, IfSome, Ok};
 ghost use Rattle.sym_check.specs.Arithmetic.{within};
 ghost use Rattle.sym_check.specs.FixedPlans.{num_plan};
 ghost use Rattle.sym_check.specs.FixedValues.{number};
@@ -12,9 +12,23 @@ use crate::evaluate::known::Known;
 use crate::evaluate::pairs::Pair;
 use crate::plan::expression::{Line, Num};
 
-/// The number of a fixed expression. `Arith` is returned exactly where a step of it leaves
-/// `-NUM_MAX` to `NUM_MAX` or divides by zero. It takes no memory.
-pub fn number_of(known: &Known, expression: &Num) -> Result<i64, Arith>
+// The number of an expression without an operator.
+#[inline(always)]
+fn plain_number(known: &Known, expression: &Num) -> Option<i64>
+    ensures { let meaning = number (known_values known.now) (num_plan expression.now) in
+        IfSome result (λ x. meaning ≡ Ok x) }
+{
+    match expression {
+        Num::Lit(number) => Some(*number),
+        Num::Field(field) => Some(known.field_number(*field)),
+        Num::Local(local) => Some(known.local_number(*local)),
+        Num::Param(param) => Some(known.param_number(*param)),
+        Num::Neg(_) | Num::Bin(..) => None,
+    }
+}
+
+// The number of any expression. An operand without an operator is read without a call.
+fn computed_number(known: &Known, expression: &Num) -> Result<i64, Arith>
     ensures { result ≡ number (known_values known.now) (num_plan expression.now) }
 {
     match expression {
@@ -23,14 +37,32 @@ pub fn number_of(known: &Known, expression: &Num) -> Result<i64, Arith>
         Num::Local(local) => Ok(known.local_number(*local)),
         Num::Param(param) => Ok(known.param_number(*param)),
         Num::Neg(operand) => {
-            let operand = number_of(known, operand)?;
+            let operand = computed_number(known, operand)?;
             within(negative(operand))
         }
         Num::Bin(operator, left, right) => {
-            let left = number_of(known, left)?;
-            let right = number_of(known, right)?;
+            let left = match plain_number(known, left) {
+                Some(number) => number,
+                None => computed_number(known, left)?,
+            };
+            let right = match plain_number(known, right) {
+                Some(number) => number,
+                None => computed_number(known, right)?,
+            };
             calculated(*operator, left, right)
         }
+    }
+}
+
+/// The number of a fixed expression. `Arith` is returned exactly where a step of it leaves
+/// `-NUM_MAX` to `NUM_MAX` or divides by zero. It takes no memory.
+#[inline(always)]
+pub fn number_of(known: &Known, expression: &Num) -> Result<i64, Arith>
+    ensures { result ≡ number (known_values known.now) (num_plan expression.now) }
+{
+    match plain_number(known, expression) {
+        Some(number) => Ok(number),
+        None => computed_number(known, expression),
     }
 }
 
@@ -70,10 +102,8 @@ fn scaled(pair: &Pair, by: i64) -> Result<Pair, Arith>
     })
 }
 
-/// The pair of a line: where its cell holds x, the line's number is `a * x + b`. `Arith` is
-/// returned exactly where a step of the pair leaves `-NUM_MAX` to `NUM_MAX` or divides by zero. It
-/// takes no memory.
-pub fn pair_of(known: &Known, line: &Line) -> Result<Pair, Arith>
+// The pair of any line.
+fn computed_pair(known: &Known, line: &Line) -> Result<Pair, Arith>
     ensures { result ≡ pair (known_values known.now) (line_plan line.now) }
 {
     match line {
@@ -83,18 +113,42 @@ pub fn pair_of(known: &Known, line: &Line) -> Result<Pair, Arith>
             b: 0,
         }),
         Line::Neg(line) => {
-            let pair = pair_of(known, line)?;
+            let pair = computed_pair(known, line)?;
             negated(&pair)
         }
         Line::Add(line, number) => {
             let by = number_of(known, number)?;
-            let pair = pair_of(known, line)?;
+            let pair = match &**line {
+                Line::Cell(cell) => Pair {
+                    cell: *cell,
+                    a: 1,
+                    b: 0,
+                },
+                _ => computed_pair(known, line)?,
+            };
             raised(&pair, by)
         }
         Line::Scale(number, line) => {
             let by = number_of(known, number)?;
-            let pair = pair_of(known, line)?;
+            let pair = computed_pair(known, line)?;
             scaled(&pair, by)
         }
+    }
+}
+
+/// The pair of a line: where its cell holds x, the line's number is `a * x + b`. `Arith` is
+/// returned exactly where a step of the pair leaves `-NUM_MAX` to `NUM_MAX` or divides by zero. It
+/// takes no memory.
+#[inline(always)]
+pub fn pair_of(known: &Known, line: &Line) -> Result<Pair, Arith>
+    ensures { result ≡ pair (known_values known.now) (line_plan line.now) }
+{
+    match line {
+        Line::Cell(cell) => Ok(Pair {
+            cell: *cell,
+            a: 1,
+            b: 0,
+        }),
+        Line::Neg(_) | Line::Add(..) | Line::Scale(..) => computed_pair(known, line),
     }
 }

@@ -50,6 +50,7 @@ pub(crate) fn truth_of(known: &Known, condition: &Cond) -> Result<bool, Arith>
 }
 
 /// The answer of a test; false where its arithmetic fails.
+#[inline(always)]
 pub(crate) fn answer_of(test: &TestPlan, parts: &[Value], args: &[Value]) -> bool
     requires { IsTrue (has_fixed_body (test_plan test.now)) }
     ensures { result ≡ answer (Some (test_plan test.now)) args.now parts.now }

@@ -1,10 +1,8 @@
-//! Laws of the rules on expressions, statements and scripts.
+//! Laws of the rules on expressions and statements.
 ghost use Rattle.std.specs.Prelude.{◌≡◌, ◌↔◌, ℕ, Ok, Err};
-ghost use Rattle.sym_base.specs.Trees.{ExprTree, ScriptTree, StmtsTree};
-ghost use Rattle.sym_base.specs.Counters.{Counter, IsCounterTree};
+ghost use Rattle.sym_base.specs.Trees.{ExprTree, StmtsTree};
 ghost use Rattle.sym_check.specs.declared.elaborate.error.CheckErr.{CheckErr as Fault};
 ghost use Rattle.sym_check.specs.DoPlans.{DosPlan};
-ghost use Rattle.sym_check.specs.ScriptPlans.{ScriptPlan};
 ghost use Rattle.sym_check.specs.Scopes.{Scope as Names};
 ghost use Rattle.sym_check.specs.Typing.{Typed as Meaning, Means};
 ghost use Rattle.sym_check.specs.Breaks.{Breaks};
@@ -12,7 +10,6 @@ ghost use Rattle.sym_check.specs.Elaborate.{infer};
 ghost use Rattle.sym_check.specs.Statements.{IsBlock};
 ghost use Rattle.sym_check.specs.BreaksStatements.{BreaksBlock};
 ghost use Rattle.sym_check.specs.ElaborateStatements.{block};
-ghost use Rattle.sym_check.specs.Scripts.{IsAccepted};
 
 /// What an expression stands for, and the first broken rule in it, are what the function answers.
 /// So it has one meaning or one first broken rule, and never both.
@@ -29,9 +26,4 @@ pub fn blocks_have_a_plan_or_a_fault()
         IsBlock out s n b p m ↔ (block out s n b ≡ Ok (record { plan = p; next = m })) }
     ensures fault { (out s : Names) (n : ℕ) (b : StmtsTree) (f : Fault) →
         BreaksBlock out s n b f ↔ (block out s n b ≡ Err f) }
-{}
-
-/// No counter breaks a rule.
-pub fn counters_break_no_rule()
-    ensures { (c : Counter) (t : ScriptTree) → IsCounterTree c t → (p : ScriptPlan) × IsAccepted t p }
 {}
