@@ -7,6 +7,7 @@ use Rattle.sym_check.specs.Arithmetic.{and_then}
 use Rattle.sym_check.specs.FixedPlans.{FixedPlan}
 use Rattle.sym_check.specs.FixedValues.{Environment, fixed_value, fixed_values}
 use Rattle.sym_check.specs.Updates.{or_fault}
+use Rattle.sym_plain.specs.Running.{with_value}
 
 -- These values and then those of the other expressions.
 abbrev pub continued : List Value → Result (List Value) Arith → Result (List Value) FaultKind
@@ -25,17 +26,17 @@ values_after-all k es = of (fixed_values k es)
 pub values_after-none : (k : Environment) (vs : List Value) → values_after k vs [] ≡ Ok vs
 values_after-none k vs = ap Ok (append-nil vs)
 
-pub values_after-next : (k : Environment) (vs : List Value) (e : FixedPlan) (rest : List FixedPlan) (v : Value) → or_fault (fixed_value k e) ≡ Ok v → values_after k vs (e ∷ rest) ≡ values_after k (vs ++ v ∷ []) rest
-values_after-next k vs e rest v h = of (fixed_value k e) (fixed_values k rest) h
+pub values_after-put : (k : Environment) (vs ws : List Value) (e : FixedPlan) (rest : List FixedPlan) → with_value k vs e ≡ Ok ws → values_after k vs (e ∷ rest) ≡ values_after k ws rest
+values_after-put k vs ws e rest h = of (fixed_value k e) (fixed_values k rest) h
   where
-    of : (x : Result Value Arith) (r : Result (List Value) Arith) → or_fault x ≡ Ok v → continued vs (and_then (λ y. and_then (λ ys. Ok (y ∷ ys)) r) x) ≡ continued (vs ++ v ∷ []) r
-    of (Ok y) (Ok ys) g = let same : y ≡ v = cc in rw same (ap Ok (sym (append_assoc vs (v ∷ []) ys)))
+    of : (x : Result Value Arith) (r : Result (List Value) Arith) → and_then (λ v. Ok (vs ++ v ∷ [])) (or_fault x) ≡ Ok ws → continued vs (and_then (λ y. and_then (λ ys. Ok (y ∷ ys)) r) x) ≡ continued ws r
+    of (Ok y) (Ok ys) g = let same : vs ++ y ∷ [] ≡ ws = cc in rw (← same) (ap Ok (sym (append_assoc vs (y ∷ []) ys)))
     of (Ok y) (Err f) g = refl
     of (Err f) r g = cc
 
-pub values_after-fault : (k : Environment) (vs : List Value) (e : FixedPlan) (rest : List FixedPlan) (kind : FaultKind) → or_fault (fixed_value k e) ≡ Err kind → values_after k vs (e ∷ rest) ≡ Err kind
+pub values_after-fault : (k : Environment) (vs : List Value) (e : FixedPlan) (rest : List FixedPlan) (kind : FaultKind) → with_value k vs e ≡ Err kind → values_after k vs (e ∷ rest) ≡ Err kind
 values_after-fault k vs e rest kind h = of (fixed_value k e) h
   where
-    of : (x : Result Value Arith) → or_fault x ≡ Err kind → continued vs (and_then (λ y. and_then (λ ys. Ok (y ∷ ys)) (fixed_values k rest)) x) ≡ Err kind
+    of : (x : Result Value Arith) → and_then (λ v. Ok (vs ++ v ∷ [])) (or_fault x) ≡ Err kind → continued vs (and_then (λ y. and_then (λ ys. Ok (y ∷ ys)) (fixed_values k rest)) x) ≡ Err kind
     of (Ok y) g = cc
     of (Err f) g = cc

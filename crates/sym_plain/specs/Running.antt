@@ -1,12 +1,14 @@
 -- What running a part of an update comes to, against what the part means.
-use Rattle.std.specs.Prelude.{◌≡◌, ℕ, List, Option, Some, None, Result, Ok, Err}
+use Rattle.std.specs.Prelude.{◌≡◌, ℕ, List, [], ◌∷◌, ◌++◌, Option, Some, None, Result, Ok, Err}
 use Rattle.sym_base.specs.declared.values.state.State.{State}
+use Rattle.sym_base.specs.declared.values.value.Value.{Value}
 use Rattle.sym_base.specs.declared.values.state.FaultKind.{FaultKind}
+use Rattle.sym_base.specs.declared.values.state.Cell.{Cell}
 use Rattle.sym_base.specs.declared.values.state.Cell.TheVariants as cell
 use Rattle.sym_base.specs.States.{with_cell}
 use Rattle.sym_check.specs.Arithmetic.{and_then}
 use Rattle.sym_check.specs.FixedPlans.{FixedPlan}
-use Rattle.sym_check.specs.FixedValues.{Environment, fixed_values}
+use Rattle.sym_check.specs.FixedValues.{Environment, fixed_value, fixed_values}
 use Rattle.sym_check.specs.Updates.{or_fault}
 use Rattle.sym_check.specs.DoPlans.{DoPlan, Let, SetInt, SetEnum, CopyEnum, Keep, KeepFrom, PushNum, PushWord, If}
 use Rattle.sym_plain.specs.declared.update.stop.Stop.{Stop}
@@ -42,6 +44,14 @@ abbrev pub Ends : Option FaultKind → State → Result State FaultKind → Type
 Ends None s meaning = meaning ≡ Ok s
 Ends (Some kind) s meaning = meaning ≡ Err kind
 
+-- What `keep` with these values makes of a cell.
+abbrev pub kept_cell : Environment → List FixedPlan → Result Cell FaultKind
+kept_cell k es = and_then (λ parts. Ok (cell.Hold parts)) (or_fault (fixed_values k es))
+
 -- What `keep` with these values does to a state.
 abbrev pub kept : Environment → ℕ → List FixedPlan → State → Result State FaultKind
 kept k c es s = and_then (λ parts. Ok (with_cell s c (cell.Hold parts))) (or_fault (fixed_values k es))
+
+-- These values and that of one expression more.
+abbrev pub with_value : Environment → List Value → FixedPlan → Result (List Value) FaultKind
+with_value k vs e = and_then (λ v. Ok (vs ++ v ∷ [])) (or_fault (fixed_value k e))

@@ -1,5 +1,5 @@
 //! The calls over checked scripts.
-ghost use Rattle.std.specs.Prelude.{◌≡◌, ◌++◌, ◌∷◌, [], List, IfOk};
+ghost use Rattle.std.specs.Prelude.{◌≡◌, ◌++◌, ◌∷◌, [], List, IfOk, OnOk};
 ghost use Rattle.sym_base.specs.declared.values.record.Record.{Record as OneRecord};
 ghost use Rattle.sym_base.specs.declared.values.state.Outcome.TheVariants.{Going};
 ghost use Rattle.sym_check.specs.CheckedScripts.{checked_plan};
@@ -8,7 +8,7 @@ ghost use Rattle.sym_check.specs.Updates.{initial, step};
 ghost use Rattle.sym_plain.specs.Pairs.{after_record};
 ghost use Rattle.sym_plain.specs.Shown.{columns};
 
-use crate::folding::fold_record;
+use crate::folding::{fold_record, fold_record_into};
 use crate::groups::Groups;
 use crate::keys::record_key;
 use crate::report::shown::shown_columns;
@@ -68,4 +68,21 @@ pub fn fold(
         groups ≡ pass p records → g ≡ pass p (records ++ rec.now ∷ [])) }
 {
     fold_record(alloc, checked.plan(), groups, rec)
+}
+
+/// Makes the groups those after one record more, as `fold` does, where they stand. After an `Err`
+/// they may be any groups.
+pub fn fold_into(
+    alloc: Global,
+    checked: &Checked,
+    groups: &mut Groups,
+    rec: &Record,
+) -> Result<(), NoMemory>
+    ensures groups { let p = checked_plan checked.now in
+        OnOk result (groups.new ≡ after_record p rec.now groups.old) }
+    ensures pass { let p = checked_plan checked.now in
+        OnOk result ((records : List OneRecord) →
+        groups.old ≡ pass p records → groups.new ≡ pass p (records ++ rec.now ∷ [])) }
+{
+    fold_record_into(alloc, checked.plan(), groups, rec)
 }

@@ -89,9 +89,10 @@ fn begin(
         OnOk result (map.new.entries ≡ stepped p key.now rec.now map.old.entries) }
     ensures distinct { HaveDistinctKeys map.new.entries }
 {
+    let key = key.copy(alloc)?;
     let mut outcome = Outcome::Going(first_state(alloc, plan)?);
     advance(alloc, plan, &mut outcome, rec, buffers)?;
-    map.insert(key.copy(alloc)?, outcome)?;
+    map.insert(key, outcome)?;
     Ok(())
 }
 
@@ -114,6 +115,24 @@ pub(crate) fn step_group(
     } else {
         begin(alloc, plan, map, key, rec, buffers)
     }
+}
+
+/// Makes the groups those after one record more. After an `Err` they may be any groups.
+pub(crate) fn fold_record_into(
+    alloc: Global,
+    plan: &Plan,
+    groups: &mut Groups,
+    rec: &Record,
+) -> Result<(), NoMemory>
+    requires { IsTrue (list_all has_fixed_body (script_plan plan.now).tests) }
+    ensures groups { let p = script_plan plan.now in
+        OnOk result (groups.new ≡ after_record p rec.now groups.old) }
+    ensures pass { let p = script_plan plan.now in
+        OnOk result ((records : List OneRecord) →
+        groups.old ≡ pass p records → groups.new ≡ pass p (records ++ rec.now ∷ [])) }
+{
+    groups.take(alloc, plan, rec)?;
+    Ok(())
 }
 
 /// The groups after one record more.

@@ -11,8 +11,9 @@ mod states;
 mod steps;
 mod update;
 
-pub use calls::{columns, fold, initial, key_of, step};
+pub use calls::{columns, fold, fold_into, initial, key_of, step};
 pub use groups::Groups;
-
-#[cfg(test)]
-mod tests;
+pub use update::buffers::{Buffers, shorten};
+pub use update::conditions::{fixed_value, set_values};
+pub use update::statements::name_local;
+pub use update::stop::Stop;

@@ -27,7 +27,9 @@ fn update(
     ensures { let p = script_plan plan.now in
         IfOk result (λ kind. Ends kind state.new (dos_step p (environment rec.now []) p.update state.old)) }
 {
-    shorten(alloc, &mut buffers.locals, 0);
+    if !buffers.locals.is_empty() {
+        shorten(alloc, &mut buffers.locals, 0);
+    }
     match run_all(alloc, plan, rec, &plan.update, buffers, state) {
         Ok(()) => Ok(None),
         Err(Stop::Fault(kind)) => Ok(Some(kind)),
@@ -37,6 +39,7 @@ fn update(
 
 /// Makes the group's next step, on its state where it lies. A group that has ended stays as it is.
 /// After an `Err` the outcome may be any.
+#[inline(always)]
 pub(crate) fn advance(
     alloc: Global,
     plan: &Plan,

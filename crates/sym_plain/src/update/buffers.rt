@@ -16,7 +16,7 @@ pub struct Buffers {
 
 impl Buffers {
     /// Empty lists. It takes no memory.
-    pub(crate) fn new(alloc: Global) -> Buffers
+    pub fn new(alloc: Global) -> Buffers
         ensures { result.locals ≡ [] }
     {
         Buffers {
@@ -27,7 +27,8 @@ impl Buffers {
 }
 
 /// Drops all but the first values. The list keeps its memory.
-pub(crate) fn shorten(alloc: Global, values: &mut Values, count: usize)
+#[inline(never)]
+pub fn shorten(alloc: Global, values: &mut Values, count: usize)
     ensures { values.new ≡ take count values.old }
 {
     if count < values.len() {

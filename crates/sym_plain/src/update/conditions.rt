@@ -8,7 +8,7 @@ ghost use Rattle.sym_check.specs.FixedValues.{fixed_value, fixed_values};
 ghost use Rattle.sym_check.specs.KnownValues.{known_values};
 ghost use Rattle.sym_check.specs.ScriptPlans.{script_plan};
 ghost use Rattle.sym_check.specs.Updates.{or_fault};
-ghost use Rattle.sym_plain.specs.Running.{Gives, Makes};
+ghost use Rattle.sym_plain.specs.Running.{Gives, Makes, with_value};
 
 use crate::update::buffers::shorten;
 use crate::update::stop::Stop;
@@ -18,7 +18,8 @@ use sym_base::{FaultKind, NoMemory, State, Text, Value, Values};
 use sym_check::{Cond, Fixed, FixedList, FixedValue, Known, Plan, answer_at, number_of, value_of};
 
 /// The value of a fixed expression; arithmetic that fails ends the group.
-pub(crate) fn fixed_value(alloc: Global, known: &Known, expression: &Fixed) -> Result<Value, Stop>
+#[inline(never)]
+pub fn fixed_value(alloc: Global, known: &Known, expression: &Fixed) -> Result<Value, Stop>
     ensures { let k = known_values known.now in
         Gives result (or_fault (fixed_value k (fixed_plan expression.now))) }
 {
@@ -41,21 +42,7 @@ fn text_over(alloc: Global, old: Option<Value>, word: &str) -> Result<Text, NoMe
     }
 }
 
-fn value_over(
-    alloc: Global,
-    known: &Known,
-    expression: &Fixed,
-    old: Option<Value>,
-) -> Result<Value, Stop>
-    ensures { let k = known_values known.now in
-        Gives result (or_fault (fixed_value k (fixed_plan expression.now))) }
-{
-    match expression {
-        Fixed::Word(word) => Ok(Value::Word(text_over(alloc, old, known.word(word))?)),
-        _ => fixed_value(alloc, known, expression),
-    }
-}
-
+#[inline(never)]
 fn put_at(values: &mut Values, index: usize, value: Value) -> Result<(), NoMemory>
     requires { index ≤ length values.old }
     ensures values { OnOk result (take (index + 1) values.new ≡ take index values.old ++ value ∷ []) }
@@ -69,8 +56,62 @@ fn put_at(values: &mut Values, index: usize, value: Value) -> Result<(), NoMemor
     Ok(())
 }
 
+fn put_num(values: &mut Values, index: usize, number: i64) -> Result<(), NoMemory>
+    requires { index ≤ length values.old }
+    ensures values { let before = take index values.old in
+        OnOk result (take (index + 1) values.new ≡ before ++ Value.Num number ∷ []) }
+    ensures length { OnOk result (index + 1 ≤ length values.new) }
+{
+    match values.get_mut(index) {
+        Some(value) => value.set_num(number),
+        None => values.push(Value::Num(number))?,
+    }
+    Ok(())
+}
+
+// The word is written over that of the value at this place.
+#[inline(never)]
+fn put_word(alloc: Global, values: &mut Values, index: usize, word: &str) -> Result<(), NoMemory>
+    requires { index ≤ length values.old }
+    ensures values { let before = take index values.old in
+        OnOk result (take (index + 1) values.new ≡ before ++ Value.Word word.now ∷ []) }
+    ensures length { OnOk result (index + 1 ≤ length values.new) }
+{
+    let old = values.replace(index, Value::Num(0));
+    let word = text_over(alloc, old, word)?;
+    put_at(values, index, Value::Word(word))
+}
+
+// Puts the value of an expression at this place; those before it stay.
+#[inline(always)]
+fn put_value(
+    alloc: Global,
+    known: &Known,
+    expression: &Fixed,
+    values: &mut Values,
+    index: usize,
+) -> Result<(), Stop>
+    requires { index ≤ length values.old }
+    ensures values { let k = known_values known.now in
+        let before = take index values.old in
+        let meaning = with_value k before (fixed_plan expression.now) in
+        Makes result (take (index + 1) values.new) meaning }
+    ensures length { OnOk result (index + 1 ≤ length values.new) }
+{
+    match expression {
+        Fixed::Num(number) => {
+            let number = number_of(known, number)?;
+            put_num(values, index, number)?;
+        }
+        Fixed::Word(word) => put_word(alloc, values, index, known.word(word))?,
+        Fixed::Label(label) => put_at(values, index, Value::Label(known.label(label)))?,
+    }
+    Ok(())
+}
+
 /// Makes the list that of the values of these expressions, over the memory that it has.
-pub(crate) fn set_values(
+#[inline(always)]
+pub fn set_values(
     alloc: Global,
     known: &Known,
     expressions: &FixedList,
@@ -80,11 +121,11 @@ pub(crate) fn set_values(
         Makes result values.new (or_fault meaning) }
 {
     'values: for (index, expression) in expressions.as_slice().iter().enumerate() {
-        let old = values.replace(index, Value::Num(0));
-        let value = value_over(alloc, known, expression, old)?;
-        put_at(values, index, value)?;
+        put_value(alloc, known, expression, values, index)?;
     }
-    shorten(alloc, values, expressions.len());
+    if expressions.len() < values.len() {
+        shorten(alloc, values, expressions.len());
+    }
     Ok(())
 }
 

@@ -1,5 +1,5 @@
 //! Statements of the update, run on a state's cells where they lie.
-ghost use Rattle.std.specs.Prelude.{◌≡◌, ◌++◌, ◌∷◌, [], ◌-◌, IsTrue, IfOk, OnOk, length, map, pos, replicate, take};
+ghost use Rattle.std.specs.Prelude.{◌≡◌, ◌++◌, ◌∷◌, [], ◌-◌, IsTrue, IfOk, OnOk, Some, length, map, pos, replicate, take};
 ghost use Rattle.std.specs.List.{list_all};
 ghost use Rattle.sym_check.specs.Conditions.{has_fixed_body};
 ghost use Rattle.sym_check.specs.DoPlans.{do_plan, dos_plan};
@@ -7,8 +7,8 @@ ghost use Rattle.sym_check.specs.FixedPlans.{fixed_plan};
 ghost use Rattle.sym_check.specs.KnownValues.{known_values};
 ghost use Rattle.sym_check.specs.ScriptPlans.{script_plan};
 ghost use Rattle.sym_check.specs.Updates.{environment, environment_after, do_step, dos_step};
-ghost use Rattle.sym_base.specs.States.{nums_in, parts_in, words_in, with_num, with_word};
-ghost use Rattle.sym_plain.specs.Running.{IsAssignment, Makes, kept};
+ghost use Rattle.sym_base.specs.States.{nums_in, words_in, with_num, with_word};
+ghost use Rattle.sym_plain.specs.Running.{IsAssignment, Makes, kept, kept_cell};
 
 use crate::update::buffers::{Buffers, shorten};
 use crate::update::conditions::{fixed_value, set_values, truth_of};
@@ -29,24 +29,28 @@ fn known_in<'a>(rec: &'a Record, locals: &'a Values) -> Known<'a>
     }
 }
 
-fn nums_of(alloc: Global, cell: Option<Cell>) -> Nums
-    ensures { result ≡ nums_in cell }
+// A cell of another kind becomes a list of this number.
+fn push_to(alloc: Global, cell: &mut Cell, number: i64) -> Result<(), NoMemory>
+    ensures { OnOk result (cell.new ≡ Cell.Nums (nums_in (Some cell.old) ++ number ∷ [])) }
 {
     match cell {
-        Some(Cell::Nums(numbers)) => numbers,
-        _ => Nums::new(alloc),
+        Cell::Nums(numbers) => numbers.push(number),
+        Cell::Enum(_) | Cell::Int(_) | Cell::Hold(_) | Cell::Words(_) => {
+            let mut numbers = Nums::new(alloc);
+            numbers.push(number)?;
+            *cell = Cell::Nums(numbers);
+            Ok(())
+        }
     }
 }
 
-// A cell of another kind becomes a list of this number.
 fn push_num(alloc: Global, state: &mut State, cell: u16, number: i64) -> Result<(), NoMemory>
     ensures { OnOk result (state.new ≡ with_num state.old cell number) }
 {
-    let cell = usize::from(cell);
-    let mut numbers = nums_of(alloc, state.cells.replace(cell, Cell::Enum(0)));
-    numbers.push(number)?;
-    state.cells.set(cell, Cell::Nums(numbers));
-    Ok(())
+    match state.cells.get_mut(usize::from(cell)) {
+        Some(cell) => push_to(alloc, cell, number),
+        None => Ok(()),
+    }
 }
 
 fn words_of(alloc: Global, cell: Option<Cell>) -> Words
@@ -59,6 +63,7 @@ fn words_of(alloc: Global, cell: Option<Cell>) -> Words
 }
 
 // A cell of another kind becomes a list of this word.
+#[inline(never)]
 fn push_word(alloc: Global, state: &mut State, cell: u16, word: &str) -> Result<(), NoMemory>
     ensures { OnOk result (state.new ≡ with_word state.old cell word.now) }
 {
@@ -69,6 +74,7 @@ fn push_word(alloc: Global, state: &mut State, cell: u16, word: &str) -> Result<
     Ok(())
 }
 
+#[inline(never)]
 fn copy_parts(alloc: Global, parts: &[Value]) -> Result<Values, NoMemory>
     ensures { IfOk result (λ v. v ≡ parts.now) }
 {
@@ -88,8 +94,10 @@ fn push_zeros(locals: &mut Values, count: usize) -> Result<(), NoMemory>
     Ok(())
 }
 
-// The numbers between the last local and this one are those of locals that are gone; they hold 0.
-fn name_local(locals: &mut Values, local: u16, value: Value) -> Result<(), NoMemory>
+/// Names the value of the local with this number. The numbers between the last local and this one
+/// are those of locals that are gone; they hold 0.
+#[inline(never)]
+pub fn name_local(locals: &mut Values, local: u16, value: Value) -> Result<(), NoMemory>
     ensures { let gap = replicate (local - length locals.old) (Value.Num (pos 0)) in
         OnOk result (locals.new ≡ locals.old ++ (gap ++ value ∷ [])) }
 {
@@ -98,16 +106,22 @@ fn name_local(locals: &mut Values, local: u16, value: Value) -> Result<(), NoMem
     Ok(())
 }
 
-fn parts_of(alloc: Global, cell: Option<Cell>) -> Values
-    ensures { result ≡ parts_in cell }
+// The parts are written over those that the cell has.
+fn keep_in(alloc: Global, known: &Known, values: &FixedList, cell: &mut Cell) -> Result<(), Stop>
+    ensures { let meaning = kept_cell (known_values known.now) (map fixed_plan values.now) in
+        Makes result cell.new meaning }
 {
     match cell {
-        Some(Cell::Hold(parts)) => parts,
-        _ => Values::new(alloc),
+        Cell::Hold(parts) => set_values(alloc, known, values, parts),
+        Cell::Enum(_) | Cell::Int(_) | Cell::Nums(_) | Cell::Words(_) => {
+            let mut parts = Values::new(alloc);
+            set_values(alloc, known, values, &mut parts)?;
+            *cell = Cell::Hold(parts);
+            Ok(())
+        }
     }
 }
 
-// The parts are written over those that the cell has.
 fn keep(
     alloc: Global,
     known: &Known,
@@ -118,14 +132,14 @@ fn keep(
     ensures { let meaning = kept (known_values known.now) cell (map fixed_plan values.now) in
         Makes result state.new (meaning state.old) }
 {
-    let cell = usize::from(cell);
-    let mut parts = parts_of(alloc, state.cells.replace(cell, Cell::Enum(0)));
-    set_values(alloc, known, values, &mut parts)?;
-    state.cells.set(cell, Cell::Hold(parts));
-    Ok(())
+    match state.cells.get_mut(usize::from(cell)) {
+        Some(cell) => keep_in(alloc, known, values, cell),
+        None => set_values(alloc, known, values, &mut Values::new(alloc)),
+    }
 }
 
-// A statement that changes cells alone.
+// A statement that changes cells alone. Apart, so that its locals cost other statements nothing.
+#[inline(never)]
 fn assign(
     alloc: Global,
     plan: &Plan,
@@ -142,7 +156,7 @@ fn assign(
         Do::SetInt(cell, term) => {
             let number = term_number(known, term, state)?;
             let number = in_range(plan, *cell, number)?;
-            state.cells.set(usize::from(*cell), Cell::Int(number));
+            state.set_int(*cell, number);
         }
         Do::SetEnum(cell, label) => state
             .cells
@@ -189,13 +203,17 @@ pub(crate) fn run_all(
         Dos::End => Ok(()),
         Dos::More(first, rest) => {
             run(alloc, plan, rec, first, buffers, state)?;
-            run_all(alloc, plan, rec, rest, buffers, state)
+            match &**rest {
+                Dos::End => Ok(()),
+                Dos::More(..) => run_all(alloc, plan, rec, rest, buffers, state),
+            }
         }
     }
 }
 
 // The locals of a block are gone after it.
 #[cycle(running)]
+#[inline(always)]
 fn run_block(
     alloc: Global,
     plan: &Plan,
@@ -212,7 +230,9 @@ fn run_block(
 {
     let count = buffers.locals.len();
     run_all(alloc, plan, rec, statements, buffers, state)?;
-    shorten(alloc, &mut buffers.locals, count);
+    if count < buffers.locals.len() {
+        shorten(alloc, &mut buffers.locals, count);
+    }
     Ok(())
 }
 
@@ -232,26 +252,20 @@ fn run(
     ensures locals { let k = environment rec.now buffers.old.locals in
         OnOk result (environment rec.now buffers.new.locals ≡ environment_after k (do_plan statement.now)) }
 {
+    let known = known_in(rec, &buffers.locals);
     match statement {
         Do::Let(local, value) => {
-            let value = fixed_value(alloc, &known_in(rec, &buffers.locals), value)?;
+            let value = fixed_value(alloc, &known, value)?;
             name_local(&mut buffers.locals, *local, value)?;
             Ok(())
         }
         Do::If(condition, then, otherwise) => {
-            let known = known_in(rec, &buffers.locals);
             if truth_of(alloc, plan, &known, condition, state, &mut buffers.args)? {
                 run_block(alloc, plan, rec, then, buffers, state)
             } else {
                 run_block(alloc, plan, rec, otherwise, buffers, state)
             }
         }
-        _ => assign(
-            alloc,
-            plan,
-            &known_in(rec, &buffers.locals),
-            statement,
-            state,
-        ),
+        _ => assign(alloc, plan, &known, statement, state),
     }
 }

@@ -25,6 +25,7 @@ fn line_at(pair: &Pair, number: i64) -> i128
 }
 
 /// The number of a term at a state.
+#[inline(always)]
 pub(crate) fn term_number(known: &Known, term: &Term, state: &State) -> Result<i128, Arith>
     ensures { result ≡ term_number (known_values known.now) (term_plan term.now) state.now }
 {

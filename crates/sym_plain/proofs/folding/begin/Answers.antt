@@ -14,5 +14,5 @@ returns-clause-steps c =
     let first : c.advance.new.outcome ≡ step p (Going (initial p)) c.args.rec.now =
     c.in_ok-advance.ensures ∙ ap (λ (s : State). step p (Going s) c.args.rec.now) c.in_ok-first_state.ensures in
     c.in_ok-insert.ensures.entries
-    ∙ ap₂ (insert_entry is_key c.args.map.now.entries) c.in_ok-copy.ensures first
+    ∙ ap₂ (insert_entry is_key c.args.map.now.entries) c.in_ok-key.ensures first
     ∙ begun p c.args.key.now c.args.rec.now c.args.map.now.entries c.requires.distinct c.requires.new
