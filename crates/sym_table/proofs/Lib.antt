@@ -12,3 +12,6 @@ pub mod Said
 pub mod FieldsAgree
 pub mod RowsAgree
 pub mod HeadersAgree
+pub mod FieldKinds
+pub mod RowCounts
+pub mod NumbersAscii

@@ -1,5 +1,6 @@
 -- Cutting a file into chunks of rows.
 use Rattle.std.specs.Prelude.{◌≡◌, ◌≤◌, ◌<◌, ℕ, ◌+◌, ◌^◌, IfSome, ◌++◌, ◌∷◌, Bool, true, false, List, [], length, Option, Some, None, Result, Ok, Err}
+use Rattle.sym_base.specs.declared.limits.TheConstants as limit
 use Rattle.sym_base.specs.declared.values.memory.NoMemory.{NoMemory}
 use Rattle.sym_check.specs.declared.plan.script.FieldPlan.{FieldPlan}
 use Rattle.sym_table.specs.declared.chunk.Chunk.{Chunk}
@@ -25,7 +26,9 @@ Opens fields [] (Ok c) = c.left ≡ Some []
 Opens fields [] (Err (head_err.Fault why)) = ⊥
 Opens fields [] (Err head_err.NoMemory) = Unit {0}
 Opens fields (header ∷ rest) (Ok c) =
-    (columns_of header 0 fields ≡ Ok c.header.places) × (c.header.columns ≡ length header) × (c.left ≡ Some rest)
+    (columns_of header 0 fields ≡ Ok c.header.places)
+    × (c.header.columns ≡ length header)
+    × (c.left ≡ Some rest)
 Opens fields (header ∷ rest) (Err (head_err.Fault why)) = columns_of header 0 fields ≡ Err why
 Opens fields (header ∷ rest) (Err head_err.NoMemory) = Unit {0}
 
@@ -50,7 +53,11 @@ Cuts old new (Err e) = new.left ≡ None
 
 -- The same of one row.
 abbrev pub Takes : Cutting → Cutting → Row → Result Bool NoMemory → Type 0
-Takes old new row (Ok true) = (rest : List Row) × (old.left ≡ Some (row ∷ rest)) × (new.left ≡ Some rest) × (new.next_no ≡ old.next_no + 1)
+Takes old new row (Ok true) =
+    (rest : List Row)
+    × (old.left ≡ Some (row ∷ rest))
+    × (new.left ≡ Some rest)
+    × (new.next_no ≡ old.next_no + 1)
 Takes old new row (Ok false) =
     (old.left ≡ Some []) × (new.left ≡ Some []) × (new.next_no ≡ old.next_no)
 Takes old new row (Err e) = new.left ≡ None
@@ -61,9 +68,11 @@ Locates (Ok places) found = found ≡ Ok places
 Locates (Err (head_err.Fault why)) found = found ≡ Err why
 Locates (Err head_err.NoMemory) found = Unit {0}
 
--- A full chunk has a row, and the numbers of the rows stay below 2^63.
+-- A full chunk has a row, and no more than a chunk may have; the numbers of the rows stay below
+-- 2^63.
 pub record IsCutting (left : Option (List Row)) (next_no chunk : ℕ) : Type 0 where
   pub some : 1 ≤ chunk
+  pub most : chunk ≤ limit.CHUNK_MAX
   pub room : IfSome left (λ rows. next_no + length rows ≤ 2 ^ 63)
 
 -- Rows that are taken from a reader: as many as asked for, or all that are left.
@@ -74,7 +83,8 @@ pub record AreTaken (count : ℕ) (old new : Option (List Row)) (rows : List Row
   pub most : length rows ≤ count
   pub full : length rows < count → rest ≡ []
 
-abbrev pub TakesRows : ℕ → Option (List Row) → Option (List Row) → Result (List Row) NoMemory → Type 0
+abbrev pub TakesRows : ℕ → Option (List Row) → Option (List Row) → Result (List Row) NoMemory
+    → Type 0
 TakesRows count old new (Ok rows) = AreTaken count old new rows
 TakesRows count old new (Err e) = new ≡ None
 

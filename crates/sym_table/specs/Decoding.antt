@@ -19,13 +19,13 @@ abbrev pub Fills : Option Bad → Record → Decoded → Type 0
 Fills None rec d = d ≡ decoded.Is rec
 Fills (Some bad) rec d = d ≡ decoded.Bad bad
 
--- The value, or the rule that is broken; where memory is out, anything.
-abbrev pub Gives : {A : Type 0} → Result A Stop → Result A BadCause → Type 0
-Gives (Ok x) meaning = meaning ≡ Ok x
-Gives (Err (stop.Cause why)) meaning = meaning ≡ Err why
-Gives (Err stop.NoMemory) meaning = Unit {0}
+-- The record, where there is one, is so.
+abbrev pub IfRecord : Decoded → (Record → Type 0) → Type 0
+IfRecord (decoded.Is rec) P = P rec
+IfRecord (decoded.Bad bad) P = Unit {0}
 
--- The same of what is left behind a reference.
+-- What is left behind a reference is the value that is meant, or the rule that is broken is meant;
+-- where memory is out, anything.
 abbrev pub Leaves : {A B : Type 0} → Result A Stop → B → Result B BadCause → Type 0
 Leaves (Ok x) left meaning = meaning ≡ Ok left
 Leaves (Err (stop.Cause why)) left meaning = meaning ≡ Err why

@@ -1,5 +1,5 @@
--- What a field of a record reads its text as: a value of the field's kind, or the rule that the text
--- breaks.
+-- What a field of a record reads its text as: a value of the field's kind, or the rule that the
+-- text breaks.
 use Rattle.std.specs.Prelude.{◌≡◌, ◌≢◌, ◌⊎◌, ℕ, ℤ, List, [], ◌∷◌, Option, Some, None, Result, Ok, Err, slice_get, option_map, IsUtf8, if◌then◌else◌}
 use Rattle.std.specs.Option.{ok_or}
 use Rattle.std.specs.Str.{is_utf8}
@@ -54,7 +54,8 @@ pub data IsValue (enums : List EnumPlan) (field : FieldPlan) (bytes : List ℕ) 
       → IsValue enums field bytes (value.Label l)
 
 -- What is wrong with the bytes of the field with the number `which`.
-pub data BreaksField (enums : List EnumPlan) (which : ℕ) (field : FieldPlan) (bytes : List ℕ) : BadCause → Type 0 where
+pub data BreaksField (enums : List EnumPlan) (which : ℕ) (field : FieldPlan) (bytes : List ℕ)
+    : BadCause → Type 0 where
   not_utf8 : ¬ (IsUtf8 bytes) → BreaksField enums which field bytes (cause.Utf8 which)
   no_number : field.kind ≡ kind.Num
       → IsRead field bytes
@@ -72,7 +73,8 @@ default_for default [] = default
 default_for default (b ∷ rest) = None
 
 abbrev pub value_in : List EnumPlan → ℕ → KindPlan → List ℕ → Result Value BadCause
-value_in enums which kind.Num text = ok_or (option_map value.Num (number_in text)) (cause.Number which)
+value_in enums which kind.Num text =
+    ok_or (option_map value.Num (number_in text)) (cause.Number which)
 value_in enums which kind.Word text = Ok (value.Word text)
 value_in enums which (kind.Label enum) text =
     ok_or (option_map value.Label (label_in (enum_labels enums enum) text)) (cause.Label which)
@@ -91,3 +93,8 @@ read_field enums which field bytes =
     if is_utf8 bytes
     then read_text enums which field (text_of field.kind bytes)
     else Err (cause.Utf8 which)
+
+-- The field is one of numbers, and the bytes say this number.
+pub record SaysOf (k : KindPlan) (bytes : List ℕ) (x : ℤ) : Type 0 where
+  pub is : k ≡ kind.Num
+  pub says : number_in (without_blanks bytes) ≡ Some x

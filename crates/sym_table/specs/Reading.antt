@@ -21,7 +21,8 @@ pub record IsReading {R : Type 0} (rem : R → Option (List ℕ)) (reader : Read
   pub source : source_of rem reader ≡ Some bytes
 
 -- A read of one record by `csv`; after a refusal nothing is known.
-abbrev pub ReadsRecord : {R : Type 0} → (R → Option (List ℕ)) → Reader R → Reader R → Row → Result Bool NoMemory → Type 0
+abbrev pub ReadsRecord : {R : Type 0} → (R → Option (List ℕ)) → Reader R → Reader R → Row
+    → Result Bool NoMemory → Type 0
 ReadsRecord rem old new row (Ok true) = IsReading rem new × ReadRecord rem old new true row
 ReadsRecord rem old new row (Ok false) = ReadRecord rem old new false row
 ReadsRecord rem old new row (Err e) = Unit {0}
@@ -32,9 +33,11 @@ IsReader rem stage.Ended reader = Unit {0}
 IsReader rem stage.Failed reader = Unit {0}
 
 -- The rows that are left, at most so many; none after a refusal of memory.
-abbrev pub rows_left : {R : Type 0} → (R → Option (List ℕ)) → Stage → ℕ → Reader R → Option (List Row)
+abbrev pub rows_left : {R : Type 0} → (R → Option (List ℕ)) → Stage → ℕ → Reader R
+    → Option (List Row)
 rows_left rem stage.Reading most reader =
-    Some (records_from default_config most (reader_state reader) (unwrap_or (source_of rem reader) []))
+    Some (records_from default_config most (reader_state reader)
+    (unwrap_or (source_of rem reader) []))
 rows_left rem stage.Ended most reader = Some []
 rows_left rem stage.Failed most reader = None
 

@@ -1,5 +1,5 @@
 -- A row of a file as a record: the value of each field, or the first rule that the row breaks.
-use Rattle.std.specs.Prelude.{◌≡◌, ◌≢◌, ◌≤◌, ◌<◌, ℕ, ◌+◌, ◌==◌, List, [], ◌∷◌, length, Result, Ok, Err, slice_index_or, if◌then◌else◌}
+use Rattle.std.specs.Prelude.{◌≡◌, ◌≢◌, ◌≤◌, ◌<◌, ℕ, ◌+◌, ◌^◌, ◌==◌, List, [], ◌∷◌, length, Result, Ok, Err, slice_index_or, if◌then◌else◌}
 use Rattle.std.specs.List.{All}
 use Rattle.sym_base.specs.declared.limits.TheConstants as limit
 use Rattle.sym_base.specs.declared.values.value.Value.{Value}
@@ -9,6 +9,7 @@ use Rattle.sym_check.specs.Arithmetic.{◌>>=◌}
 use Rattle.sym_check.specs.WellFormed.{IsEnum}
 use Rattle.sym_table.specs.declared.bad.BadCause.{BadCause}
 use Rattle.sym_table.specs.declared.bad.BadCause.TheVariants as cause
+use Rattle.sym_table.specs.declared.chunk.Chunk.{Chunk}
 use Rattle.sym_table.specs.declared.header.Header.{Header}
 use Rattle.sym_table.specs.Fields.{IsValue, BreaksField, read_field}
 
@@ -22,36 +23,50 @@ pub record FitsHeader (fields : List FieldPlan) (header : Header) : Type 0 where
   pub count : length header.places ≡ length fields
   pub places : All (λ place. place < header.columns) header.places
 
+-- The header of the chunk has the column of each field; its rows are no more than a chunk may have,
+-- and so are their numbers.
+pub record FitsChunk (fields : List FieldPlan) (cut : Chunk) : Type 0 where
+  pub header : FitsHeader fields cut.header
+  pub number : cut.first_no ≤ 2 ^ 63
+  pub few : length cut.rows ≤ limit.CHUNK_MAX
+
 -- The bytes in a column of a row.
 abbrev pub column : List (List ℕ) → ℕ → List ℕ
 column row place = slice_index_or row place []
 
 -- Each field, from these columns of the row, has its value.
-pub data AreValues (enums : List EnumPlan) (row : List (List ℕ)) : List FieldPlan → List ℕ → List Value → Type 0 where
+pub data AreValues (enums : List EnumPlan) (row : List (List ℕ))
+    : List FieldPlan → List ℕ → List Value → Type 0 where
   no_field : AreValues enums row [] [] []
-  one_more : (field : FieldPlan) (fields : List FieldPlan) (place : ℕ) (places : List ℕ) (v : Value) (vs : List Value)
+  one_more : (field : FieldPlan) (fields : List FieldPlan) (place : ℕ) (places : List ℕ)
+      (v : Value) (vs : List Value)
       → IsValue enums field (column row place) v
       → AreValues enums row fields places vs
       → AreValues enums row (field ∷ fields) (place ∷ places) (v ∷ vs)
 
 -- A field breaks a rule, and those before it have their values. The fields are numbered from
 -- `which` on.
-pub data FirstBroken (enums : List EnumPlan) (row : List (List ℕ)) : ℕ → List FieldPlan → List ℕ → BadCause → Type 0 where
-  here : (which : ℕ) (field : FieldPlan) (fields : List FieldPlan) (place : ℕ) (places : List ℕ) (why : BadCause)
+pub data FirstBroken (enums : List EnumPlan) (row : List (List ℕ))
+    : ℕ → List FieldPlan → List ℕ → BadCause → Type 0 where
+  here : (which : ℕ) (field : FieldPlan) (fields : List FieldPlan) (place : ℕ) (places : List ℕ)
+      (why : BadCause)
       → BreaksField enums which field (column row place) why
       → FirstBroken enums row which (field ∷ fields) (place ∷ places) why
-  later : (which : ℕ) (field : FieldPlan) (fields : List FieldPlan) (place : ℕ) (places : List ℕ) (v : Value) (why : BadCause)
+  later : (which : ℕ) (field : FieldPlan) (fields : List FieldPlan) (place : ℕ) (places : List ℕ)
+      (v : Value) (why : BadCause)
       → IsValue enums field (column row place) v
       → FirstBroken enums row (which + 1) fields places why
       → FirstBroken enums row which (field ∷ fields) (place ∷ places) why
 
 -- The row has a column for each of the header, and these are the values of the fields in it.
-pub record HasValues (enums : List EnumPlan) (fields : List FieldPlan) (header : Header) (row : List (List ℕ)) (values : List Value) : Type 0 where
+pub record HasValues (enums : List EnumPlan) (fields : List FieldPlan) (header : Header)
+    (row : List (List ℕ)) (values : List Value) : Type 0 where
   pub width_is : length row ≡ header.columns
   pub have : AreValues enums row fields header.places values
 
 -- The first rule that the row breaks: its width, and then the fields' own in their order.
-pub data BreaksRow (enums : List EnumPlan) (fields : List FieldPlan) (header : Header) (row : List (List ℕ)) : BadCause → Type 0 where
+pub data BreaksRow (enums : List EnumPlan) (fields : List FieldPlan) (header : Header)
+    (row : List (List ℕ)) : BadCause → Type 0 where
   other_width : length row ≢ header.columns
       → BreaksRow enums fields header row (cause.Fields (length row))
   in_field : (why : BadCause)
@@ -60,7 +75,8 @@ pub data BreaksRow (enums : List EnumPlan) (fields : List FieldPlan) (header : H
       → BreaksRow enums fields header row why
 
 -- The values of the fields, which are numbered from `which` on, or the first broken rule.
-abbrev pub read_fields : List EnumPlan → List (List ℕ) → ℕ → List FieldPlan → List ℕ → Result (List Value) BadCause
+abbrev pub read_fields : List EnumPlan → List (List ℕ) → ℕ → List FieldPlan → List ℕ
+    → Result (List Value) BadCause
 read_fields enums row which [] places = Ok []
 read_fields enums row which (field ∷ fields) [] = Ok []
 read_fields enums row which (field ∷ fields) (place ∷ places) = do
@@ -69,7 +85,8 @@ read_fields enums row which (field ∷ fields) (place ∷ places) = do
   Ok (v ∷ vs)
 
 -- The values of a row, or the first rule that it breaks.
-abbrev pub read_row : List EnumPlan → List FieldPlan → Header → List (List ℕ) → Result (List Value) BadCause
+abbrev pub read_row : List EnumPlan → List FieldPlan → Header → List (List ℕ)
+    → Result (List Value) BadCause
 read_row enums fields header row =
     if length row == header.columns
     then read_fields enums row 0 fields header.places

@@ -1,5 +1,8 @@
 //! Rows that are no records.
-use sym_base::Record;
+ghost use Rattle.std.specs.Prelude.{◌≡◌, IfOk};
+
+use std::alloc::Global;
+use sym_base::{NoMemory, Record};
 
 /// Why a row isn't a record. A `u16` is a field of the script, counted from 0.
 #[derive(Clone, Copy, Debug, PartialEq, Eq)]
@@ -14,7 +17,8 @@ pub enum BadCause {
     Utf8(u16),
 }
 
-/// A row that isn't a record: its number, counted as records are, and the first rule that it breaks.
+/// A row that isn't a record: its number, counted as records are, and the first rule that it
+/// breaks.
 #[derive(Clone, Copy, Debug, PartialEq, Eq)]
 pub struct Bad {
     pub no: u64,
@@ -26,4 +30,16 @@ pub struct Bad {
 pub enum Decoded {
     Is(Record),
     Bad(Bad),
+}
+
+impl Decoded {
+    /// An equal answer of its own.
+    pub fn copy(&self, alloc: Global) -> Result<Decoded, NoMemory>
+        ensures { IfOk result (λ d. d ≡ self.now) }
+    {
+        match self {
+            Decoded::Is(rec) => Ok(Decoded::Is(rec.copy(alloc)?)),
+            Decoded::Bad(bad) => Ok(Decoded::Bad(*bad)),
+        }
+    }
 }

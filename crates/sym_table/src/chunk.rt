@@ -1,7 +1,10 @@
 //! Pieces of a file.
+ghost use Rattle.std.specs.Prelude.{◌≡◌, IfOk};
+
 use crate::header::Header;
 use crate::row::Rows;
-use sym_base::Sequence;
+use std::alloc::Global;
+use sym_base::{NoMemory, Plain, Sequence};
 
 /// Consecutive rows of a file, with its header and the number of the first row.
 #[derive(Drop)]
@@ -13,3 +16,22 @@ pub struct Chunk {
 
 /// Chunks, in order.
 pub type Chunks = Sequence<Chunk>;
+
+impl Chunk {
+    /// An equal chunk of its own.
+    pub fn copy(&self, alloc: Global) -> Result<Chunk, NoMemory>
+        ensures { IfOk result (λ c. c ≡ self.now) }
+    {
+        Ok(Chunk {
+            first_no: self.first_no,
+            header: self.header.copy(alloc)?,
+            rows: self.rows.copy(alloc)?,
+        })
+    }
+}
+
+impl Plain for Chunk {
+    fn copied(&self, alloc: Global) -> Result<Chunk, NoMemory> {
+        self.copy(alloc)
+    }
+}

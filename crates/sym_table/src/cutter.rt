@@ -1,10 +1,12 @@
 //! Cutting a file into chunks of rows.
-ghost use Rattle.std.specs.Prelude.{◌≡◌, ◌≤◌, ◌+◌, ◌^◌, ◌<◌, IfOk, IfSome, IsSome, length};
+ghost use Rattle.std.specs.Prelude.{◌≡◌, ◌≤◌, ◌+◌, ◌^◌, ◌<◌, List, IfOk, IfSome, IsSome, length};
 ghost use Rattle.std.specs.List.{All};
 ghost use Rattle.sym_base.specs.declared.limits.TheConstants as limit;
+ghost use Rattle.sym_check.specs.CheckedScripts.{checked_plan};
+ghost use Rattle.sym_check.specs.declared.plan.script.FieldPlan.{FieldPlan as OneField};
 ghost use Rattle.sym_table.specs.Cutting.{Cuts, HeadsBy, Opens, Takes, TakesRows};
 ghost use Rattle.sym_table.specs.FileRows.{file_rows};
-ghost use Rattle.sym_table.specs.Rows.{FitsHeader};
+ghost use Rattle.sym_table.specs.Rows.{FitsHeader, FitsChunk};
 
 use crate::chunk::Chunk;
 use crate::columns::columns_of;
@@ -15,7 +17,7 @@ use crate::row::{Row, Rows};
 use std::alloc::Global;
 use std::marker::Model;
 use sym_base::NoMemory;
-use sym_check::{FieldPlan, Plan};
+use sym_check::{Checked, FieldPlan, Plan};
 
 /// Reads a file's rows from its bytes where they lie, in chunks or one by one. A contract sees the
 /// rows that are left, `None` after memory was refused; the header; the number of the next row;
@@ -33,7 +35,12 @@ impl<'a> Model for Cutter<'a> {
 
     ghost Value = { Cutting };
 
-    ghost view = { λ c. record { left = c.rows; header = c.header; next_no = c.next_no; chunk = c.chunk } };
+    ghost view = { λ c. record {
+      left = c.rows;
+      header = c.header;
+      next_no = c.next_no;
+      chunk = c.chunk;
+    } };
 
     ghost invariant = { λ c. IsCutting c.rows c.next_no c.chunk };
 }
@@ -95,40 +102,63 @@ fn read_header(
     }
 }
 
+// Opens a file by the plan of a script.
+fn open_by<'a>(
+    alloc: Global,
+    plan: &Plan,
+    bytes: &'a [u8],
+    first_no: u64,
+    chunk: u32,
+) -> Result<Cutter<'a>, HeadErr>
+    requires fields { length plan.now.fields ≤ limit.FIELDS_MAX }
+    requires size { length bytes.now ≤ limit.FILE_MAX }
+    requires first { first_no ≤ 2 ^ 62 }
+    requires some { 1 ≤ chunk }
+    requires most { chunk ≤ limit.CHUNK_MAX }
+    ensures opens { Opens plan.now.fields (file_rows bytes.now) result }
+    ensures fits { IfOk result (λ c. FitsHeader plan.now.fields c.header) }
+    ensures numbers { IfOk result (λ c. c.next_no ≡ first_no) }
+    ensures chunk { IfOk result (λ c. c.chunk ≡ chunk) }
+{
+    let mut rows = RowReader::over(alloc, without_mark(bytes));
+    let header = read_header(alloc, plan.fields.as_slice(), &mut rows)?;
+    Ok(Cutter {
+        rows,
+        header,
+        next_no: first_no,
+        chunk,
+    })
+}
+
 impl<'a> Cutter<'a> {
     /// Opens a file: its first row is the header, by which each field has its column. The rows
     /// after it are numbered from `first_no` on. A file of no rows gives a cutter of no chunks.
     pub fn open(
         alloc: Global,
-        plan: &Plan,
+        checked: &Checked,
         bytes: &'a [u8],
         first_no: u64,
         chunk: u32,
     ) -> Result<Cutter<'a>, HeadErr>
-        requires fields { length plan.now.fields ≤ limit.FIELDS_MAX }
         requires size { length bytes.now ≤ limit.FILE_MAX }
         requires first { first_no ≤ 2 ^ 62 }
         requires some { 1 ≤ chunk }
         requires most { chunk ≤ limit.CHUNK_MAX }
-        ensures opens { Opens plan.now.fields (file_rows bytes.now) result }
-        ensures fits { IfOk result (λ c. FitsHeader plan.now.fields c.header) }
+        ensures opens { Opens (checked_plan checked.now).fields (file_rows bytes.now) result }
+        ensures fits { IfOk result (λ c. FitsHeader (checked_plan checked.now).fields c.header) }
         ensures numbers { IfOk result (λ c. c.next_no ≡ first_no) }
         ensures chunk { IfOk result (λ c. c.chunk ≡ chunk) }
     {
-        let mut rows = RowReader::over(alloc, without_mark(bytes));
-        let header = read_header(alloc, plan.fields.as_slice(), &mut rows)?;
-        Ok(Cutter {
-            rows,
-            header,
-            next_no: first_no,
-            chunk,
-        })
+        open_by(alloc, checked.plan(), bytes, first_no, chunk)
     }
 
     /// The next chunk: as many rows as a chunk has, or the fewer that are left. `None` exactly
-    /// where no row is left. After an `Err` each later call answers one.
+    /// where no row is left. A chunk fits each script that the header fits. After an `Err` each
+    /// later call answers one.
     pub fn next(&mut self, alloc: Global) -> Result<Option<Chunk>, NoMemory>
         ensures cuts { Cuts self.old self.new result }
+        ensures fits { (fields : List OneField) → FitsHeader fields self.old.header →
+            IfOk result (λ found. IfSome found (λ cut. FitsChunk fields cut)) }
         ensures header { self.new.header ≡ self.old.header }
         ensures chunk { self.new.chunk ≡ self.old.chunk }
     {

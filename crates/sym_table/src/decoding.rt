@@ -1,6 +1,8 @@
 //! Rows as records.
-ghost use Rattle.std.specs.Prelude.{◌≡◌, ◌<◌, IfOk, OnOk, length, slice_index_or};
-ghost use Rattle.sym_table.specs.Decoding.{Leaves, Fills, numbered};
+ghost use Rattle.std.specs.Prelude.{◌≡◌, ◌<◌, IfOk, IfNone, OnOk, length, slice_index_or};
+ghost use Rattle.sym_check.specs.CheckedScripts.{checked_plan};
+ghost use Rattle.sym_check.specs.Validity.{IsRecord};
+ghost use Rattle.sym_table.specs.Decoding.{IfRecord, Leaves, Fills, numbered};
 ghost use Rattle.sym_table.specs.Rows.{KeepsLimits, FitsHeader, column, read_fields, read_row};
 
 use crate::bad::{Bad, BadCause, Decoded};
@@ -10,7 +12,7 @@ use crate::reading::stop::Stop;
 use crate::row::Row;
 use std::alloc::Global;
 use sym_base::{NoMemory, Record, Value, Values};
-use sym_check::Plan;
+use sym_check::{Checked, Plan};
 
 // The bytes of the field with the number `which`.
 fn column<'a>(header: &Header, row: &'a Row, which: usize) -> &'a [u8]
@@ -58,21 +60,16 @@ fn read_fields(
 {
     'fields: for (which, field) in plan.fields.as_slice().iter().enumerate() {
         let bytes = column(header, row, which);
-        let spare = match values.replace(which, Value::Num(0)) {
-            Some(value) => value,
-            None => Value::Num(0),
-        };
         let enums = plan.enums.as_slice();
-        let value = read_field(alloc, enums, which as u16, field, bytes, spare)?;
-        values.set(which, value);
+        if let Some(value) = values.get_mut(which) {
+            read_field(alloc, enums, which as u16, field, bytes, value)?;
+        }
     }
     Ok(())
 }
 
-/// Decodes a row: the record with the number `no`, or the first rule that the row breaks. The
-/// fields' values are made over the memory of those that `into` has. After an `Err`, and where the
-/// row isn't a record, `into` may be any record.
-pub fn decode_into(
+// Decodes a row by the plan of a script, over the memory of a record.
+fn decode_by(
     alloc: Global,
     plan: &Plan,
     header: &Header,
@@ -99,24 +96,46 @@ pub fn decode_into(
     }
 }
 
+/// Decodes a row: the record with the number `no`, or the first rule that the row breaks. The
+/// fields' values are made over the memory of those that `into` has. After an `Err`, and where the
+/// row isn't a record, `into` may be any record.
+pub fn decode_into(
+    alloc: Global,
+    checked: &Checked,
+    header: &Header,
+    row: &Row,
+    no: u64,
+    into: &mut Record,
+) -> Result<Option<Bad>, NoMemory>
+    requires { FitsHeader (checked_plan checked.now).fields header.now }
+    ensures read { let p = checked_plan checked.now in
+        let read = read_row p.enums p.fields header.now row.now in
+        IfOk result (λ bad. Fills bad into.new (numbered no read)) }
+    ensures fits { let p = checked_plan checked.now in
+        IfOk result (λ bad. IfNone bad (IsRecord p into.new)) }
+{
+    decode_by(alloc, checked.plan(), header, row, no, into)
+}
+
 /// Decodes a row: the record with the number `no`, or the first rule that the row breaks.
 pub fn decode(
     alloc: Global,
-    plan: &Plan,
+    checked: &Checked,
     header: &Header,
     row: &Row,
     no: u64,
 ) -> Result<Decoded, NoMemory>
-    requires limits { KeepsLimits plan.now.enums plan.now.fields }
-    requires header { FitsHeader plan.now.fields header.now }
-    ensures { let read = read_row plan.now.enums plan.now.fields header.now row.now in
+    requires { FitsHeader (checked_plan checked.now).fields header.now }
+    ensures read { let p = checked_plan checked.now in
+        let read = read_row p.enums p.fields header.now row.now in
         IfOk result (λ d. d ≡ numbered no read) }
+    ensures fits { IfOk result (λ d. IfRecord d (IsRecord (checked_plan checked.now))) }
 {
     let mut found = Record {
         no,
         fields: Values::new(alloc),
     };
-    match decode_into(alloc, plan, header, row, no, &mut found)? {
+    match decode_into(alloc, checked, header, row, no, &mut found)? {
         Some(bad) => Ok(Decoded::Bad(bad)),
         None => Ok(Decoded::Is(found)),
     }

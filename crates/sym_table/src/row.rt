@@ -5,7 +5,7 @@ ghost use Rattle.csv.specs.Records.{fields_of};
 use csv::ByteRecord;
 use std::alloc::Global;
 use std::marker::Model;
-use sym_base::{NoMemory, Sequence};
+use sym_base::{NoMemory, Plain, Sequence};
 
 /// A row: the bytes of each field. A contract sees a list of byte strings.
 #[derive(Drop)]
@@ -43,6 +43,14 @@ impl Row {
         Ok(Row { fields })
     }
 
+    /// An equal row of its own.
+    pub fn copy(&self, _alloc: Global) -> Result<Row, NoMemory>
+        ensures { IfOk result (λ r. r ≡ self.now) }
+    {
+        let fields = self.fields.clone()?;
+        Ok(Row { fields })
+    }
+
     /// The number of fields.
     pub fn len(&self) -> usize
         ensures { result ≡ length self.now }
@@ -55,5 +63,11 @@ impl Row {
         ensures { option_map (λ f. f.now) result ≡ slice_get self.now index }
     {
         self.fields.get(index)
+    }
+}
+
+impl Plain for Row {
+    fn copied(&self, alloc: Global) -> Result<Row, NoMemory> {
+        self.copy(alloc)
     }
 }

@@ -1,9 +1,9 @@
 //! One field of a record.
-ghost use Rattle.std.specs.Prelude.{◌≡◌, IfOk, option_copied, option_map};
+ghost use Rattle.std.specs.Prelude.{◌≡◌, IfSome, OnOk, option_copied, option_map};
 ghost use Rattle.std.specs.List.{All};
 ghost use Rattle.sym_check.specs.WellFormed.{IsEnum};
-ghost use Rattle.sym_table.specs.Decoding.{Gives};
-ghost use Rattle.sym_table.specs.Fields.{text_of, enum_labels, default_for, value_in, read_field};
+ghost use Rattle.sym_table.specs.Decoding.{Leaves};
+ghost use Rattle.sym_table.specs.Fields.{SaysOf, text_of, enum_labels, default_for, value_in, read_field};
 
 use crate::bad::BadCause;
 use crate::reading::blanks::without_blanks;
@@ -15,28 +15,34 @@ use std::str;
 use sym_base::{NoMemory, Text, Value};
 use sym_check::{EnumPlan, FieldPlan, KindPlan};
 
-// The word, over the memory of a value that isn't needed any more.
-fn set_word(alloc: Global, spare: Value, word: &str) -> Result<Value, NoMemory>
-    ensures { IfOk result (λ v. v ≡ Value.Word word.now) }
+// Makes the value this word, over the memory that it has.
+#[inline(always)]
+fn set_word(alloc: Global, value: &mut Value, word: &str) -> Result<(), NoMemory>
+    ensures { OnOk result (value.new ≡ Value.Word word.now) }
 {
-    match spare {
-        Value::Word(text) => {
-            let mut text = text;
-            text.set(word)?;
-            Ok(Value::Word(text))
+    match value {
+        Value::Word(text) => text.set(word),
+        Value::Num(_) | Value::Label(_) => {
+            *value = Value::Word(Text::from_str(alloc, word)?);
+            Ok(())
         }
-        Value::Num(_) | Value::Label(_) => Ok(Value::Word(Text::from_str(alloc, word)?)),
     }
 }
 
-// The value, over the memory of one that isn't needed any more.
-fn set_value(alloc: Global, spare: Value, value: &Value) -> Result<Value, NoMemory>
-    ensures { IfOk result (λ v. v ≡ value.now) }
+// Makes the value another one, over the memory that it has.
+fn set_value(alloc: Global, value: &mut Value, other: &Value) -> Result<(), NoMemory>
+    ensures { OnOk result (value.new ≡ other.now) }
 {
-    match value {
-        Value::Word(word) => set_word(alloc, spare, word.as_str()),
-        Value::Num(number) => Ok(Value::Num(*number)),
-        Value::Label(label) => Ok(Value::Label(*label)),
+    match other {
+        Value::Word(word) => set_word(alloc, value, word.as_str()),
+        Value::Num(number) => {
+            value.set_num(*number);
+            Ok(())
+        }
+        Value::Label(label) => {
+            *value = Value::Label(*label);
+            Ok(())
+        }
     }
 }
 
@@ -75,51 +81,87 @@ fn labels_of(enums: &[EnumPlan], of: u16) -> &[Text]
     }
 }
 
-// The value that the text says.
-fn value_in(
+// Makes the value the one that the text says.
+fn set_said(
     alloc: Global,
     enums: &[EnumPlan],
     which: u16,
     kind: KindPlan,
     text: &str,
-    spare: Value,
-) -> Result<Value, Stop>
+    value: &mut Value,
+) -> Result<(), Stop>
     requires { All IsEnum enums.now }
-    ensures { Gives result (value_in enums.now which kind (text_of kind text.now)) }
+    ensures { Leaves result value.new (value_in enums.now which kind (text_of kind text.now)) }
 {
     match kind {
         KindPlan::Num => match number_in(without_blanks(text.as_bytes())) {
-            Some(number) => Ok(Value::Num(number)),
-            None => Err(Stop::Cause(BadCause::Number(which))),
+            Some(number) => value.set_num(number),
+            None => return Err(Stop::Cause(BadCause::Number(which))),
         },
-        KindPlan::Word => Ok(set_word(alloc, spare, text)?),
+        KindPlan::Word => set_word(alloc, value, text)?,
         KindPlan::Label(of) => {
             match label_in(labels_of(enums, of), without_blanks(text.as_bytes())) {
-                Some(label) => Ok(Value::Label(label)),
-                None => Err(Stop::Cause(BadCause::Label(which))),
+                Some(label) => *value = Value::Label(label),
+                None => return Err(Stop::Cause(BadCause::Label(which))),
             }
         }
     }
+    Ok(())
 }
 
-/// The value of the field with the number `which`, whose column holds these bytes. It is made over
-/// the memory of `spare`.
+// The number of a field of numbers, where its bytes say one.
+fn number_of(kind: KindPlan, bytes: &[u8]) -> Option<i64>
+    ensures { IfSome result (λ x. SaysOf kind bytes.now x) }
+{
+    match kind {
+        KindPlan::Num => number_in(without_blanks(bytes)),
+        KindPlan::Word | KindPlan::Label(_) => None,
+    }
+}
+
+// Reads a field, once its bytes are seen to be text.
+fn read_text(
+    alloc: Global,
+    enums: &[EnumPlan],
+    which: u16,
+    field: &FieldPlan,
+    bytes: &[u8],
+    value: &mut Value,
+) -> Result<(), Stop>
+    requires { All IsEnum enums.now }
+    ensures { Leaves result value.new (read_field enums.now which field.now bytes.now) }
+{
+    match str::from_utf8(bytes) {
+        Ok(text) => match default_for(field, bytes) {
+            Some(default) => {
+                set_value(alloc, value, default)?;
+                Ok(())
+            }
+            None => set_said(alloc, enums, which, field.kind, text, value),
+        },
+        Err(_) => Err(Stop::Cause(BadCause::Utf8(which))),
+    }
+}
+
+/// Makes the value that of the field with the number `which`, whose column holds these bytes, over
+/// the memory that it has. Bytes that say a number are ASCII, so they aren't tested for UTF-8.
+/// After an `Err` the value may be any.
 pub fn read_field(
     alloc: Global,
     enums: &[EnumPlan],
     which: u16,
     field: &FieldPlan,
     bytes: &[u8],
-    spare: Value,
-) -> Result<Value, Stop>
+    value: &mut Value,
+) -> Result<(), Stop>
     requires { All IsEnum enums.now }
-    ensures { Gives result (read_field enums.now which field.now bytes.now) }
+    ensures { Leaves result value.new (read_field enums.now which field.now bytes.now) }
 {
-    match str::from_utf8(bytes) {
-        Ok(text) => match default_for(field, bytes) {
-            Some(value) => Ok(set_value(alloc, spare, value)?),
-            None => value_in(alloc, enums, which, field.kind, text, spare),
-        },
-        Err(_) => Err(Stop::Cause(BadCause::Utf8(which))),
+    match number_of(field.kind, bytes) {
+        Some(number) => {
+            value.set_num(number);
+            Ok(())
+        }
+        None => read_text(alloc, enums, which, field, bytes, value),
     }
 }

@@ -1,16 +1,8 @@
-use Rattle.std.proofs.Common.{◌∙◌, sym, ap, Ok}
-use Rattle.sym_table.proofs.FieldFacts.{is_text, is_no_text}
+use Rattle.std.proofs.Common.{rules}
+use Rattle.sym_table.proofs.NumbersAscii.{number_is_read}
 use Rattle.sym_table.proofs.reading.field.read_field.Goals as goal
 
-pub returns-in_ok-set_value-in-Some : goal.returns-in_ok-set_value-in-Some
-returns-in_ok-set_value-in-Some c =
-    is_text c.args.enums.now c.args.which c.args.field.now c.args.bytes.now c.in-Ok.ensures.cases.1
-    ∙ rw (← c.in-Some.ensures) (ap Ok (sym c.in_ok-set_value-in-Some.ensures))
-
-pub returns-in-None : goal.returns-in-None
-returns-in-None c =
-    rw (is_text c.args.enums.now c.args.which c.args.field.now c.args.bytes.now c.in-Ok.ensures.cases.1, ← c.in-None.ensures)
-    (rw c.in-Ok.ensures.cases.0 at c.value_in.ensures)
-
-pub returns-in-Err : goal.returns-in-Err
-returns-in-Err c = is_no_text c.args.enums.now c.args.which c.args.field.now c.args.bytes.now c.in-Err.ensures.cases.0
+pub returns-in-Some : goal.returns-in-Some
+returns-in-Some c =
+    let is = number_is_read c.args.enums.now c.args.which c.args.field.now c.args.bytes.now c.in-Some.number c.in-Some.ensures.is c.in-Some.ensures.says in
+    search (is, rules)

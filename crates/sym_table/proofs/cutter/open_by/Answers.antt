@@ -2,7 +2,7 @@ use Rattle.std.proofs.Common.{ap, arith, ◌≤◌, ◌+◌, length}
 use Rattle.sym_table.specs.FileRows.{csv_rows}
 use Rattle.sym_table.proofs.Marks.{strip_less}
 use Rattle.sym_table.proofs.Openings.{room}
-use Rattle.sym_table.proofs.cutter.Cutter.open.Goals as goal
+use Rattle.sym_table.proofs.cutter.open_by.Goals as goal
 
 pub over-rows-requires : goal.over-rows-requires
 over-rows-requires c =
@@ -22,5 +22,6 @@ invariant_of-result c =
     let reads = rw c.over-rows.ensures.rows at c.in_ok-header.ensures.reads in
     record {
       some = c.requires.some;
+      most = c.requires.most;
       room = room c.as_slice.result.now rows c.read_header.new.reader c.in_ok-header.header c.args.first_no 268435457 9223372036854775808 reads (omega arith) (omega arith);
     }
