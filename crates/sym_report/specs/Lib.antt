@@ -1,0 +1,3 @@
+pub mod ReportRows
+pub mod Tables
+pub mod Appending

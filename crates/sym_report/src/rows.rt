@@ -1,0 +1,98 @@
+//! What a report shows: names, and rows of values or faults.
+ghost use Rattle.std.specs.Prelude.{◌≡◌, IfOk};
+ghost use Rattle.std.specs.List.{list_any};
+ghost use Rattle.sym_report.specs.ReportRows.{is_bad, is_faulty};
+
+use std::alloc::Global;
+use sym_base::{Column, Columns, NoMemory, Text, Texts};
+
+/// The names above a report's rows.
+#[derive(Debug, PartialEq, Eq, Drop)]
+pub struct Heads {
+    /// The name of the group's field; none where all records are of one group.
+    pub keys: Texts,
+    /// The names of the columns, in order of declaration.
+    pub columns: Texts,
+}
+
+/// What a report shows of a group.
+#[derive(Debug, PartialEq, Eq, Drop)]
+pub struct Row {
+    /// The value of the group's field; none where all records are of one group.
+    pub keys: Columns,
+    pub body: RowBody,
+}
+
+/// What a row shows after its keys.
+#[derive(Debug, PartialEq, Eq, Drop)]
+pub enum RowBody {
+    /// The columns of the group's last state, in order of declaration.
+    Columns(Columns),
+    /// A number outside the range of the cell of this name, at the record of this number.
+    Over { cell: Text, no: u64 },
+    /// Arithmetic that failed, at the record of this number.
+    Arith { no: u64 },
+}
+
+impl Heads {
+    /// Equal heads of their own.
+    pub fn copy(&self, alloc: Global) -> Result<Heads, NoMemory>
+        ensures { IfOk result (λ h. h ≡ self.now) }
+    {
+        let keys = self.keys.copy(alloc)?;
+        let columns = self.columns.copy(alloc)?;
+        Ok(Heads { keys, columns })
+    }
+}
+
+impl Row {
+    /// An equal row of its own.
+    pub fn copy(&self, alloc: Global) -> Result<Row, NoMemory>
+        ensures { IfOk result (λ r. r ≡ self.now) }
+    {
+        let keys = self.keys.copy(alloc)?;
+        let body = self.body.copy(alloc)?;
+        Ok(Row { keys, body })
+    }
+}
+
+// Whether a column couldn't be computed.
+fn is_bad(column: &Column) -> bool
+    ensures { result ≡ is_bad column.now }
+{
+    matches!(column, Column::Bad(_))
+}
+
+// Whether some column couldn't be computed.
+fn some_bad(columns: &[Column]) -> bool
+    ensures { result ≡ list_any is_bad columns.now }
+{
+    columns.iter().any(|column| is_bad(column))
+}
+
+impl RowBody {
+    /// An equal body of its own.
+    pub fn copy(&self, alloc: Global) -> Result<RowBody, NoMemory>
+        ensures { IfOk result (λ b. b ≡ self.now) }
+    {
+        match self {
+            RowBody::Columns(columns) => Ok(RowBody::Columns(columns.copy(alloc)?)),
+            RowBody::Over { cell, no } => {
+                let cell = cell.copy(alloc)?;
+                Ok(RowBody::Over { cell, no: *no })
+            }
+            RowBody::Arith { no } => Ok(RowBody::Arith { no: *no }),
+        }
+    }
+
+    /// Whether the row shows a fault, or a column that couldn't be computed.
+    pub fn is_faulty(&self) -> bool
+        ensures { result ≡ is_faulty self.now }
+    {
+        match self {
+            RowBody::Columns(columns) => some_bad(columns.as_slice()),
+            RowBody::Over { .. } => true,
+            RowBody::Arith { .. } => true,
+        }
+    }
+}
