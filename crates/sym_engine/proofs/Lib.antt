@@ -1,0 +1,5 @@
+pub mod RowsAgree
+pub mod FilesAgree
+pub mod Opened
+pub mod Walks
+pub mod FileByFile

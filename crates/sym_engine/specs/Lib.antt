@@ -1,0 +1,4 @@
+pub mod FileRecords
+pub mod FirstProblems
+pub mod Passing
+pub mod Folding

@@ -1,0 +1,17 @@
+//! Laws of the definitions: the relations and the function beside them agree.
+ghost use Rattle.std.specs.Prelude.{◌≡◌, ◌↔◌, ℕ, List, Ok, Err};
+ghost use Rattle.sym_base.specs.declared.values.record.Record.{Record as OneRecord};
+ghost use Rattle.sym_check.specs.ScriptPlans.{ScriptPlan};
+ghost use Rattle.sym_engine.specs.declared.error.PassErr.{PassErr as Problem};
+ghost use Rattle.sym_engine.specs.FirstProblems.{AllFine, FirstProblem, records_in};
+
+/// The records of files, and their first problem, are what the function answers. So any files have
+/// one list of records or one first problem, and never both.
+pub fn files_have_records_or_a_problem()
+    ensures records { (p : ScriptPlan) (max file first : ℕ) (files : List (List ℕ))
+        (records : List OneRecord) →
+        AllFine p max first files records ↔ (records_in p max file first files ≡ Ok records) }
+    ensures problem { (p : ScriptPlan) (max file first : ℕ) (files : List (List ℕ))
+        (why : Problem) →
+        FirstProblem p max file first files why ↔ (records_in p max file first files ≡ Err why) }
+{}
