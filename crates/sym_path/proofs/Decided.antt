@@ -27,7 +27,7 @@ Decides-int_le x y = (λ e. grind (arith, ints), λ h. grind (arith, ints))
 pub point_decided : (span : Span) (x : ℤ) → Decides (has_point span x) (HasPoint span x)
 point_decided span x = Decides-and _ _ (Decides-int_le span.lo x) (Decides-int_le x span.hi)
 
-same_truth_decided : (a b : Bool) → Decides (same_truth a b) (b ≡ a)
+pub same_truth_decided : (a b : Bool) → Decides (same_truth a b) (b ≡ a)
 same_truth_decided true true = (λ e. refl, λ e. refl)
 same_truth_decided true false = (λ e. e, λ e. e)
 same_truth_decided false true = (λ e. cc, λ e. cc)

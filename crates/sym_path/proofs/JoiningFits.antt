@@ -67,7 +67,7 @@ united_span lo hi a b u h x y = (low ((h u.lo).0 (omega (arith, ints), ordered))
     high (inl t) = let p = t.1 in let q = x.1 in omega (arith, ints)
     high (inr t) = let p = t.1 in let q = y.1 in omega (arith, ints)
 
-same_literal : (x y : Literal) → atom_of x ≡ atom_of y → x.outcome ≡ y.outcome → x ≡ y
+pub same_literal : (x y : Literal) → atom_of x ≡ atom_of y → x.outcome ≡ y.outcome → x ≡ y
 same_literal x y e f = λ i. literal_of (e i, f i)
 
 united_literals : (p : ScriptPlan) (kinds : List KindPlan) (a b u : FactMap) → AreUnitedFacts a b u → All (Suits p kinds) (literals a) → All (Suits p kinds) (literals u)

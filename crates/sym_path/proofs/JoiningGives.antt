@@ -34,7 +34,7 @@ use Rattle.sym_path.proofs.Lists.{zip_get}
 cases_z : (x y : ℤ) → (x ≡ y) ⊎ (x ≢ y)
 cases_z x y = by_lt_z x y (λ p. inr (λ e. omega (arith, ints))) (λ p. by_lt_z y x (λ q. inr (λ e. omega (arith, ints))) (λ q. inl (omega (arith, ints))))
 
-constant_is : (y : ℤ) (g : IntForm) (s : State) → IsConstant y g → form_value g s ≡ y
+pub constant_is : (y : ℤ) (g : IntForm) (s : State) → IsConstant y g → form_value g s ≡ y
 constant_is y (number.Const n) s h = h
 constant_is y (number.Line m) s h = absurd h
 

@@ -1,7 +1,17 @@
+pub mod AddedLiterals
 mod Admits
+pub mod Changed
+pub mod Checks
 pub mod Decided
 mod Examples
 pub mod Fitted
+pub mod Followed
+pub mod FollowedStates
+pub mod FollowingFits
+pub mod FollowingForms
+pub mod FollowingSteps
+pub mod FollowingTaken
+pub mod FollowingWhole
 pub mod Given
 pub mod JoiningConstraints
 pub mod JoiningEqual
@@ -12,9 +22,11 @@ pub mod JoiningTaken
 pub mod JoiningUnited
 pub mod Lists
 pub mod Narrowed
+pub mod NarrowedEnds
 pub mod NarrowedFits
 pub mod OnlyOutcomes
-pub mod Pulled
 pub mod Possibly
+pub mod Pulled
 pub mod SettlingLists
 pub mod SettlingStands
+pub mod WholePaths

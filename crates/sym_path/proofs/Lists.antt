@@ -1,5 +1,5 @@
 -- Lists from an index on, and lists item by item.
-use Rattle.std.proofs.Common.{get_or, ◌≡◌, ◌≢◌, ◌<◌, ◌+◌, ℕ, zero, suc, Bool, true, false, List, [], ◌∷◌, ◌++◌, Some, None, ◌⊎◌, inl, inr, map, length, take, drop, refl, sym, ap, ◌∙◌, subst, arith, add-one}
+use Rattle.std.proofs.Common.{get_or, ◌≡◌, ◌≢◌, ◌<◌, ◌≤◌, ◌+◌, ℕ, zero, suc, Bool, true, false, List, [], ◌∷◌, ◌++◌, Some, None, ◌⊎◌, inl, inr, map, length, take, drop, refl, sym, ap, ◌∙◌, subst, arith, add-one}
 use Rattle.std.proofs.lemmas.Bool.{cases_lt}
 use Rattle.std.proofs.lemmas.Option.{slice_get-get_or, get_or_from_slice_get, slice_get_within}
 use Rattle.std.specs.Prelude.{slice_get, slice_set}
@@ -158,3 +158,35 @@ below_next {A} {B} R xs ys i x y ex ey r h d a b lt ea eb = elim (cases_lt d i) 
       let Q : B → Type 0 = λ v. R a v in
       subst Q py (subst P px r)
 ]
+
+-- What stands in a list with one item more at its end.
+pub push_cases : {A : Type 0} (xs : List A) (x : A) (i : ℕ) (y : A) → slice_get (xs ++ x ∷ []) i ≡ Some y → ((i < length xs) × (slice_get xs i ≡ Some y)) ⊎ ((i ≡ length xs) × (y ≡ x))
+push_cases [] x zero y e = inr (refl, cc)
+push_cases [] x (suc i) y e = absurd (let n : None ≡ Some y = e in cc)
+push_cases (z ∷ xs) x zero y e = inl (omega arith, e)
+push_cases (z ∷ xs) x (suc i) y e = elim (push_cases xs x i y e) [ inl h ↦ inl (let l = h.0 in omega arith, h.1) | inr h ↦ inr (ap suc h.0, h.1) ]
+
+pub take_and_drop : {A : Type 0} (n : ℕ) (xs : List A) → take n xs ++ drop n xs ≡ xs
+take_and_drop zero xs = refl
+take_and_drop (suc n) [] = refl
+take_and_drop (suc n) (x ∷ xs) = ap (λ ys. x ∷ ys) (take_and_drop n xs)
+
+pub map_both : {A B : Type 0} (f : A → B) (xs ys : List A) → map f (xs ++ ys) ≡ map f xs ++ map f ys
+map_both f [] ys = refl
+map_both f (x ∷ xs) ys = ap (λ zs. f x ∷ zs) (map_both f xs ys)
+
+pub zip_both : {A B : Type 0} (R : A → B → Type 0) (xs : List A) (ys : List B) (x : A) (y : B) → R x y → AllZip R xs ys → AllZip R (xs ++ x ∷ []) (ys ++ y ∷ [])
+zip_both R [] [] x y r h = (r, tt)
+zip_both R [] (b ∷ ys) x y r h = absurd h
+zip_both R (a ∷ xs) [] x y r h = absurd h
+zip_both R (a ∷ xs) (b ∷ ys) x y r h = (h.0, zip_both R xs ys x y r h.1)
+
+-- One pair more.
+pub zip_push : {A B : Type 0} (R : A → B → Type 0) (xs : List A) (ys zs : List B) (i : ℕ) (x : A) (y : B) → slice_get xs i ≡ Some x → zs ≡ ys ++ y ∷ [] → R x y → AllZip R (take i xs) ys → AllZip R (take (i + 1) xs) zs
+zip_push R xs ys zs i x y e same r h = rw (take_get xs i x e, same) (zip_both R (take i xs) ys x y r h)
+
+pub take_past : {A : Type 0} (xs : List A) (i : ℕ) → length xs ≤ i → take i xs ≡ xs
+take_past [] zero h = refl
+take_past [] (suc i) h = refl
+take_past (x ∷ xs) zero h = absurd (omega arith)
+take_past (x ∷ xs) (suc i) h = ap (λ ys. x ∷ ys) (take_past xs i (omega arith))

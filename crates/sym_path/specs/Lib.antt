@@ -1,6 +1,10 @@
 pub mod Admitting
+pub mod Changing
+pub mod Checking
 pub mod Fitting
+pub mod Following
 pub mod Giving
+pub mod Identity
 pub mod Joining
 pub mod Joins
 pub mod Narrowing

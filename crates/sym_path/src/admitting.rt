@@ -1,6 +1,7 @@
 //! Whether a path is for a state.
 ghost use Rattle.std.specs.Prelude.{◌≡◌, ◌↔◌, IsTrue};
 ghost use Rattle.std.specs.List.{list_all};
+ghost use Rattle.sym_check.specs.CheckedScripts.{checked_plan};
 ghost use Rattle.sym_check.specs.Conditions.{has_fixed_body, test_truth};
 ghost use Rattle.sym_check.specs.ScriptPlans.{script_plan};
 ghost use Rattle.sym_check.specs.WellFormed.{IsWellFormed};
@@ -11,7 +12,7 @@ use crate::part::Part;
 use crate::path::Path;
 use sym_base::{Cell, State, Values};
 use sym_check::laws::plans::well_formed_tests_are_fixed;
-use sym_check::{Plan, answer_at};
+use sym_check::{Checked, Plan, answer_at};
 use sym_pred::{Facts, Literal};
 
 /// Whether the parts of a hold cell give the literal's outcome.
@@ -83,7 +84,17 @@ fn admit_all(plan: &Plan, when: &[Part], cells: &[Cell]) -> bool
 impl Path {
     /// Whether the path is for the state: each enum cell is in its set, each integer cell in its
     /// span, and each hold cell gives each literal's outcome. It takes no memory.
-    pub fn admits(&self, plan: &Plan, state: &State) -> bool
+    pub fn admits(&self, checked: &Checked, state: &State) -> bool
+        ensures exact { IsTrue result ↔
+            Admits (test_truth (checked_plan checked.now).tests) self.now.when state.now }
+        ensures computed { result ≡ admits (test_truth (checked_plan checked.now).tests)
+            self.now.when state.now.cells }
+    {
+        self.admits_by(checked.plan(), state)
+    }
+
+    /// The same by a plan alone.
+    pub(crate) fn admits_by(&self, plan: &Plan, state: &State) -> bool
         requires { IsWellFormed (script_plan plan.now) }
         ensures exact { IsTrue result ↔
             Admits (test_truth (script_plan plan.now).tests) self.now.when state.now }

@@ -1,6 +1,7 @@
 //! What a path makes of a state that it admits.
 ghost use Rattle.std.specs.Prelude.{◌≡◌, ℤ, All, IfOk, length};
 ghost use Rattle.sym_base.specs.declared.values.state.State.{State as OneState};
+ghost use Rattle.sym_check.specs.CheckedScripts.{checked_plan};
 ghost use Rattle.sym_check.specs.Conditions.{test_truth};
 ghost use Rattle.sym_check.specs.ScriptPlans.{script_plan};
 ghost use Rattle.sym_base.specs.States.{nums_in, words_in};
@@ -16,7 +17,7 @@ use crate::form::Form;
 use crate::path::{Path, PathEnd};
 use std::alloc::Global;
 use sym_base::{Cell, Cells, NoMemory, Nums, Outcome, Sequence, State, Text, Words};
-use sym_check::Plan;
+use sym_check::{Checked, Plan};
 use sym_int::IntForm;
 use sym_vector::ListForm;
 
@@ -93,7 +94,24 @@ fn cells_of(alloc: Global, forms: &[Form], state: &State) -> Result<Cells, NoMem
 impl Path {
     /// What the path makes of a valid state that it admits: the group goes on with its forms'
     /// values there, or ends by its fault.
-    pub fn gives(&self, alloc: Global, _plan: &Plan, state: &State) -> Result<Outcome, NoMemory>
+    pub fn gives(
+        &self,
+        alloc: Global,
+        checked: &Checked,
+        state: &State,
+    ) -> Result<Outcome, NoMemory>
+        requires fits { PathFits (checked_plan checked.now) self.now }
+        requires valid { IsValid (checked_plan checked.now) state.now }
+        requires admitted { Admits (test_truth (checked_plan checked.now).tests)
+            self.now.when state.now }
+        ensures value { IfOk result (λ o. o ≡ end_at self.now.end state.now) }
+        ensures valid { IfOk result (IsValidOutcome (checked_plan checked.now)) }
+    {
+        self.gives_by(alloc, checked.plan(), state)
+    }
+
+    /// The same by a plan alone.
+    fn gives_by(&self, alloc: Global, _plan: &Plan, state: &State) -> Result<Outcome, NoMemory>
         requires known { IsWellFormed (script_plan _plan.now) }
         requires fits { PathFits (script_plan _plan.now) self.now }
         requires valid { IsValid (script_plan _plan.now) state.now }

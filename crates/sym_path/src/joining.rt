@@ -144,7 +144,7 @@ fn is_taken(when: &Constraint, form: &Form, other: &Form) -> bool
 }
 
 /// Whether the second forms are the first ones on the constraint.
-fn are_taken(when: &Constraint, forms: &[Form], others: &[Form]) -> bool
+pub(crate) fn are_taken(when: &Constraint, forms: &[Form], others: &[Form]) -> bool
     ensures { IsTrue result ↔ AreTakenTo when.now forms.now others.now }
 {
     if forms.len() != others.len() {
@@ -199,7 +199,7 @@ fn parts_unite(first: &Part, second: &Part) -> bool
     }
 }
 
-fn same_part(first: &Part, second: &Part) -> bool
+pub(crate) fn same_part(first: &Part, second: &Part) -> bool
     ensures { IsTrue result ↔ (first.now ≡ second.now) }
 {
     first == second

@@ -12,6 +12,7 @@ ghost use Rattle.sym_path.specs.Fitting.{SegmentFits};
 ghost use Rattle.sym_path.specs.Giving.{IsOnlyOutcome, outcomes};
 ghost use Rattle.sym_path.specs.Standing.{EndsAmong, StandsFor, GivesExactly};
 
+pub mod changing;
 pub mod settling;
 
 /// The test that computes says whether a constraint admits a state.

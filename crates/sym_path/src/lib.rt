@@ -3,8 +3,12 @@
 #![tactic(auto)]
 
 mod admitting;
+mod changing;
+mod fitting;
+mod following;
 mod form;
 mod giving;
+mod identity;
 mod joining;
 pub mod laws;
 mod narrowing;
@@ -14,7 +18,9 @@ mod possible_pairs;
 mod pulling;
 mod segment;
 mod settling;
+mod suiting;
 
+pub use following::follow;
 pub use form::{Form, Forms};
 pub use joining::{join_paths, joinable};
 pub use part::{Constraint, Part};
@@ -22,8 +28,3 @@ pub use path::{Path, PathEnd};
 pub use possible_pairs::possible;
 pub use segment::Segment;
 pub use settling::settle;
-
-#[cfg(test)]
-mod joining_tests;
-#[cfg(test)]
-mod tests;

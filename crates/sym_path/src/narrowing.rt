@@ -4,8 +4,11 @@ ghost use Rattle.std.specs.List.{AllZip};
 ghost use Rattle.sym_path.specs.Narrowing.{with_label, end_with_label, CanPutNumber, CanPutAtEnd, NumberIsPut, NumberIsPutAtEnd, LabelsNarrowed, NumbersNarrowed, GivesWhere, NarrowsLabels, NarrowsNumbers, NarrowsFacts, PartFitsCell};
 ghost use Rattle.sym_check.specs.ScriptPlans.{script_plan};
 ghost use Rattle.sym_check.specs.WellFormed.{IsWellFormed};
+ghost use Rattle.sym_path.specs.Changing.{GoesOn};
 ghost use Rattle.sym_path.specs.Fitting.{PathFits};
 ghost use Rattle.sym_path.specs.declared.part.Part.TheVariants as part;
+ghost use Rattle.sym_path.specs.declared.path.PathEnd.TheVariants.{Ended};
+ghost use Rattle.sym_base.specs.declared.values.state.Fault.{Fault as OneFault};
 
 use crate::form::{Form, Forms};
 use crate::part::Part;
@@ -63,7 +66,7 @@ fn put_numbers(forms: &mut [Form], cell: u16, value: i64)
     }
 }
 
-fn labels_put(forms: Forms, cell: u16, label: u8) -> Forms
+pub(crate) fn labels_put(forms: Forms, cell: u16, label: u8) -> Forms
     ensures { result ≡ map (with_label cell label) forms }
 {
     let mut items = forms.into_vec();
@@ -71,7 +74,7 @@ fn labels_put(forms: Forms, cell: u16, label: u8) -> Forms
     Sequence::of(items)
 }
 
-fn numbers_put(forms: Forms, cell: u16, value: i64) -> Forms
+pub(crate) fn numbers_put(forms: Forms, cell: u16, value: i64) -> Forms
     requires { All (CanPutNumber cell value) forms }
     ensures { AllZip (NumberIsPut cell value) forms result }
 {
@@ -145,6 +148,9 @@ impl Path {
         requires narrower { NarrowsLabels set (slice_get self.old.when cell) }
         ensures fits { PathFits (script_plan _plan.now) self.new }
         ensures gives { GivesWhere self.old cell (part.Set set) self.new }
+        ensures next { GoesOn self.old.end → GoesOn self.new.end }
+        ensures ended { (fault : OneFault) →
+            self.old.end ≡ Ended fault → self.new.end ≡ Ended fault }
         ensures when { self.new.when ≡ slice_set self.old.when cell (part.Set set) }
     {
         self.set_labels(cell, set);
@@ -159,6 +165,9 @@ impl Path {
         requires narrower { NarrowsNumbers span.now (slice_get self.old.when cell) }
         ensures fits { PathFits (script_plan _plan.now) self.new }
         ensures gives { GivesWhere self.old cell (part.Span span.now) self.new }
+        ensures next { GoesOn self.old.end → GoesOn self.new.end }
+        ensures ended { (fault : OneFault) →
+            self.old.end ≡ Ended fault → self.new.end ≡ Ended fault }
         ensures when { self.new.when ≡ slice_set self.old.when cell (part.Span span.now) }
     {
         self.set_numbers(cell, span);

@@ -1,6 +1,7 @@
 //! Whether one path can come after another.
 ghost use Rattle.std.specs.Prelude.{◌≡◌, ◌<◌, ◌≤◌, ◌+◌, ◌^◌, ◌↔◌, IsTrue, length};
 ghost use Rattle.std.specs.List.{list_all};
+ghost use Rattle.sym_check.specs.CheckedScripts.{checked_plan};
 ghost use Rattle.sym_check.specs.Conditions.{has_fixed_body, test_truth};
 ghost use Rattle.sym_check.specs.ScriptPlans.{script_plan};
 ghost use Rattle.sym_check.specs.WellFormed.{IsWellFormed};
@@ -11,8 +12,8 @@ use crate::form::Form;
 use crate::part::Part;
 use crate::path::{Path, PathEnd};
 use crate::pulling::{all_agree, constants_meet, labels_left, needs_agree, numbers_left};
-use sym_check::Plan;
 use sym_check::laws::plans::well_formed_tests_are_fixed;
+use sym_check::{Checked, Plan};
 
 /// Whether something is left of a cell.
 fn is_left(cell: u16, part: &Part, forms: &[Form], needs: &[Part]) -> bool
@@ -58,7 +59,17 @@ fn can_follow(plan: &Plan, when: &[Part], forms: &[Form], needs: &[Part]) -> boo
 /// what the second one's says of the values that the first one gives, has no empty set, no empty
 /// span and no literal against itself, and constants are as they are needed. After a fault no path
 /// comes. It takes no memory.
-pub fn possible(plan: &Plan, p: &Path, q: &Path) -> bool
+pub fn possible(checked: &Checked, p: &Path, q: &Path) -> bool
+    requires first { PathFits (checked_plan checked.now) p.now }
+    requires second { PathFits (checked_plan checked.now) q.now }
+    ensures { IsTrue result ↔
+        IsPossiblePair (test_truth (checked_plan checked.now).tests) p.now q.now }
+{
+    possible_by(checked.plan(), p, q)
+}
+
+/// The same by a plan alone.
+pub(crate) fn possible_by(plan: &Plan, p: &Path, q: &Path) -> bool
     requires known { IsWellFormed (script_plan plan.now) }
     requires first { PathFits (script_plan plan.now) p.now }
     requires second { PathFits (script_plan plan.now) q.now }

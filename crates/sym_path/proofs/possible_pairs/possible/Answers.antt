@@ -1,20 +1,16 @@
-use Rattle.std.proofs.Common.{◌≡◌, ◌∙◌, sym, ap, subst, length, arith}
-use Rattle.sym_check.specs.ScriptPlans.{ScriptPlan, script_plan}
-use Rattle.sym_path.specs.Fitting.{EndFits, FormFits, FormsFit, PartFits}
-use Rattle.sym_path.specs.declared.path.PathEnd.{PathEnd}
-use Rattle.sym_path.proofs.Lists.{zip_length}
+use Rattle.std.proofs.Common.{◌≡◌, ◌↔◌, sym, subst}
+use Rattle.std.specs.Prelude.{IsTrue}
+use Rattle.sym_check.specs.Conditions.{test_truth}
+use Rattle.sym_check.specs.ScriptPlans.{ScriptPlan}
+use Rattle.sym_path.specs.Fitting.{PathFits}
+use Rattle.sym_path.specs.Possible.{IsPossiblePair}
 use Rattle.sym_path.proofs.possible_pairs.possible.Goals as goal
 
-pub can_follow-requires-clause-lengths : goal.can_follow-requires-clause-lengths
-can_follow-requires-clause-lengths c =
-    let p : ScriptPlan = script_plan c.args.plan.now in
-    let fits : FormsFit p c.args.p.now.when c.in-Next.forms = subst (λ (e : PathEnd). EndFits p c.args.p.now.when e) c.in-Next.is c.requires.first.end in
-    ap length c.as_slice-in-Next.ensures ∙ sym (zip_length (FormFits p c.args.p.now.when) p.cells c.in-Next.forms fits.each) ∙ zip_length (PartFits p) p.cells c.args.q.now.when c.requires.second.parts ∙ sym (ap length c.as_slice-in-Next-2.ensures)
+pub possible_by-requires-clause-first : goal.possible_by-requires-clause-first
+possible_by-requires-clause-first c = subst (λ (s : ScriptPlan). PathFits s c.args.p.now) (sym c.plan.ensures.same) c.requires.first
 
-pub can_follow-requires-clause-few : goal.can_follow-requires-clause-few
-can_follow-requires-clause-few c =
-    let p : ScriptPlan = script_plan c.args.plan.now in
-    let count = zip_length (PartFits p) p.cells c.args.p.now.when c.requires.first.parts in
-    let few = c.requires.known.cell_count in
-    let here : length c.as_slice.result.now ≡ length c.args.p.now.when = ap length c.as_slice.ensures in
-    omega (arith, here, count, few)
+pub possible_by-requires-clause-second : goal.possible_by-requires-clause-second
+possible_by-requires-clause-second c = subst (λ (s : ScriptPlan). PathFits s c.args.q.now) (sym c.plan.ensures.same) c.requires.second
+
+pub returns : goal.returns
+returns c = subst (λ (s : ScriptPlan). IsTrue c.possible_by.result ↔ IsPossiblePair (test_truth s.tests) c.args.p.now c.args.q.now) c.plan.ensures.same c.possible_by.ensures

@@ -1,36 +1,20 @@
-use Rattle.std.proofs.Common.{◌≡◌, ◌∙◌, sym, ap, subst, length, List}
-use Rattle.std.specs.List.{All}
-use Rattle.sym_base.specs.declared.values.state.Cell.{Cell}
+use Rattle.std.proofs.Common.{◌≡◌, sym, subst}
+use Rattle.std.specs.Prelude.{IfOk}
 use Rattle.sym_check.specs.Conditions.{test_truth}
-use Rattle.sym_check.specs.ScriptPlans.{ScriptPlan, script_plan}
-use Rattle.sym_check.specs.Validity.{IsValid, IsValidCell}
-use Rattle.sym_path.specs.Fitting.{EndFits, FormFits, FormsFit}
-use Rattle.sym_path.specs.Giving.{HasNumbers, cells_at}
-use Rattle.sym_path.specs.declared.form.Form.{Form}
-use Rattle.sym_path.specs.declared.path.PathEnd.{PathEnd}
-use Rattle.sym_path.proofs.Fitted.{forms_have_numbers, state_valid}
-use Rattle.sym_path.proofs.Lists.{zip_length}
+use Rattle.sym_check.specs.ScriptPlans.{ScriptPlan}
+use Rattle.sym_check.specs.Validity.{IsValid, IsValidOutcome}
+use Rattle.sym_path.specs.Admitting.{Admits}
+use Rattle.sym_path.specs.Fitting.{PathFits}
 use Rattle.sym_path.proofs.path.Path.gives.Goals as goal
 
-pub cells_of-requires-clause-numbers : goal.cells_of-requires-clause-numbers
-cells_of-requires-clause-numbers c =
-    let p : ScriptPlan = script_plan c.args._plan.now in
-    let s = c.args.state.now in
-    let fits : FormsFit p c.args.self.now.when c.in-Next.forms = subst (λ (e : PathEnd). EndFits p c.args.self.now.when e) c.in-Next.is c.requires.fits.end in
-    subst (λ (fs : List Form). All (HasNumbers s) fs) (sym c.as_slice.ensures)
-    (forms_have_numbers (test_truth p.tests) p c.args.self.now.when c.in-Next.forms s c.requires.known fits c.requires.admitted)
+pub gives_by-requires-clause-fits : goal.gives_by-requires-clause-fits
+gives_by-requires-clause-fits c = subst (λ (p : ScriptPlan). PathFits p c.args.self.now) (sym c.plan.ensures.same) c.requires.fits
 
-pub cells_of-requires-clause-lengths : goal.cells_of-requires-clause-lengths
-cells_of-requires-clause-lengths c =
-    let p : ScriptPlan = script_plan c.args._plan.now in
-    let fits : FormsFit p c.args.self.now.when c.in-Next.forms = subst (λ (e : PathEnd). EndFits p c.args.self.now.when e) c.in-Next.is c.requires.fits.end in
-    ap length c.as_slice.ensures ∙ sym (zip_length (FormFits p c.args.self.now.when) p.cells c.in-Next.forms fits.each) ∙ zip_length (IsValidCell p.enums) p.cells c.args.state.now.cells c.requires.valid
+pub gives_by-requires-clause-valid : goal.gives_by-requires-clause-valid
+gives_by-requires-clause-valid c = subst (λ (p : ScriptPlan). IsValid p c.args.state.now) (sym c.plan.ensures.same) c.requires.valid
 
-pub returns-in_ok-cells-in-Next-clause-valid : goal.returns-in_ok-cells-in-Next-clause-valid
-returns-in_ok-cells-in-Next-clause-valid c =
-    let p : ScriptPlan = script_plan c.args._plan.now in
-    let s = c.args.state.now in
-    let fits : FormsFit p c.args.self.now.when c.in-Next.forms = subst (λ (e : PathEnd). EndFits p c.args.self.now.when e) c.in-Next.is c.requires.fits.end in
-    let cells : c.in_ok-cells-in-Next.cells ≡ cells_at c.in-Next.forms s s.cells = c.in_ok-cells-in-Next.ensures ∙ ap (λ (fs : List Form). cells_at fs s s.cells) c.as_slice.ensures in
-    subst (λ (cs : List Cell). IsValid p (record { cells = cs })) (sym cells)
-    (state_valid (test_truth p.tests) p c.args.self.now.when c.in-Next.forms s fits c.requires.admitted c.requires.valid)
+pub gives_by-requires-clause-admitted : goal.gives_by-requires-clause-admitted
+gives_by-requires-clause-admitted c = subst (λ (p : ScriptPlan). Admits (test_truth p.tests) c.args.self.now.when c.args.state.now) (sym c.plan.ensures.same) c.requires.admitted
+
+pub returns-clause-valid : goal.returns-clause-valid
+returns-clause-valid c = subst (λ (p : ScriptPlan). IfOk c.gives_by.result (IsValidOutcome p)) c.plan.ensures.same c.gives_by.ensures.valid

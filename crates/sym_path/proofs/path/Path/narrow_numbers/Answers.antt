@@ -1,5 +1,6 @@
 use Rattle.sym_check.specs.ScriptPlans.{script_plan}
 use Rattle.sym_path.proofs.Narrowed.{numbers_give}
+use Rattle.sym_path.proofs.NarrowedEnds.{numbers_end}
 use Rattle.sym_path.proofs.NarrowedFits.{numbers_fit, numbers_can_put}
 use Rattle.sym_path.proofs.path.Path.narrow_numbers.Goals as goal
 
@@ -11,3 +12,6 @@ returns-clause-fits c = numbers_fit (script_plan c.args._plan.now) c.args.cell c
 
 pub returns-clause-gives : goal.returns-clause-gives
 returns-clause-gives c = numbers_give c.args.cell c.args.span.now c.args.self.now c.set_numbers.new.self c.requires.narrower c.set_numbers.ensures
+
+pub returns-clause-ended : goal.returns-clause-ended
+returns-clause-ended c = λ fault. numbers_end c.args.cell c.args.span.now c.args.self.now c.set_numbers.new.self fault c.set_numbers.ensures

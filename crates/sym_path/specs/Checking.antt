@@ -1,0 +1,53 @@
+-- What fits a script, case by case.
+use Rattle.std.specs.Prelude.{◌≡◌, ℕ, ◌<◌, ◌++◌, List}
+use Rattle.std.specs.List.{All}
+use Rattle.sym_base.specs.declared.values.value.Value.{Value}
+use Rattle.sym_check.specs.declared.plan.script.EnumPlan.{EnumPlan}
+use Rattle.sym_check.specs.declared.plan.script.KindPlan.{KindPlan}
+use Rattle.sym_check.specs.declared.plan.script.CellPlan.{CellPlan}
+use Rattle.sym_check.specs.declared.plan.script.CellPlan.TheVariants as plan
+use Rattle.sym_check.specs.CellKinds.{IsHoldCell, IsEnumCell}
+use Rattle.sym_check.specs.ScriptPlans.{ScriptPlan}
+use Rattle.sym_check.specs.Validity.{label_count, AreOfKinds}
+use Rattle.sym_enum.specs.declared.form.EnumForm.{EnumForm}
+use Rattle.sym_enum.specs.declared.form.EnumForm.TheVariants as label
+use Rattle.sym_pred.specs.Literals.{literals}
+use Rattle.sym_pred.specs.declared.form.HoldForm.{HoldForm}
+use Rattle.sym_pred.specs.declared.form.HoldForm.TheVariants as hold
+use Rattle.sym_path.specs.declared.part.Part.{Part}
+use Rattle.sym_path.specs.declared.part.Part.TheVariants as part
+use Rattle.sym_path.specs.declared.form.Form.{Form}
+use Rattle.sym_path.specs.declared.form.Form.TheVariants as form
+use Rattle.sym_path.specs.Fitting.{FitsEnum, FitsRange, Suits, NumberFits}
+
+-- The first parameters are of these kinds, and the others of the values' kinds.
+pub record AreParameters (enums : List EnumPlan) (kinds params : List KindPlan) (values : List Value) : Type 0 where
+  pub others : List KindPlan
+  pub is : params ≡ kinds ++ others
+  pub args : AreOfKinds enums others values
+
+-- What `PartFits` says of a cell and its part.
+abbrev pub FitsPart : ScriptPlan → CellPlan → Part → Type 0
+FitsPart p (plan.Enum of first) (part.Set set) = FitsEnum (label_count p.enums of) set
+FitsPart p (plan.Int lo hi first) (part.Span span) = FitsRange lo hi span
+FitsPart p (plan.Hold kinds first) (part.Facts known) = All (Suits p kinds) (literals known)
+FitsPart p (plan.Nums lo hi) part.Free = Unit {0}
+FitsPart p plan.Words part.Free = Unit {0}
+FitsPart p cell other = ⊥
+
+abbrev pub FitsLabelForm : ScriptPlan → ℕ → EnumForm → Type 0
+FitsLabelForm p of (label.Const l) = l < label_count p.enums of
+FitsLabelForm p of (label.Copy c) = IsEnumCell p.cells c of
+
+abbrev pub FitsHoldForm : ScriptPlan → List KindPlan → HoldForm → Type 0
+FitsHoldForm p kinds (hold.Const parts) = AreOfKinds p.enums kinds parts
+FitsHoldForm p kinds (hold.Copy c) = IsHoldCell p.cells c kinds
+
+-- What `FormFits` says of a cell and its form.
+abbrev pub FitsForm : ScriptPlan → List Part → CellPlan → Form → Type 0
+FitsForm p when (plan.Enum of first) (form.Enum f) = FitsLabelForm p of f
+FitsForm p when (plan.Int lo hi first) (form.Int f) = NumberFits lo hi when f
+FitsForm p when (plan.Hold kinds first) (form.Hold f) = FitsHoldForm p kinds f
+FitsForm p when (plan.Nums lo hi) (form.Nums added) = All (NumberFits lo hi when) added
+FitsForm p when plan.Words (form.Words added) = Unit {0}
+FitsForm p when cell other = ⊥

@@ -1,0 +1,225 @@
+-- What is left of a path's constraint where another path has to come after it, and what the two are
+-- together.
+use Rattle.std.specs.Prelude.{◌≡◌, ◌≢◌, ℕ, ℤ, ◌<◌, ◌<ℤ◌, ◌↔◌, ◌⊎◌, Bool, IsTrue, List, Option, Some, None, length, map, take, drop, slice_get}
+use Rattle.std.specs.List.{All, AllZip}
+use Rattle.sym_base.specs.declared.values.state.Fault.{Fault}
+use Rattle.sym_base.specs.declared.values.state.State.{State}
+use Rattle.sym_base.specs.declared.values.state.Outcome.{Outcome}
+use Rattle.sym_base.specs.declared.values.state.Outcome.TheVariants.{Going}
+use Rattle.sym_base.specs.declared.values.state.Outcome.TheVariants as outcome
+use Rattle.sym_base.specs.Tests.{Truth}
+use Rattle.sym_check.specs.Conditions.{test_truth}
+use Rattle.sym_check.specs.ScriptPlans.{ScriptPlan}
+use Rattle.sym_enum.specs.Labels.{has_label, IsOnlyLabel}
+use Rattle.sym_enum.specs.declared.form.EnumForm.TheVariants as label
+use Rattle.sym_int.specs.Elements.{CanGoThrough, GoesThroughTo}
+use Rattle.sym_int.specs.Points.{HasPoint}
+use Rattle.sym_int.specs.declared.element.IntForms.{IntForms}
+use Rattle.sym_int.specs.declared.form.IntForm.{IntForm}
+use Rattle.sym_int.specs.declared.span.Span.{Span}
+use Rattle.sym_pred.specs.Facts.{Atom, FactMap}
+use Rattle.sym_pred.specs.Meaning.{Stands}
+use Rattle.sym_pred.specs.declared.form.HoldForm.{HoldForm}
+use Rattle.sym_pred.specs.declared.form.HoldForm.TheVariants as hold
+use Rattle.sym_path.specs.declared.part.Part.{Part}
+use Rattle.sym_path.specs.declared.part.Part.TheVariants as part
+use Rattle.sym_path.specs.declared.form.Form.{Form}
+use Rattle.sym_path.specs.declared.form.Form.TheVariants as form
+use Rattle.sym_path.specs.declared.path.PathEnd.{PathEnd}
+use Rattle.sym_path.specs.declared.path.PathEnd.TheVariants.{Next, Ended}
+use Rattle.sym_path.specs.declared.path.Path.{Path}
+use Rattle.sym_path.specs.Admitting.{Admits}
+use Rattle.sym_path.specs.Fitting.{EndFits, PathFits}
+use Rattle.sym_path.specs.Giving.{end_at, state_at}
+use Rattle.sym_path.specs.Narrowing.{with_label, CanPutNumber, NumberIsPut}
+use Rattle.sym_path.specs.Possible.{LabelMeets, NumberMeets, IsSaid}
+use Rattle.sym_path.specs.Taking.{IsIntForm}
+
+-- What is left of a cell: the labels, or the numbers, of its part that are as they are needed, or
+-- all literals that are known of it or needed of its copies.
+abbrev pub PartLeft : List Form → List Part → ℕ → Part → Part → Type 0
+PartLeft forms needs c (part.Set old) (part.Set new) = ((l : ℕ) × IsTrue (has_label new l)) × ((l : ℕ) → IsTrue (has_label new l) ↔ (IsTrue (has_label old l) × LabelMeets forms needs c l))
+PartLeft forms needs c (part.Span old) (part.Span new) = (x : ℤ) → HasPoint new x ↔ (HasPoint old x × NumberMeets forms needs c x)
+PartLeft forms needs c (part.Facts old) (part.Facts new) = (atom : Atom) (outcome : Bool) → Stands new atom outcome ↔ IsSaid old forms needs c atom outcome
+PartLeft forms needs c part.Free part.Free = Unit {0}
+PartLeft forms needs c old new = ⊥
+
+-- The literal with this atom and outcome is among the facts that are needed.
+abbrev pub StandsIn : Part → Atom → Bool → Type 0
+StandsIn (part.Set need) atom outcome = ⊥
+StandsIn (part.Span need) atom outcome = ⊥
+StandsIn (part.Facts need) atom outcome = Stands need atom outcome
+StandsIn part.Free atom outcome = ⊥
+
+-- The same, where a hold form copies the cell c.
+abbrev pub CopyNeeds : ℕ → Part → Atom → Bool → HoldForm → Type 0
+CopyNeeds c need atom outcome (hold.Const parts) = ⊥
+CopyNeeds c need atom outcome (hold.Copy d) = (d ≡ c) × StandsIn need atom outcome
+
+-- The form copies the hold cell c, and the literal is needed of it.
+abbrev pub NeedsHere : ℕ → Form → Part → Atom → Bool → Type 0
+NeedsHere c (form.Enum f) need atom outcome = ⊥
+NeedsHere c (form.Int f) need atom outcome = ⊥
+NeedsHere c (form.Hold f) need atom outcome = CopyNeeds c need atom outcome f
+NeedsHere c (form.Nums added) need atom outcome = ⊥
+NeedsHere c (form.Words added) need atom outcome = ⊥
+
+-- It is needed of one of the first forms.
+pub record NeededBelow (forms : List Form) (needs : List Part) (c n : ℕ) (atom : Atom) (outcome : Bool) : Type 0 where
+  pub at : ℕ
+  pub form : Form
+  pub need : Part
+  pub below : at < n
+  pub has : slice_get forms at ≡ Some form
+  pub needed : slice_get needs at ≡ Some need
+  pub here : NeedsHere c form need atom outcome
+
+-- What is left of all cells.
+pub record AreLeft (forms : List Form) (needs when lefts : List Part) : Type 0 where
+  pub lengths : length lefts ≡ length when
+  pub each : (c : ℕ) (old new : Part) → slice_get when c ≡ Some old → slice_get lefts c ≡ Some new → PartLeft forms needs c old new
+
+-- Where one label or one number is left of the cell, it is put in the cell's place in the forms.
+abbrev pub LeftIsPut : ℕ → Part → List Form → List Form → Type 0
+LeftIsPut c (part.Set set) fs gs =
+    ((l : ℕ) × IsOnlyLabel set l × (gs ≡ map (with_label c l) fs))
+    ⊎ (((l : ℕ) → IsOnlyLabel set l → ⊥) × (gs ≡ fs))
+LeftIsPut c (part.Span span) fs gs =
+    ((span.lo ≡ span.hi) × AllZip (NumberIsPut c span.lo) fs gs)
+    ⊎ ((span.lo <ℤ span.hi) × (gs ≡ fs))
+LeftIsPut c (part.Facts known) fs gs = gs ≡ fs
+LeftIsPut c part.Free fs gs = gs ≡ fs
+
+-- The condition under which it may be.
+abbrev pub CanPutLeft : ℕ → Part → List Form → Type 0
+CanPutLeft c (part.Set set) forms = Unit {0}
+CanPutLeft c (part.Span span) forms = span.lo ≡ span.hi → All (CanPutNumber c span.lo) forms
+CanPutLeft c (part.Facts known) forms = Unit {0}
+CanPutLeft c part.Free forms = Unit {0}
+
+-- ---- the forms of both
+
+-- An integer form stands for the form of an integer cell.
+abbrev pub IsNumberOf : Form → IntForm → Type 0
+IsNumberOf (form.Enum f) g = Unit {0}
+IsNumberOf (form.Int f) g = g ≡ f
+IsNumberOf (form.Hold f) g = Unit {0}
+IsNumberOf (form.Nums added) g = Unit {0}
+IsNumberOf (form.Words added) g = Unit {0}
+
+-- A span stands for the part of an integer cell.
+abbrev pub IsSpanOf : Part → Span → Type 0
+IsSpanOf (part.Set set) s = Unit {0}
+IsSpanOf (part.Span span) s = s ≡ span
+IsSpanOf (part.Facts known) s = Unit {0}
+IsSpanOf part.Free s = Unit {0}
+
+-- The forms of the integer cells, and the spans in which these lie.
+pub record IsContext (forms : List Form) (lefts : List Part) (context : IntForms) : Type 0 where
+  pub numbers : AllZip IsNumberOf forms context.forms
+  pub ranges : AllZip IsSpanOf lefts context.spans
+
+-- The form of a list cell.
+abbrev pub IsList : Form → Type 0
+IsList (form.Enum f) = ⊥
+IsList (form.Int f) = ⊥
+IsList (form.Hold f) = ⊥
+IsList (form.Nums added) = Unit {0}
+IsList (form.Words added) = Unit {0}
+
+-- A form that is there, and of no list cell.
+abbrev pub IsValue : Option Form → Type 0
+IsValue None = ⊥
+IsValue (Some f) = IsList f → ⊥
+
+-- A list form of numbers, or of words, that is there.
+abbrev pub IsNums : Option Form → Type 0
+IsNums (Some (form.Nums added)) = Unit {0}
+IsNums (Some (form.Enum f)) = ⊥
+IsNums (Some (form.Int f)) = ⊥
+IsNums (Some (form.Hold f)) = ⊥
+IsNums (Some (form.Words added)) = ⊥
+IsNums None = ⊥
+
+abbrev pub IsWords : Option Form → Type 0
+IsWords (Some (form.Words added)) = Unit {0}
+IsWords (Some (form.Enum f)) = ⊥
+IsWords (Some (form.Int f)) = ⊥
+IsWords (Some (form.Hold f)) = ⊥
+IsWords (Some (form.Nums added)) = ⊥
+IsWords None = ⊥
+
+-- The condition under which a form of the cell c can come after others.
+abbrev pub CanComeAfter : List Form → IntForms → ℕ → Form → Type 0
+CanComeAfter forms context c (form.Enum (label.Const l)) = Unit {0}
+CanComeAfter forms context c (form.Enum (label.Copy d)) = IsValue (slice_get forms d)
+CanComeAfter forms context c (form.Int f) = CanGoThrough f context
+CanComeAfter forms context c (form.Hold (hold.Const parts)) = Unit {0}
+CanComeAfter forms context c (form.Hold (hold.Copy d)) = IsValue (slice_get forms d)
+CanComeAfter forms context c (form.Nums added) = IsNums (slice_get forms c) × All (λ f. CanGoThrough f context) added
+CanComeAfter forms context c (form.Words added) = IsWords (slice_get forms c)
+
+-- Numbers after those of a list form.
+abbrev pub NumsAfter : IntForms → List IntForm → Option Form → Form → Type 0
+NumsAfter context added (Some (form.Nums first)) (form.Nums new) = (take (length first) new ≡ first) × AllZip (λ f g. GoesThroughTo f context g) added (drop (length first) new)
+NumsAfter context added own new = ⊥
+
+-- Words after those of a list form.
+abbrev pub WordsAfter : List (List ℕ) → Option Form → Form → Type 0
+WordsAfter added (Some (form.Words first)) (form.Words new) = (take (length first) new ≡ first) × AllZip (λ (old t : List ℕ). t ≡ old) added (drop (length first) new)
+WordsAfter added own new = ⊥
+
+-- What a form of the cell c becomes after others: a constant stays, a copy becomes the form of the
+-- copied cell, a line goes through the form of the cell that it names, and elements are added after
+-- those of the cell's form.
+abbrev pub FormAfter : List Form → IntForms → ℕ → Form → Form → Type 0
+FormAfter forms context c (form.Enum (label.Const l)) g = g ≡ form.Enum (label.Const l)
+FormAfter forms context c (form.Enum (label.Copy d)) g = slice_get forms d ≡ Some g
+FormAfter forms context c (form.Int f) g = IsIntForm (λ k. GoesThroughTo f context k) g
+FormAfter forms context c (form.Hold (hold.Const parts)) g = g ≡ form.Hold (hold.Const parts)
+FormAfter forms context c (form.Hold (hold.Copy d)) g = slice_get forms d ≡ Some g
+FormAfter forms context c (form.Nums added) g = NumsAfter context added (slice_get forms c) g
+FormAfter forms context c (form.Words added) g = WordsAfter added (slice_get forms c) g
+
+-- The forms stay but for that of the cell c, if this is a list cell.
+abbrev pub KeepsOthers : ℕ → List Form → List Form → Type 0
+KeepsOthers c old new = (d : ℕ) (f : Form) → slice_get old d ≡ Some f → (d ≢ c) ⊎ (IsList f → ⊥) → slice_get new d ≡ Some f
+
+-- All forms after others.
+abbrev pub AllCanComeAfter : List Form → IntForms → List Form → Type 0
+AllCanComeAfter forms context gs = (c : ℕ) (g : Form) → slice_get gs c ≡ Some g → CanComeAfter forms context c g
+
+pub record AreAfter (forms : List Form) (context : IntForms) (gs rs : List Form) : Type 0 where
+  pub lengths : length rs ≡ length gs
+  pub each : (c : ℕ) (g r : Form) → slice_get gs c ≡ Some g → slice_get rs c ≡ Some r → FormAfter forms context c g r
+
+-- ---- one path and then another
+
+-- The second path's end after the first one's forms: a fault stays, and where the second one goes
+-- on, so does this one, by what the forms give.
+pub record IsEndAfter (plan : ScriptPlan) (lefts : List Part) (forms : List Form) (old new : PathEnd) : Type 0 where
+  pub fits : EndFits plan lefts new
+  pub fault : (fault : Fault) → (new ≡ Ended fault) ↔ (old ≡ Ended fault)
+  pub gives : (s : State) → Admits (test_truth plan.tests) lefts s →
+      end_at new s ≡ end_at old (state_at forms s)
+
+-- The outcome is a state that the constraint admits.
+abbrev pub AdmitsOutcome : Truth → List Part → Outcome → Type 0
+AdmitsOutcome truth when (Going s) = Admits truth when s
+AdmitsOutcome truth when (outcome.Ended fault) = ⊥
+
+-- What an end makes of an outcome: of a state what it gives there, and a fault stays.
+abbrev pub end_after : PathEnd → Outcome → Outcome
+end_after end (Going s) = end_at end s
+end_after end (outcome.Ended fault) = outcome.Ended fault
+
+-- The path of p and then q: it admits the states that p admits and whose outcome by p q admits,
+-- gives there what q gives of it, has a fault where q has it, and fits the script.
+pub record IsFollowed (plan : ScriptPlan) (p q path : Path) : Type 0 where
+  pub admits : (s : State) →
+      Admits (test_truth plan.tests) path.when s ↔
+      (Admits (test_truth plan.tests) p.when s × AdmitsOutcome (test_truth plan.tests) q.when (end_at p.end s))
+  pub gives : (s : State) → Admits (test_truth plan.tests) path.when s →
+      end_at path.end s ≡ end_after q.end (end_at p.end s)
+  pub fault : (fault : Fault) → (path.end ≡ Ended fault) ↔ (q.end ≡ Ended fault)
+  pub fits : PathFits plan path

@@ -1,0 +1,468 @@
+//! One path after another: what is left of the first one's constraint, and the forms of both.
+ghost use Rattle.std.specs.Prelude.{◌≡◌, ◌≤◌, ◌<◌, ◌^◌, ◌↔◌, ◌⊎◌, ℕ, Bool, IfOk, IfSome, IsSome, Some, All, length, slice_get};
+ghost use Rattle.std.specs.List.{AllZip};
+ghost use Rattle.sym_check.specs.CheckedScripts.{checked_plan};
+ghost use Rattle.sym_check.specs.Conditions.{test_truth};
+ghost use Rattle.sym_check.specs.ScriptPlans.{script_plan};
+ghost use Rattle.sym_check.specs.WellFormed.{IsWellFormed};
+ghost use Rattle.sym_int.specs.declared.element.IntForms.{IntForms as OneContext};
+ghost use Rattle.sym_pred.specs.Facts.{Atom};
+ghost use Rattle.sym_pred.specs.Meaning.{Stands};
+ghost use Rattle.sym_path.specs.Fitting.{FormsFit, PartFits, PathFits};
+ghost use Rattle.sym_path.specs.Following.{PartLeft, CopyNeeds, NeedsHere, AreLeft, LeftIsPut, CanPutLeft, IsNumberOf, IsSpanOf, IsContext, CanComeAfter, FormAfter, NumsAfter, WordsAfter, IsNums, IsWords, IsValue, KeepsOthers, AllCanComeAfter, AreAfter, IsEndAfter, IsFollowed};
+ghost use Rattle.sym_path.specs.Possible.{IsLeft, IsSaid, AllLeft, Possible, IsPossiblePair};
+ghost use Rattle.sym_path.specs.Pulling.{Agrees, HoldAgrees};
+ghost use Rattle.sym_path.specs.Taking.{AreTakenTo, IsTakenOn};
+ghost use Rattle.sym_int.specs.Elements.{CanGoThrough, GoesThroughTo};
+ghost use Rattle.sym_path.specs.declared.part.Part.{Part as OnePart};
+ghost use Rattle.sym_path.specs.declared.part.Part.TheVariants as part;
+
+use crate::form::{Form, Forms};
+use crate::joining::same_part;
+use crate::narrowing::{labels_put, numbers_put};
+use crate::part::Part;
+use crate::path::{Path, PathEnd};
+use crate::possible_pairs::possible_by;
+use crate::pulling::{labels_left, numbers_left};
+use std::alloc::Global;
+use sym_base::{Element, NoMemory, Sequence, Text};
+use sym_check::{Checked, Plan};
+use sym_enum::EnumForm;
+use sym_int::{FormList, IntForm, IntForms, Number, Span, Spans};
+use sym_pred::{Facts, HoldForm};
+use sym_vector::ListForm;
+
+/// The facts with the literals that are needed of a hold form, where that copies the cell.
+fn hold_passed(
+    alloc: Global,
+    cell: u16,
+    facts: Facts,
+    form: &HoldForm,
+    need: &Part,
+) -> Result<Facts, NoMemory>
+    requires { HoldAgrees cell facts need.now form.now }
+    ensures { IfOk result (λ left. (atom : Atom) (outcome : Bool) →
+        Stands left atom outcome ↔
+        (Stands facts atom outcome ⊎ CopyNeeds cell need.now atom outcome form.now)) }
+{
+    match form {
+        HoldForm::Copy(own) if *own == cell => match need {
+            Part::Facts(needed) => match facts.meet(alloc, needed)? {
+                Some(met) => Ok(met),
+                None => unreachable!(),
+            },
+            _ => Ok(facts),
+        },
+        _ => Ok(facts),
+    }
+}
+
+/// The facts with the literals that are needed of a form, where that copies the hold cell.
+fn facts_passed(
+    alloc: Global,
+    cell: u16,
+    facts: Facts,
+    form: &Form,
+    need: &Part,
+) -> Result<Facts, NoMemory>
+    requires { Agrees cell facts form.now need.now }
+    ensures { IfOk result (λ left. (atom : Atom) (outcome : Bool) →
+        Stands left atom outcome ↔
+        (Stands facts atom outcome ⊎ NeedsHere cell form.now need.now atom outcome)) }
+{
+    match form {
+        Form::Hold(copy) => hold_passed(alloc, cell, facts, copy, need),
+        _ => Ok(facts),
+    }
+}
+
+/// The facts with the literals that are needed of all copies of the hold cell.
+fn facts_left(
+    alloc: Global,
+    cell: u16,
+    facts: &Facts,
+    forms: &[Form],
+    needs: &[Part],
+) -> Result<Facts, NoMemory>
+    requires lengths { length forms.now ≡ length needs.now }
+    requires left { IsLeft forms.now needs.now cell (part.Facts facts.now) }
+    ensures { IfOk result (λ left. (atom : Atom) (outcome : Bool) →
+        Stands left atom outcome ↔ IsSaid facts.now forms.now needs.now cell atom outcome) }
+{
+    let mut left = facts.copy(alloc)?;
+    'cells: for index in 0..forms.len() {
+        left = facts_passed(alloc, cell, left, &forms[index], &needs[index])?;
+    }
+    Ok(left)
+}
+
+/// What is left of a cell of which something is.
+pub(crate) fn left_of(
+    alloc: Global,
+    cell: u16,
+    part: &Part,
+    forms: &[Form],
+    needs: &[Part],
+) -> Result<Part, NoMemory>
+    requires lengths { length forms.now ≡ length needs.now }
+    requires left { IsLeft forms.now needs.now cell part.now }
+    ensures { IfOk result (PartLeft forms.now needs.now cell part.now) }
+{
+    match part {
+        Part::Set(set) => Ok(Part::Set(labels_left(cell, *set, forms, needs))),
+        Part::Span(span) => match numbers_left(cell, span, forms, needs) {
+            Some(left) => Ok(Part::Span(left)),
+            None => unreachable!(),
+        },
+        Part::Facts(facts) => Ok(Part::Facts(facts_left(alloc, cell, facts, forms, needs)?)),
+        Part::Free => Ok(Part::Free),
+    }
+}
+
+/// What is left of all cells.
+fn all_left_of(
+    alloc: Global,
+    when: &[Part],
+    forms: &[Form],
+    needs: &[Part],
+) -> Result<Vec<Part>, NoMemory>
+    requires lengths { length forms.now ≡ length needs.now }
+    requires few { length when.now ≤ 2 ^ 16 }
+    requires left { AllLeft when.now forms.now needs.now }
+    ensures { IfOk result (λ lefts. AreLeft forms.now needs.now when.now lefts.items) }
+{
+    let mut lefts = Vec::with_capacity(alloc, when.len())?;
+    'cells: for index in 0..when.len() {
+        lefts.push(left_of(alloc, index as u16, &when[index], forms, needs)?)?;
+    }
+    Ok(lefts)
+}
+
+/// Puts what is left of a cell in its place in the forms, where that is one label or one number.
+fn put_left(forms: Forms, cell: u16, old: &Part, left: &Part) -> Forms
+    requires { CanPutLeft cell left.now forms }
+    ensures { ((old.now ≡ left.now) × (result ≡ forms)) ⊎ LeftIsPut cell left.now forms result }
+{
+    if same_part(old, left) {
+        return forms;
+    }
+    match left {
+        Part::Set(set) => match set.only() {
+            Some(label) => labels_put(forms, cell, label),
+            None => forms,
+        },
+        Part::Span(span) => {
+            if span.lo < span.hi {
+                return forms;
+            }
+            numbers_put(forms, cell, span.lo)
+        }
+        Part::Facts(_) => forms,
+        Part::Free => forms,
+    }
+}
+
+/// The forms on what is left of their constraint.
+fn taken_forms(forms: Forms, when: &[Part], lefts: &[Part]) -> Forms
+    requires lengths { length lefts.now ≡ length when.now }
+    requires few { length when.now ≤ 2 ^ 16 }
+    requires taken { All (IsTakenOn when.now) forms }
+    requires numbers { (c : ℕ) (left : OnePart) →
+        slice_get lefts.now c ≡ Some left → CanPutLeft c left forms }
+    ensures { AreTakenTo lefts.now forms result }
+{
+    let mut forms = forms;
+    'cells: for index in 0..when.len() {
+        forms = put_left(forms, index as u16, &when[index], &lefts[index]);
+    }
+    forms
+}
+
+/// The form of an integer cell; the constant 0 of any other cell.
+fn number_of(form: &Form) -> IntForm
+    ensures { IsNumberOf form.now result }
+{
+    match form {
+        Form::Int(number) => *number,
+        _ => IntForm::Const(Number { value: 0 }),
+    }
+}
+
+/// The span of an integer cell; that of 0 alone of any other cell.
+fn span_of(part: &Part) -> Span
+    ensures { IsSpanOf part.now result }
+{
+    match part {
+        Part::Span(span) => *span,
+        _ => Span { lo: 0, hi: 0 },
+    }
+}
+
+fn numbers_of(alloc: Global, forms: &[Form]) -> Result<FormList, NoMemory>
+    ensures { IfOk result (λ numbers. AllZip IsNumberOf forms.now numbers) }
+{
+    let mut numbers = Vec::with_capacity(alloc, forms.len())?;
+    'cells: for index in 0..forms.len() {
+        numbers.push(number_of(&forms[index]))?;
+    }
+    Ok(Sequence::of(numbers))
+}
+
+fn spans_of(alloc: Global, parts: &[Part]) -> Result<Spans, NoMemory>
+    ensures { IfOk result (λ spans. AllZip IsSpanOf parts.now spans) }
+{
+    let mut spans = Vec::with_capacity(alloc, parts.len())?;
+    'cells: for index in 0..parts.len() {
+        spans.push(span_of(&parts[index]))?;
+    }
+    Ok(Sequence::of(spans))
+}
+
+/// The forms of the integer cells, and the spans in which these lie.
+fn context_of(alloc: Global, forms: &[Form], lefts: &[Part]) -> Result<IntForms, NoMemory>
+    ensures { IfOk result (IsContext forms.now lefts.now) }
+{
+    let numbers = numbers_of(alloc, forms)?;
+    let spans = spans_of(alloc, lefts)?;
+    Ok(IntForms {
+        forms: numbers,
+        spans,
+    })
+}
+
+/// What stands in the place of a form that is moved out.
+fn no_form() -> Form {
+    Form::Enum(EnumForm::Const(0))
+}
+
+/// A copy of the form of the cell with this number.
+fn form_at(alloc: Global, forms: &Forms, cell: u16) -> Result<Form, NoMemory>
+    requires { IsValue (slice_get forms.now cell) }
+    ensures { IfOk result (λ form. slice_get forms.now cell ≡ Some form) }
+{
+    match forms.get(cell as usize) {
+        Some(form) => form.copy(alloc),
+        None => unreachable!(),
+    }
+}
+
+/// Numbers that are added after those of the form of the cell at `index`, which is moved out.
+fn nums_after(
+    alloc: Global,
+    forms: &mut Forms,
+    index: usize,
+    added: &ListForm<IntForm>,
+    context: &IntForms,
+) -> Result<Form, NoMemory>
+    requires list { IsNums (slice_get forms.old index) }
+    requires numbers { All (λ f. CanGoThrough f context.now) added.now }
+    ensures form { IfOk result (NumsAfter context.now added.now (slice_get forms.old index)) }
+    ensures others { KeepsOthers index forms.old forms.new }
+{
+    match forms.replace(index, no_form()) {
+        Some(Form::Nums(first)) => {
+            Ok(Form::Nums(added.copy(alloc)?.go_through(first, context)?))
+        }
+        _ => unreachable!(),
+    }
+}
+
+/// Words that are added after those of the form of the cell at `index`, which is moved out.
+fn words_after(
+    alloc: Global,
+    forms: &mut Forms,
+    index: usize,
+    added: &ListForm<Text>,
+) -> Result<Form, NoMemory>
+    requires { IsWords (slice_get forms.old index) }
+    ensures form { IfOk result (WordsAfter added.now (slice_get forms.old index)) }
+    ensures others { KeepsOthers index forms.old forms.new }
+{
+    match forms.replace(index, no_form()) {
+        Some(Form::Words(first)) => Ok(Form::Words(added.copy(alloc)?.go_through(first, &())?)),
+        _ => unreachable!(),
+    }
+}
+
+fn number_after(number: &IntForm, context: &IntForms) -> IntForm
+    requires { CanGoThrough number.now context.now }
+    ensures { GoesThroughTo number.now context.now result }
+{
+    let mut number = *number;
+    number.go_through(context);
+    number
+}
+
+/// What a form of the cell at `index` becomes after the others, of which a list form of this cell
+/// is moved out.
+fn form_after(
+    alloc: Global,
+    forms: &mut Forms,
+    index: usize,
+    form: &Form,
+    context: &IntForms,
+) -> Result<Form, NoMemory>
+    requires { CanComeAfter forms.old context.now index form.now }
+    ensures form { IfOk result (FormAfter forms.old context.now index form.now) }
+    ensures others { KeepsOthers index forms.old forms.new }
+{
+    match form {
+        Form::Enum(EnumForm::Const(label)) => Ok(Form::Enum(EnumForm::Const(*label))),
+        Form::Enum(EnumForm::Copy(cell)) => form_at(alloc, forms, *cell),
+        Form::Int(number) => Ok(Form::Int(number_after(number, context))),
+        Form::Hold(HoldForm::Const(parts)) => {
+            Ok(Form::Hold(HoldForm::Const(parts.copy(alloc)?)))
+        }
+        Form::Hold(HoldForm::Copy(cell)) => form_at(alloc, forms, *cell),
+        Form::Nums(added) => nums_after(alloc, forms, index, added, context),
+        Form::Words(added) => words_after(alloc, forms, index, added),
+    }
+}
+
+/// What forms become after others, whose lists are moved.
+fn forms_after(
+    alloc: Global,
+    forms: Forms,
+    others: &[Form],
+    context: &IntForms,
+) -> Result<Forms, NoMemory>
+    requires { AllCanComeAfter forms context.now others.now }
+    ensures { IfOk result (AreAfter forms context.now others.now) }
+{
+    let mut forms = forms;
+    let mut after = Vec::with_capacity(alloc, others.len())?;
+    'cells: for index in 0..others.len() {
+        after.push(form_after(alloc, &mut forms, index, &others[index], context)?)?;
+    }
+    Ok(Sequence::of(after))
+}
+
+/// The end of the path of two, of the forms of the first one and what is left of its constraint.
+fn end_after(
+    alloc: Global,
+    _plan: &Plan,
+    when: &[Part],
+    lefts: &[Part],
+    forms: Forms,
+    next: &Path,
+) -> Result<PathEnd, NoMemory>
+    requires known { IsWellFormed (script_plan _plan.now) }
+    requires parts { AllZip (PartFits (script_plan _plan.now))
+        (script_plan _plan.now).cells when.now }
+    requires forms { FormsFit (script_plan _plan.now) when.now forms }
+    requires second { PathFits (script_plan _plan.now) next.now }
+    requires possible { Possible (test_truth (script_plan _plan.now).tests)
+        when.now forms next.now.when }
+    requires left { AreLeft forms next.now.when when.now lefts.now }
+    ensures { IfOk result (IsEndAfter (script_plan _plan.now) lefts.now forms next.now.end) }
+{
+    match &next.end {
+        PathEnd::Ended(fault) => Ok(PathEnd::Ended(*fault)),
+        PathEnd::Next(others) => {
+            let taken = taken_forms(forms, when, lefts);
+            let context = context_of(alloc, taken.as_slice(), lefts)?;
+            let after = forms_after(alloc, taken, others.as_slice(), &context)?;
+            Ok(PathEnd::Next(after))
+        }
+    }
+}
+
+/// The path of one and then another that can come after it. What it has is moved.
+fn path_after(alloc: Global, plan: &Plan, path: Path, next: &Path) -> Result<Path, NoMemory>
+    requires known { IsWellFormed (script_plan plan.now) }
+    requires first { PathFits (script_plan plan.now) path }
+    requires second { PathFits (script_plan plan.now) next.now }
+    requires possible { IsPossiblePair (test_truth (script_plan plan.now).tests) path next.now }
+    ensures { IfOk result (IsFollowed (script_plan plan.now) path next.now) }
+{
+    let Path { when, end } = path;
+    match end {
+        PathEnd::Next(forms) => {
+            let needs = next.when.as_slice();
+            let lefts = all_left_of(alloc, when.as_slice(), forms.as_slice(), needs)?;
+            let end = end_after(alloc, plan, when.as_slice(), &lefts, forms, next)?;
+            Ok(Path {
+                when: Sequence::of(lefts),
+                end,
+            })
+        }
+        PathEnd::Ended(_) => unreachable!(),
+    }
+}
+
+/// The path of p and then q; `None` exactly where q can't come after p. It admits the states that p
+/// admits and whose outcome by p q admits, and gives there what q gives of it.
+pub fn follow(
+    alloc: Global,
+    checked: &Checked,
+    p: &Path,
+    q: &Path,
+) -> Result<Option<Path>, NoMemory>
+    requires first { PathFits (checked_plan checked.now) p.now }
+    requires second { PathFits (checked_plan checked.now) q.now }
+    ensures possible { IfOk result (λ found. IsSome found ↔
+        IsPossiblePair (test_truth (checked_plan checked.now).tests) p.now q.now) }
+    ensures path { IfOk result (λ found.
+        IfSome found (IsFollowed (checked_plan checked.now) p.now q.now)) }
+{
+    follow_by(alloc, checked.plan(), p, q)
+}
+
+/// The same by a plan alone.
+pub(crate) fn follow_by(
+    alloc: Global,
+    plan: &Plan,
+    p: &Path,
+    q: &Path,
+) -> Result<Option<Path>, NoMemory>
+    requires known { IsWellFormed (script_plan plan.now) }
+    requires first { PathFits (script_plan plan.now) p.now }
+    requires second { PathFits (script_plan plan.now) q.now }
+    ensures possible { IfOk result (λ found. IsSome found ↔
+        IsPossiblePair (test_truth (script_plan plan.now).tests) p.now q.now) }
+    ensures path { IfOk result (λ found.
+        IfSome found (IsFollowed (script_plan plan.now) p.now q.now)) }
+{
+    if !possible_by(plan, p, q) {
+        return Ok(None);
+    }
+    let path = path_after(alloc, plan, p.copy(alloc)?, q)?;
+    Ok(Some(path))
+}
+
+impl Path {
+    /// `follow` of a path that is given away: its lists and forms are moved. After an `Err`, and
+    /// where the next path can't come after it, it is dropped.
+    pub fn followed_by(
+        self,
+        alloc: Global,
+        checked: &Checked,
+        next: &Path,
+    ) -> Result<Option<Path>, NoMemory>
+        requires first { PathFits (checked_plan checked.now) self }
+        requires second { PathFits (checked_plan checked.now) next.now }
+        ensures possible { IfOk result (λ found. IsSome found ↔
+            IsPossiblePair (test_truth (checked_plan checked.now).tests) self next.now) }
+        ensures path { IfOk result (λ found.
+            IfSome found (IsFollowed (checked_plan checked.now) self next.now)) }
+    {
+        self.go_on(alloc, checked.plan(), next)
+    }
+
+    /// The same by a plan alone.
+    fn go_on(self, alloc: Global, plan: &Plan, next: &Path) -> Result<Option<Path>, NoMemory>
+        requires known { IsWellFormed (script_plan plan.now) }
+        requires first { PathFits (script_plan plan.now) self }
+        requires second { PathFits (script_plan plan.now) next.now }
+        ensures possible { IfOk result (λ found. IsSome found ↔
+            IsPossiblePair (test_truth (script_plan plan.now).tests) self next.now) }
+        ensures path { IfOk result (λ found.
+            IfSome found (IsFollowed (script_plan plan.now) self next.now)) }
+    {
+        if !possible_by(plan, &self, next) {
+            return Ok(None);
+        }
+        let path = path_after(alloc, plan, self, next)?;
+        Ok(Some(path))
+    }
+}
