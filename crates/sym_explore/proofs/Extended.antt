@@ -1,0 +1,192 @@
+-- Segments taken a record further.
+use Rattle.std.proofs.Common.{◌≡◌, ◌≤◌, ◌<◌, ◌+◌, ◌*◌, ◌++◌, ◌∷◌, ℕ, Bool, true, List, [], map, length, refl, sym, ap, ◌∙◌, subst, arith, length-append}
+use Rattle.std.proofs.Math.Nat.{add-mul}
+use Rattle.std.proofs.lemmas.List.{get_or_append_left, length_push, length-map}
+use Rattle.std.proofs.lemmas.List.Elements.{All-nil, All-push, All-weaker}
+use Rattle.std.proofs.lemmas.List.Quantifiers.{Any-push}
+use Rattle.std.specs.List.{Any}
+use Rattle.std.specs.Prelude.{IfOk, OnOk, Result, Ok, Err, if◌then◌else◌}
+use Rattle.sym_base.specs.declared.limits.TheConstants as limit
+use Rattle.sym_base.specs.declared.values.record.Record.{Record}
+use Rattle.sym_base.specs.declared.values.value.Value.{Value}
+use Rattle.sym_base.specs.declared.values.state.State.{State}
+use Rattle.sym_base.specs.declared.values.state.Outcome.{Outcome}
+use Rattle.sym_base.specs.declared.values.state.Outcome.TheVariants.{Going}
+use Rattle.sym_base.specs.Tests.{Truth}
+use Rattle.sym_check.specs.Conditions.{test_truth}
+use Rattle.sym_check.specs.PathBounds.{path_bound}
+use Rattle.sym_check.specs.ScriptPlans.{ScriptPlan}
+use Rattle.sym_check.specs.Updates.{after, environment}
+use Rattle.sym_check.specs.Validity.{IsRecord, IsValid}
+use Rattle.sym_check.specs.WellFormed.{IsWellFormed}
+use Rattle.sym_check.proofs.PlanLaws.{after_more}
+use Rattle.sym_path.specs.declared.part.Part.{Part}
+use Rattle.sym_path.specs.declared.path.Path.{Path}
+use Rattle.sym_path.specs.declared.path.PathEnd.{PathEnd}
+use Rattle.sym_path.specs.declared.path.PathEnd.TheVariants.{Next, Ended}
+use Rattle.sym_path.specs.Admitting.{admits}
+use Rattle.sym_path.specs.Fitting.{PathFits, SegmentFits}
+use Rattle.sym_path.specs.Giving.{end_at, outcomes}
+use Rattle.sym_path.specs.Identity.{AdmitsAll, IsWholeEnd, IsWholePath, LeavesAll}
+use Rattle.sym_path.specs.Settling.{IsSettling}
+use Rattle.sym_path.specs.Standing.{EndsAmong, StandsFor}
+use Rattle.sym_path.proofs.Decided.{admits_decided}
+use Rattle.sym_path.proofs.OnlyOutcomes.{only_outcome}
+use Rattle.sym_path.proofs.SettlingStands.{settled_stand}
+use Rattle.sym_explore.specs.Counting.{made_paths}
+use Rattle.sym_explore.specs.Faulting.{EndAmong, FaultsCameAt, HasNumber}
+use Rattle.sym_explore.specs.Growing.{GivesAfter}
+use Rattle.sym_explore.specs.Knowing.{DosAreKnown}
+use Rattle.sym_explore.specs.Running.{RunsPaths}
+use Rattle.sym_explore.specs.Stepping.{Steps, after_dos, after_record}
+use Rattle.sym_explore.proofs.CountedPaths.{bound_is_count}
+use Rattle.sym_explore.proofs.Faults.{faults_run}
+use Rattle.sym_explore.proofs.KnownParts.{update_known}
+use Rattle.sym_explore.proofs.RunLists.{steps_record}
+
+-- What follows where a call answers.
+pub when_done : {A E X Y : Type 0} (r : Result A E) → (X → Y) → OnOk r X → OnOk r Y
+when_done (Ok x) f h = f h
+when_done (Err e) f h = tt
+
+pub when_answered : {A E : Type 0} {P Q : A → Type 0} (r : Result A E) → ((x : A) → P x → Q x) → IfOk r P → IfOk r Q
+when_answered (Ok x) f h = f x h
+when_answered (Err e) f h = tt
+
+-- ---- one path and one record
+
+-- A record begins with no local.
+pub known_update : (p : ScriptPlan) (rec : Record) (locals : List Value) → locals ≡ [] → IsWellFormed p → IsRecord p rec → DosAreKnown p (environment rec locals) p.update
+known_update p rec locals none well is =
+    subst (λ (xs : List Value). DosAreKnown p (environment rec xs) p.update) (sym none) (update_known p rec well is)
+
+pub explored_steps : (p : ScriptPlan) (rec : Record) (locals : List Value) (old : Path) (before : List Path) (path : Path) (others : List Path) → locals ≡ [] → Steps p (after_dos p (environment rec locals) rec.no p.update) old before path others → Steps p (after_record p rec) old before path others
+explored_steps p rec locals old before path others none h =
+    steps_record p rec old before path others
+    (subst (λ (xs : List Value). Steps p (after_dos p (environment rec xs) rec.no p.update) old before path others) none h)
+
+-- ---- one path more
+
+pub few_more : (most : ℕ) (done : List Path) (old : Path) (before : List Path) (path : Path) (others now : List Path) → now ≡ others ++ path ∷ [] → length before ≤ length done * most → length others + 1 ≤ length before + most → length now ≤ length (done ++ old ∷ []) * most
+few_more most done old before path others now is h step =
+    let product : length (done ++ old ∷ []) * most ≡ length done * most + 1 * most = ap (λ (n : ℕ). n * most) (length_push done old) ∙ add-mul (length done) 1 most in
+    omega (arith, ap length is, length_push others path)
+
+pub faults_more : (n : ℕ) (done : List Path) (old : Path) (before : List Path) (path : Path) (others now : List Path) → now ≡ others ++ path ∷ [] → ((records : List Record) → HasNumber n records → EndAmong records done → EndAmong records before) → FaultsCameAt n old before path others → (records : List Record) → HasNumber n records → EndAmong records (done ++ old ∷ []) → EndAmong records now
+faults_more n done old before path others now is h step records has ends =
+    subst (λ (paths : List Path). EndAmong records paths) (sym is)
+    (faults_run n done old [] before path others (λ rs number faults none. h rs number faults) step records has ends (All-nil (λ (x : Path). EndsAmong records x.end)))
+
+-- ---- one record more
+
+any_longer : {A : Type 0} (P : A → Type 0) (xs ys : List A) → Any P xs → Any P (xs ++ ys)
+any_longer P xs ys (k, x, within, is, h) =
+    (k, x, omega (arith, length-append xs ys), get_or_append_left xs ys x k within ∙ is, h)
+
+end_longer : (records : List Record) (rec : Record) (end : PathEnd) → EndsAmong records end → EndsAmong (records ++ rec ∷ []) end
+end_longer records rec (Next forms) h = tt
+end_longer records rec (Ended fault) h = any_longer (λ (r : Record). r.no ≡ fault.no) records (rec ∷ []) h
+
+ends_longer : (records : List Record) (rec : Record) (paths : List Path) → EndAmong records paths → EndAmong (records ++ rec ∷ []) paths
+ends_longer records rec paths h =
+    let P : Path → Type 0 = λ path. EndsAmong records path.end in
+    let Q : Path → Type 0 = λ path. EndsAmong (records ++ rec ∷ []) path.end in
+    All-weaker P Q (λ path. end_longer records rec path.end) paths h
+
+number_among : (records : List Record) (rec : Record) → HasNumber rec.no (records ++ rec ∷ [])
+number_among records rec = Any-push (λ (r : Record). r.no ≡ rec.no) records rec refl
+
+-- The paths after a record, by those before it.
+pub record IsExplored (p : ScriptPlan) (rec : Record) (old new : List Path) : Type 0 where
+  pub exact : RunsPaths p (after_record p rec) old [] new
+  pub fits : SegmentFits p new
+  pub few : length new ≤ length old * made_paths p.update
+  pub faults : (records : List Record) → HasNumber rec.no records → EndAmong records old → EndAmong records new
+
+-- The same of an equal plan and equal paths.
+pub explored_of : (q p : ScriptPlan) (rec : Record) (items old new : List Path) → q ≡ p → items ≡ old → IsExplored q rec items new → IsExplored p rec old new
+explored_of q p rec items old new same is h =
+    subst (λ (paths : List Path). IsExplored p rec paths new) is (subst (λ (plan : ScriptPlan). IsExplored plan rec items new) same h)
+
+pub record_of : (q p : ScriptPlan) (rec : Record) → q ≡ p → IsRecord p rec → IsRecord q rec
+record_of q p rec same h = subst (λ (plan : ScriptPlan). IsRecord plan rec) (sym same) h
+
+pub small_of : (q p : ScriptPlan) → q ≡ p → path_bound q.update ≤ limit.PATHS_MAX → path_bound p.update ≤ limit.PATHS_MAX
+small_of q p same h = subst (λ (plan : ScriptPlan). path_bound plan.update ≤ limit.PATHS_MAX) same h
+
+explored_stand : (p : ScriptPlan) (rec : Record) (records : List Record) (old new : List Path) → IsExplored p rec old new → StandsFor p records old → StandsFor p (records ++ rec ∷ []) new
+explored_stand p rec records old new h stand = record {
+  fits = h.fits;
+  faults = h.faults (records ++ rec ∷ []) (number_among records rec) (ends_longer records rec old stand.faults);
+  exact = λ s valid. (only_outcome (test_truth p.tests) new s (after p (records ++ rec ∷ []) (Going s))).0 (gives s valid);
+}
+  where
+    gives : (s : State) → IsValid p s → outcomes (test_truth p.tests) new s ≡ after p (records ++ rec ∷ []) (Going s) ∷ []
+    gives s valid =
+        h.exact s
+        ∙ ap (map (after_record p rec)) ((only_outcome (test_truth p.tests) old s (after p records (Going s))).1 (stand.exact s valid))
+        ∙ ap (λ (o : Outcome). o ∷ []) (sym (after_more p records rec (Going s)))
+
+-- ---- the first record
+
+whole_goes_on : (p : ScriptPlan) (when : List Part) (end : PathEnd) → IsWholeEnd p when end → EndsAmong [] end
+whole_goes_on p when (Next forms) h = tt
+whole_goes_on p when (Ended fault) h = absurd h
+
+-- A path that leaves each valid state as it is.
+pub record IsIdentity (p : ScriptPlan) (path : Path) : Type 0 where
+  pub fits : PathFits p path
+  pub admitted : AdmitsAll p path
+  pub leaves : LeavesAll p path
+  pub whole : IsWholePath p path
+
+one_fits : (p : ScriptPlan) (path : Path) → PathFits p path → SegmentFits p (path ∷ [])
+one_fits p path fits = All-push (PathFits p) [] path (All-nil (PathFits p)) fits
+
+whole_stands : (p : ScriptPlan) (path : Path) → IsIdentity p path → StandsFor p [] (path ∷ [])
+whole_stands p path h = record {
+  fits = one_fits p path h.fits;
+  faults =
+      let P : Path → Type 0 = λ q. EndsAmong [] q.end in
+      All-push P [] path (All-nil P) (whole_goes_on p path.when path.end h.whole);
+  exact = λ s valid. (only_outcome (test_truth p.tests) (path ∷ []) s (Going s)).0 (gives s valid);
+}
+  where
+    gives : (s : State) → IsValid p s → outcomes (test_truth p.tests) (path ∷ []) s ≡ Going s ∷ []
+    gives s valid =
+        let holds : admits (test_truth p.tests) path.when s.cells ≡ true = (admits_decided (test_truth p.tests) path.when s).1 (h.admitted (test_truth p.tests) s valid) in
+        ap (λ (b : Bool). (if b then end_at path.end s ∷ [] else []) ++ []) holds ∙ ap (λ (o : Outcome). o ∷ []) (h.leaves s valid)
+
+-- ---- what is settled
+
+pub settled_explored : (p : ScriptPlan) (rec : Record) (records : List Record) (old new segment : List Path) → IsExplored p rec old new → IsSettling new segment → StandsFor p records old → StandsFor p (records ++ rec ∷ []) segment
+settled_explored p rec records old new segment h settling stand =
+    settled_stand p (records ++ rec ∷ []) new segment (explored_stand p rec records old new h stand) settling
+
+pub first_settled : (p : ScriptPlan) (rec : Record) (path : Path) (new segment : List Path) → IsExplored p rec (path ∷ []) new → IsSettling new segment → IsIdentity p path → StandsFor p (rec ∷ []) segment
+first_settled p rec path new segment h settling identity =
+    settled_explored p rec [] (path ∷ []) new segment h settling (whole_stands p path identity)
+
+pub settled_gives : (p : ScriptPlan) (rec : Record) (old new segment : List Path) → IsExplored p rec old new → IsSettling new segment → GivesAfter p rec old segment
+settled_gives p rec old new segment h settling s once =
+    let tests : Truth = test_truth p.tests in
+    let few : length (outcomes tests new s) ≤ 1 = omega (arith, ap length (h.exact s), length-map (outcomes tests old s) (after_record p rec)) in
+    settling.reduced.same tests s few ∙ h.exact s
+
+-- ---- how many
+
+few_counted : (n : ℕ) → n ≤ limit.PATHS_MAX → n < limit.PATHS_COUNTED
+few_counted n h = omega arith
+
+-- The path bound of an accepted script is its count of paths.
+pub settled_few : (p : ScriptPlan) (rec : Record) (old new segment : List Path) → path_bound p.update ≤ limit.PATHS_MAX → IsExplored p rec old new → IsSettling new segment → length segment ≤ length old * path_bound p.update
+settled_few p rec old new segment small h settling =
+    within (length segment) (length new) (length old) (made_paths p.update) (path_bound p.update) (bound_is_count p.update (few_counted (path_bound p.update) small)) h.few settling.reduced.few
+  where
+    within : (a b c d e : ℕ) → d ≡ e → b ≤ c * d → a ≤ b → a ≤ c * e
+    within a b c d e same few less = let g : c * d ≡ c * e = ap (λ (n : ℕ). c * n) same in omega arith
+
+pub first_few : (p : ScriptPlan) (rec : Record) (path : Path) (new segment : List Path) → path_bound p.update ≤ limit.PATHS_MAX → IsExplored p rec (path ∷ []) new → IsSettling new segment → length segment ≤ path_bound p.update
+first_few p rec path new segment small h settling =
+    let few : length segment ≤ 1 * path_bound p.update = settled_few p rec (path ∷ []) new segment small h settling in
+    omega arith

@@ -1,0 +1,345 @@
+-- A path that is parted by whether a number over a cell lies in a range.
+use Rattle.std.proofs.Common.{◌≡◌, ◌≢◌, ◌+◌, ◌≤◌, ℕ, ℤ, ◌<ℤ◌, ◌≤ℤ◌, Bool, List, [], ◌∷◌, ◌++◌, Option, Some, None, inl, inr, map, length, refl, sym, ap, ◌∙◌, subst, append_assoc, arith}
+use Rattle.std.proofs.lemmas.Int.{ints, by_lt_z}
+use Rattle.std.proofs.lemmas.List.{append-nil, length-append}
+use Rattle.std.proofs.lemmas.List.Elements.{All-push}
+use Rattle.std.specs.Prelude.{slice_get, IfSome, if◌then◌else◌}
+use Rattle.sym_base.specs.States.{number_at}
+use Rattle.sym_base.specs.Tests.{Truth}
+use Rattle.sym_base.specs.declared.values.record.Record.{Record}
+use Rattle.sym_base.specs.declared.values.state.Cell.TheVariants as cell
+use Rattle.sym_base.specs.declared.values.state.Fault.{Fault}
+use Rattle.sym_base.specs.declared.values.state.State.{State}
+use Rattle.sym_base.specs.declared.values.state.Outcome.{Outcome}
+use Rattle.sym_check.specs.Conditions.{test_truth}
+use Rattle.sym_check.specs.ScriptPlans.{ScriptPlan}
+use Rattle.sym_int.specs.Fits.{IsFitted, IsInside, inside_span}
+use Rattle.sym_int.specs.Lines.{form_on, wide_cell, wide_on, wide_value}
+use Rattle.sym_int.specs.Parts.{Above, Below, Within}
+use Rattle.sym_int.specs.Points.{HasPoint, IsPart}
+use Rattle.sym_int.specs.Taken.{IsCellIn, IsTaken}
+use Rattle.sym_int.specs.declared.fitting.Fitted.{Fitted}
+use Rattle.sym_int.specs.declared.fitting.Inside.{Inside}
+use Rattle.sym_int.specs.declared.form.IntForm.{IntForm}
+use Rattle.sym_int.specs.declared.form.IntForm.TheVariants as form
+use Rattle.sym_int.specs.declared.span.Span.{Span}
+use Rattle.sym_int.specs.declared.wide.Wide.{Wide}
+use Rattle.sym_path.proofs.Changed.{faults_give}
+use Rattle.sym_path.proofs.Decided.{point_decided}
+use Rattle.sym_path.specs.Changing.{GoesOn, changed, end_by, ended_by, with_fault}
+use Rattle.sym_path.specs.Fitting.{NumberFits, PathFits, SegmentFits, StaysWithin}
+use Rattle.sym_path.specs.Giving.{given, outcomes}
+use Rattle.sym_path.specs.Narrowing.{GivesWhere, IsSubspan, NarrowsNumbers}
+use Rattle.sym_path.specs.Standing.{EndsAmong}
+use Rattle.sym_path.specs.Taking.{HasOneNumber, NumberIsTakenTo}
+use Rattle.sym_path.specs.declared.part.Part.{Part}
+use Rattle.sym_path.specs.declared.part.Part.TheVariants as part
+use Rattle.sym_path.specs.declared.path.Path.{Path}
+use Rattle.sym_path.specs.declared.path.PathEnd.{PathEnd}
+use Rattle.sym_path.specs.declared.path.PathEnd.TheVariants.{Next, Ended}
+use Rattle.sym_explore.proofs.PathNumbers.{number_is_held, given_none, given_in, given_out, no_point, wide_at}
+use Rattle.sym_explore.specs.Faulting.{EndAmong, FaultsCameAt, HasNumber}
+use Rattle.sym_explore.specs.Ranging.{IsPartPushed, NumberFitsOn, WideRanges, form_stored, wide_stored}
+use Rattle.sym_explore.specs.Stepping.{AreFewPaths, going_paths, most_paths, one_going}
+
+-- ---- paths, and one more
+
+pub outcomes_push : (truth : Truth) (paths : List Path) (q : Path) (s : State) → outcomes truth (paths ++ q ∷ []) s ≡ outcomes truth paths s ++ given truth q s
+outcomes_push truth [] q s = append-nil (given truth q s)
+outcomes_push truth (x ∷ paths) q s =
+    ap (λ (os : List Outcome). given truth x s ++ os) (outcomes_push truth paths q s)
+    ∙ sym (append_assoc (given truth x s) (outcomes truth paths s) (given truth q s))
+
+pub going_push : (paths : List Path) (q : Path) → going_paths (paths ++ q ∷ []) ≡ going_paths paths + one_going q.end
+going_push [] q = omega arith
+going_push (x ∷ paths) q = let h = going_push paths q in omega (arith, h)
+
+-- ---- a path that ends by a fault
+
+ended_goes : (fault : Fault) (end : PathEnd) → one_going (end_by fault end) ≡ 0
+ended_goes fault (Next forms) = refl
+ended_goes fault (Ended old) = refl
+
+pub one_goes : (end : PathEnd) → GoesOn end → one_going end ≡ 1
+one_goes (Next forms) h = refl
+one_goes (Ended fault) h = absurd h
+
+pub going_most : (end : PathEnd) (most : ℕ) → GoesOn end → most_paths end most ≡ most
+going_most (Next forms) most h = refl
+going_most (Ended fault) most h = absurd h
+
+goes_among : (records : List Record) (end : PathEnd) → GoesOn end → EndsAmong records end
+goes_among records (Next forms) h = tt
+goes_among records (Ended fault) h = absurd h
+
+one_at_most : (end : PathEnd) → one_going end ≤ 1
+one_at_most (Next forms) = omega arith
+one_at_most (Ended fault) = omega arith
+
+-- ---- a part that is pushed
+
+module _ (p : ScriptPlan) (c : ℕ) (fault : Fault) (old : Path) where
+  part_fits : (o : Option Span) (before after : List Path) → IsPartPushed p c o fault old before after → SegmentFits p before → SegmentFits p after
+  part_fits None before after h others = subst (SegmentFits p) (sym h) others
+  part_fits (Some span) before after h others = subst (SegmentFits p) (sym h.is) (All-push (PathFits p) before h.pushed others h.fits)
+
+  part_going : (o : Option Span) (before after : List Path) → IsPartPushed p c o fault old before after → going_paths after ≡ going_paths before
+  part_going None before after h = ap going_paths h
+  part_going (Some span) before after h =
+      let ended : one_going h.pushed.end ≡ 0 = ap one_going h.end ∙ ended_goes fault old.end in
+      let longer : going_paths after ≡ going_paths before + one_going h.pushed.end = ap going_paths h.is ∙ going_push before h.pushed in
+      omega (arith, ended, longer)
+
+  part_length : (o : Option Span) (before after : List Path) → IsPartPushed p c o fault old before after → length after ≤ length before + 1
+  part_length None before after h = let e = ap length h in omega (arith, e)
+  part_length (Some span) before after h = let e = ap length h.is in let f = length-append before (h.pushed ∷ []) in omega (arith, e, f)
+
+  part_faults : (records : List Record) (o : Option Span) (before after : List Path) → GoesOn old.end → HasNumber fault.no records → IsPartPushed p c o fault old before after → EndAmong records before → EndAmong records after
+  part_faults records None before after goes here h others = subst (EndAmong records) (sym h) others
+  part_faults records (Some span) before after goes here h others =
+      subst (EndAmong records) (sym h.is)
+      (All-push (λ (q : Path). EndsAmong records q.end) before h.pushed others (subst (EndsAmong records) (sym h.end) (came old.end goes)))
+    where
+      came : (end : PathEnd) → GoesOn end → EndsAmong records (end_by fault end)
+      came (Next forms) g = here
+      came (Ended f) g = absurd g
+
+-- ---- what the parts give
+
+-- What is given where the cell holds a number with the property, and nothing elsewhere.
+record IsGivenWhere (truth : Truth) (old : Path) (c : ℕ) (span : Span) (s : State) (property : ℤ → Type 0) (wanted gives : List Outcome) : Type 0 where
+  none : given truth old s ≡ [] → gives ≡ []
+  here : slice_get s.cells c ≡ Some (cell.Int (number_at s c)) → HasPoint span (number_at s c) → property (number_at s c) → gives ≡ wanted
+  away : slice_get s.cells c ≡ Some (cell.Int (number_at s c)) → HasPoint span (number_at s c) → ¬ (property (number_at s c)) → gives ≡ []
+
+module _ (p : ScriptPlan) (c : ℕ) (old : Path) (span : Span) (s : State) where
+  abbrev all : List Outcome
+  all = given (test_truth p.tests) old s
+
+  fault_none : (fault : Fault) → all ≡ [] → given (test_truth p.tests) (with_fault old fault) s ≡ []
+  fault_none fault e = faults_give (test_truth p.tests) s old fault ∙ ap (map (ended_by fault)) e
+
+  -- The paths after a part is pushed: those before, and what is given on the part.
+  part_given : (o : Option Span) (property : ℤ → Type 0) (fault : Fault) (before after : List Path) → IsPart property o → IsPartPushed p c o fault old before after →
+      (gives : List Outcome) × ((rest : List Outcome) → outcomes (test_truth p.tests) after s ++ rest ≡ outcomes (test_truth p.tests) before s ++ (gives ++ rest))
+      × IsGivenWhere (test_truth p.tests) old c span s property (map (ended_by fault) all) gives
+  part_given None property fault before after is pushed = (
+    [],
+    λ rest. ap (λ (ps : List Path). outcomes (test_truth p.tests) ps s ++ rest) pushed,
+    record { none = λ e. refl; here = λ h x q. absurd (is (number_at s c) q); away = λ h x n. refl },
+  )
+  part_given (Some part_span) property fault before after is pushed =
+      let T = test_truth p.tests in
+      let q : Path = pushed.pushed in
+      let ended : Path = with_fault old fault in (
+        given T q s,
+        λ rest. ap (λ (ps : List Path). outcomes T ps s ++ rest) pushed.is ∙ ap (λ (os : List Outcome). os ++ rest) (outcomes_push T before q s) ∙ append_assoc (outcomes T before s) (given T q s) rest,
+        record {
+          none = λ e. given_none T ended q c part_span s pushed.gives (fault_none fault e);
+          here = λ h x g. given_in T ended q c part_span s (number_at s c) pushed.gives h ((is (number_at s c)).1 g) ∙ faults_give T s old fault;
+          away = λ h x n. given_out T ended q c part_span s (number_at s c) pushed.gives h (λ g. n ((is (number_at s c)).0 g));
+        },
+      )
+
+pub stored_in : (number : Wide) (range : Span) (fault : Fault) (store : ℤ → State → State) (s : State) (os : List Outcome) → HasPoint range (wide_value number s) → map (wide_stored number range fault store s) os ≡ map (changed (store (wide_value number s))) os
+stored_in number range fault store s os h = ap (λ (b : Bool). map (if b then changed (store (wide_value number s)) else ended_by fault) os) ((point_decided range (wide_value number s)).1 h)
+
+pub stored_out : (number : Wide) (range : Span) (fault : Fault) (store : ℤ → State → State) (s : State) (os : List Outcome) → ¬ (HasPoint range (wide_value number s)) → map (wide_stored number range fault store s) os ≡ map (ended_by fault) os
+stored_out number range fault store s os n = ap (λ (b : Bool). map (if b then changed (store (wide_value number s)) else ended_by fault) os) (no_point range (wide_value number s) n)
+
+pub map_same : (os : List Outcome) → map (λ (o : Outcome). o) os ≡ os
+map_same [] = refl
+map_same (o ∷ os) = ap (λ (rest : List Outcome). o ∷ rest) (map_same os)
+
+-- Three lists of which one is what is wanted, and the others are empty.
+first_of : (a b d w : List Outcome) → a ≡ w → b ≡ [] → d ≡ [] → a ++ (b ++ d) ≡ w
+first_of a b d w e f g = rw (e, f, g) (append-nil w)
+
+second_of : (a b d w : List Outcome) → a ≡ [] → b ≡ w → d ≡ [] → a ++ (b ++ d) ≡ w
+second_of a b d w e f g = rw (e, f, g) (append-nil w)
+
+third_of : (a b d w : List Outcome) → a ≡ [] → b ≡ [] → d ≡ w → a ++ (b ++ d) ≡ w
+third_of a b d w e f g = rw (e, f, g) refl
+
+module _ (p : ScriptPlan) (c : ℕ) (old : Path) (span range : Span) (number : Wide) (fault : Fault) (is : slice_get old.when c ≡ Some (part.Span span)) (names : wide_cell number ≡ Some c) where
+  -- Below, above and within the range, the parts give what comes of the number.
+  parts_give : (store : ℤ → State → State) (s : State) (low high mid : List Outcome) →
+      IsGivenWhere (test_truth p.tests) old c span s (Below span number range.lo) (map (ended_by fault) (given (test_truth p.tests) old s)) low →
+      IsGivenWhere (test_truth p.tests) old c span s (Above span number range.hi) (map (ended_by fault) (given (test_truth p.tests) old s)) high →
+      IsGivenWhere (test_truth p.tests) old c span s (Within span number range) (map (changed (store (wide_value number s))) (given (test_truth p.tests) old s)) mid →
+      low ++ (high ++ mid) ≡ map (wide_stored number range fault store s) (given (test_truth p.tests) old s)
+  parts_give store s low high mid l h m = elim (number_is_held (test_truth p.tests) old s c span is) [
+    | inl none ↦ first_of low high mid _ (l.none none ∙ sym (ap (map (wide_stored number range fault store s)) none)) (h.none none) (m.none none)
+    | inr (held, point) ↦
+        let x : ℤ = number_at s c in
+        let same : wide_value number s ≡ wide_on number x = wide_at number c s names in
+        let ordered : range.lo ≤ℤ range.hi = range.ordered in
+        by_lt_z (wide_on number x) range.lo
+        (λ low_is.
+        let out : ¬ (HasPoint range (wide_value number s)) = λ g. let k = g.0 in omega (arith, ints, same, k, low_is) in
+        first_of low high mid _ (l.here held point (point, low_is) ∙ sym (stored_out number range fault store s _ out))
+        (h.away held point (λ g. let k = g.1 in omega (arith, ints, k, low_is, ordered)))
+        (m.away held point (λ g. let k = g.1.0 in omega (arith, ints, k, low_is))))
+        (λ not_low.
+        by_lt_z range.hi (wide_on number x)
+        (λ high_is.
+        let out : ¬ (HasPoint range (wide_value number s)) = λ g. let k = g.1 in omega (arith, ints, same, k, high_is) in
+        second_of low high mid _
+        (l.away held point (λ g. let k = g.1 in omega (arith, ints, k, not_low)))
+        (h.here held point (point, high_is) ∙ sym (stored_out number range fault store s _ out))
+        (m.away held point (λ g. let k = g.1.1 in omega (arith, ints, k, high_is))))
+        (λ not_high.
+        let there : HasPoint range (wide_on number x) = (omega (arith, ints), omega (arith, ints)) in
+        let inside : HasPoint range (wide_value number s) = subst (HasPoint range) (sym same) there in
+        third_of low high mid _
+        (l.away held point (λ g. let k = g.1 in omega (arith, ints, k, not_low)))
+        (h.away held point (λ g. let k = g.1 in omega (arith, ints, k, not_high)))
+        (m.here held point (point, there) ∙ sym (stored_in number range fault store s _ inside))))
+  ]
+
+  -- No number over the cell is in the range: the path ends.
+  pub none_inside : (before : List Path) → IsPart (Within span number range) None → WideRanges p number range fault old before (with_fault old fault) before None
+  none_inside before outside store s =
+      ap (λ (os : List Outcome). outcomes (test_truth p.tests) before s ++ os)
+      (elim (number_is_held (test_truth p.tests) old s c span is) [
+        | inl none ↦ same_map (faults_give (test_truth p.tests) s old fault ∙ ap (map (ended_by fault)) none) ∙ sym (ap (map (wide_stored number range fault store s)) none)
+        | inr (held, point) ↦
+            let out : ¬ (HasPoint range (wide_value number s)) = λ g. outside (number_at s c) (point, subst (HasPoint range) (wide_at number c s names) g) in
+            same_map (faults_give (test_truth p.tests) s old fault) ∙ sym (stored_out number range fault store s _ out)
+      ])
+    where
+      same_map : {os rest : List Outcome} → os ≡ rest → map (λ (o : Outcome). o) os ≡ rest
+      same_map {os = os} e = map_same os ∙ e
+
+-- ---- the number on the path
+
+ends_of_points : (a b : Span) → ((x : ℤ) → HasPoint a x → HasPoint b x) → IsSubspan b a
+ends_of_points a b h =
+    let ordered : a.lo ≤ℤ a.hi = a.ordered in
+    let first = h a.lo (omega (arith, ints), ordered) in
+    let last = h a.hi (ordered, omega (arith, ints)) in
+    (first.0, last.1)
+
+one_point : (when : List Part) (c : ℕ) (x : ℤ) (span : Span) → slice_get when c ≡ Some (part.Span span) → HasOneNumber when c x → span.lo ≡ span.hi
+one_point when c x span is one =
+    let same : part.Span one.span ≡ part.Span span = cc in
+    let equal : one.span ≡ span = cc in
+    sym (ap (λ (q : Span). q.lo) equal) ∙ one.lo ∙ sym one.hi ∙ ap (λ (q : Span). q.hi) equal
+
+two_ends : (a : Span) → a.lo ≢ a.hi → a.lo <ℤ a.hi
+two_ends a n = let o : a.lo ≤ℤ a.hi = a.ordered in by_lt_z a.lo a.hi (λ p. p) (λ q. absurd (n (omega (arith, ints))))
+
+module _ (when : List Part) (c : ℕ) (span range : Span) (number : ℤ → ℤ) (is : slice_get when c ≡ Some (part.Span span)) (within : (x : ℤ) → HasPoint span x → HasPoint range (number x)) where
+  taken_fits : (f : IntForm) → IsTaken number (Some c) span f → NumberFits range.lo range.hi when f
+  taken_fits (form.Const n) h =
+      let ordered : span.lo ≤ℤ span.hi = span.ordered in
+      let first : HasPoint span span.lo = (omega (arith, ints), ordered) in
+      subst (HasPoint range) (sym (h.same span.lo first)) (within span.lo first)
+  taken_fits (form.Line line) h =
+      let more : span.lo <ℤ span.hi = two_ends span (λ e. let none = h.one e in absurd (cc)) in
+      let named : Some line.cell ≡ Some c = h.more more in
+      let same : line.cell ≡ c = cc in
+      subst (λ (o : Option Part). StaysWithin range.lo range.hi (form_on (form.Line line)) o)
+      (sym (ap (λ (k : ℕ). slice_get when k) same ∙ is))
+      (λ x point. subst (HasPoint range) (sym (h.same x point)) (within x point))
+
+  taken_is_taken : (f : IntForm) → IsTaken number (Some c) span f → NumberIsTakenTo when f f
+  taken_is_taken (form.Const n) h = record { one = λ d x e o. absurd (cc); more = λ none. refl }
+  taken_is_taken (form.Line line) h =
+      let more : span.lo <ℤ span.hi = two_ends span (λ e. let none = h.one e in absurd (cc)) in
+      let named : Some line.cell ≡ Some c = h.more more in
+      record {
+        one = λ d x e o.
+            let same : d ≡ c = cc in
+            let there : HasOneNumber when c x = subst (λ (k : ℕ). HasOneNumber when k x) same o in
+            let ends = one_point when c x span is there in
+            absurd (omega (arith, ints, ends, more));
+        more = λ none. refl;
+      }
+
+-- ---- the parts of a fitted span
+
+part_narrows : (o : Option Span) (property : ℤ → Type 0) (span : Span) (old : Option Part) → old ≡ Some (part.Span span) → IsPart property o → ((x : ℤ) → property x → HasPoint span x) → IfSome o (λ q. NarrowsNumbers q old)
+part_narrows None property span old e h within = tt
+part_narrows (Some q) property span old e h within =
+    let narrower : IsSubspan span q = ends_of_points q span (λ x point. within x ((h x).0 point)) in
+    subst (NarrowsNumbers q) (sym e) narrower
+
+pub above_narrows : (span range : Span) (number : Wide) (fitted : Fitted) → IsFitted span number range fitted → (old : Option Part) → old ≡ Some (part.Span span) → IfSome fitted.above (λ q. NarrowsNumbers q old)
+above_narrows span range number fitted fits old is = part_narrows fitted.above (Above span number range.hi) span old is fits.above (λ x h. h.0)
+
+-- The path on the part inside, with the number of its form there.
+inside_given : (p : ScriptPlan) (c : ℕ) (old path : Path) (span range : Span) (number : Wide) (inside : Inside) → wide_cell number ≡ Some c → IsPart (Within span number range) (Some inside.span) → IsInside number inside → GivesWhere old c (part.Span inside.span) path → (store : ℤ → State → State) (s : State) →
+    IsGivenWhere (test_truth p.tests) old c span s (Within span number range) (map (changed (store (wide_value number s))) (given (test_truth p.tests) old s)) (map (form_stored (Some inside.form) store s) (given (test_truth p.tests) path s))
+inside_given p c old path span range number inside names is inside_form gives store s =
+    let T = test_truth p.tests in
+    record {
+      none = λ e. ap (map (form_stored (Some inside.form) store s)) (given_none T old path c inside.span s gives e);
+      here = λ h x g.
+          let point : HasPoint inside.span (number_at s c) = (is (number_at s c)).1 g in
+          let cell_in : IsCellIn (wide_cell number) inside.span s = subst (λ (o : Option ℕ). IsCellIn o inside.span s) (sym names) point in
+          ap (map (form_stored (Some inside.form) store s)) (given_in T old path c inside.span s (number_at s c) gives h point)
+          ∙ ap (λ (y : ℤ). map (changed (store y)) (given T old s)) (inside_form.value s cell_in);
+      away = λ h x n. ap (map (form_stored (Some inside.form) store s)) (given_out T old path c inside.span s (number_at s c) gives h (λ point. n ((is (number_at s c)).0 point)));
+    }
+
+-- ---- a path that is parted
+
+-- The number of the part inside, on a path with this span.
+module _ (c : ℕ) (span range : Span) (number : Wide) (fitted : Fitted) (inside : Inside) (names : wide_cell number ≡ Some c) (fits : IsFitted span number range fitted) (some : fitted.inside ≡ Some inside) where
+  inside_points : IsPart (Within span number range) (Some inside.span)
+  inside_points = subst (λ (o : Option Inside). IsPart (Within span number range) (inside_span o)) some fits.inside
+
+  inside_is : IsInside number inside
+  inside_is = subst (λ (o : Option Inside). IfSome o (IsInside number)) some fits.form
+
+  pub parts_number : (path : Path) → GoesOn path.end → slice_get path.when c ≡ Some (part.Span inside.span) → NumberFitsOn range.lo range.hi path inside.form
+  parts_number path goes has =
+      let taken : IsTaken (wide_on number) (Some c) inside.span inside.form = subst (λ (o : Option ℕ). IsTaken (wide_on number) o inside.span inside.form) names inside_is.form in
+      let in_range : (x : ℤ) → HasPoint inside.span x → HasPoint range (wide_on number x) = λ x point. ((inside_points x).0 point).1 in
+      record {
+        goes_on = goes;
+        fits = taken_fits path.when c inside.span range (wide_on number) has in_range inside.form taken;
+        taken = taken_is_taken path.when c inside.span range (wide_on number) has in_range inside.form taken;
+      }
+
+pub parts_range : (p : ScriptPlan) (c : ℕ) (old path : Path) (span range : Span) (number : Wide) (fault : Fault) (fitted : Fitted) (inside : Inside) (before between after : List Path) →
+    slice_get old.when c ≡ Some (part.Span span) → wide_cell number ≡ Some c → IsFitted span number range fitted → fitted.inside ≡ Some inside →
+    IsPartPushed p c fitted.below fault old before between → IsPartPushed p c fitted.above fault old between after →
+    GivesWhere old c (part.Span inside.span) path → WideRanges p number range fault old before path after (Some inside.form)
+parts_range p c old path span range number fault fitted inside before between after is names fits some low high gives store s =
+    let T = test_truth p.tests in
+    let points = inside_points c span range number fitted inside names fits some in
+    let form_is = inside_is c span range number fitted inside names fits some in
+    let under = part_given p c old span s fitted.below (Below span number range.lo) fault before between fits.below low in
+    let over = part_given p c old span s fitted.above (Above span number range.hi) fault between after fits.above high in
+    let mid = map (form_stored (Some inside.form) store s) (given T path s) in
+    over.1 mid ∙ under.1 (over.0 ++ mid)
+    ∙ ap (λ (os : List Outcome). outcomes T before s ++ os)
+    (parts_give p c old span range number fault is names store s under.0 over.0 mid under.2 over.2 (inside_given p c old path span range number inside names points form_is gives store s))
+
+module _ (p : ScriptPlan) (c : ℕ) (old : Path) (fault : Fault) (fitted : Fitted) (before between after : List Path)
+    (low : IsPartPushed p c fitted.below fault old before between) (high : IsPartPushed p c fitted.above fault old between after) where
+  pub parts_fit : SegmentFits p before → SegmentFits p after
+  parts_fit others = part_fits p c fault old fitted.above between after high (part_fits p c fault old fitted.below before between low others)
+
+  pub parts_few : (path : Path) → GoesOn old.end → AreFewPaths 1 2 old before path after
+  parts_few path goes = record {
+    going =
+        let a = part_going p c fault old fitted.below before between low in
+        let b = part_going p c fault old fitted.above between after high in
+        let d = one_goes old.end goes in
+        let e = one_at_most path.end in
+        omega (arith, a, b, d, e);
+    all =
+        let a = part_length p c fault old fitted.below before between low in
+        let b = part_length p c fault old fitted.above between after high in
+        let d = going_most old.end 3 goes in
+        omega (arith, a, b, d);
+  }
+
+  pub parts_faults : (path : Path) → GoesOn old.end → GoesOn path.end → FaultsCameAt fault.no old before path after
+  parts_faults path goes goes_on records here ends others = (
+    goes_among records path.end goes_on,
+    part_faults p c fault old records fitted.above between after goes here high (part_faults p c fault old records fitted.below before between goes here low others),
+  )

@@ -1,0 +1,143 @@
+-- The number of a term over the state before a path.
+use Rattle.std.proofs.Common.{◌≡◌, ◌≢◌, ℕ, ℤ, pos, Bool, true, false, List, [], ◌∷◌, Option, Some, None, ◌⊎◌, inl, inr, refl, sym, ap, ◌∙◌, subst}
+use Rattle.std.proofs.lemmas.Bool.Decides.{Decides-int_eq}
+use Rattle.std.specs.Prelude.{slice_get, if◌then◌else◌, Ok}
+use Rattle.std.specs.List.{AllZip}
+use Rattle.std.specs.Ordering.{int_eq}
+use Rattle.sym_base.specs.States.{number_at, number_in}
+use Rattle.sym_base.specs.Tests.{Truth}
+use Rattle.sym_base.specs.declared.values.state.State.{State}
+use Rattle.sym_base.specs.declared.values.state.Outcome.TheVariants.{Going}
+use Rattle.sym_check.proofs.ValidSteps.{pair_is}
+use Rattle.sym_check.specs.Arithmetic.{and_then}
+use Rattle.sym_check.specs.CellKinds.{IsIntCell}
+use Rattle.sym_check.specs.Conditions.{test_truth}
+use Rattle.sym_check.specs.FixedValues.{Environment}
+use Rattle.sym_check.specs.LinePlans.{LinePlan, OfLine}
+use Rattle.sym_check.specs.LineValues.{pair, pair_at, term_number}
+use Rattle.sym_check.specs.ScriptPlans.{ScriptPlan}
+use Rattle.sym_check.specs.declared.evaluate.pairs.Pair.{Pair}
+use Rattle.sym_check.specs.declared.plan.script.CellPlan.TheVariants as plan
+use Rattle.sym_int.specs.Lines.{form_cell, form_on, form_value, wide_cell, wide_value}
+use Rattle.sym_int.specs.declared.form.IntForm.{IntForm}
+use Rattle.sym_int.specs.declared.form.IntForm.TheVariants as number
+use Rattle.sym_int.specs.declared.span.Span.{Span}
+use Rattle.sym_int.specs.declared.wide.Wide.{Wide}
+use Rattle.sym_path.proofs.Decided.{admits_decided}
+use Rattle.sym_path.proofs.FollowedStates.{cells_at_get}
+use Rattle.sym_path.proofs.Lists.{zip_get}
+use Rattle.sym_path.specs.Admitting.{Admits, PartAdmits, admits}
+use Rattle.sym_path.specs.Changing.{GoesOn, form_of}
+use Rattle.sym_path.specs.Fitting.{EndFits, FormFits, FormsFit, NumberFits, PartFits, PathFits, StaysWithin}
+use Rattle.sym_path.specs.Fitting as fitting
+use Rattle.sym_path.specs.Giving.{cell_at, cells_at, given, state_at}
+use Rattle.sym_path.specs.declared.form.Form.{Form}
+use Rattle.sym_path.specs.declared.form.Form.TheVariants as form
+use Rattle.sym_path.specs.declared.part.Part.{Part}
+use Rattle.sym_path.specs.declared.part.Part.TheVariants as part
+use Rattle.sym_path.specs.declared.path.Path.{Path}
+use Rattle.sym_path.specs.declared.path.PathEnd.{PathEnd}
+use Rattle.sym_path.specs.declared.path.PathEnd.TheVariants.{Next, Ended}
+use Rattle.sym_explore.specs.Knowing.{TermIsKnown}
+use Rattle.sym_explore.specs.Terms.{HasSpan, IsPairOver, IsTermOver, int_form, number_form, span_in}
+
+-- ---- the form of an integer cell
+
+int_fits : (p : ScriptPlan) (when : List Part) (lo hi first : ℤ) (f : Form) → FormFits p when (plan.Int lo hi first) f → (g : IntForm) × (f ≡ form.Int g) × NumberFits lo hi when g
+int_fits p when lo hi first _ (fitting.of_number _ _ _ g h) = (g, refl, h)
+
+-- Where the path goes on, an integer cell has a number form, which lies in the cell's range.
+pub number_form_fits : (p : ScriptPlan) (when : List Part) (forms : List Form) (c : ℕ) → IsIntCell p.cells c → FormsFit p when forms → (f : IntForm) × (lo : ℤ) × (hi : ℤ) × (slice_get forms c ≡ Some (form.Int f)) × NumberFits lo hi when f
+number_form_fits p when forms c cell fits =
+    let found = zip_get (FormFits p when) p.cells forms c (plan.Int cell.lo cell.hi cell.first) fits.each cell.is in
+    let of = int_fits p when cell.lo cell.hi cell.first found.0 found.2 in
+    (of.0, cell.lo, cell.hi, found.1 ∙ ap (λ (g : Form). Some g) of.1, of.2)
+
+-- A line over a cell stays in a range, so the cell has a span.
+spanned : (lo hi : ℤ) (number : ℤ → ℤ) (o : Option Part) → StaysWithin lo hi number o → (span : Span) × (span_in o ≡ Some span)
+spanned lo hi number None h = absurd h
+spanned lo hi number (Some (part.Set set)) h = absurd h
+spanned lo hi number (Some (part.Span span)) h = (span, refl)
+spanned lo hi number (Some (part.Facts known)) h = absurd h
+spanned lo hi number (Some part.Free) h = absurd h
+
+form_spanned : (path : Path) (lo hi : ℤ) (f : IntForm) → NumberFits lo hi path.when f → HasSpan path (form_cell f)
+form_spanned path lo hi (number.Const n) h = tt
+form_spanned path lo hi (number.Line line) h = spanned lo hi (form_on (number.Line line)) (slice_get path.when line.cell) h
+
+-- ---- what the cell holds after the path
+
+going_state : (truth : Truth) (when : List Part) (forms : List Form) (first later : State) → given truth (record { when = when; end = Next forms }) first ≡ Going later ∷ [] → Admits truth when first × (later ≡ state_at forms first)
+going_state truth when forms first later = go (admits truth when first.cells) refl
+  where
+    go : (b : Bool) → admits truth when first.cells ≡ b → (if b then Going (state_at forms first) ∷ [] else []) ≡ Going later ∷ [] → Admits truth when first × (later ≡ state_at forms first)
+    go true a e =
+        let same : Going (state_at forms first) ∷ [] ≡ Going later ∷ [] = e in
+        ((admits_decided truth when first).0 a, cc)
+    go false a e = absurd (cc)
+
+number_after : (truth : Truth) (p : ScriptPlan) (when : List Part) (forms : List Form) (c : ℕ) (f : IntForm) (first later : State) → AllZip (PartFits p) p.cells when → IsIntCell p.cells c → slice_get forms c ≡ Some (form.Int f) → Admits truth when first → later ≡ state_at forms first → number_at later c ≡ form_value f first
+number_after truth p when forms c f first later parts cell at a is =
+    let need = zip_get (PartFits p) p.cells when c (plan.Int cell.lo cell.hi cell.first) parts cell.is in
+    let held = zip_get (PartAdmits truth) when first.cells c need.0 a need.1 in
+    let there : slice_get (cells_at forms first first.cells) c ≡ Some (cell_at (form.Int f) first held.0) = cells_at_get forms first first.cells c (form.Int f) held.0 at held.1 in
+    ap (λ (s : State). number_at s c) is ∙ ap number_in there
+
+-- ---- the term
+
+module _ (p : ScriptPlan) (k : Environment) (l : LinePlan) (known : TermIsKnown p k (OfLine l)) (q : Pair) (calculated : Ok q ≡ pair k l) where
+  over_int : IsIntCell p.cells q.cell
+  over_int = (pair_is p.enums p.cells known.kinds k l q known.known known.well (sym calculated)).0
+
+  number_at_pair : (s : State) → term_number k (OfLine l) s ≡ Ok (pair_at q (number_at s q.cell))
+  number_at_pair s = ap (and_then (λ (r : Pair). Ok (pair_at r (number_at s r.cell)))) (sym calculated)
+
+  spans : (path : Path) (f : IntForm) (wide : Wide) → IsPairOver f q wide → HasSpan path (form_cell f) → HasSpan path (wide_cell wide)
+  spans path f wide over h = elim (int_cases q.a) [
+    | inl e ↦ subst (λ (o : Option ℕ). HasSpan path o) (sym (over.constant e)) tt
+    | inr e ↦ subst (λ (o : Option ℕ). HasSpan path o) (sym (over.cell e)) h
+  ]
+    where
+      int_cases : (x : ℤ) → (x ≡ pos 0) ⊎ (x ≢ pos 0)
+      int_cases x = go (int_eq x (pos 0)) refl
+        where
+          go : (b : Bool) → int_eq x (pos 0) ≡ b → (x ≡ pos 0) ⊎ (x ≢ pos 0)
+          go true e = inl ((Decides-int_eq x (pos 0)).0 e)
+          go false e = inr (λ h. let t = (Decides-int_eq x (pos 0)).1 h in cc)
+
+  pub line_over : (path : Path) (f : IntForm) (wide : Wide) → PathFits p path → Some f ≡ number_form path q.cell → IsPairOver f q wide → IsTermOver p k (OfLine l) path wide
+  line_over path f wide fits is over = go path.end refl
+    where
+      go : (end : PathEnd) → path.end ≡ end → IsTermOver p k (OfLine l) path wide
+      go (Ended fault) e = let none : Some f ≡ None = is ∙ ap (λ (x : PathEnd). int_form (form_of x q.cell)) e in absurd (cc)
+      go (Next forms) e =
+          let forms_fit : FormsFit p path.when forms = subst (λ (x : PathEnd). EndFits p path.when x) e fits.end in
+          let found = number_form_fits p path.when forms q.cell over_int forms_fit in
+          let same : Some f ≡ Some found.0 = is ∙ ap (λ (x : PathEnd). int_form (form_of x q.cell)) e ∙ ap int_form found.3 in
+          let equal : found.0 ≡ f = cc in
+          let there : slice_get forms q.cell ≡ Some (form.Int f) = found.3 ∙ ap (λ (g : IntForm). Some (form.Int g)) equal in
+          let fit : NumberFits found.1 found.2 path.when f = subst (λ (g : IntForm). NumberFits found.1 found.2 path.when g) equal found.4 in
+          let truth = test_truth p.tests in
+          let number : (first later : State) → given truth path first ≡ Going later ∷ [] → term_number k (OfLine l) later ≡ Ok (wide_value wide first) =
+          λ first later g.
+          let g' : given truth (record { when = path.when; end = Next forms }) first ≡ Going later ∷ [] = ap (λ (x : PathEnd). given truth (record { when = path.when; end = x }) first) (sym e) ∙ g in
+          let came = going_state truth path.when forms first later g' in
+          let held : number_at later q.cell ≡ form_value f first = number_after truth p path.when forms q.cell f first later fits.parts over_int there came.0 came.1 in
+          number_at_pair later ∙ ap (λ (x : ℤ). Ok (pair_at q x)) held ∙ ap (λ (x : ℤ). Ok x) (sym (over.value first)) in
+          record {
+            goes_on = subst GoesOn (sym e) tt;
+            number = number;
+            span = spans path f wide over (form_spanned path found.1 found.2 f fit);
+            fixed = λ t. absurd (cc);
+          }
+
+  pub line_ended : (path : Path) → PathFits p path → None ≡ number_form path q.cell → ¬ (GoesOn path.end)
+  line_ended path fits is = go path.end refl
+    where
+      go : (end : PathEnd) → path.end ≡ end → ¬ (GoesOn path.end)
+      go (Ended fault) e = λ h. subst GoesOn e h
+      go (Next forms) e = λ h.
+          let forms_fit : FormsFit p path.when forms = subst (λ (x : PathEnd). EndFits p path.when x) e fits.end in
+          let found = number_form_fits p path.when forms q.cell over_int forms_fit in
+          let same : None ≡ Some found.0 = is ∙ ap (λ (x : PathEnd). int_form (form_of x q.cell)) e ∙ ap int_form found.3 in
+          cc

@@ -1,0 +1,85 @@
+use Rattle.std.proofs.Common.{◌≡◌, true, false, List, Some, None, sym, ◌∙◌, subst}
+use Rattle.std.specs.Prelude.{slice_get}
+use Rattle.sym_check.specs.ScriptPlans.{script_plan}
+use Rattle.sym_path.specs.declared.part.Part.TheVariants as part
+use Rattle.sym_path.specs.declared.path.Path.{Path}
+use Rattle.sym_path.specs.Changing.{GoesOn}
+use Rattle.sym_path.specs.Narrowing.{GivesWhere, NarrowsLabels}
+use Rattle.sym_explore.specs.declared.branch.Branch.{Branch}
+use Rattle.sym_explore.specs.Branches.{BranchesFit, AreFewBranches}
+use Rattle.sym_explore.specs.Faulting.{BranchFaultsCameAt}
+use Rattle.sym_explore.specs.Labels.{set_of, WasSplit}
+use Rattle.sym_explore.proofs.JudgedBranches.{few_split, pushed_fits, pushed_faults, going_among}
+use Rattle.sym_explore.proofs.LabelsHeld.{has_set, set_is, narrows, subset_only, subset_rest, split_never, split_always, split_both}
+use Rattle.sym_explore.proofs.labels.split_labels.Goals as goal
+
+pub unreachable-requires : goal.unreachable-requires
+unreachable-requires c =
+    let none : set_of c.args.path.now c.args.cell ≡ None = sym c.set_of.ensures ∙ c.in_default.is in
+    has_set (script_plan c.args.plan.now) c.args.path.now c.args.cell c.requires.enum_cell.0 c.requires.enum_cell.1 c.requires.fits none
+
+pub returns-then-is_empty-clause-exact : goal.returns-then-is_empty-clause-exact
+returns-then-is_empty-clause-exact c =
+    let p = script_plan c.args.plan.now in
+    let old = c.args.path.now in
+    let set = c.in-Some.set in
+    let is = set_is p old c.args.cell c.requires.enum_cell.0 set c.requires.enum_cell.1 c.requires.fits (sym c.set_of.ensures ∙ c.in-Some.is) in
+    split_never p old c.args.out.now.items c.args.cell c.args.label set c.split.result.0 is c.split.ensures.only (c.is_empty.ensures.0 c.if-is_empty.true)
+
+pub returns-then-is_empty-2-clause-exact : goal.returns-then-is_empty-2-clause-exact
+returns-then-is_empty-2-clause-exact c =
+    let p = script_plan c.args.plan.now in
+    let old = c.args.path.now in
+    let set = c.in-Some.set in
+    let is = set_is p old c.args.cell c.requires.enum_cell.0 set c.requires.enum_cell.1 c.requires.fits (sym c.set_of.ensures ∙ c.in-Some.is) in
+    split_always p old c.args.out.now.items c.args.cell c.args.label set c.split.result.1 is c.split.ensures.rest (c.is_empty-2.ensures.0 c.if-is_empty-2.true)
+
+pub narrow_labels-requires-clause-narrower : goal.narrow_labels-requires-clause-narrower
+narrow_labels-requires-clause-narrower c =
+    let p = script_plan c.args.plan.now in
+    let old = c.args.path.now in
+    let set = c.in-Some.set in
+    let only = c.split.result.0 in
+    let is = set_is p old c.args.cell c.requires.enum_cell.0 set c.requires.enum_cell.1 c.requires.fits (sym c.set_of.ensures ∙ c.in-Some.is) in
+    let here : NarrowsLabels only (slice_get old.when c.args.cell) = narrows old c.args.cell set only is (subset_only set only c.args.label c.is_empty.result c.split.ensures.only c.is_empty.ensures c.if-is_empty.false) in
+    subst (λ (path : Path). NarrowsLabels c.split.result.0 (slice_get path.when c.args.cell)) (sym c.in_ok-copy.ensures) here
+
+pub narrow_labels-requires-2-clause-narrower : goal.narrow_labels-requires-2-clause-narrower
+narrow_labels-requires-2-clause-narrower c =
+    let p = script_plan c.args.plan.now in
+    let old = c.args.path.now in
+    let set = c.in-Some.set in
+    let rest = c.split.result.1 in
+    let is = set_is p old c.args.cell c.requires.enum_cell.0 set c.requires.enum_cell.1 c.requires.fits (sym c.set_of.ensures ∙ c.in-Some.is) in
+    narrows old c.args.cell set rest is (subset_rest set rest c.args.label c.is_empty-2.result c.split.ensures.rest c.is_empty-2.ensures c.if-is_empty-2.false)
+
+pub returns-clause-exact : goal.returns-clause-exact
+returns-clause-exact c =
+    let p = script_plan c.args.plan.now in
+    let old = c.args.path.now in
+    let copy = c.narrow_labels.new.self in
+    let path = c.narrow_labels-2.new.self in
+    let before = c.args.out.now.items in
+    let set = c.in-Some.set in
+    let is = set_is p old c.args.cell c.requires.enum_cell.0 set c.requires.enum_cell.1 c.requires.fits (sym c.set_of.ensures ∙ c.in-Some.is) in
+    let one : GivesWhere old c.args.cell (part.Set c.split.result.0) copy = subst (λ (x : Path). GivesWhere x c.args.cell (part.Set c.split.result.0) c.narrow_labels.new.self) c.in_ok-copy.ensures c.narrow_labels.ensures.gives in
+    let both = split_both p old copy path before c.args.cell c.args.label set c.split.result.0 c.split.result.1 is c.split.ensures.only c.split.ensures.rest one c.narrow_labels-2.ensures.gives in
+    subst (λ (after : List Branch). WasSplit (script_plan c.args.plan.now) c.args.cell c.args.label c.args.path.now c.args.out.now.items c.narrow_labels-2.new.self after false) (sym c.in_ok-push.ensures.items) both
+
+pub returns-clause-others : goal.returns-clause-others
+returns-clause-others c =
+    subst (λ (after : List Branch). BranchesFit (script_plan c.args.plan.now) after) (sym c.in_ok-push.ensures.items)
+    (pushed_fits (script_plan c.args.plan.now) c.args.out.now.items c.narrow_labels.new.self true c.requires.others c.narrow_labels.ensures.fits)
+
+pub returns-clause-few : goal.returns-clause-few
+returns-clause-few c =
+    subst (λ (after : List Branch). AreFewBranches (λ x. 1) c.args.out.now.items after (Some false)) (sym c.in_ok-push.ensures.items)
+    (few_split c.args.out.now.items c.narrow_labels.new.self)
+
+pub returns-clause-faults : goal.returns-clause-faults
+returns-clause-faults c = λ n.
+    let goes : GoesOn c.in_ok-copy.copy.end = subst (λ (x : Path). GoesOn x.end) (sym c.in_ok-copy.ensures) c.requires.goes_on in
+    subst (λ (after : List Branch). BranchFaultsCameAt n c.args.path.now c.args.out.now.items c.narrow_labels-2.new.self after) (sym c.in_ok-push.ensures.items)
+    (pushed_faults n c.args.path.now c.narrow_labels.new.self c.narrow_labels-2.new.self c.args.out.now.items true
+    (λ records e. going_among records c.narrow_labels.new.self.end (c.narrow_labels.ensures.next goes))
+    (λ records e. going_among records c.narrow_labels-2.new.self.end (c.narrow_labels-2.ensures.next c.requires.goes_on)))

@@ -1,0 +1,46 @@
+-- Assignments to cells of a path.
+use Rattle.std.specs.Prelude.{◌<◌, ℕ, List, [], Option, Some, None}
+use Rattle.sym_check.specs.CellKinds.{IsEnumCell}
+use Rattle.sym_check.specs.ScriptPlans.{ScriptPlan}
+use Rattle.sym_check.specs.Validity.{label_count}
+use Rattle.sym_int.specs.declared.form.IntForm.{IntForm}
+use Rattle.sym_pred.specs.declared.form.HoldForm.{HoldForm}
+use Rattle.sym_path.specs.declared.form.Form.{Form}
+use Rattle.sym_path.specs.declared.form.Form.TheVariants as form
+use Rattle.sym_path.specs.declared.path.Path.{Path}
+use Rattle.sym_path.specs.Changing.{form_of}
+
+-- The numbers, or words, that a form adds to the list of a cell; none of any other form.
+abbrev pub added_numbers : Option Form → List IntForm
+added_numbers None = []
+added_numbers (Some (form.Enum f)) = []
+added_numbers (Some (form.Int f)) = []
+added_numbers (Some (form.Hold f)) = []
+added_numbers (Some (form.Nums added)) = added
+added_numbers (Some (form.Words added)) = []
+
+abbrev pub added_words : Option Form → List (List ℕ)
+added_words None = []
+added_words (Some (form.Enum f)) = []
+added_words (Some (form.Int f)) = []
+added_words (Some (form.Hold f)) = []
+added_words (Some (form.Nums added)) = []
+added_words (Some (form.Words added)) = added
+
+-- The form of a hold cell; none of any other form, and of none.
+abbrev pub hold_form : Option Form → Option HoldForm
+hold_form None = None
+hold_form (Some (form.Enum f)) = None
+hold_form (Some (form.Int f)) = None
+hold_form (Some (form.Hold f)) = Some f
+hold_form (Some (form.Nums added)) = None
+hold_form (Some (form.Words added)) = None
+
+abbrev pub parts_form : Path → ℕ → Option HoldForm
+parts_form path c = hold_form (form_of path.end c)
+
+-- The cell is an enum cell whose enum has the label.
+pub record HasLabel (p : ScriptPlan) (c l : ℕ) : Type 0 where
+  pub of : ℕ
+  pub is_enum : IsEnumCell p.cells c of
+  pub within : l < label_count p.enums of

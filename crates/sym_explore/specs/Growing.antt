@@ -1,0 +1,27 @@
+-- Segments that are taken a record further.
+use Rattle.std.specs.Prelude.{◌≡◌, ◌≤◌, ◌<◌, ℕ, List, length, map}
+use Rattle.sym_base.specs.declared.values.record.Record.{Record}
+use Rattle.sym_base.specs.declared.values.state.State.{State}
+use Rattle.sym_check.specs.Conditions.{test_truth}
+use Rattle.sym_check.specs.ScriptPlans.{ScriptPlan}
+use Rattle.sym_path.specs.declared.path.Path.{Path}
+use Rattle.sym_path.specs.Giving.{outcomes}
+use Rattle.sym_explore.specs.Stepping.{after_record}
+use Rattle.sym_explore.specs.declared.extending.Grown.{Grown}
+use Rattle.sym_explore.specs.declared.extending.Grown.TheVariants.{Fits, Over}
+
+abbrev pub grown_paths : Grown → List Path
+grown_paths (Fits segment) = segment
+grown_paths (Over segment) = segment
+
+-- The segment is within the limit of paths exactly where it is said to be.
+abbrev pub IsToldBy : ℕ → Grown → Type 0
+IsToldBy limit (Fits segment) = length segment ≤ limit
+IsToldBy limit (Over segment) = limit < length segment
+
+-- At each state that at most one of the old paths admits, the new ones give what the record makes
+-- of what the old ones gave: what has ended stays so, also where the old ones stand for no records.
+abbrev pub GivesAfter : ScriptPlan → Record → List Path → List Path → Type 0
+GivesAfter p rec old new = (s : State) → length (outcomes (test_truth p.tests) old s) ≤ 1 →
+    outcomes (test_truth p.tests) new s
+    ≡ map (after_record p rec) (outcomes (test_truth p.tests) old s)

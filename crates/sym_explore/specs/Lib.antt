@@ -1,0 +1,14 @@
+pub mod Assigning
+pub mod Branches
+pub mod Calling
+pub mod Comparing
+pub mod Connecting
+pub mod Counting
+pub mod Faulting
+pub mod Growing
+pub mod Knowing
+pub mod Labels
+pub mod Ranging
+pub mod Running
+pub mod Stepping
+pub mod Terms

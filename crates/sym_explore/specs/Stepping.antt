@@ -1,0 +1,66 @@
+-- What a statement makes of a path: paths whose states are those of the path, with no state in two
+-- of them.
+use Rattle.std.specs.Prelude.{◌≡◌, ◌≤◌, ◌+◌, ◌*◌, ℕ, List, [], ◌∷◌, ◌++◌, map, length, Result}
+use Rattle.sym_base.specs.declared.values.record.Record.{Record}
+use Rattle.sym_base.specs.declared.values.state.FaultKind.{FaultKind}
+use Rattle.sym_base.specs.declared.values.state.State.{State}
+use Rattle.sym_base.specs.declared.values.state.Outcome.{Outcome}
+use Rattle.sym_base.specs.declared.values.state.Outcome.TheVariants.{Going}
+use Rattle.sym_base.specs.declared.values.state.Outcome.TheVariants as outcome
+use Rattle.sym_check.specs.Conditions.{test_truth}
+use Rattle.sym_check.specs.DoPlans.{DoPlan, DosPlan}
+use Rattle.sym_check.specs.FixedValues.{Environment}
+use Rattle.sym_check.specs.ScriptPlans.{ScriptPlan}
+use Rattle.sym_check.specs.Updates.{at_record, do_step, dos_step, step}
+use Rattle.sym_path.specs.declared.path.PathEnd.{PathEnd}
+use Rattle.sym_path.specs.declared.path.PathEnd.TheVariants.{Next, Ended}
+use Rattle.sym_path.specs.declared.path.Path.{Path}
+use Rattle.sym_path.specs.Giving.{given, outcomes}
+
+-- What a group comes to by a part of an update at the record with this number; one that has ended
+-- stays so.
+abbrev pub going_on : ℕ → (State → Result State FaultKind) → Outcome → Outcome
+going_on n part (Going s) = at_record n (part s)
+going_on n part (outcome.Ended fault) = outcome.Ended fault
+
+abbrev pub after_do : ScriptPlan → Environment → ℕ → DoPlan → Outcome → Outcome
+after_do p k n d = going_on n (do_step p k d)
+
+abbrev pub after_dos : ScriptPlan → Environment → ℕ → DosPlan → Outcome → Outcome
+after_dos p k n ds = going_on n (dos_step p k ds)
+
+abbrev pub after_record : ScriptPlan → Record → Outcome → Outcome
+after_record p rec o = step p o rec
+
+-- The second path gives, at each state, what the step makes of what the first one gives. Here the
+-- tests answer as those of the script do.
+abbrev pub Becomes : ScriptPlan → (Outcome → Outcome) → Path → Path → Type 0
+Becomes p f old new = (s : State) →
+    given (test_truth p.tests) new s ≡ map f (given (test_truth p.tests) old s)
+
+-- The path and the other paths before, and those after: at each state the new paths and the path
+-- give what the step makes of what the path gave.
+abbrev pub Steps :
+    ScriptPlan → (Outcome → Outcome) → Path → List Path → Path → List Path → Type 0
+Steps p f old before path after = (s : State) →
+    outcomes (test_truth p.tests) after s ++ given (test_truth p.tests) path s
+    ≡ outcomes (test_truth p.tests) before s ++ map f (given (test_truth p.tests) old s)
+
+-- How many paths go on.
+abbrev pub one_going : PathEnd → ℕ
+one_going (Next forms) = 1
+one_going (Ended fault) = 0
+
+abbrev pub going_paths : List Path → ℕ
+going_paths [] = 0
+going_paths (path ∷ paths) = one_going path.end + going_paths paths
+
+-- So many, where the path goes on; a path that has ended stays one.
+abbrev pub most_paths : PathEnd → ℕ → ℕ
+most_paths (Next forms) most = most
+most_paths (Ended fault) most = 1
+
+-- A path becomes at most so many that go on, and at most so many in all.
+pub record AreFewPaths (most_going most_ended : ℕ) (old : Path) (before : List Path) (path : Path) (after : List Path) : Type 0 where
+  pub going : going_paths after + one_going path.end ≤ going_paths before + one_going old.end * most_going
+  pub all : length after + 1 ≤ length before + most_paths old.end (most_going + most_ended)

@@ -1,0 +1,178 @@
+//! Tests on hold cells.
+ghost use Rattle.std.specs.Prelude.{◌≡◌, ℕ, IfOk, OnOk, Some, map};
+ghost use Rattle.sym_check.specs.CondPlans.{Test};
+ghost use Rattle.sym_check.specs.FixedPlans.{fixed_plan};
+ghost use Rattle.sym_check.specs.KnownValues.{known_values};
+ghost use Rattle.sym_check.specs.ScriptPlans.{script_plan};
+ghost use Rattle.sym_check.specs.WellFormed.{IsWellFormed};
+ghost use Rattle.sym_path.specs.Changing.{form_of};
+ghost use Rattle.sym_path.specs.Fitting.{PathFits};
+ghost use Rattle.sym_explore.specs.Branches.{answered, tried, Splits, BranchFits, BranchesFit, AreFewBranches};
+ghost use Rattle.sym_explore.specs.Calling.{IsTested, TestSuits, test_holds, WasTested, known_outcome};
+ghost use Rattle.sym_explore.specs.Faulting.{BranchFaultsCameAt};
+ghost use Rattle.sym_explore.specs.Knowing.{CondIsKnown};
+
+use crate::branch::Branch;
+use crate::knowing::arith;
+use std::alloc::Global;
+use sym_base::{Fault, NoMemory, Values};
+use sym_check::laws::plans::well_formed_tests_are_fixed;
+use sym_check::{FixedList, Known, Plan, answer_at};
+use sym_path::{Form, Part, Path};
+use sym_plain::{Stop, set_values};
+use sym_pred::{HoldForm, Literal};
+
+/// The outcome that is known of a test on the hold cell with this number.
+fn known_outcome(path: &Path, cell: u16, test: u16, args: &Values) -> Option<bool>
+    ensures { result ≡ known_outcome path.now cell (test, args.now) }
+{
+    match path.when.get(usize::from(cell)) {
+        Some(Part::Facts(facts)) => facts.says(test, args),
+        _ => None,
+    }
+}
+
+/// A test with these arguments and an outcome.
+fn literal(alloc: Global, test: u16, args: &Values, outcome: bool) -> Result<Literal, NoMemory>
+    ensures { IfOk result (λ l. l ≡ record { test = test; args = args.now; outcome = outcome }) }
+{
+    let args = args.copy(alloc)?;
+    Ok(Literal {
+        test,
+        args,
+        outcome,
+    })
+}
+
+/// Splits the path by the outcome of a test on the parts that the cell with this number held before
+/// it.
+fn split_test(
+    alloc: Global,
+    plan: &Plan,
+    test: u16,
+    cell: u16,
+    args: &Values,
+    path: &mut Path,
+    out: &mut Vec<Branch>,
+) -> Result<bool, NoMemory>
+    requires suits { TestSuits (script_plan plan.now) cell test args.now }
+    requires fits { PathFits (script_plan plan.now) path.old }
+    requires others { BranchesFit (script_plan plan.now) out.old.items }
+    ensures exact { IfOk result (λ truth. WasTested (script_plan plan.now) cell test args.now
+        path.old out.old.items path.new out.new.items truth) }
+    ensures fits { OnOk result (PathFits (script_plan plan.now) path.new) }
+    ensures others { OnOk result (BranchesFit (script_plan plan.now) out.new.items) }
+    ensures few { IfOk result (λ truth. AreFewBranches (λ x. 1)
+        out.old.items out.new.items (Some truth)) }
+    ensures faults { (n : ℕ) → OnOk result (BranchFaultsCameAt n
+        path.old out.old.items path.new out.new.items) }
+{
+    if let Some(outcome) = known_outcome(path, cell, test, args) {
+        return Ok(outcome);
+    }
+    let mut copy = path.copy(alloc)?;
+    copy.add_literal(plan, cell, literal(alloc, test, args, true)?)?;
+    out.push(Branch {
+        path: copy,
+        truth: Some(true),
+    })?;
+    path.add_literal(plan, cell, literal(alloc, test, args, false)?)?;
+    Ok(false)
+}
+
+/// What a test on a hold cell comes to on a path.
+enum Tested {
+    /// The test's answer for known parts.
+    Known(bool),
+    /// The parts are those that the cell with this number held before the path.
+    Held(u16),
+    /// The path has ended.
+    Ended,
+}
+
+/// What a test comes to on a path.
+fn test_on(plan: &Plan, test: u16, cell: u16, args: &Values, path: &Path) -> Tested
+    requires known { IsWellFormed (script_plan plan.now) }
+    ensures { IsTested (script_plan plan.now) test args.now (form_of path.now.end cell) result }
+{
+    well_formed_tests_are_fixed();
+    match path.form(cell) {
+        Some(Form::Hold(HoldForm::Const(parts))) => {
+            let (parts, args) = (parts.as_slice(), args.as_slice());
+            Tested::Known(answer_at(&plan.tests, test, parts, args))
+        }
+        Some(Form::Hold(HoldForm::Copy(from))) => Tested::Held(*from),
+        _ => Tested::Ended,
+    }
+}
+
+/// Tells a test's answer for the parts of a hold cell and the arguments at the path's states. The
+/// path is split where the cell's parts aren't known, nor the outcome of this test.
+fn call(
+    alloc: Global,
+    plan: &Plan,
+    test: u16,
+    cell: u16,
+    args: &Values,
+    path: &mut Path,
+    out: &mut Vec<Branch>,
+) -> Result<Option<bool>, NoMemory>
+    requires known { IsWellFormed (script_plan plan.now) }
+    requires suits { TestSuits (script_plan plan.now) cell test args.now }
+    requires fits { PathFits (script_plan plan.now) path.old }
+    requires others { BranchesFit (script_plan plan.now) out.old.items }
+    ensures exact { (n : ℕ) →
+        let meaning = answered n (test_holds (script_plan plan.now) cell test args.now) in
+        IfOk result (Splits (script_plan plan.now) meaning
+        path.old out.old.items path.new out.new.items) }
+    ensures fits { IfOk result (BranchFits (script_plan plan.now) path.new) }
+    ensures others { OnOk result (BranchesFit (script_plan plan.now) out.new.items) }
+    ensures few { IfOk result (AreFewBranches (λ x. 1) out.old.items out.new.items) }
+    ensures faults { (n : ℕ) → OnOk result (BranchFaultsCameAt n
+        path.old out.old.items path.new out.new.items) }
+{
+    match test_on(plan, test, cell, args, path) {
+        Tested::Known(answer) => Ok(Some(answer)),
+        Tested::Held(from) => Ok(Some(split_test(alloc, plan, test, from, args, path, out)?)),
+        Tested::Ended => Ok(None),
+    }
+}
+
+/// Calls a test. Arithmetic that fails in an argument ends the path. `args` is memory for the
+/// arguments.
+pub(crate) fn call_test(
+    alloc: Global,
+    plan: &Plan,
+    known: &Known,
+    no: u64,
+    test: u16,
+    cell: u16,
+    expressions: &FixedList,
+    args: &mut Values,
+    path: &mut Path,
+    out: &mut Vec<Branch>,
+) -> Result<Option<bool>, NoMemory>
+    requires known { IsWellFormed (script_plan plan.now) }
+    requires cond { CondIsKnown (script_plan plan.now) (known_values known.now)
+        (Test test cell (map fixed_plan expressions.now)) }
+    requires fits { PathFits (script_plan plan.now) path.old }
+    requires others { BranchesFit (script_plan plan.now) out.old.items }
+    ensures exact { let c = Test test cell (map fixed_plan expressions.now) in
+        let meaning = tried (script_plan plan.now) (known_values known.now) no c in
+        IfOk result (Splits (script_plan plan.now) meaning
+        path.old out.old.items path.new out.new.items) }
+    ensures fits { IfOk result (BranchFits (script_plan plan.now) path.new) }
+    ensures others { OnOk result (BranchesFit (script_plan plan.now) out.new.items) }
+    ensures few { IfOk result (AreFewBranches (λ x. 1) out.old.items out.new.items) }
+    ensures faults { OnOk result (BranchFaultsCameAt no
+        path.old out.old.items path.new out.new.items) }
+{
+    match set_values(alloc, known, expressions, args) {
+        Ok(()) => call(alloc, plan, test, cell, args, path, out),
+        Err(Stop::Fault(kind)) => {
+            path.fail(Fault { kind, no });
+            Ok(None)
+        }
+        Err(Stop::NoMemory) => Err(NoMemory),
+    }
+}

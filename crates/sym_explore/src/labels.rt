@@ -1,0 +1,110 @@
+//! Whether an enum cell holds a label.
+ghost use Rattle.std.specs.Prelude.{◌≡◌, ℕ, IfOk, OnOk, Some};
+ghost use Rattle.sym_check.specs.CellKinds.{IsEnumCell};
+ghost use Rattle.sym_check.specs.ScriptPlans.{script_plan};
+ghost use Rattle.sym_check.specs.WellFormed.{IsWellFormed};
+ghost use Rattle.sym_path.specs.Changing.{GoesOn};
+ghost use Rattle.sym_path.specs.Fitting.{PathFits};
+ghost use Rattle.sym_explore.specs.Branches.{answered, Splits, BranchFits, BranchesFit, AreFewBranches};
+ghost use Rattle.sym_explore.specs.Faulting.{BranchFaultsCameAt};
+ghost use Rattle.sym_explore.specs.Labels.{cell_has, label_form, set_of, WasSplit};
+
+use crate::branch::Branch;
+use std::alloc::Global;
+use sym_base::NoMemory;
+use sym_check::Plan;
+use sym_enum::{EnumForm, LabelSet};
+use sym_path::{Form, Part, Path};
+
+/// The form of the enum cell with this number; `None` where the path has ended.
+pub(crate) fn label_form(path: &Path, cell: u16) -> Option<EnumForm>
+    ensures { result ≡ label_form path.now cell }
+{
+    match path.form(cell) {
+        Some(Form::Enum(form)) => Some(*form),
+        _ => None,
+    }
+}
+
+/// The labels of the enum cell with this number.
+fn set_of(path: &Path, cell: u16) -> Option<LabelSet>
+    ensures { result ≡ set_of path.now cell }
+{
+    match path.when.get(usize::from(cell)) {
+        Some(Part::Set(set)) => Some(*set),
+        _ => None,
+    }
+}
+
+/// Splits the path by whether the cell with this number held the label before it.
+fn split_labels(
+    alloc: Global,
+    plan: &Plan,
+    cell: u16,
+    label: u8,
+    path: &mut Path,
+    out: &mut Vec<Branch>,
+) -> Result<bool, NoMemory>
+    requires enum_cell { (of : ℕ) × IsEnumCell (script_plan plan.now).cells cell of }
+    requires goes_on { GoesOn path.old.end }
+    requires fits { PathFits (script_plan plan.now) path.old }
+    requires others { BranchesFit (script_plan plan.now) out.old.items }
+    ensures exact { IfOk result (λ truth. WasSplit (script_plan plan.now) cell label
+        path.old out.old.items path.new out.new.items truth) }
+    ensures fits { OnOk result (PathFits (script_plan plan.now) path.new) }
+    ensures others { OnOk result (BranchesFit (script_plan plan.now) out.new.items) }
+    ensures few { IfOk result (λ truth. AreFewBranches (λ x. 1)
+        out.old.items out.new.items (Some truth)) }
+    ensures faults { (n : ℕ) → OnOk result (BranchFaultsCameAt n
+        path.old out.old.items path.new out.new.items) }
+{
+    let Some(set) = set_of(path, cell) else {
+        unreachable!()
+    };
+    let (only, rest) = set.split(label);
+    if only.is_empty() {
+        return Ok(false);
+    }
+    if rest.is_empty() {
+        return Ok(true);
+    }
+    let mut copy = path.copy(alloc)?;
+    copy.narrow_labels(plan, cell, only);
+    out.push(Branch {
+        path: copy,
+        truth: Some(true),
+    })?;
+    path.narrow_labels(plan, cell, rest);
+    Ok(false)
+}
+
+/// Tells whether the enum cell holds the label at the path's states. The path is split where it
+/// does in some and doesn't in others.
+pub(crate) fn cell_is(
+    alloc: Global,
+    plan: &Plan,
+    cell: u16,
+    label: u8,
+    path: &mut Path,
+    out: &mut Vec<Branch>,
+) -> Result<Option<bool>, NoMemory>
+    requires enum_cell { (of : ℕ) × IsEnumCell (script_plan plan.now).cells cell of }
+    requires fits { PathFits (script_plan plan.now) path.old }
+    requires others { BranchesFit (script_plan plan.now) out.old.items }
+    ensures exact { (n : ℕ) → let meaning = answered n (cell_has cell label) in
+        IfOk result (Splits (script_plan plan.now) meaning
+        path.old out.old.items path.new out.new.items) }
+    ensures fits { IfOk result (BranchFits (script_plan plan.now) path.new) }
+    ensures others { OnOk result (BranchesFit (script_plan plan.now) out.new.items) }
+    ensures few { IfOk result (AreFewBranches (λ x. 1) out.old.items out.new.items) }
+    ensures faults { (n : ℕ) → OnOk result (BranchFaultsCameAt n
+        path.old out.old.items path.new out.new.items) }
+{
+    match label_form(path, cell) {
+        None => Ok(None),
+        Some(EnumForm::Const(own)) => Ok(Some(own == label)),
+        Some(EnumForm::Copy(from)) => {
+            Ok(Some(split_labels(alloc, plan, from, label, path, out)?))
+        }
+    }
+}
