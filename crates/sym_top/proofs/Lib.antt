@@ -1,11 +1,8 @@
-pub mod CounterTrees
-pub mod CounterSteps
-pub mod CountersFound
-pub mod Digits
-pub mod FirstLine
-pub mod LineByLine
-pub mod Passing
-pub mod FilesRead
-pub mod Joining
+pub mod Consequences
 pub mod EndsFound
+mod MessageExamples
+pub mod Names
 pub mod Preparing
+pub mod ProgramsFound
+pub mod Rows
+pub mod TellingLemmas

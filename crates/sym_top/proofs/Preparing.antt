@@ -1,94 +1,246 @@
--- What each exit of a run says of its end.
-use Rattle.std.proofs.Common.{◌≡◌, ℕ, ◌<◌, ◌≤◌, nat_lt, true, false, List, length, Option, None, Some, Result, Ok, Err, IfSome, refl, sym, ap, ◌∙◌, arith}
-use Rattle.std.proofs.lemmas.Bool.Decides.{nat_tests}
-use Rattle.std.specs.declared.vec.Vec.{Vec}
-use Rattle.sym_base.specs.Counters.{Counter, counter_tree}
-use Rattle.sym_top.specs.CounterTexts.{IsCounterText}
-use Rattle.sym_top.specs.declared.counter.CheckedCounter.{CheckedCounter}
-use Rattle.sym_top.specs.CheckedCounters.{checked_counter_tree}
-use Rattle.sym_top.specs.declared.status.Status.{Status}
-use Rattle.sym_top.specs.declared.status.Status.TheVariants.{Done, Faulted, Usage, Script, Input, ReadFault, WriteFault, TooLarge, NoMemory}
-use Rattle.sym_top.specs.declared.compute.Report.{Report}
+-- What each exit before the writing of a report says of the run.
+use Rattle.std.proofs.Common.{◌≡◌, ◌≢◌, ℕ, ◌+◌, ◌<◌, ◌≤◌, inl, inr, List, [], ◌∷◌, map, length, replicate, Option, None, Some, Result, Ok, Err, IfOk, IfErr, IfSome, if◌then◌else◌, refl, sym, ap, subst, ◌∙◌, arith}
+use Rattle.std.proofs.lemmas.List.{length-replicate}
 use Rattle.sym_base.specs.Counts.{Rose}
-use Rattle.sym_top.specs.Promises.{MayRun}
-use Rattle.sym_top.proofs.EndsFound.{script-agrees}
-use Rattle.sym_top.specs.PlainReading.{numbers_of}
-use Rattle.sym_top.specs.Ends.{End, script_max, file_max, report_of}
-use Rattle.sym_top.specs.EndReading.{script_end, file_end, numbers_end}
-use Rattle.sym_top.specs.Loading.{ScriptGives, FileGives, ReportGives, EndGives}
+use Rattle.sym_base.specs.Trees.{ScriptTree}
+use Rattle.sym_base.specs.declared.edge.read.ReadErr.{ReadErr}
+use Rattle.sym_base.specs.declared.edge.read.ReadErr.TheVariants as read_error
+use Rattle.sym_base.specs.declared.edge.sink.SinkErr.{SinkErr}
+use Rattle.sym_base.specs.declared.edge.sink.SinkErr.TheVariants as sink_error
+use Rattle.sym_base.specs.declared.values.value.Key.{Key}
+use Rattle.sym_base.specs.declared.values.state.Outcome.{Outcome}
+use Rattle.sym_parse.specs.declared.error.ParseErr.{ParseErr}
+use Rattle.sym_parse.specs.declared.error.ParseErr.TheVariants as parse_error
+use Rattle.sym_parse.specs.Answers.{IsScriptOf, parsed}
+use Rattle.sym_check.specs.Groups.{pass}
+use Rattle.sym_check.specs.Scripts.{BreaksScript}
+use Rattle.sym_check.specs.declared.checking.accepted.Checked.{Checked}
+use Rattle.sym_check.specs.declared.elaborate.error.CheckErr.{CheckErr}
+use Rattle.sym_check.specs.declared.elaborate.error.CheckErr.TheVariants as check_error
+use Rattle.sym_engine.specs.declared.error.PassErr.{PassErr}
+use Rattle.sym_engine.specs.declared.error.PassErr.TheVariants as pass_error
+use Rattle.sym_engine.specs.Passing.{May, MayAll, PassedAll, StopsPass}
+use Rattle.sym_report.specs.ReportRows.{heads_of, row_of, some_faulty}
+use Rattle.sym_report.specs.Tables.{table_text}
+use Rattle.sym_top.specs.declared.refusal.Place.TheVariants as place
+use Rattle.sym_top.specs.declared.refusal.Refusal.{Refusal}
+use Rattle.sym_top.specs.declared.refusal.Refusal.TheVariants as refusal
+use Rattle.sym_top.specs.declared.report.Report.{Report}
+use Rattle.sym_top.specs.declared.status.Status.TheVariants as status
+use Rattle.sym_top.specs.Commands.{Run, options}
+use Rattle.sym_top.specs.Ends.{Held, IsTextOf, table, usage, no_program, problem, report, file_max, report_of}
+use Rattle.sym_top.specs.Loading.{MayRefuse, Loads, Unloads, refused, unread, no_memory, Reports, StopsFiles, stops, Ready, Stops}
+use Rattle.sym_top.specs.Messages.{line_of}
+use Rattle.sym_top.specs.Programs.{Program, IsProgram, IsNoProgram, checked_program, program_headers, script_max}
+use Rattle.sym_top.specs.Programs as programs
+use Rattle.sym_top.specs.Promises.{Call, Files, MayHold, IsStop, WriteFails, no_files}
+use Rattle.sym_top.specs.Promises as promise
+use Rattle.sym_top.specs.Refusals.{parse_refusal, check_refusal, read_refusal, pass_refusal, write_refusal}
+use Rattle.sym_top.specs.Telling.{Sunk, HasPrefix, Failed, Short}
+use Rattle.sym_top.proofs.ProgramsFound.{parsed-unread, program-found, none-found}
 
-over : (n m : ℕ) → n < m → nat_lt n m ≡ true
-over n m h = grind (arith, nat_tests)
+-- ---- the script
 
-within : (n m : ℕ) → m ≤ n → nat_lt n m ≡ false
-within n m h = grind (arith, nat_tests)
+pub unparsed-refuses : (text : List ℕ) (why : ParseErr) → length text ≤ script_max →
+    (why ≢ parse_error.NoMemory → parsed text ≡ Err why) → MayRefuse text (parse_refusal why)
+unparsed-refuses text (parse_error.Lex fault) small g =
+    inr (programs.unread (parse_error.Lex fault) small (parsed-unread text (parse_error.Lex fault) (g (λ h. cc))))
+unparsed-refuses text (parse_error.Expected at) small g =
+    inr (programs.unread (parse_error.Expected at) small (parsed-unread text (parse_error.Expected at) (g (λ h. cc))))
+unparsed-refuses text (parse_error.Limit at which) small g =
+    inr (programs.unread (parse_error.Limit at which) small (parsed-unread text (parse_error.Limit at which) (g (λ h. cc))))
+unparsed-refuses text parse_error.NoMemory small g = inl refl
 
-same-end : {x end : End} → Some x ≡ Some end → end ≡ x
-same-end {x} {end} e = cc
+pub broken-refuses : (text : List ℕ) (tree : ScriptTree) (why : CheckErr) → length text ≤ script_max →
+    IsScriptOf text tree → (why ≢ check_error.NoMemory → BreaksScript tree why) → MayRefuse text (check_refusal why)
+broken-refuses text tree (check_error.Name at) small is g =
+    inr (programs.broken tree (check_error.Name at) small is (g (λ h. cc)))
+broken-refuses text tree (check_error.Twice at) small is g =
+    inr (programs.broken tree (check_error.Twice at) small is (g (λ h. cc)))
+broken-refuses text tree (check_error.Kind at) small is g =
+    inr (programs.broken tree (check_error.Kind at) small is (g (λ h. cc)))
+broken-refuses text tree (check_error.Range at) small is g =
+    inr (programs.broken tree (check_error.Range at) small is (g (λ h. cc)))
+broken-refuses text tree (check_error.NotLinear at) small is g =
+    inr (programs.broken tree (check_error.NotLinear at) small is (g (λ h. cc)))
+broken-refuses text tree (check_error.Branchy paths) small is g =
+    inr (programs.broken tree (check_error.Branchy paths) small is (g (λ h. cc)))
+broken-refuses text tree check_error.NoMemory small is g = inl refl
 
--- The script is refused.
-pub script-stops : (o file : Option (List ℕ)) (s : Status) (end : End) → IfSome o (λ text. ScriptGives text (Err s)) → script_end o file ≡ Some end → EndGives end (Err s)
-script-stops None file s end h e = absurd (cc)
-script-stops (Some text) file TooLarge end h e = same-end (sym (rw (over script_max (length text) h) refl) ∙ e)
-script-stops (Some text) file Script end h e = same-end (sym (rw (within script_max (length text) h.0, h.1) refl) ∙ e)
-script-stops (Some text) file ReadFault end h e = tt
-script-stops (Some text) file NoMemory end h e = tt
-script-stops (Some text) file Done end h e = absurd h
-script-stops (Some text) file Faulted end h e = absurd h
-script-stops (Some text) file Usage end h e = absurd h
-script-stops (Some text) file Input end h e = absurd h
-script-stops (Some text) file WriteFault end h e = absurd h
+zeros : (n : ℕ) → (bytes : List ℕ) × (length bytes ≡ n)
+zeros n = (replicate n 0, length-replicate n 0)
 
--- The script is accepted.
-pub script-goes : (o file : Option (List ℕ)) (checked : CheckedCounter) (end : End) → IfSome o (λ text. ScriptGives text (Ok checked)) → script_end o file ≡ Some end → (c : Counter) × (checked_counter_tree checked ≡ counter_tree c) × (file_end c file ≡ Some end)
-script-goes None file checked end h e = absurd (cc)
-script-goes (Some text) file checked end h e =
-    (h.counter, h.tree, sym (rw (within script_max (length text) h.small, h.found) refl) ∙ e)
+large-unloads : (told : Option (List ℕ)) (before after : ℕ) →
+    IfSome told (λ bytes. script_max < length bytes) → Unloads told before after (refusal.TooLarge place.Script)
+large-unloads None before after h =
+    let z = zeros (script_max + 1) in
+    refused z.0 (refusal.TooLarge place.Script) tt (programs.too_large (omega (arith, z.1)))
+large-unloads (Some bytes) before after h =
+    refused bytes (refusal.TooLarge place.Script) refl (programs.too_large h)
 
--- The file is refused.
-pub file-stops : (A : Type 0) (c : Counter) (o : Option (List ℕ)) (s : Status) (end : End) → IfSome o (λ held. FileGives {A = A} held (Err s)) → file_end c o ≡ Some end → EndGives end (Err s)
-file-stops A c None s end h e = absurd (cc)
-file-stops A c (Some held) TooLarge end h e = same-end (sym (rw (over file_max (length held) h) refl) ∙ e)
-file-stops A c (Some held) ReadFault end h e = tt
-file-stops A c (Some held) NoMemory end h e = tt
-file-stops A c (Some held) Script end h e = absurd h
-file-stops A c (Some held) Done end h e = absurd h
-file-stops A c (Some held) Faulted end h e = absurd h
-file-stops A c (Some held) Usage end h e = absurd h
-file-stops A c (Some held) Input end h e = absurd h
-file-stops A c (Some held) WriteFault end h e = absurd h
+pub unread-unloads : (told : Option (List ℕ)) (before after : ℕ) (why : ReadErr) →
+    (why ≡ read_error.TooLarge → IfSome told (λ bytes. script_max < length bytes)) →
+    (why ≡ read_error.Failed → Rose before after) → Unloads told before after (read_refusal place.Script why)
+unread-unloads told before after read_error.Failed large failed = unread (failed refl)
+unread-unloads told before after read_error.TooLarge large failed = large-unloads told before after (large refl)
+unread-unloads told before after read_error.NoMemory large failed = no_memory
 
--- The file was read.
-pub file-goes : {A : Type 0} (c : Counter) (o : Option (List ℕ)) (bytes : Vec ℕ A) (end : End) → IfSome o (λ held. FileGives held (Ok bytes)) → file_end c o ≡ Some end → numbers_end c (numbers_of c.field.text bytes.items) ≡ Some end
-file-goes c None bytes end h e = absurd (cc)
-file-goes c (Some held) bytes end h e =
-    ap (λ b. numbers_end c (numbers_of c.field.text b)) h.0 ∙ sym (rw (within file_max (length held) h.1) refl) ∙ e
+pub read-may : (told : Option (List ℕ)) (text : List ℕ) → IfSome told (λ bytes. text ≡ bytes) → May told text
+read-may None text h = tt
+read-may (Some bytes) text h = h
 
--- The report, or why there is none.
-pub report-ends : (c : Counter) (bytes : List ℕ) (r : Result Report Status) (end : End) → ReportGives c bytes r → numbers_end c (numbers_of c.field.text bytes) ≡ Some end → EndGives end r
-report-ends c bytes (Ok report) end h e =
-    let same : end ≡ report_of c h.0 = same-end (sym (ap (numbers_end c) h.1) ∙ e) in
-    (h.3 ∙ ap (λ (x : End). x.status) (sym same), h.2 ∙ ap (λ (x : End). x.text) (sym same))
-report-ends c bytes (Err Input) end h e = same-end (sym (ap (numbers_end c) h) ∙ e)
-report-ends c bytes (Err NoMemory) end h e = tt
-report-ends c bytes (Err TooLarge) end h e = absurd h
-report-ends c bytes (Err ReadFault) end h e = absurd h
-report-ends c bytes (Err Script) end h e = absurd h
-report-ends c bytes (Err Done) end h e = absurd h
-report-ends c bytes (Err Faulted) end h e = absurd h
-report-ends c bytes (Err Usage) end h e = absurd h
-report-ends c bytes (Err WriteFault) end h e = absurd h
+pub loads-by : (told : Option (List ℕ)) (text : List ℕ) (r : Result Checked Refusal) → May told text →
+    IfOk r (λ checked. IsProgram text (checked_program checked)) → IfOk r (λ checked. Loads told (checked_program checked))
+loads-by told text (Ok checked) may is = record { text = text; may = may; is_program = is }
+loads-by told text (Err why) may is = tt
 
--- A script that was accepted is one that may be run.
-pub script-turn : (o : Option (List ℕ)) (checked : CheckedCounter) → IfSome o (λ text. ScriptGives text (Ok checked)) → MayRun o
-script-turn None checked h = tt
-script-turn (Some text) checked h = (h.small, (h.counter, (script-agrees text h.counter).1 h.found))
+pub unloads-by : (told : Option (List ℕ)) (before after : ℕ) (text : List ℕ) (r : Result Checked Refusal) → May told text →
+    IfErr r (MayRefuse text) → IfErr r (Unloads told before after)
+unloads-by told before after text (Ok checked) may is = tt
+unloads-by told before after text (Err why) may (inl same) = subst (Unloads told before after) (sym same) no_memory
+unloads-by told before after text (Err why) may (inr is) = refused text why may is
+
+-- ---- the files
+
+pub reports-by : (program : Program) (holds : Files) (names : List (List ℕ)) (groups : List (Key × Outcome)) (made : Report) →
+    PassedAll program.plan file_max holds names groups →
+    made.text.items ≡ table_text (heads_of program.tree program.plan) (map (row_of program.tree program.plan) groups) →
+    made.status ≡ (if some_faulty (map (row_of program.tree program.plan) groups) then status.Faulted else status.Done) →
+    Reports program holds names made
+reports-by program holds names groups made passed text_is status_is =
+    let row = row_of program.tree program.plan in
+    let heads = heads_of program.tree program.plan in
+    record {
+      files = passed.files;
+      may = passed.may;
+      records = passed.records;
+      fine = passed.fine;
+      status_is = status_is ∙ ap (λ gs. if some_faulty (map row gs) then status.Faulted else status.Done) passed.stands;
+      text_is = subst (IsTextOf (report_of program passed.records)) (sym (text_is ∙ ap (λ gs. table_text heads (map row gs)) passed.stands))
+          (table heads (map row (pass program.plan passed.records)));
+    }
+
+-- ---- all of it
+
+-- Some bytes that a file may hold.
+pub some-bytes : (told : Option (List ℕ)) → (bytes : List ℕ) × May told bytes
+some-bytes None = ([], tt)
+some-bytes (Some bytes) = (bytes, refl)
+
+pub some-files : (holds : Files) (names : List (List ℕ)) → (files : List (List ℕ)) × MayAll holds names files
+some-files holds [] = ([], tt)
+some-files holds (name ∷ names) =
+    let first = some-bytes (holds name) in
+    let rest = some-files holds names in
+    (first.0 ∷ rest.0, (first.1, rest.1))
+
+may-by : (holds : Files) (o : Option Run) (run : Run) (held : Held) → o ≡ Some run →
+    May (holds run.script) held.script → MayAll holds run.files held.files → MayHold holds o held
+may-by holds o run held asked script files = subst (λ o. MayHold holds o held) (sym asked) (script, files)
+
+pub usage-stops : (call : Call) → options call.words ≡ None → Stops call (record { why = refusal.Usage; checked = None })
+usage-stops call asked = record {
+  held = no_files;
+  may = subst (λ o. MayHold call.holds o no_files) (sym asked) refl;
+  stop = promise.at_end refusal.Usage (usage asked);
+  line = refl;
+}
+
+pub load-stops : (call : Call) (run : Run) (why : Refusal) → options call.words ≡ Some run →
+    Unloads (call.holds run.script) (call.before run.script) (call.after run.script) why →
+    Stops call (record { why = why; checked = None })
+load-stops call run _ asked (refused text why may is) =
+    let others = some-files call.holds run.files in
+    let held : Held = record { script = text; files = others.0 } in
+    record {
+      held = held;
+      may = may-by call.holds (options call.words) run held asked may others.1;
+      stop = promise.at_end why (no_program run why asked is);
+      line = ap (λ r. line_of call.words (program_headers r) why) (sym (none-found text why is));
+    }
+load-stops call run _ asked (unread rose) =
+    let text = some-bytes (call.holds run.script) in
+    let others = some-files call.holds run.files in
+    let held : Held = record { script = text.0; files = others.0 } in
+    record {
+      held = held;
+      may = may-by call.holds (options call.words) run held asked text.1 others.1;
+      stop = promise.script_unread run asked rose;
+      line = refl;
+    }
+load-stops call run _ asked no_memory =
+    let text = some-bytes (call.holds run.script) in
+    let others = some-files call.holds run.files in
+    let held : Held = record { script = text.0; files = others.0 } in
+    record {
+      held = held;
+      may = may-by call.holds (options call.words) run held asked text.1 others.1;
+      stop = promise.no_memory run asked;
+      line = refl;
+    }
+
+pub ready-by : (call : Call) (run : Run) (program : Program) (made : Report) → options call.words ≡ Some run →
+    Loads (call.holds run.script) program → Reports program call.holds run.files made → Ready call made
+ready-by call run program made asked loads reports =
+    let held : Held = record { script = loads.text; files = reports.files } in
+    record {
+      held = held;
+      may = may-by call.holds (options call.words) run held asked loads.may reports.may;
+      has = record {
+        heads = heads_of program.tree program.plan;
+        rows = map (row_of program.tree program.plan) (pass program.plan reports.records);
+        is_end = report run program reports.records asked loads.is_program reports.fine;
+        status_is = reports.status_is;
+        text_is = reports.text_is;
+      };
+    }
+
+-- Why a text isn't written whole.
+pub fails-by : (out : Sunk) (text : List ℕ) (why : SinkErr) → HasPrefix out text → (why ≡ sink_error.Failed → Failed out) →
+    (why ≡ sink_error.NoMemory → Short out) → WriteFails out text (write_refusal why)
+fails-by out text sink_error.Failed prefix bad full = promise.failed prefix (bad refl)
+fails-by out text sink_error.NoMemory prefix bad full = promise.short prefix (full refl)
 
 -- A count that rose later rose.
-pub rose-later : (first mid last : ℕ) → first ≤ mid → Rose mid last → Rose first last
+rose-later : (first mid last : ℕ) → first ≤ mid → Rose mid last → Rose first last
 rose-later first mid last h r = omega arith
 
--- A text that is refused as no script is none.
-pub script-none : (o : Option (List ℕ)) → IfSome o (λ text. ScriptGives text (Err Script)) → IfSome o (λ text. (length text ≤ script_max) × ((c : Counter) → IsCounterText text c → ⊥))
-script-none None h = tt
-script-none (Some text) h = (h.0, λ c is. let t = (script-agrees text c).0 is in cc)
+module _ (call : Call) (run : Run) (checked : Checked) (middle : List ℕ → ℕ) (asked : options call.words ≡ Some run)
+    (lower : (name : List ℕ) → call.before name ≤ middle name) (loads : Loads (call.holds run.script) (checked_program checked)) where
+  known : (why : Refusal) (files : List (List ℕ)) → MayAll call.holds run.files files →
+      IsStop call (record { script = loads.text; files = files }) why → Stops call (record { why = why; checked = Some checked })
+  known why files may stop =
+      let held : Held = record { script = loads.text; files = files } in
+      record {
+        held = held;
+        may = may-by call.holds (options call.words) run held asked loads.may may;
+        stop = stop;
+        line = ap (λ r. line_of call.words (program_headers r) why)
+            (sym (program-found loads.text (checked_program checked) loads.is_program));
+      }
+
+  error-stops : (why : PassErr) → StopsPass (checked_program checked).plan file_max call.holds run.files middle call.after why →
+      Stops call (record { why = pass_refusal why; checked = Some checked })
+  error-stops (pass_error.Read file) s =
+      known (refusal.Read (place.File file)) s.files s.may
+      (promise.file_unread run (checked_program checked) s.records file s.name asked loads.is_program s.fine s.named
+      (rose-later (call.before s.name) (middle s.name) (call.after s.name) (lower s.name) s.rose))
+  error-stops (pass_error.TooLarge file) s =
+      known (refusal.TooLarge (place.File file)) s.files s.may
+      (promise.at_end (refusal.TooLarge (place.File file))
+      (problem run (checked_program checked) (pass_error.TooLarge file) asked loads.is_program s.first))
+  error-stops (pass_error.Head file fault) s =
+      known (refusal.Head file fault) s.files s.may
+      (promise.at_end (refusal.Head file fault)
+      (problem run (checked_program checked) (pass_error.Head file fault) asked loads.is_program s.first))
+  error-stops (pass_error.Bad file bad) s =
+      known (refusal.Bad file bad) s.files s.may
+      (promise.at_end (refusal.Bad file bad)
+      (problem run (checked_program checked) (pass_error.Bad file bad) asked loads.is_program s.first))
+  error-stops pass_error.NoMemory s =
+      let others = some-files call.holds run.files in
+      known refusal.NoMemory others.0 others.1 (promise.no_memory run asked)
+
+  pub files-stop : (why : Refusal) → StopsFiles (checked_program checked) call.holds run.files middle call.after why →
+      Stops call (record { why = why; checked = Some checked })
+  files-stop _ (stops why s) = error-stops why s

@@ -1,31 +1,26 @@
--- The end of a run, as the function that the code is proved against; None where the store doesn't tell what decides.
-use Rattle.std.specs.Prelude.{ℕ, List, length, cond, nat_lt, Option, None, Some, ℤ}
-use Rattle.sym_base.specs.Counters.{Counter}
-use Rattle.sym_top.specs.CounterTexts.{counter_at}
-use Rattle.sym_top.specs.declared.status.Status.TheVariants as status
+-- The end of a run, as the function that the code is proved against.
+use Rattle.std.specs.Prelude.{ℕ, List, Option, None, Some, Result, Ok, Err}
+use Rattle.sym_base.specs.declared.values.record.Record.{Record}
+use Rattle.sym_engine.specs.declared.error.PassErr.{PassErr}
+use Rattle.sym_engine.specs.FirstProblems.{records_in}
+use Rattle.sym_top.specs.declared.refusal.Refusal.{Refusal}
+use Rattle.sym_top.specs.declared.refusal.Refusal.TheVariants as refusal
 use Rattle.sym_top.specs.Commands.{Run, options}
-use Rattle.sym_top.specs.Ends.{End, Files, script_max, file_max, refused, report_of}
-use Rattle.sym_top.specs.PlainReading.{numbers_of}
+use Rattle.sym_top.specs.Ends.{End, Refused, Held, file_max, report_of}
+use Rattle.sym_top.specs.Programs.{Program, program_in}
+use Rattle.sym_top.specs.Refusals.{pass_refusal}
 
-abbrev pub numbers_end : Counter → Option (List ℤ) → Option End
-numbers_end c None = Some (refused status.Input)
-numbers_end c (Some ns) = Some (report_of c ns)
+abbrev pub files_end : Program → Result (List Record) PassErr → End
+files_end program (Ok records) = report_of program records
+files_end program (Err why) = Refused (pass_refusal why)
 
-abbrev pub file_end : Counter → Option (List ℕ) → Option End
-file_end c None = None
-file_end c (Some bytes) = cond (nat_lt file_max (length bytes)) (Some (refused status.TooLarge)) (numbers_end c (numbers_of c.field.text bytes))
+abbrev pub program_end : Result Program Refusal → List (List ℕ) → End
+program_end (Ok program) files = files_end program (records_in program.plan file_max 0 1 files)
+program_end (Err why) files = Refused why
 
-abbrev pub counter_end : Option Counter → Option (List ℕ) → Option End
-counter_end None file = Some (refused status.Script)
-counter_end (Some c) file = file_end c file
+abbrev pub run_end : Option Run → Held → End
+run_end None held = Refused refusal.Usage
+run_end (Some run) held = program_end (program_in held.script) held.files
 
-abbrev pub script_end : Option (List ℕ) → Option (List ℕ) → Option End
-script_end None file = None
-script_end (Some text) file = cond (nat_lt script_max (length text)) (Some (refused status.TooLarge)) (counter_end (counter_at text) file)
-
-abbrev pub run_end : Option Run → Files → Option End
-run_end None holds = Some (refused status.Usage)
-run_end (Some run) holds = script_end (holds run.script) (holds run.file)
-
-abbrev pub end_of : List (List ℕ) → Files → Option End
-end_of words holds = run_end (options words) holds
+abbrev pub end_of : List (List ℕ) → Held → End
+end_of words held = run_end (options words) held

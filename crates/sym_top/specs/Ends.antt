@@ -1,65 +1,70 @@
--- What a run comes to: its status and its text, as a relation in the words of the subject.
--- Statuses, limits and their order are this project's profile.
-use Rattle.std.specs.Prelude.{◌≡◌, ℕ, ◌<◌, ◌≤◌, List, [], length, cond, map, ◌∷◌, Option, None, Some, ℤ}
-use Rattle.sym_base.specs.declared.values.value.Key.{Key}
-use Rattle.sym_base.specs.declared.values.state.Outcome.{Outcome}
+-- How a run ends, as a relation between its arguments and the bytes of the files that they name.
+-- The rows are those of one sequential pass, by the SYMPLE paper (SOSP 2015). Causes, statuses,
+-- limits and their order are this project's profile.
+use Rattle.std.specs.Prelude.{◌≡◌, ℕ, if◌then◌else◌, List, [], map, None, Some}
 use Rattle.sym_base.specs.declared.limits.TheConstants as limit
-use Rattle.sym_base.specs.Counters.{Counter}
-use Rattle.sym_top.specs.CounterSteps.{groups}
-use Rattle.sym_top.specs.CounterTexts.{IsCounterText}
+use Rattle.sym_base.specs.declared.values.record.Record.{Record}
+use Rattle.sym_check.specs.Groups.{pass}
+use Rattle.sym_engine.specs.declared.error.PassErr.{PassErr}
+use Rattle.sym_engine.specs.FirstProblems.{AllFine, FirstProblem}
+use Rattle.sym_report.specs.declared.rows.Heads.{Heads}
+use Rattle.sym_report.specs.declared.rows.Row.{Row}
+use Rattle.sym_report.specs.ReportRows.{heads_of, row_of, some_faulty}
+use Rattle.sym_report.specs.Tables.{table_text}
+use Rattle.sym_top.specs.declared.refusal.Refusal.{Refusal}
+use Rattle.sym_top.specs.declared.refusal.Refusal.TheVariants as refusal
 use Rattle.sym_top.specs.declared.status.Status.{Status}
 use Rattle.sym_top.specs.declared.status.Status.TheVariants as status
 use Rattle.sym_top.specs.Commands.{Run, options}
-use Rattle.sym_top.specs.PlainFiles.{IsPlain, records_of}
-use Rattle.sym_top.specs.Tables.{Row, row_of, one_cell, table_text, some_faulty}
+use Rattle.sym_top.specs.Programs.{Program, IsProgram, IsNoProgram}
+use Rattle.sym_top.specs.Refusals.{pass_refusal, status_of_refusal}
 
-pub record End : Type 0 where
-  pub status : Status
-  pub text : List ℕ
-
--- The most bytes of a script and of a file.
-abbrev pub script_max : ℕ
-script_max = limit.SCRIPT_MAX
-
+-- The most bytes of a file of records.
 abbrev pub file_max : ℕ
 file_max = limit.FILE_MAX_DEFAULT
 
--- A run that is refused writes nothing.
-abbrev pub refused : Status → End
-refused s = record { status = s; text = [] }
+-- How a run ends: refused for a cause, or with the names and rows of its report.
+pub data End : Type 0 where
+  Refused : Refusal → End
+  Reported : Heads → List Row → End
 
--- The rows of a counter's report.
-abbrev pub rows_of : Counter → List (Key × Outcome) → List Row
-rows_of c = map (row_of (one_cell c.cell.text))
+-- The status of an end: a report is Faulted where one of its rows is faulty.
+abbrev pub status_of : End → Status
+status_of (Refused why) = status_of_refusal why
+status_of (Reported heads rows) = if some_faulty rows then status.Faulted else status.Done
 
--- A report of rows under the counter's column: Faulted where a row is faulty.
-abbrev pub reported : Counter → List Row → End
-reported c rows = record {
-  status = cond (some_faulty rows) status.Faulted status.Done;
-  text = table_text (c.column.text ∷ []) rows;
-}
+-- The text of an end: nothing where the run is refused, else the table of the report.
+pub data IsTextOf : End → List ℕ → Type 0 where
+  nothing : (why : Refusal) → IsTextOf (Refused why) []
+  table : (heads : Heads) (rows : List Row) → IsTextOf (Reported heads rows) (table_text heads rows)
 
--- The report of one sequential pass over the records of these numbers.
-abbrev pub report_of : Counter → List ℤ → End
-report_of c ns = reported c (rows_of c (groups c (records_of ns)))
+-- The bytes of the files that a run's arguments name: the script, and the files in order, as many as
+-- are named (`MayHold` says so of a call's store).
+pub record Held : Type 0 where
+  pub script : List ℕ
+  pub files : List (List ℕ)
 
--- What stands in a store of the files that a run names, as far as the store tells it.
-abbrev pub Files : Type 0
-Files = List ℕ → Option (List ℕ)
+-- The report of one sequential pass over records.
+abbrev pub report_of : Program → List Record → End
+report_of program records =
+    Reported (heads_of program.tree program.plan)
+    (map (row_of program.tree program.plan) (pass program.plan records))
 
--- The run has a script of this counter, which isn't too large.
-pub record HasScript (words : List (List ℕ)) (holds : Files) (run : Run) (c : Counter) : Type 0 where
-  pub text : List ℕ
-  pub asked : options words ≡ Some run
-  pub held : holds run.script ≡ Some text
-  pub small : length text ≤ script_max
-  pub script : IsCounterText text c
-
--- The end of a run. The causes stand in the order in which they are tried.
-pub data IsEnd (words : List (List ℕ)) (holds : Files) : End → Type 0 where
-  usage : options words ≡ None → IsEnd words holds (refused status.Usage)
-  large_script : (run : Run) (text : List ℕ) → options words ≡ Some run → holds run.script ≡ Some text → script_max < length text → IsEnd words holds (refused status.TooLarge)
-  no_script : (run : Run) (text : List ℕ) → options words ≡ Some run → holds run.script ≡ Some text → length text ≤ script_max → ((c : Counter) → IsCounterText text c → ⊥) → IsEnd words holds (refused status.Script)
-  large_file : (run : Run) (c : Counter) (bytes : List ℕ) → HasScript words holds run c → holds run.file ≡ Some bytes → file_max < length bytes → IsEnd words holds (refused status.TooLarge)
-  other_file : (run : Run) (c : Counter) (bytes : List ℕ) → HasScript words holds run c → holds run.file ≡ Some bytes → length bytes ≤ file_max → ((ns : List ℤ) → IsPlain c.field.text bytes ns → ⊥) → IsEnd words holds (refused status.Input)
-  plain_file : (run : Run) (c : Counter) (bytes : List ℕ) (ns : List ℤ) → HasScript words holds run c → holds run.file ≡ Some bytes → length bytes ≤ file_max → IsPlain c.field.text bytes ns → IsEnd words holds (report_of c ns)
+-- The end of a run. The stages stand in the order in which they are tried.
+pub data IsEnd (words : List (List ℕ)) (held : Held) : End → Type 0 where
+  usage : options words ≡ None
+      → IsEnd words held (Refused refusal.Usage)
+  no_program : (run : Run) (why : Refusal)
+      → options words ≡ Some run
+      → IsNoProgram held.script why
+      → IsEnd words held (Refused why)
+  problem : (run : Run) (program : Program) (why : PassErr)
+      → options words ≡ Some run
+      → IsProgram held.script program
+      → FirstProblem program.plan file_max 0 1 held.files why
+      → IsEnd words held (Refused (pass_refusal why))
+  report : (run : Run) (program : Program) (records : List Record)
+      → options words ≡ Some run
+      → IsProgram held.script program
+      → AllFine program.plan file_max 1 held.files records
+      → IsEnd words held (report_of program records)

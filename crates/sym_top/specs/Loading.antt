@@ -1,100 +1,83 @@
--- What loading a run's files gives, and what folding them gives.
-use Rattle.std.specs.Prelude.{◌≡◌, ℕ, ◌<◌, ◌≤◌, List, None, Some, Result, Ok, Err, length, ℤ}
-use Rattle.std.specs.declared.vec.Vec.{Vec}
-use Rattle.sym_base.specs.declared.edge.read.ReadErr.{ReadErr}
-use Rattle.sym_base.specs.declared.edge.read.ReadErr.TheVariants as read
-use Rattle.sym_base.specs.Counters.{Counter, counter_tree}
-use Rattle.sym_check.specs.declared.elaborate.error.CheckErr.{CheckErr}
-use Rattle.sym_check.specs.declared.elaborate.error.CheckErr.TheVariants as rule
-use Rattle.sym_parse.specs.declared.error.ParseErr.{ParseErr}
-use Rattle.sym_parse.specs.declared.error.ParseErr.TheVariants as parse
-use Rattle.sym_top.specs.CheckedCounters.{checked_counter_tree}
-use Rattle.sym_top.specs.CounterTexts.{counter_at}
-use Rattle.sym_top.specs.declared.counter.CheckedCounter.{CheckedCounter}
-use Rattle.sym_top.specs.declared.compute.Report.{Report}
-use Rattle.sym_top.specs.declared.status.Status.{Status}
-use Rattle.sym_top.specs.declared.status.Status.TheVariants.{Done, Faulted, Script, Input, ReadFault, WriteFault, TooLarge, NoMemory}
-use Rattle.sym_top.specs.Ends.{End, script_max, file_max, refused, report_of}
-use Rattle.sym_top.specs.PlainReading.{numbers_of}
+-- What the steps before the writing of a report come to.
+use Rattle.std.specs.Prelude.{◌≡◌, ℕ, ◌⊎◌, List, [], ◌∷◌, Option, None, Some}
+use Rattle.sym_base.specs.Counts.{Rose}
+use Rattle.sym_base.specs.declared.values.record.Record.{Record}
+use Rattle.sym_check.specs.CheckedScripts.{checked_plan}
+use Rattle.sym_check.specs.declared.checking.accepted.Checked.{Checked}
+use Rattle.sym_engine.specs.declared.error.PassErr.{PassErr}
+use Rattle.sym_engine.specs.FirstProblems.{AllFine}
+use Rattle.sym_engine.specs.Passing.{May, MayAll, StopsPass}
+use Rattle.sym_top.specs.declared.refusal.Place.TheVariants as place
+use Rattle.sym_top.specs.declared.refusal.Refusal.{Refusal}
+use Rattle.sym_top.specs.declared.refusal.Refusal.TheVariants as refusal
+use Rattle.sym_top.specs.declared.report.Report.{Report}
+use Rattle.sym_top.specs.declared.load.Failure.{Failure}
+use Rattle.sym_top.specs.Commands.{options}
+use Rattle.sym_top.specs.Ends.{Held, IsTextOf, file_max, report_of, status_of}
+use Rattle.sym_top.specs.Messages.{headers_of, line_of}
+use Rattle.sym_top.specs.Programs.{Program, IsProgram, IsNoProgram, headers_in}
+use Rattle.sym_top.specs.Promises.{Call, Files, MayHold, IsStop, HasReport}
+use Rattle.sym_top.specs.Refusals.{pass_refusal}
 
--- The checked counter of a text.
-pub record IsScriptOf (text : List ℕ) (checked : CheckedCounter) : Type 0 where
-  pub small : length text ≤ script_max
-  pub counter : Counter
-  pub found : counter_at text ≡ Some counter
-  pub tree : checked_counter_tree checked ≡ counter_tree counter
+-- A text of at most the most bytes is refused for its own sake, or memory ran out.
+abbrev pub MayRefuse : List ℕ → Refusal → Type 0
+MayRefuse text why = (why ≡ refusal.NoMemory) ⊎ IsNoProgram text why
 
-abbrev pub ScriptGives : List ℕ → Result CheckedCounter Status → Type 0
-ScriptGives text (Ok checked) = IsScriptOf text checked
-ScriptGives text (Err TooLarge) = script_max < length text
-ScriptGives text (Err Script) = (length text ≤ script_max) × (counter_at text ≡ None)
-ScriptGives text (Err ReadFault) = Unit {0}
-ScriptGives text (Err NoMemory) = Unit {0}
-ScriptGives text (Err _) = ⊥
+-- The program is that of a text which the script's file may hold.
+pub record Loads (told : Option (List ℕ)) (program : Program) : Type 0 where
+  pub text : List ℕ
+  pub may : May told text
+  pub is_program : IsProgram text program
 
-abbrev pub FileGives : {A : Type 0} → List ℕ → Result (Vec ℕ A) Status → Type 0
-FileGives held (Ok bytes) = (bytes.items ≡ held) × (length held ≤ file_max)
-FileGives held (Err TooLarge) = file_max < length held
-FileGives held (Err ReadFault) = Unit {0}
-FileGives held (Err NoMemory) = Unit {0}
-FileGives held (Err _) = ⊥
+-- Why there is no program: a text which the file may hold has none, a read of the file failed, or
+-- memory ran out.
+pub data Unloads (told : Option (List ℕ)) (before after : ℕ) : Refusal → Type 0 where
+  refused : (text : List ℕ) (why : Refusal)
+      → May told text
+      → IsNoProgram text why
+      → Unloads told before after why
+  unread : Rose before after → Unloads told before after (refusal.Read place.Script)
+  no_memory : Unloads told before after refusal.NoMemory
 
--- The status of a failed read.
-abbrev pub read_status_of : ReadErr → Status
-read_status_of read.Failed = ReadFault
-read_status_of read.TooLarge = TooLarge
-read_status_of read.NoMemory = NoMemory
+-- At most one item, as a list.
+abbrev pub listed : {A : Type 0} → Option A → List A
+listed None = []
+listed (Some x) = x ∷ []
 
--- The status of a text that isn't parsed.
-abbrev pub parse_status_of : ParseErr → Status
-parse_status_of (parse.Lex fault) = Script
-parse_status_of (parse.Expected place) = Script
-parse_status_of (parse.Limit place which) = Script
-parse_status_of parse.NoMemory = NoMemory
+-- The report is that of the records of files which the names may hold.
+pub record Reports (program : Program) (holds : Files) (names : List (List ℕ)) (report : Report) :
+    Type 0 where
+  pub files : List (List ℕ)
+  pub may : MayAll holds names files
+  pub records : List Record
+  pub fine : AllFine program.plan file_max 1 files records
+  pub status_is : report.status ≡ status_of (report_of program records)
+  pub text_is : IsTextOf (report_of program records) report.text.items
 
--- The status of a script that is refused.
-abbrev pub check_status_of : CheckErr → Status
-check_status_of (rule.Name at) = Script
-check_status_of (rule.Twice at) = Script
-check_status_of (rule.Kind at) = Script
-check_status_of (rule.Range at) = Script
-check_status_of (rule.NotLinear at) = Script
-check_status_of (rule.Branchy paths) = Script
-check_status_of rule.NoMemory = NoMemory
+-- Why there is no report: the pass over the files was stopped, or memory ran out.
+pub data StopsFiles (program : Program) (holds : Files) (names : List (List ℕ)) (before after : List ℕ → ℕ) :
+    Refusal → Type 0 where
+  stops : (why : PassErr)
+      → StopsPass program.plan file_max holds names before after why
+      → StopsFiles program holds names before after (pass_refusal why)
 
--- The refusals that loading a script, or a file, can come to.
-abbrev pub IsFileRefusal : Status → Type 0
-IsFileRefusal ReadFault = Unit {0}
-IsFileRefusal TooLarge = Unit {0}
-IsFileRefusal NoMemory = Unit {0}
-IsFileRefusal _ = ⊥
+-- A run that is ready to write its report.
+pub record Ready (call : Call) (report : Report) : Type 0 where
+  pub held : Held
+  pub may : MayHold call.holds (options call.words) held
+  pub has : HasReport call.words held report.status report.text.items
 
-abbrev pub IsScriptRefusal : Status → Type 0
-IsScriptRefusal Script = Unit {0}
-IsScriptRefusal status = IsFileRefusal status
+abbrev pub known_headers : Option Checked → List (List ℕ)
+known_headers None = []
+known_headers (Some checked) = headers_of (checked_plan checked).fields
 
--- The report of a counter over a file, or why there is none.
-abbrev pub ReportGives : Counter → List ℕ → Result Report Status → Type 0
-ReportGives c bytes (Ok report) = (ns : List ℤ) × (numbers_of c.field.text bytes ≡ Some ns) × (report.text.items ≡ (report_of c ns).text) × (report.status ≡ (report_of c ns).status)
-ReportGives c bytes (Err Input) = numbers_of c.field.text bytes ≡ None
-ReportGives c bytes (Err NoMemory) = Unit {0}
-ReportGives c bytes (Err _) = ⊥
+-- The line of a failure, by the script that it carries.
+abbrev pub failure_line : List (List ℕ) → Failure → List ℕ
+failure_line words failure = line_of words (known_headers failure.checked) failure.why
 
-abbrev pub IsReportRefusal : Status → Type 0
-IsReportRefusal Input = Unit {0}
-IsReportRefusal NoMemory = Unit {0}
-IsReportRefusal _ = ⊥
-
--- What a run comes to before anything is written: its report, or a refusal.
-abbrev pub EndGives : End → Result Report Status → Type 0
-EndGives end (Ok report) = (report.status ≡ end.status) × (report.text.items ≡ end.text)
-EndGives end (Err ReadFault) = Unit {0}
-EndGives end (Err NoMemory) = Unit {0}
-EndGives end (Err status) = end ≡ refused status
-
--- The statuses of a run that stops before it writes.
-abbrev pub IsStop : Status → Type 0
-IsStop Done = ⊥
-IsStop Faulted = ⊥
-IsStop WriteFault = ⊥
-IsStop _ = Unit {0}
+-- A run that stops before it writes. Its line names what the line of the script's text would name.
+pub record Stops (call : Call) (failure : Failure) : Type 0 where
+  pub held : Held
+  pub may : MayHold call.holds (options call.words) held
+  pub stop : IsStop call held failure.why
+  pub line : failure_line call.words failure ≡ line_of call.words (headers_in held.script) failure.why

@@ -1,15 +1,19 @@
-//! The words behind the program's name.
-ghost use Rattle.std.specs.Prelude.{◌≡◌, map};
+//! The words after the program's name.
+ghost use Rattle.std.specs.Prelude.{◌≡◌, ◌≤◌, map, IfSome, length};
+ghost use Rattle.std.specs.List.{list_all};
 ghost use Rattle.std.specs.String.{string_bytes};
 ghost use Rattle.std.specs.Option.{option_map};
-ghost use Rattle.sym_top.specs.Commands.{is_option as is_option_of, options};
+ghost use Rattle.sym_base.specs.declared.limits.TheConstants as limit;
+ghost use Rattle.sym_top.specs.Commands.{is_option as is_option_of, is_name as is_name_of, are_files as are_files_of, options};
 ghost use Rattle.sym_top.specs.Words.{run_words};
 
-/// `run SCRIPT FILE`: the names of the two files.
-#[derive(Clone, Copy, Debug, PartialEq, Eq)]
+use sym_base::FILES_MAX;
+
+/// `run SCRIPT FILE...`: the names of the script and of the files of records.
+#[derive(Clone, Copy, Debug)]
 pub struct Run<'a> {
     pub script: &'a str,
-    pub file: &'a str,
+    pub files: &'a [String],
 }
 
 // Whether a word is an option: longer than the `-` that it begins with.
@@ -22,19 +26,31 @@ fn is_option(word: &str) -> bool
     }
 }
 
+// Whether no word is an option.
+fn are_names(words: &[String]) -> bool
+    ensures { result ≡ list_all (λ word. is_name_of (string_bytes word)) words.now }
+{
+    words.iter().all(|word| !is_option(word.as_str()))
+}
+
+// Whether the words name one file or more, and no more than a run takes.
+fn are_files(words: &[String]) -> bool
+    ensures { result ≡ are_files_of (map string_bytes words.now) }
+{
+    1 <= words.len() && words.len() <= FILES_MAX && are_names(words)
+}
+
 /// The run that the words ask for; `None` where they aren't the words of one.
 pub fn read_words(words: &[String]) -> Option<Run<'_>>
-    ensures { option_map run_words result ≡ options (map string_bytes words.now) }
+    ensures read { option_map run_words result ≡ options (map string_bytes words.now) }
+    ensures few { IfSome result (λ run. length run.files.now ≤ limit.FILES_MAX) }
 {
     match words {
-        [command, script, file] => {
-            if command.as_str() == "run"
-                && !is_option(script.as_str())
-                && !is_option(file.as_str())
-            {
+        [command, script, files @ ..] => {
+            if command.as_str() == "run" && !is_option(script.as_str()) && are_files(files) {
                 return Some(Run {
                     script: script.as_str(),
-                    file: file.as_str(),
+                    files,
                 });
             }
             None

@@ -2,23 +2,15 @@
 #![tactic(auto)]
 
 mod commands;
-mod compute;
-mod counter;
 pub mod laws;
-mod lines;
 mod load;
-mod numbers;
-mod plan;
-mod planning;
+mod message;
+mod refusal;
 mod report;
-mod rows;
-mod shown;
 mod status;
-mod steps;
 mod top;
 
+pub use message::refuse_start;
+pub use refusal::{Place, Refusal, ScriptFault, StartErr};
 pub use status::Status;
 pub use top::symple;
-
-#[cfg(test)]
-mod tests;

@@ -1,113 +1,87 @@
-//! Reads a run's script and file.
-ghost use Rattle.std.specs.Prelude.{◌≡◌, ℕ, ◌≤◌, List, Ok, Err, IfSome, IfOk, IfErr, IsErrOf, length};
-ghost use Rattle.sym_base.specs.Counts.{Rose};
-ghost use Rattle.sym_top.specs.Ends.{file_max, script_max};
-ghost use Rattle.sym_top.specs.Loading.{ScriptGives, FileGives, check_status_of, parse_status_of, read_status_of, IsScriptRefusal, IsFileRefusal};
+//! Everything of a run but the writing: its script, its files, its report.
+ghost use Rattle.std.specs.Prelude.{◌≡◌, ◌≤◌, ℕ, List, map, length, IfOk, IfErr};
+ghost use Rattle.std.specs.String.{string_bytes};
+ghost use Rattle.sym_top.specs.Loading.{MayRefuse, Loads, Unloads, Ready, Stops};
+ghost use Rattle.sym_top.specs.Programs.{IsProgram, checked_program, script_max};
+ghost use Rattle.sym_top.specs.Promises.{called};
 
-use crate::counter::CheckedCounter;
-use crate::status::Status;
+use crate::commands::read_words;
+use crate::refusal::{Place, Refusal, check_refusal, parse_refusal, read_refusal};
+use crate::report::{Report, report_files};
 use std::alloc::Global;
-use sym_base::{FILE_MAX_DEFAULT, ReadErr, SCRIPT_MAX, Store, read_all};
-use sym_check::{CheckErr, check};
-use sym_parse::{ParseErr, is_built, parse};
+use sym_base::{SCRIPT_MAX, Store, read_all};
+use sym_check::{Checked, check};
+use sym_parse::parse;
 
-// What a failed read comes to.
-fn read_status(error: ReadErr) -> Status
-    ensures { result ≡ read_status_of error }
-{
-    match error {
-        ReadErr::Failed => Status::ReadFault,
-        ReadErr::TooLarge => Status::TooLarge,
-        ReadErr::NoMemory => Status::NoMemory,
-    }
+/// Why a run stops before it writes, with the script, where one was accepted.
+#[derive(Drop)]
+pub struct Failure {
+    pub why: Refusal,
+    pub checked: Option<Checked>,
 }
 
-// What a text that is no script comes to.
-fn parse_status(error: ParseErr) -> Status
-    ensures { result ≡ parse_status_of error }
-{
-    match error {
-        ParseErr::Lex(_) | ParseErr::Expected { .. } | ParseErr::Limit { .. } => Status::Script,
-        ParseErr::NoMemory => Status::NoMemory,
-    }
-}
-
-// What a script that is refused comes to.
-fn check_status(error: CheckErr) -> Status
-    ensures { result ≡ check_status_of error }
-{
-    match error {
-        CheckErr::Name { .. }
-        | CheckErr::Twice { .. }
-        | CheckErr::Kind { .. }
-        | CheckErr::Range { .. }
-        | CheckErr::NotLinear { .. }
-        | CheckErr::Branchy { .. } => Status::Script,
-        CheckErr::NoMemory => Status::NoMemory,
-    }
-}
-
-// The checked counter of a text.
-fn accept(alloc: Global, text: &[u8]) -> Result<CheckedCounter, Status>
+// The checked script of a text.
+fn accept(alloc: Global, text: &[u8]) -> Result<Checked, Refusal>
     requires { length text.now ≤ script_max }
-    ensures told { ScriptGives text.now result }
-    ensures refused { IfErr result IsScriptRefusal }
-    ensures unread { IsErrOf result Status.ReadFault → ⊥ }
+    ensures accepted { IfOk result (λ checked. IsProgram text.now (checked_program checked)) }
+    ensures refused { IfErr result (MayRefuse text.now) }
 {
     let script = match parse(alloc, text) {
         Ok(script) => script,
-        Err(error) => return Err(parse_status(error)),
+        Err(error) => return Err(parse_refusal(error)),
     };
-    let checked = match check(alloc, script) {
-        Ok(checked) => checked,
-        Err(error) => return Err(check_status(error)),
-    };
-    if !is_built(checked.script()) {
-        return Err(Status::Script);
+    match check(alloc, script) {
+        Ok(checked) => Ok(checked),
+        Err(error) => Err(check_refusal(error)),
     }
-    Ok(CheckedCounter::of(checked))
 }
 
-/// Reads, parses and checks the script of this name.
-///
-/// # Errors
-///
-/// `ReadFault` where a read failed, `TooLarge` where the script has more than 65,536 bytes,
-/// `Script` where it isn't one that may be run, `NoMemory`.
-pub fn load_script<F: Store>(
-    alloc: Global,
-    files: &mut F,
-    name: &str,
-) -> Result<CheckedCounter, Status>
-    ensures told { IfSome (F.holds files.old name.now) (λ text. ScriptGives text result) }
-    ensures refused { IfErr result IsScriptRefusal }
-    ensures failed { IsErrOf result Status.ReadFault → Rose (F.faults files.old name.now) (F.faults files.new name.now) }
+// Reads, parses and checks the script of this name.
+fn load_script<F: Store>(alloc: Global, files: &mut F, name: &str) -> Result<Checked, Refusal>
+    ensures loaded { IfOk result (λ checked.
+        Loads (F.holds files.old name.now) (checked_program checked)) }
+    ensures refused { let before = F.faults files.old name.now in
+        let after = F.faults files.new name.now in
+        IfErr result (Unloads (F.holds files.old name.now) before after) }
     ensures same { F.holds files.new ≡ F.holds files.old }
     ensures later { (other : List ℕ) → F.faults files.old other ≤ F.faults files.new other }
 {
     let text = match read_all(alloc, files, name, SCRIPT_MAX) {
         Ok(text) => text,
-        Err(error) => return Err(read_status(error)),
+        Err(error) => return Err(read_refusal(Place::Script, error)),
     };
-    accept(alloc, &text)
+    accept(alloc, text.as_slice())
 }
 
-/// Reads the file of this name.
-///
-/// # Errors
-///
-/// `ReadFault` where a read failed, `TooLarge` where the file has more than 67,108,864 bytes,
-/// `NoMemory`.
-pub fn load_file<F: Store>(alloc: Global, files: &mut F, name: &str) -> Result<Vec<u8>, Status>
-    ensures told { IfSome (F.holds files.old name.now) (λ held. FileGives held result) }
-    ensures fits { IfOk result (λ bytes. length bytes.items ≤ file_max) }
-    ensures refused { IfErr result IsFileRefusal }
-    ensures failed { IsErrOf result Status.ReadFault → Rose (F.faults files.old name.now) (F.faults files.new name.now) }
+/// Reads the files that the words name, and makes the run's report.
+pub fn prepare<F: Store>(alloc: Global, words: &[String], files: &mut F) -> Result<Report, Failure>
+    ensures ready { let words = map string_bytes words.now in
+        let call = called F.holds F.faults words files.old files.new in
+        IfOk result (Ready call) }
+    ensures stopped { let words = map string_bytes words.now in
+        let call = called F.holds F.faults words files.old files.new in
+        IfErr result (Stops call) }
     ensures same { F.holds files.new ≡ F.holds files.old }
     ensures later { (other : List ℕ) → F.faults files.old other ≤ F.faults files.new other }
 {
-    match read_all(alloc, files, name, FILE_MAX_DEFAULT) {
-        Ok(bytes) => Ok(bytes),
-        Err(error) => Err(read_status(error)),
+    let asked = match read_words(words) {
+        Some(asked) => asked,
+        None => {
+            return Err(Failure {
+                why: Refusal::Usage,
+                checked: None,
+            });
+        }
+    };
+    let checked = match load_script(alloc, files, asked.script) {
+        Ok(checked) => checked,
+        Err(why) => return Err(Failure { why, checked: None }),
+    };
+    match report_files(alloc, &checked, files, asked.files) {
+        Ok(report) => Ok(report),
+        Err(why) => {
+            let checked = Some(checked);
+            Err(Failure { why, checked })
+        }
     }
 }

@@ -19,7 +19,7 @@ pub enum Status {
     WriteFault,
     /// The script or the file has too many bytes.
     TooLarge,
-    /// An allocation was refused.
+    /// An allocation failed.
     NoMemory,
 }
 

@@ -10,7 +10,7 @@ use std::env;
 use std::io::{ErrorKind, Write};
 use std::process::ExitCode;
 use std::rt::{Env, Files};
-use sym_top::{Status, symple};
+use sym_top::{StartErr, Status, refuse_start, symple};
 
 fn main(rt: HostRuntime) -> ExitCode {
     ExitCode::from(run(&rt, rt.stdout(), rt.stderr()).number())
@@ -23,27 +23,27 @@ where
     O: Write + Drop,
     E: Write + Drop,
 {
+    let mut err = StreamSink::new(err);
     let words = match words_of(rt) {
         Ok(words) => words,
-        Err(status) => return status,
+        Err(why) => return refuse_start(&mut err, why),
     };
     let Ok(mut files) = DiskStore::new(rt.alloc(), rt) else {
-        return Status::NoMemory;
+        return refuse_start(&mut err, StartErr::NoMemory);
     };
     let mut out = StreamSink::new(out);
-    let mut err = StreamSink::new(err);
     symple(rt.alloc(), &words, &mut files, &mut out, &mut err)
 }
 
 // The words behind the program's name. Where one of them isn't UTF-8 there is no such command.
-fn words_of<R: Env + AllocGlobal>(rt: &R) -> Result<Vec<String>, Status> {
+fn words_of<R: Env + AllocGlobal>(rt: &R) -> Result<Vec<String>, StartErr> {
     let words = match env::args(rt) {
         Ok(words) => words,
-        Err(error) if error.kind() == ErrorKind::OutOfMemory => return Err(Status::NoMemory),
-        Err(_) => return Err(Status::Usage),
+        Err(error) if error.kind() == ErrorKind::OutOfMemory => return Err(StartErr::NoMemory),
+        Err(_) => return Err(StartErr::NotUtf8),
     };
     match words.skip(1).collect(rt.alloc()) {
         Ok(words) => Ok(words),
-        Err(_) => Err(Status::NoMemory),
+        Err(_) => Err(StartErr::NoMemory),
     }
 }

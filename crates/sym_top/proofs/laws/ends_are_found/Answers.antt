@@ -1,5 +1,12 @@
-use Rattle.sym_top.proofs.EndsFound.{found, is_end}
+use Rattle.sym_top.specs.EndReading.{end_of}
+use Rattle.sym_top.proofs.EndsFound.{agree, is_end, one_end}
 use Rattle.sym_top.proofs.laws.ends_are_found.Goals as goal
 
-pub returns : goal.returns
-returns c words holds end = (found words holds end, is_end words holds end)
+pub returns-clause-found : goal.returns-clause-found
+returns-clause-found c = agree
+
+pub returns-clause-some : goal.returns-clause-some
+returns-clause-some c words held = (end_of words held, is_end words held)
+
+pub returns-clause-one : goal.returns-clause-one
+returns-clause-one c = one_end

@@ -1,8 +1,39 @@
-use Rattle.sym_top.proofs.EndsFound.{some_end, one_end}
+use Rattle.std.proofs.Common.{ap}
+use Rattle.sym_top.proofs.Consequences.{expected-by, complete-by, usage-by}
 use Rattle.sym_top.proofs.top.symple.Goals as goal
 
-pub returns-clause-ends : goal.returns-clause-ends
-returns-clause-ends g c = some_end _ _
+pub returns-clause-expected : goal.returns-clause-expected
+returns-clause-expected g c held end told is =
+    expected-by _ _ _ c.run.result (record {
+      reported = c.run.ensures.reported;
+      refused = c.run.ensures.refused;
+      quiet = λ done. record {
+        written = ap g.E.Sink.written (c.run.ensures.quiet done);
+        faults = ap g.E.Sink.faults (c.run.ensures.quiet done);
+        short = ap g.E.Sink.short (c.run.ensures.quiet done);
+      };
+    }) held end told is
 
-pub returns-clause-one_end : goal.returns-clause-one_end
-returns-clause-one_end g c = one_end _ _
+pub returns-clause-complete : goal.returns-clause-complete
+returns-clause-complete g c must undone =
+    complete-by _ _ _ c.run.result (record {
+      reported = c.run.ensures.reported;
+      refused = c.run.ensures.refused;
+      quiet = λ done. record {
+        written = ap g.E.Sink.written (c.run.ensures.quiet done);
+        faults = ap g.E.Sink.faults (c.run.ensures.quiet done);
+        short = ap g.E.Sink.short (c.run.ensures.quiet done);
+      };
+    }) must undone
+
+pub returns-clause-usage : goal.returns-clause-usage
+returns-clause-usage g c =
+    usage-by _ _ _ c.run.result (record {
+      reported = c.run.ensures.reported;
+      refused = c.run.ensures.refused;
+      quiet = λ done. record {
+        written = ap g.E.Sink.written (c.run.ensures.quiet done);
+        faults = ap g.E.Sink.faults (c.run.ensures.quiet done);
+        short = ap g.E.Sink.short (c.run.ensures.quiet done);
+      };
+    })

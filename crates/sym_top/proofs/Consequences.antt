@@ -1,0 +1,353 @@
+-- What follows from what the top call says of each status.
+use Rattle.std.proofs.Common.{◌≡◌, ◌↔◌, ◌⊎◌, inl, inr, ℕ, Bool, true, false, if◌then◌else◌, List, [], ◌∷◌, map, Option, None, Some, slice_get, refl, sym, ap, subst, ◌∙◌}
+use Rattle.sym_base.specs.Counts.{Rose}
+use Rattle.sym_check.specs.declared.elaborate.error.CheckErr.TheVariants as check_error
+use Rattle.sym_check.specs.declared.elaborate.error.CheckErr.{CheckErr}
+use Rattle.sym_engine.specs.declared.error.PassErr.{PassErr}
+use Rattle.sym_engine.specs.declared.error.PassErr.TheVariants as pass_error
+use Rattle.sym_engine.specs.Passing.{May, MayAll}
+use Rattle.sym_lex.specs.declared.error.LexFault.{LexFault}
+use Rattle.sym_lex.specs.declared.error.LexFault.TheVariants as lex_fault
+use Rattle.sym_parse.specs.declared.error.ParseErr.{ParseErr}
+use Rattle.sym_parse.specs.declared.error.ParseErr.TheVariants as parse_error
+use Rattle.sym_report.specs.declared.rows.Heads.{Heads}
+use Rattle.sym_report.specs.declared.rows.Row.{Row}
+use Rattle.sym_report.specs.ReportRows.{some_faulty}
+use Rattle.sym_top.specs.declared.load.Failure.{Failure}
+use Rattle.sym_top.specs.declared.refusal.Refusal.{Refusal}
+use Rattle.sym_top.specs.declared.refusal.Refusal.TheVariants as refusal
+use Rattle.sym_top.specs.declared.report.Report.{Report}
+use Rattle.sym_top.specs.declared.status.Status.{Status}
+use Rattle.sym_top.specs.declared.status.Status.TheVariants as status
+use Rattle.sym_top.specs.Commands.{Run, options}
+use Rattle.sym_top.specs.Ends.{End, Refused, Reported, Held, IsEnd, usage, no_program, problem, report, IsTextOf, status_of}
+use Rattle.sym_top.specs.EndReading.{run_end}
+use Rattle.sym_top.specs.Loading.{Ready, Stops, failure_line}
+use Rattle.sym_top.specs.Messages.{line_of}
+use Rattle.sym_top.specs.Programs.{IsNoProgram, too_large, unread, broken, headers_in}
+use Rattle.sym_top.specs.Promises.{Call, Files, MayHold, TellsAll, Told, IsStop, at_end, script_unread, file_unread, no_memory, IsUntouched, WriteFails, failed, short, IsCause, stopped, cut, Refuses, Wrote, Answers, Unless, IsReported, IsRefused, MustReport}
+use Rattle.sym_top.specs.Refusals.{status_of_refusal, parse_refusal, check_refusal, pass_refusal}
+use Rattle.sym_top.specs.Telling.{Sunk, Has, Tells}
+use Rattle.sym_top.proofs.EndsFound.{found, one_end}
+
+-- ---- statuses
+
+pub refusal-refused : (why : Refusal) → IsRefused (status_of_refusal why)
+refusal-refused refusal.Usage = λ h. h
+refusal-refused (refusal.Script what at) = λ h. h
+refusal-refused (refusal.Branchy paths) = λ h. h
+refusal-refused (refusal.Head file what) = λ h. h
+refusal-refused (refusal.Bad file bad) = λ h. h
+refusal-refused (refusal.Read at) = λ h. h
+refusal-refused refusal.Write = λ h. h
+refusal-refused (refusal.TooLarge at) = λ h. h
+refusal-refused refusal.NoMemory = λ h. h
+
+faulty-reported : (b : Bool) → IsReported (if b then status.Faulted else status.Done)
+faulty-reported true = tt
+faulty-reported false = tt
+
+pub report-reported : (heads : Heads) (rows : List Row) → IsReported (status_of (Reported heads rows))
+report-reported heads rows = faulty-reported (some_faulty rows)
+
+decided : (result : Status) → IsReported result ⊎ IsRefused result
+decided status.Done = inl tt
+decided status.Faulted = inl tt
+decided status.Usage = inr (λ h. h)
+decided status.Script = inr (λ h. h)
+decided status.Input = inr (λ h. h)
+decided status.ReadFault = inr (λ h. h)
+decided status.WriteFault = inr (λ h. h)
+decided status.TooLarge = inr (λ h. h)
+decided status.NoMemory = inr (λ h. h)
+
+unless : (result : Status) (P : Type 0) → P → Unless result P
+unless status.Done P p = p
+unless status.Faulted P p = p
+unless status.Usage P p = p
+unless status.Script P p = p
+unless status.Input P p = p
+unless status.ReadFault P p = tt
+unless status.WriteFault P p = tt
+unless status.TooLarge P p = p
+unless status.NoMemory P p = tt
+
+-- ---- the exits
+
+pub stop-refuses : (call : Call) (out err : Sunk) (failure : Failure) (result : Status) → Stops call failure →
+    result ≡ status_of_refusal failure.why → IsUntouched out → Tells err (failure_line call.words failure) →
+    Refuses call out err result
+stop-refuses call out err failure result s status_is untouched told = record {
+  held = s.held;
+  may = s.may;
+  why = failure.why;
+  status_is = status_is;
+  cause = stopped s.stop untouched;
+  line = subst (Tells err) s.line told;
+}
+
+cut-line : (words : List (List ℕ)) (headers : List (List ℕ)) (out : Sunk) (text : List ℕ) (why : Refusal) →
+    WriteFails out text why → line_of words [] why ≡ line_of words headers why
+cut-line words headers out text _ (failed prefix rose) = refl
+cut-line words headers out text _ (short prefix rose) = refl
+
+pub cut-refuses : (call : Call) (out err : Sunk) (made : Report) (why : Refusal) (result : Status) → Ready call made →
+    result ≡ status_of_refusal why → WriteFails out made.text.items why → Tells err (line_of call.words [] why) →
+    Refuses call out err result
+cut-refuses call out err made why result ready status_is fails told = record {
+  held = ready.held;
+  may = ready.may;
+  why = why;
+  status_is = status_is;
+  cause = cut made.status made.text.items ready.has fails;
+  line = subst (Tells err) (cut-line call.words (headers_in ready.held.script) out made.text.items why fails) told;
+}
+
+pub ready-writes : (call : Call) (out : Sunk) (made : Report) → Ready call made → Has out made.text.items →
+    Wrote call out made.status
+ready-writes call out made ready has = record {
+  held = ready.held;
+  may = ready.may;
+  text = made.text.items;
+  report = ready.has;
+  written = has;
+}
+
+pub ready-reported : (call : Call) (made : Report) → Ready call made → IsReported made.status
+ready-reported call made ready =
+    subst IsReported (sym ready.has.status_is) (report-reported ready.has.heads ready.has.rows)
+
+-- What the call says of each status.
+pub record Says (call : Call) (out err : Sunk) (result : Status) : Type 0 where
+  pub reported : IsReported result → Wrote call out result
+  pub refused : IsRefused result → Refuses call out err result
+  pub quiet : IsReported result → IsUntouched err
+
+-- ---- the bytes that a store tells are those that the files may hold
+
+may-told : (o : Option (List ℕ)) (a b : List ℕ) → May o a → o ≡ Some b → a ≡ b
+may-told None a b may e = cc
+may-told (Some x) a b may e = let same : x ≡ b = cc in may ∙ same
+
+files-told : (holds : Files) (names files told : List (List ℕ)) → MayAll holds names files →
+    map holds names ≡ map Some told → files ≡ told
+files-told holds [] [] [] may e = refl
+files-told holds [] [] (b ∷ bs) may e = cc
+files-told holds [] (a ∷ ones) told may e = absurd may
+files-told holds (name ∷ names) [] told may e = absurd may
+files-told holds (name ∷ names) (a ∷ ones) [] may e = cc
+files-told holds (name ∷ names) (a ∷ ones) (b ∷ bs) may e =
+    let here : holds name ≡ Some b = cc in
+    let rest : map holds names ≡ map Some bs = cc in
+    let same : a ≡ b = may-told (holds name) a b may.0 here in
+    let others : ones ≡ bs = files-told holds names ones bs may.1 rest in
+    cc
+
+held-told : (holds : Files) (o : Option Run) (held told : Held) → MayHold holds o held → TellsAll holds o told → held ≡ told
+held-told holds None held told may e = may ∙ sym e
+held-told holds (Some run) held told may e =
+    let script : held.script ≡ told.script = may-told (holds run.script) held.script told.script may.0 e.0 in
+    let files : held.files ≡ told.files = files-told holds run.files held.files told.files may.1 e.1 in
+    let held_of : List ℕ → List (List ℕ) → Held = λ script files. record { script = script; files = files } in
+    ap (λ s. held_of s held.files) script ∙ ap (λ fs. held_of told.script fs) files
+
+-- ---- the end that is expected
+
+module _ (call : Call) (out err : Sunk) (result : Status) where
+  wrote-expected : (held : Held) (end : End) (heads : Heads) (rows : List Row) (text : List ℕ) →
+      end ≡ Reported heads rows → result ≡ status_of (Reported heads rows) →
+      IsTextOf (Reported heads rows) text → Has out text → IsUntouched err →
+      Answers call held end out err result
+  wrote-expected held end heads rows text same status_is text_is has quiet =
+      subst (λ e. Answers call held e out err result) (sym same)
+      (record { status_is = status_is; ends = ((text, text_is, has), quiet) })
+
+  stop-expected : (held : Held) (end : End) (why : Refusal) → IsEnd call.words held end → IsStop call held why →
+      result ≡ status_of_refusal why → IsUntouched out → Tells err (line_of call.words (headers_in held.script) why) →
+      Unless result (Answers call held end out err result)
+  stop-expected held end _ is (at_end why stop) status_is untouched line =
+      let same : Refused why ≡ end = one_end call.words held (Refused why) end stop is in
+      unless result (Answers call held end out err result)
+      (subst (λ e. Answers call held e out err result) same
+      (record { status_is = status_is; ends = (untouched, line) }))
+  stop-expected held end _ is (script_unread run asked rose) status_is untouched line =
+      subst (λ s. Unless s (Answers call held end out err result)) (sym status_is) tt
+  stop-expected held end _ is (file_unread run program records number name asked prog fine named rose) status_is untouched line =
+      subst (λ s. Unless s (Answers call held end out err result)) (sym status_is) tt
+  stop-expected held end _ is (no_memory run asked) status_is untouched line =
+      subst (λ s. Unless s (Answers call held end out err result)) (sym status_is) tt
+
+  cut-expected : (P : Type 0) (text : List ℕ) (why : Refusal) → WriteFails out text why →
+      result ≡ status_of_refusal why → Unless result P
+  cut-expected P text _ (failed prefix rose) status_is = subst (λ s. Unless s P) (sym status_is) tt
+  cut-expected P text _ (short prefix rose) status_is = subst (λ s. Unless s P) (sym status_is) tt
+
+  cause-expected : (held : Held) (end : End) (why : Refusal) → IsEnd call.words held end → IsCause call held out why →
+      result ≡ status_of_refusal why → Tells err (line_of call.words (headers_in held.script) why) →
+      Unless result (Answers call held end out err result)
+  cause-expected held end why is (stopped stop untouched) status_is line =
+      stop-expected held end why is stop status_is untouched line
+  cause-expected held end why is (cut s text has fails) status_is line =
+      cut-expected (Answers call held end out err result) text why fails status_is
+
+  refused-expected : (held : Held) (end : End) → Told call held → IsEnd call.words held end → Refuses call out err result →
+      Unless result (Answers call held end out err result)
+  refused-expected held end told is r =
+      let same : r.held ≡ held = held-told call.holds (options call.words) r.held held r.may told in
+      subst (λ h. Unless result (Answers call h end out err result)) same
+      (cause-expected r.held end r.why (subst (λ h. IsEnd call.words h end) (sym same) is) r.cause r.status_is r.line)
+
+  reported-expected : (held : Held) (end : End) → Told call held → IsEnd call.words held end → Wrote call out result →
+      IsUntouched err → Unless result (Answers call held end out err result)
+  reported-expected held end told is w quiet =
+      let same : w.held ≡ held = held-told call.holds (options call.words) w.held held w.may told in
+      let there : IsEnd call.words held (Reported w.report.heads w.report.rows) =
+      subst (λ h. IsEnd call.words h (Reported w.report.heads w.report.rows)) same w.report.is_end in
+      let ends : end ≡ Reported w.report.heads w.report.rows = one_end call.words held end (Reported w.report.heads w.report.rows) is there in
+      unless result (Answers call held end out err result)
+      (wrote-expected held end w.report.heads w.report.rows w.text ends w.report.status_is w.report.text_is w.written quiet)
+
+  expected-or : IsReported result ⊎ IsRefused result → Says call out err result → (held : Held) (end : End) → Told call held →
+      IsEnd call.words held end → Unless result (Answers call held end out err result)
+  expected-or (inl done) says held end told is = reported-expected held end told is (says.reported done) (says.quiet done)
+  expected-or (inr undone) says held end told is = refused-expected held end told is (says.refused undone)
+
+  pub expected-by : Says call out err result → (held : Held) (end : End) → Told call held →
+      IsEnd call.words held end → Unless result (Answers call held end out err result)
+  expected-by = expected-or (decided result)
+
+  -- ---- a run that must report
+
+  same-run : (a b : Run) → options call.words ≡ Some a → options call.words ≡ Some b → a ≡ b
+  same-run a b e f = let g : Some a ≡ Some b = sym e ∙ f in cc
+
+  stop-complete : (m : MustReport call out) (why : Refusal) → IsStop call m.held why → result ≡ status_of_refusal why →
+      result ≡ status.NoMemory
+  stop-complete m _ (at_end why stop) status_is =
+      let same : Refused why ≡ Reported m.heads m.rows = one_end call.words m.held (Refused why) (Reported m.heads m.rows) stop m.is_end in
+      cc
+  stop-complete m _ (script_unread run asked rose) status_is =
+      let same : run ≡ m.run = same-run run m.run asked m.asked in
+      absurd (m.read.0 (subst (λ (r : Run). Rose (call.before r.script) (call.after r.script)) same rose))
+  stop-complete m _ (file_unread run program records number name asked prog fine named rose) status_is =
+      let same : run ≡ m.run = same-run run m.run asked m.asked in
+      absurd (m.read.1 number name (subst (λ (r : Run). slice_get r.files number ≡ Some name) same named) rose)
+  stop-complete m _ (no_memory run asked) status_is = status_is
+
+  cut-complete : (m : MustReport call out) (text : List ℕ) (why : Refusal) → WriteFails out text why →
+      result ≡ status_of_refusal why → result ≡ status.NoMemory
+  cut-complete m text _ (failed prefix rose) status_is = absurd (m.written rose)
+  cut-complete m text _ (short prefix rose) status_is = status_is
+
+  cause-complete : (m : MustReport call out) (why : Refusal) → IsCause call m.held out why →
+      result ≡ status_of_refusal why → result ≡ status.NoMemory
+  cause-complete m why (stopped stop untouched) status_is = stop-complete m why stop status_is
+  cause-complete m why (cut s text has fails) status_is = cut-complete m text why fails status_is
+
+  pub complete-by : Says call out err result → MustReport call out → IsRefused result → result ≡ status.NoMemory
+  complete-by says m undone =
+      let r = says.refused undone in
+      let same : r.held ≡ m.held = held-told call.holds (options call.words) r.held m.held r.may m.told in
+      cause-complete m r.why (subst (λ h. IsCause call h out r.why) same r.cause) r.status_is
+
+  -- ---- words
+
+  asked-not : (run : Run) → options call.words ≡ Some run → options call.words ≡ None → ⊥
+  asked-not run e f = let g : Some run ≡ None = sym e ∙ f in cc
+
+  usage-end : (held : Held) (end : End) → options call.words ≡ None → IsEnd call.words held end → Refused refusal.Usage ≡ end
+  usage-end held end none is = sym (ap (λ o. run_end o held) none) ∙ found call.words held end is
+
+  usage-stop : (held : Held) (why : Refusal) → options call.words ≡ None → IsStop call held why → result ≡ status_of_refusal why →
+      result ≡ status.Usage
+  usage-stop held _ none (at_end why stop) status_is =
+      let same : Refused refusal.Usage ≡ Refused why = usage-end held (Refused why) none stop in
+      let cause : why ≡ refusal.Usage = cc in
+      status_is ∙ ap status_of_refusal cause
+  usage-stop held _ none (script_unread run asked rose) status_is = absurd (asked-not run asked none)
+  usage-stop held _ none (file_unread run program records number name asked prog fine named rose) status_is =
+      absurd (asked-not run asked none)
+  usage-stop held _ none (no_memory run asked) status_is = absurd (asked-not run asked none)
+
+  none-reported : {A : Type 0} (held : Held) (heads : Heads) (rows : List Row) → options call.words ≡ None →
+      IsEnd call.words held (Reported heads rows) → A
+  none-reported held heads rows none is =
+      let same : Refused refusal.Usage ≡ Reported heads rows = usage-end held (Reported heads rows) none is in
+      absurd (cc)
+
+  usage-cause : (held : Held) (why : Refusal) → options call.words ≡ None → IsCause call held out why →
+      result ≡ status_of_refusal why → result ≡ status.Usage
+  usage-cause held why none (stopped stop untouched) status_is = usage-stop held why none stop status_is
+  usage-cause held why none (cut s text has fails) status_is = none-reported held has.heads has.rows none has.is_end
+
+  none-usage : IsReported result ⊎ IsRefused result → Says call out err result → options call.words ≡ None → result ≡ status.Usage
+  none-usage (inl done) says none =
+      let w = says.reported done in none-reported w.held w.report.heads w.report.rows none w.report.is_end
+  none-usage (inr undone) says none =
+      let r = says.refused undone in usage-cause r.held r.why none r.cause r.status_is
+
+  fault-words : (b : Bool) → (if b then status.Faulted else status.Done) ≡ status.Usage → ⊥
+  fault-words true e = cc
+  fault-words false e = cc
+
+  lex-words : (fault : LexFault) → status_of_refusal (parse_refusal (parse_error.Lex fault)) ≡ status.Usage → ⊥
+  lex-words (lex_fault.BadByte at) e = cc
+  lex-words (lex_fault.BadNumber at) e = cc
+  lex-words (lex_fault.LongName at) e = cc
+  lex-words (lex_fault.BadText at) e = cc
+
+  parse-words : (why : ParseErr) → status_of_refusal (parse_refusal why) ≡ status.Usage → ⊥
+  parse-words (parse_error.Lex fault) e = lex-words fault e
+  parse-words (parse_error.Expected at) e = cc
+  parse-words (parse_error.Limit at which) e = cc
+  parse-words parse_error.NoMemory e = cc
+
+  check-words : (why : CheckErr) → status_of_refusal (check_refusal why) ≡ status.Usage → ⊥
+  check-words (check_error.Name at) e = cc
+  check-words (check_error.Twice at) e = cc
+  check-words (check_error.Kind at) e = cc
+  check-words (check_error.Range at) e = cc
+  check-words (check_error.NotLinear at) e = cc
+  check-words (check_error.Branchy paths) e = cc
+  check-words check_error.NoMemory e = cc
+
+  pass-words : (why : PassErr) → status_of_refusal (pass_refusal why) ≡ status.Usage → ⊥
+  pass-words (pass_error.Read file) e = cc
+  pass-words (pass_error.TooLarge file) e = cc
+  pass-words (pass_error.Head file fault) e = cc
+  pass-words (pass_error.Bad file bad) e = cc
+  pass-words pass_error.NoMemory e = cc
+
+  program-words : (text : List ℕ) (why : Refusal) → IsNoProgram text why → status_of_refusal why ≡ status.Usage → ⊥
+  program-words text _ (too_large large) e = cc
+  program-words text _ (unread why small is) e = parse-words why e
+  program-words text _ (broken tree why small is breaks) e = check-words why e
+
+  end-words : (held : Held) (end : End) → IsEnd call.words held end → status_of end ≡ status.Usage → options call.words ≡ None
+  end-words held _ (usage asked) e = asked
+  end-words held _ (no_program run why asked is) e = absurd (program-words held.script why is e)
+  end-words held _ (problem run program why asked is first) e = absurd (pass-words why e)
+  end-words held _ (report run program records asked is fine) e = absurd (fault-words _ e)
+
+  stop-words : (held : Held) (why : Refusal) → IsStop call held why → status_of_refusal why ≡ status.Usage → options call.words ≡ None
+  stop-words held _ (at_end why stop) e = end-words held (Refused why) stop e
+  stop-words held _ (script_unread run asked rose) e = cc
+  stop-words held _ (file_unread run program records number name asked prog fine named rose) e = cc
+  stop-words held _ (no_memory run asked) e = cc
+
+  cut-words : (text : List ℕ) (why : Refusal) → WriteFails out text why → status_of_refusal why ≡ status.Usage → ⊥
+  cut-words text _ (failed prefix rose) e = cc
+  cut-words text _ (short prefix rose) e = cc
+
+  cause-words : (held : Held) (why : Refusal) → IsCause call held out why → status_of_refusal why ≡ status.Usage → options call.words ≡ None
+  cause-words held why (stopped stop untouched) e = stop-words held why stop e
+  cause-words held why (cut s text has fails) e = absurd (cut-words text why fails e)
+
+  usage-words : Refuses call out err result → result ≡ status.Usage → options call.words ≡ None
+  usage-words r e = cause-words r.held r.why r.cause (sym r.status_is ∙ e)
+
+  usage-refused : result ≡ status.Usage → IsRefused result
+  usage-refused e = subst IsRefused (sym e) (λ h. h)
+
+  pub usage-by : Says call out err result → (result ≡ status.Usage) ↔ (options call.words ≡ None)
+  usage-by says = (λ e. usage-words (says.refused (usage-refused e)) e, none-usage (decided result) says)

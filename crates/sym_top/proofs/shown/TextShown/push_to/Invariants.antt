@@ -1,7 +1,0 @@
--- The bytes so far are those of the word's front.
-use Rattle.std.proofs.Common.{◌≡◌, ◌++◌, take, map}
-use Rattle.sym_top.specs.Tables.{shown_byte}
-use Rattle.sym_top.proofs.shown.TextShown.push_to.Given as goal
-
-abbrev pub invariant-bytes : goal.invariant-bytes
-invariant-bytes l = l.into.items ≡ l.initial.into.items ++ map shown_byte (take l.byte-index l.byte-items)
