@@ -6,33 +6,6 @@ ghost use Rattle.sym_check.specs.declared.elaborate.error.CheckErr.{CheckErr as 
 ghost use Rattle.sym_check.specs.declared.elaborate.error.CheckErr.TheVariants as fault;
 ghost use Rattle.sym_uses.specs.Checking.{IsPlanOf, IsSizeOf, Breaks};
 
-#[cfg(test)]
-mod arithmetic;
-#[cfg(test)]
-mod calls;
-#[cfg(test)]
-mod cells;
-#[cfg(test)]
-mod conditions;
-#[cfg(test)]
-mod declarations;
-#[cfg(test)]
-mod names;
-#[cfg(test)]
-mod paths;
-#[cfg(test)]
-mod repeated;
-#[cfg(test)]
-mod reports;
-#[cfg(test)]
-mod rows;
-#[cfg(test)]
-mod statements;
-#[cfg(test)]
-mod tests_of_cells;
-#[cfg(test)]
-mod whole;
-
 use std::alloc::Global;
 use sym_check::{CheckErr, Checked, check};
 use sym_parse::{ParseErr, parse};

@@ -1,5 +1,5 @@
 //! Enums, fields and the group line.
-use crate::checking::rows::{Frame, Wanted, check_rows};
+use crate::rows::{Frame, Wanted, check_rows};
 use std::test::Fail;
 
 /// Before a field, a cell and a report.

@@ -1,5 +1,5 @@
 //! Names in the update.
-use crate::checking::rows::{UPDATE, Wanted, check_rows};
+use crate::rows::{UPDATE, Wanted, check_rows};
 use std::test::Fail;
 
 /// What is visible in the update.

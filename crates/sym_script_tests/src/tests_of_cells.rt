@@ -1,5 +1,5 @@
 //! Declarations of tests.
-use crate::checking::rows::{Frame, Wanted, check_rows};
+use crate::rows::{Frame, Wanted, check_rows};
 use std::test::Fail;
 
 /// After a field and cells.

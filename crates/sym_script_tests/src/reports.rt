@@ -1,5 +1,5 @@
 //! Columns of the report.
-use crate::checking::rows::{Frame, Wanted, check_rows};
+use crate::rows::{Frame, Wanted, check_rows};
 use std::test::Fail;
 
 /// Columns, with a cell of each kind.

@@ -1,5 +1,5 @@
 //! Calls of tests.
-use crate::checking::rows::{UPDATE, Wanted, check_rows};
+use crate::rows::{UPDATE, Wanted, check_rows};
 use std::test::Fail;
 
 /// A test is called on a hold cell and on values of its other parameters.

@@ -1,5 +1,5 @@
 //! Arithmetic in the update.
-use crate::checking::rows::{UPDATE, Wanted, check_rows};
+use crate::rows::{UPDATE, Wanted, check_rows};
 use std::test::Fail;
 
 /// Arithmetic takes numbers.

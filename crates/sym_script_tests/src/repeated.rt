@@ -1,5 +1,5 @@
 //! Path bounds of updates that repeat a statement: the last rule.
-use crate::checking::rows::{UPDATE, Wanted, check_text};
+use crate::rows::{UPDATE, Wanted, check_text};
 use std::alloc::{AllocError, Global};
 use std::test::Fail;
 

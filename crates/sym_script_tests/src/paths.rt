@@ -1,5 +1,5 @@
 //! The path bound.
-use crate::checking::rows::{UPDATE, Wanted, check_rows};
+use crate::rows::{UPDATE, Wanted, check_rows};
 use std::test::Fail;
 
 /// Paths of statements: an assignment to an integer cell and a number pushed may overflow.

@@ -1,5 +1,5 @@
 //! Statements of the update.
-use crate::checking::rows::{UPDATE, Wanted, check_rows};
+use crate::rows::{UPDATE, Wanted, check_rows};
 use std::test::Fail;
 
 /// What is assigned to a cell, pushed and named by `let`.

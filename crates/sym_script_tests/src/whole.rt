@@ -1,5 +1,5 @@
 //! Whole scripts: examples, refusals with their places, and the order of a script's parts.
-use crate::checking::rows::{Wanted, answer_to, check_text};
+use crate::rows::{Wanted, answer_to, check_text};
 use std::test::Fail;
 use sym_check::CheckErr;
 
@@ -198,6 +198,24 @@ const ORDERED: [(&str, Wanted); 14] = [
 fn the_first_fault_of_the_text_is_answered(rt: HostRuntime) -> Result<(), Fail> {
     for (text, wanted) in ORDERED {
         check_text(&rt, rt.alloc(), text, wanted)?;
+    }
+    Ok(())
+}
+
+#[test]
+fn the_text_of_an_error_is_its_variant(rt: HostRuntime) -> Result<(), Fail> {
+    let texts = [
+        (CheckErr::Name { at: 1 }, "Name"),
+        (CheckErr::Twice { at: 2 }, "Twice"),
+        (CheckErr::Kind { at: 3 }, "Kind"),
+        (CheckErr::Range { at: 4 }, "Range"),
+        (CheckErr::NotLinear { at: 5 }, "NotLinear"),
+        (CheckErr::Branchy { paths: 2048 }, "Branchy"),
+        (CheckErr::NoMemory, "NoMemory"),
+    ];
+    'texts: for (error, wanted) in texts {
+        let text = format!(in rt.alloc(); "{}", error)?;
+        assert_eq!(rt; text.as_str(), wanted);
     }
     Ok(())
 }

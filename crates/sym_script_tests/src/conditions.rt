@@ -1,5 +1,5 @@
 //! Conditions in the update.
-use crate::checking::rows::{UPDATE, Wanted, check_rows};
+use crate::rows::{UPDATE, Wanted, check_rows};
 use std::test::Fail;
 
 /// Comparisons take two numbers, and `==` and `!=` two words as well.

@@ -1,0 +1,14 @@
+//! Tests of runs over files: rows, passes, groups and whole runs, over the public calls of
+//! `sym_plain`, `sym_table`, `sym_engine` and `sym_top`.
+#![tactic(auto)]
+
+#[cfg(test)]
+mod files;
+#[cfg(test)]
+mod passes;
+#[cfg(test)]
+mod plain;
+#[cfg(test)]
+mod runs;
+#[cfg(test)]
+mod walk;

@@ -1,0 +1,198 @@
+//! The sequential pass, record by record, against a plain walk over a list of records.
+use std::alloc::Global;
+use std::process::Abort;
+use std::test::Fail;
+use sym_base::{Fault, FaultKind, Key, NoMemory, Outcome, Record, Text, Value, Values};
+use sym_check::Checked;
+use sym_plain::{Groups, fold, fold_into, key_of};
+use sym_uses::checking::checked_text;
+
+// A sum for each name, in a range.
+const SUMS: &str = "field x: num; field who: word; group who; state n: int [0..9] = 1; \
+    update { n = n + x; } report { n = n; }";
+
+/// By how much each record moves whose sum. One leaves the range at its upper end, one at its lower
+/// end, and one stays in it; what has ended is moved again.
+const MOVES: [(i64, &str); 11] = [
+    (2, "bob"),
+    (3, "ann"),
+    (-1, "bob"),
+    (8, ""),
+    (6, "ann"),
+    (-4, "ann"),
+    (7, "bob"),
+    (-10, ""),
+    (1, "a longer name"),
+    (0, "bob"),
+    (-2, "a longer name"),
+];
+
+/// How a sum stands.
+#[derive(Clone, Copy, PartialEq, Eq)]
+enum Standing {
+    Is(i64),
+    /// It left the range at the record of this number.
+    Left(u64),
+}
+
+fn moved(standing: Standing, x: i64, no: u64) -> Standing {
+    match standing {
+        Standing::Is(sum) => {
+            let next = sum.saturating_add(x);
+            if next < 0 || next > 9 {
+                Standing::Left(no)
+            } else {
+                Standing::Is(next)
+            }
+        }
+        Standing::Left(_) => standing,
+    }
+}
+
+// How the sum of a name stands after these records.
+fn walk(moves: &[(i64, &'static str)], who: &str) -> Standing {
+    let mut standing = Standing::Is(1);
+    let mut no = 0u64;
+    'moves: for (x, name) in moves {
+        no = no.wrapping_add(1);
+        if *name == who {
+            standing = moved(standing, *x, no);
+        }
+    }
+    standing
+}
+
+// Whether a name stands in none of these records.
+fn is_new(moves: &[(i64, &'static str)], who: &str) -> bool {
+    'moves: for (_, name) in moves {
+        if *name == who {
+            return false;
+        }
+    }
+    true
+}
+
+fn is_key(key: &Key, who: &str) -> bool {
+    match key {
+        Key::One(Value::Word(word)) => word.as_str() == who,
+        Key::One(Value::Num(_) | Value::Label(_)) | Key::Whole => false,
+    }
+}
+
+fn stands(outcome: &Outcome, standing: Standing) -> bool {
+    match outcome {
+        Outcome::Going(state) => standing == Standing::Is(state.number_at(0)),
+        Outcome::Ended(fault) => {
+            fault.kind == FaultKind::Over(0) && standing == Standing::Left(fault.no)
+        }
+    }
+}
+
+fn check_group(rt: &impl Abort, groups: &Groups, place: usize, who: &str, standing: Standing) {
+    match groups.at(place) {
+        Some((key, outcome)) => {
+            assert!(rt;
+                is_key(key, who) && stands(outcome, standing),
+                "group {place}"
+            )
+        }
+        None => panic!(rt; "no group {place}"),
+    }
+}
+
+// Whether the groups are those of a plain walk: the names in order of their first record.
+fn check_groups(rt: &impl Abort, groups: &Groups, moves: &[(i64, &'static str)]) {
+    let mut place = 0usize;
+    'moves: for (at, (_, who)) in moves.iter().enumerate() {
+        if is_new(&moves[..at], who) {
+            check_group(rt, groups, place, who, walk(moves, who));
+            place = place.wrapping_add(1);
+        }
+    }
+    assert_eq!(rt; groups.len(), place);
+}
+
+fn sums(rt: &impl Abort, alloc: Global) -> Checked {
+    match checked_text(alloc, SUMS.as_bytes()) {
+        Ok(checked) => checked,
+        Err(_) => panic!(rt; "the script breaks no rule"),
+    }
+}
+
+fn record(alloc: Global, no: u64, x: i64, who: &str) -> Result<Record, NoMemory> {
+    let mut fields = Values::new(alloc);
+    fields.push(Value::Num(x))?;
+    fields.push(Value::Word(Text::from_str(alloc, who)?))?;
+    Ok(Record { no, fields })
+}
+
+// Folds the records one by one, and walks over those so far after each.
+fn check_fold(
+    rt: &impl Abort,
+    alloc: Global,
+    checked: &Checked,
+    moves: &[(i64, &'static str)],
+) -> Result<(), Fail> {
+    let mut groups = Groups::new(alloc);
+    'moves: for (at, (x, who)) in moves.iter().enumerate() {
+        let rec = record(alloc, at as u64 + 1, *x, who)?;
+        groups = fold(alloc, checked, groups, &rec)?;
+        check_groups(rt, &groups, &moves[..at + 1]);
+    }
+    Ok(())
+}
+
+#[test]
+fn fold_is_a_plain_walk(rt: HostRuntime) -> Result<(), Fail> {
+    check_fold(&rt, rt.alloc(), &sums(&rt, rt.alloc()), &MOVES)
+}
+
+// The same where the groups stand.
+fn check_fold_into(
+    rt: &impl Abort,
+    alloc: Global,
+    checked: &Checked,
+    moves: &[(i64, &'static str)],
+) -> Result<(), Fail> {
+    let mut groups = Groups::new(alloc);
+    'moves: for (at, (x, who)) in moves.iter().enumerate() {
+        let rec = record(alloc, at as u64 + 1, *x, who)?;
+        fold_into(alloc, checked, &mut groups, &rec)?;
+        check_groups(rt, &groups, &moves[..at + 1]);
+    }
+    Ok(())
+}
+
+#[test]
+fn fold_into_is_a_plain_walk(rt: HostRuntime) -> Result<(), Fail> {
+    check_fold_into(&rt, rt.alloc(), &sums(&rt, rt.alloc()), &MOVES)
+}
+
+#[test]
+fn a_record_has_the_key_of_its_name(rt: HostRuntime) -> Result<(), Fail> {
+    let checked = sums(&rt, rt.alloc());
+    let rec = record(rt.alloc(), 1, 2, "ann")?;
+    let key = key_of(rt.alloc(), &checked, &rec)?;
+    assert!(rt; is_key(&key, "ann"));
+    Ok(())
+}
+
+#[test]
+fn an_outcome_is_put_in_the_place_of_its_keys(rt: HostRuntime) -> Result<(), Fail> {
+    let alloc = rt.alloc();
+    let mut groups = Groups::new(alloc);
+    for (number, no) in [(7, 1), (8, 2), (7, 3)] {
+        let kind = FaultKind::Arith;
+        let outcome = Outcome::Ended(Fault { kind, no });
+        groups = groups.put(alloc, Key::One(Value::Num(number)), outcome)?;
+    }
+    assert_eq!(rt; groups.len(), 2);
+    for (index, number, wanted) in [(0, 7, 3), (1, 8, 2)] {
+        let found = match groups.at(index) {
+            Some((Key::One(Value::Num(key)), Outcome::Ended(fault))) => (*key, fault.no),
+            _ => (0, 0),
+        };
+        assert_eq!(rt; found, (number, wanted));
+    }
+    Ok(())
+}
