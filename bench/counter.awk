@@ -1,26 +1,31 @@
-# What symple does with counter.symple: adds each number of a file to a total that has to stay in
-# a range, tests that each line is a number of at most 13 digits in its range, and prints the report.
-# That the last line has an end isn't tested, since awk doesn't tell.
+# What symple does with counter.symple, for a file of one column without quotes: adds each number to
+# a total that has to stay in a range, tests that each line is a number in its range, and prints the
+# report. Empty lines are passed over.
 
 function refuse() {
     refused = 1
     exit
 }
 
-NR == 1 {
+$0 == "" { next }
+
+!header {
     if ($0 != "amount")
         refuse()
+    header = 1
     next
 }
 
-!/^-?[0-9]+$/ || length($0) > 13 + /^-/ || $0 < -1000000000000 || $0 > 1000000000000 {
+!/^[ \t]*[-+]?[0-9]+[ \t]*$/ || $0 < -1000000000000 || $0 > 1000000000000 {
     refuse()
 }
+
+{ records++ }
 
 !fault {
     total += $0
     if (total < -1000000000000 || total > 1000000000000)
-        fault = NR - 1
+        fault = records
 }
 
 END {
@@ -29,7 +34,7 @@ END {
     print "total"
     if (fault)
         print "fault: total overflows at record " fault
-    else if (NR > 1)
+    else if (records)
         printf "%.0f\n", total
     print "--"
     exit (fault ? 1 : 0)

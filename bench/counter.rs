@@ -1,5 +1,6 @@
-//! What `symple` does with `counter.symple`, written by hand with the standard library: adds each
-//! number of a file to a total that has to stay in a range, and prints the report.
+//! What `symple` does with `counter.symple`, written by hand with the standard library, for a file
+//! of one column without quotes: adds each number to a total that has to stay in a range, and
+//! prints the report. Empty lines are passed over.
 //! Usage: counter FILE
 
 use std::process::ExitCode;
@@ -16,13 +17,14 @@ enum Outcome {
     Overflow { record: u64 },
 }
 
-/// The number that a line spells: an optional `-` and 1 to 13 digits, from -10^12 to 10^12.
-fn number(line: &[u8]) -> Option<i64> {
-    let (negative, digits) = match line {
+/// The number that a text spells: blanks around an optional sign and digits, from -10^12 to 10^12.
+fn number(text: &[u8]) -> Option<i64> {
+    let (negative, digits) = match text.trim_ascii() {
         [b'-', digits @ ..] => (true, digits),
+        [b'+', digits @ ..] => (false, digits),
         digits => (false, digits),
     };
-    if digits.is_empty() || digits.len() > 13 {
+    if digits.is_empty() {
         return None;
     }
     let mut size = 0;
@@ -31,21 +33,20 @@ fn number(line: &[u8]) -> Option<i64> {
             return None;
         }
         size = size * 10 + i64::from(digit - b'0');
-    }
-    if size > 1_000_000_000_000 {
-        return None;
+        if size > MOST {
+            return None;
+        }
     }
     Some(if negative { -size } else { size })
 }
 
-/// Folds the records of a file, or gives None where the file isn't plain.
+/// Folds the records of a file, or gives None where the header or a record is bad.
 fn fold(bytes: &[u8]) -> Option<Outcome> {
-    let Some(text) = bytes.strip_suffix(b"\n") else {
-        return bytes.is_empty().then_some(Outcome::Empty);
-    };
-    let mut lines = text.split(|byte| *byte == b'\n');
-    if lines.next() != Some(FIELD) {
-        return None;
+    let mut lines = bytes.split(|byte| *byte == b'\n').filter(|line| !line.is_empty());
+    match lines.next() {
+        None => return Some(Outcome::Empty),
+        Some(header) if header != FIELD => return None,
+        Some(_) => {}
     }
     let mut outcome = Outcome::Empty;
     for (line, record) in lines.zip(1..) {

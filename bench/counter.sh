@@ -1,9 +1,9 @@
 #!/bin/sh
-# Measures symple over a log of 5,000,000 records against awk (mawk, else gawk) and against a
-# program written by hand in Rust, which do the same work, and against a bare sum in awk, which
-# tests neither the lines nor the range. All first have to write the same report; then each runs
-# three times, in turn. Prints the least wall time, the least processor time and the most memory
-# of each, and the ratios of its wall time and memory to symple's.
+# Measures symple over a log of 5,000,000 records of one column against awk (mawk, else gawk) and
+# against a program written by hand in Rust, which do the same tests but know no quotes, and against
+# a bare sum in awk, which tests neither the lines nor the range. All first have to write the same
+# report; then each runs three times, in turn. Prints the least wall time, the least processor time
+# and the most memory of each, and the ratios of its wall time and memory to symple's.
 # Needs rustc, mawk or gawk, GNU date and GNU time (Debian's packages rustc, mawk and time).
 # Usage: bench/counter.sh [RECORDS]
 set -eu

@@ -1,0 +1,118 @@
+#!/bin/sh
+# Measures symple over two logs of 4,000,000 records, of 10 and of 98,304 users: the sessions of
+# each user, against gawk, mawk, miller, Python with its csv, and a program written by hand in Rust.
+# All have to write the same report, and each runs three times, in turn; Python and miller, which
+# take ten times as long and more, run once, and are stopped after two minutes. Prints the least
+# wall time and the most memory of each, and their ratios to symple's, as a table.
+# Needs rustc, gawk, mawk, miller, python3, GNU date, time and timeout (Debian's packages rustc,
+# gawk, mawk, miller, python3, time and coreutils).
+# Usage: bench/sessions.sh [RECORDS]
+set -eu
+
+records=${1:-4000000}
+most_bytes=67108864
+turns=3
+programs="symple rust mawk gawk"
+slow="python miller"
+patience=120
+here=$(CDPATH='' cd -P "$(dirname "$0")" && pwd)
+root=$(dirname "$here")
+timer=/usr/bin/time
+
+stop() {
+    echo "bench/sessions.sh: $1" >&2
+    exit 1
+}
+
+for tool in rustc gawk mawk mlr python3 timeout "$timer"; do
+    command -v "$tool" >/dev/null || stop "there is no $tool"
+done
+# What stands for python3 may be a script that looks for it.
+python=$(python3 -c 'import sys; print(sys.executable)')
+
+work=$(mktemp -d)
+trap 'rm -rf "$work"' EXIT
+trap 'exit 1' HUP INT TERM
+
+# run PROGRAM USERS: one of the programs over one of the logs. Its status is 124 where a slow one
+# was stopped.
+run() {
+    log=$work/$2.csv
+    case $1 in
+        symple) set -- "$root/crates/symple/out/symple" run "$here/sessions.symple" "$log" ;;
+        rust) set -- "$work/sessions" "$log" ;;
+        mawk | gawk) set -- "$1" -f "$here/sessions.awk" "$log" ;;
+        python) set -- timeout "$patience" "$python" "$here/sessions.py" "$log" ;;
+        miller)
+            set -- timeout "$patience" mlr --icsv --from "$log" put -q -f "$here/sessions.mlr"
+            ;;
+    esac
+    "$timer" -o "$work/used" -f '%M' "$@" >"$work/report"
+}
+
+# measure PROGRAM USERS: runs it, and notes its microseconds and its kilobytes, unless it is stopped.
+measure() {
+    status=0
+    begin=$(date +%s%N)
+    run "$1" "$2" || status=$?
+    end=$(date +%s%N)
+    if [ "$status" -eq 124 ]; then
+        echo "$1 over $2 users: stopped after $patience seconds"
+        return
+    fi
+    [ "$status" -eq 0 ] || stop "$1 failed"
+    cmp -s "$work/report" "$work/$2.expected" ||
+        stop "$1 and rust write different reports for $2 users"
+    echo "$1 $2 $(((end - begin) / 1000)) $(tail -n 1 "$work/used")" >>"$work/turns"
+}
+
+# The launcher builds the program; its own few milliseconds are not measured.
+"$root/symple" run "$here/sessions.symple" /dev/null >"$work/report"
+rustc -O -o "$work/sessions" "$here/sessions.rs"
+for users in 10 98304; do
+    mawk -v records="$records" -v users=$users -f "$here/visits.awk" >"$work/$users.csv"
+    [ "$(wc -c <"$work/$users.csv")" -le $most_bytes ] ||
+        stop "the log of $users users is too large"
+    run rust $users || stop "rust failed"
+    cp "$work/report" "$work/$users.expected"
+    echo "$users users: $records records, $(wc -c <"$work/$users.csv") bytes," \
+        "$(wc -l <"$work/$users.expected") lines of report"
+done
+
+turn=1
+while [ "$turn" -le "$turns" ]; do
+    for users in 10 98304; do
+        for program in $programs; do
+            measure "$program" $users
+        done
+    done
+    turn=$((turn + 1))
+done
+
+for users in 10 98304; do
+    for program in $slow; do
+        measure "$program" $users
+    done
+done
+
+# shellcheck disable=SC2016 # what is quoted is awk's
+mawk -v programs="$programs $slow" -v patience=$patience '
+    { at = $1 " " $2 }
+    !(at in wall) || $3 < wall[at] { wall[at] = $3 }
+    $4 > memory[at] { memory[at] = $4 }
+    function cell(name, users) {
+        if (!((name " " users) in wall))
+            return " over " patience " | | | |"
+        return sprintf(" %.2f | %.2f | %.0f | %.2f |", wall[name " " users] / 1000000, \
+            wall[name " " users] / wall["symple " users], memory[name " " users] / 1024, \
+            memory[name " " users] / memory["symple " users])
+    }
+    END {
+        print "| Program | 10 users: s | ratio | MiB | ratio" \
+            " | 98,304 users: s | ratio | MiB | ratio |"
+        print "|---|---|---|---|---|---|---|---|---|"
+        count = split(programs, names, " ")
+        for (i = 1; i <= count; i++)
+            print "| " names[i] " |" cell(names[i], 10) cell(names[i], 98304)
+    }
+' "$work/turns"
