@@ -1,9 +1,10 @@
 #!/bin/sh
 # Runs the commands that the documents show, at the top of the repository, and compares what each
 # writes with what the document shows below it, and its status. In an indented block a line that
-# begins with `$ ` is a command; the lines up to the next command or the end of the block are all
-# that it writes. `$ echo $?` shows the status of the command before it; a command that isn't
-# followed by one has to end with 0. The last line counts what passed and failed.
+# begins with `$ ` is a command, and lines right after it that begin with `> ` continue it. The
+# lines up to the next command or the end of the block are all that it writes. `$ echo $?` shows the
+# status of the command before it; a command that isn't followed by one has to end with 0. The last
+# line counts what passed and failed.
 set -u
 
 here=$(CDPATH='' cd -P "$(dirname "$0")" && pwd)
@@ -29,7 +30,15 @@ note() {
 # Writes the commands of a document as the files N.place, N.command and N.wanted, N from 1 on.
 split() {
     awk -v work="$work" '
-        function finish() { if (open) { close(wanted); open = 0 }; blank = 0 }
+        function finish() {
+            if (open) {
+                close(wanted)
+                close(command)
+                open = 0
+            }
+            blank = 0
+            going = 0
+        }
         /^\$ / {
             print FILENAME ":" FNR ": a command outside of an indented block" >(work "/faults")
         }
@@ -38,13 +47,15 @@ split() {
             count++
             print FILENAME ":" FNR >(work "/" count ".place")
             close(work "/" count ".place")
-            print substr($0, 7) >(work "/" count ".command")
-            close(work "/" count ".command")
+            command = work "/" count ".command"
+            print substr($0, 7) >command
             wanted = work "/" count ".wanted"
             printf "" >wanted
-            open = 1
+            open = going = 1
             next
         }
+        /^    > / && going { print substr($0, 7) >command; next }
+        { going = 0 }
         /^ *$/ { blank++; next }
         /^    / && open {
             for (; blank > 0; blank--)

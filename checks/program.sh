@@ -1,15 +1,15 @@
 #!/bin/sh
-# Runs the program as its users do, by the launcher, and tests its statuses and what it writes, over
-# the files and streams of the system: one row or more for each status but that of no memory. Then
-# runs each row once for each of its allocations, with that one failing: the answer has to stay as it
-# was, or be status 8 with nothing written, and at least one run of each row has to end with 8. One
-# more run reads a script of very many values with a small stack.
+# Runs the program as its users do, by the launcher, over the files and streams of the system, and
+# tests its status, its report, and the line that it writes on standard error. Each row is run
+# - once by the launcher,
+# - once with a standard error that takes nothing: status and report stay,
+# - once for each of its allocations, with that one failing: the answer has to stay as it was, or be
+#   status 8 with its line and no report, and at least one run of each row has to end with 8.
 # Needs a C compiler as cc, and the GNU C library. The last line counts what passed and failed.
 set -u
 
 here=$(CDPATH='' cd -P "$(dirname "$0")" && pwd)
 root=$(dirname "$here")
-examples=$root/examples
 program=$root/crates/symple/out/symple
 no_memory=8
 
@@ -30,32 +30,82 @@ note() {
     fi
 }
 
-# Whether the run before ended with this status, wrote this on standard output, and nothing on
-# standard error.
+# expect STATUS TEXT: what a run has to answer. The text is a format of printf: the report of the
+# statuses 0 and 1, else the line on standard error, without `symple: ` and its end.
+expect() {
+    wanted=$1
+    : >"$work/wanted.out"
+    : >"$work/wanted.err"
+    # shellcheck disable=SC2059 # rows give formats
+    if [ "$1" -le 1 ]; then
+        printf "$2" >"$work/wanted.out"
+    else
+        printf "symple: $2\n" >"$work/wanted.err"
+    fi
+}
+
+# Whether the run before answered what is expected.
 answered() {
-    [ "$status" -eq "$1" ] && printf '%s' "$2" | cmp -s - "$work/out" && [ ! -s "$work/err" ]
+    [ "$status" -eq "$wanted" ] && cmp -s "$work/wanted.out" "$work/out" &&
+        cmp -s "$work/wanted.err" "$work/err"
+}
+
+# Whether the run before said that it is out of memory, and nothing else. This starts no process,
+# since it is asked after each failing allocation.
+ran_short() {
+    [ "$status" -eq "$no_memory" ] && [ ! -s "$work/out" ] || return 1
+    {
+        IFS= read -r line && ! IFS= read -r rest && [ -z "$rest" ]
+    } <"$work/err" && [ "$line" = "symple: out of memory" ]
+}
+
+# Notes whether the run before answered what is expected, and else what it answered.
+note_answer() {
+    if answered; then
+        note 0
+    else
+        note 1 "$1: status $status in place of $wanted
+$(diff "$work/wanted.out" "$work/out" | head -n 5)
+$(diff "$work/wanted.err" "$work/err" | head -n 5)"
+    fi
+}
+
+# Runs a command with empty streams for its report and its line.
+run() {
+    : >"$work/out"
+    : >"$work/err"
+    "$@" >"$out" 2>"$work/err"
+    status=$?
 }
 
 # Runs with the allocation of this number failing, and counts all allocations.
 run_short() {
     number=$1
     shift
+    : >"$work/out"
     FAIL_ALLOCATION=$number ALLOCATION_COUNT=$work/count LD_PRELOAD=$work/failing.so \
         "$program" "$@" >"$out" 2>"$work/err"
     status=$?
 }
 
-# row NAME STATUS TEXT ARGUMENTS..: the arguments give this status and this text.
-row() {
+# row_once NAME STATUS TEXT ARGUMENTS..: the arguments give this answer.
+row_once() {
     name=$1
-    wanted=$2
-    text=$3
+    expect "$2" "$3"
     shift 3
+    run "$root/symple" "$@"
+    note_answer "$name"
     : >"$work/out"
-    "$root/symple" "$@" >"$out" 2>"$work/err"
+    "$program" "$@" >"$out" 2>/dev/full
     status=$?
-    answered "$wanted" "$text"
-    note $? "$name: status $status in place of $wanted, or another output"
+    [ "$status" -eq "$wanted" ] && cmp -s "$work/wanted.out" "$work/out"
+    note $? "$name, with a full standard error: status $status in place of $wanted"
+}
+
+# row NAME STATUS TEXT ARGUMENTS..: the same, and again with each allocation failing.
+row() {
+    row_once "$@"
+    shift 3
     fail_each "$@"
 }
 
@@ -63,79 +113,421 @@ row() {
 fail_each() {
     rm -f "$work/count"
     run_short 0 "$@"
-    answered "$wanted" "$text"
-    note $? "$name, no allocation failing: status $status"
+    note_answer "$name, no allocation failing"
     total=$(cat "$work/count") || total=0
     failing=1
     short=0
     while [ "$failing" -le "$total" ]; do
         run_short "$failing" "$@"
-        answered "$wanted" "$text" || answered "$no_memory" ""
-        note $? "$name, allocation $failing of $total failing: status $status"
-        [ "$status" -ne "$no_memory" ] || short=$((short + 1))
+        if ran_short; then
+            short=$((short + 1))
+            note 0
+        else
+            note_answer "$name, allocation $failing of $total failing"
+        fi
         failing=$((failing + 1))
     done
     [ "$short" -ge 1 ]
     note $? "$name: none of $total failing allocations gave status $no_memory"
 }
 
+# log TEXT: the file log.csv, from a format of printf.
+log() {
+    # shellcheck disable=SC2059 # rows give formats
+    printf "$1" >log.csv
+}
+
+# records NAME TEXT REPORT: log.csv has this text, and values.symple gives this report of it.
+records() {
+    log "key,text,label\n$2"
+    row "$1" 0 "key | number | text | label | at | n | keys | texts\n$3--\n" \
+        run values.symple log.csv
+}
+
+# unread NAME TEXT LINE: log.csv has this text and is refused with this line, by fields.symple.
+unread() {
+    log "$2"
+    row "$1" 4 "log.csv: $3" run fields.symple log.csv
+}
+
+# script NAME UPDATE LINE: the script with this update is refused with this line.
+script() {
+    printf 'field x: num; state n: int [0..3] = 0; update { %s } report { n = n; }' "$2" >one.symple
+    row "script: $1" 3 "script: $3" run one.symple absent.csv
+}
+
+# whole_script NAME TEXT LINE: the script of this text is refused with this line.
+whole_script() {
+    # shellcheck disable=SC2059 # rows give formats
+    printf "$2" >whole.symple
+    row "script: $1" 3 "script: $3" run whole.symple absent.csv
+}
+
+# many TEXT TIMES: the text so many times.
+many() {
+    yes "$1" | head -n "$2" | tr -d '\n'
+}
+
+# changed OLD NEW [OLD NEW]: changed.symple is capped.symple with new texts in place of old ones.
+changed() {
+    sed "s/$1/$2/; s/${3-$}/${4-}/" capped.symple >changed.symple
+}
+
 cc -O2 -shared -fPIC -o "$work/failing.so" "$here/failing_allocation.c" || exit 1
 # Builds the program where it has to be built, so that no row sees what a build says.
-"$root/symple" run "$examples/counter.symple" "$examples/counter.csv" >/dev/null || exit 1
-
+"$root/symple" run "$root/examples/counter.symple" "$root/examples/counter.csv" >/dev/null || exit 1
+cp "$here"/scripts/*.symple "$work"
+cd "$work" || exit 1
 out=$work/out
-counter=$examples/counter.symple
-lift=$examples/lift.symple
-printf 'milliseconds\n12\n7\n' >"$work/two.csv"
-printf 'people\n6\n-2\n' >"$work/four.csv"
-printf 'people\n8\n1\n-3\n' >"$work/nine.csv"
-printf 'people\n' >"$work/none.csv"
-printf 'milliseconds\n1\nx\n' >"$work/letters.csv"
-head -c 65537 /dev/zero | tr '\0' ' ' >"$work/large.symple"
-truncate -s 67108865 "$work/large.csv"
 
-row "a counter" 0 'events
-2
---
-' run "$counter" "$work/two.csv"
-row "a sum" 0 'aboard
-4
---
-' run "$lift" "$work/four.csv"
-row "a file without records" 0 'aboard
---
-' run "$lift" "$work/none.csv"
-row "an overflow" 1 'aboard
-fault: aboard overflows at record 2
---
-' run "$lift" "$work/nine.csv"
-row "no arguments" 2 ''
-row "an argument too few" 2 '' run "$counter"
-row "an argument that isn't UTF-8" 2 '' run "$counter" "$(printf '\377')"
-row "a script that is no counter" 3 '' run "$work/two.csv" "$work/two.csv"
-row "a file that isn't plain" 4 '' run "$counter" "$work/letters.csv"
-row "another first line" 4 '' run "$counter" "$work/four.csv"
-row "an absent script" 5 '' run "$work/absent" "$work/two.csv"
-row "an absent file" 5 '' run "$counter" "$work/absent"
-row "a directory in place of a file" 5 '' run "$counter" "$work"
-row "a large script" 7 '' run "$work/large.symple" "$work/two.csv"
-row "a large file" 7 '' run "$counter" "$work/large.csv"
+# That a wrong answer is noticed: another status, report or line, and a run that isn't short.
+log 'user\na\n'
+run "$program" run counts.symple log.csv
+expect 0 'user | n\na | 1\n--\n' && answered && ! ran_short
+note $? "a right answer isn't taken for one"
+for wrong in '1 user | n\na | 1\n--\n' '0 user | n\na | 2\n--\n' '0 ' '8 out of memory' '4 x'; do
+    expect "${wrong%% *}" "${wrong#* }"
+    ! answered
+    note $? "an answer is taken for: $wrong"
+done
+run "$program" run absent.symple log.csv
+expect 5 'absent.symple: read fault' && answered && ! ran_short
+note $? "a right refusal isn't taken for one"
+expect 5 'log.csv: read fault' && ! answered
+note $? "a refusal is taken for one of another file"
+
+# Whole runs, for every kind of script.
+log 'x\n5\n5\n5\n5\n5\n'
+row "a cell leaves its range" 1 'n\nfault: n overflows at record 4\n--\n' run capped.symple log.csv
+log 'ts,user\n10,a\n20,a\n60,a\n5,b\n61,a\n'
+row "sessions" 0 'user | sessions | open | longest\na | 1 | 2 | 2\nb | 0 | 1 | none\n--\n' \
+    run sessions.symple log.csv
+log 'ts,user\n1000000000000,a\n'
+sed 's/num = 0/num = -1000000000000/' sessions.symple >early.symple
+row "a test whose arithmetic fails is false" 0 \
+    'user | sessions | open | longest\na | 0 | 1 | none\n--\n' run early.symple log.csv
+log 'x\n1\n2\n3\n'
+row "an enum cell" 0 'phase\nbusy\n--\n' run toggle.symple log.csv
+row "one of six labels" 0 'c\nk5\n--\n' run cases.symple log.csv
+row "a condition on two cells" 0 'n\n0\n--\n' run guarded.symple log.csv
+log 'user\nc\na\nb\na\n'
+row "groups in order" 0 'user | n\nc | 1\na | 2\nb | 1\n--\n' run counts.symple log.csv
+log 'user,x\na,5\na,\n'
+row "an empty text with a value" 0 'user | n | big\na | 5 | 5000000000000\n--\n' \
+    run sums.symple log.csv
+log 'user,x\na,1000000000000\n'
+row "a report of more than 64 bits" 0 \
+    'user | n | big\na | 1000000000000 | 1000000000000000000000000\n--\n' run sums.symple log.csv
+log 'user,x\na,1000000000000\nb,1\na,1\nb,2\na,-5\n'
+row "one group fails, another goes on" 1 \
+    'user | n | big\na | fault: n overflows at record 3\nb | 3 | 3000000000000\n--\n' \
+    run sums.symple log.csv
+log 'user,x\na,1000000000001\n'
+row "a number beyond the range" 4 'log.csv: record 1: field x is not a number' \
+    run sums.symple log.csv
+log '\357\273\277Time,"User ID",Action,Amount\r
+2015-10-04T10:00,ann,cart,\r
+2015-10-04T10:01,"Smith, Bob",cart,\r
+2015-10-04T10:02,ann,buy,1299\r
+2015-10-04T10:03,"Smith, Bob",view,\r
+2015-10-04T10:04,ann,buy,500\r
+2015-10-04T10:05,"Smith, Bob",buy,250\r
+'
+row "purchases after a cart" 0 \
+    'user | buys | paid | biggest\nann | 1 | 1299 | 1299\nSmith, Bob | 1 | 250 | 250\n--\n' \
+    run purchases.symple log.csv
+log 'user\na\n'
+row "a column without a number" 1 \
+    'user | q | r | m | k\na | zero divisor | -7 | none | none\n--\n' run quotients.symple log.csv
+changed 'n = n;' 'a = n * 1000000000000 * 1000000000000 * 1000000000000 * 1000000000000;'
+log 'x\n1\n'
+row "a column of more than 128 bits" 1 'a\noverflow\n--\n' run changed.symple log.csv
+changed '0\.\.3' '0..10' 'n + 1' '-1 * n + 10'
+log "x\n$(many '1\n' 7)"
+row "a cell times a number" 0 'n\n10\n--\n' run changed.symple log.csv
+changed '0\.\.3' '0..1000000000000' 'n + 1' '2 * n'
+log "x\n$(many '1\n' 200)"
+row "200 records" 0 'n\n0\n--\n' run changed.symple log.csv
+changed '0\.\.3' '0..9' 'n + 1' 'n + x \/ x'
+log 'x\n3\n0\n5\n'
+row "a division by zero" 1 'n\nfault: arithmetic at record 2\n--\n' run changed.symple log.csv
+
+# Fields.
+records "fields of each kind" '3,w,red\n-1,v,green\n3,,\n' \
+    '3 | 3 | empty | green | green | 2 | [3 3] | [w empty]
+-1 | -1 | v | green | green | 1 | [-1] | [v]\n'
+records "signs, zeros and blanks" \
+    '+07,w,red\n \t7\t , w ,\tred \n0000000000000000000000007,w,red\n' \
+    '7 | 7 | w | red | red | 3 | [7 7 7] | [w  w  w]\n'
+records "the ends of the range" '1000000000000,w,red\n-1000000000000,w,red\n-0,w,red\n' \
+    '1000000000000 | 1000000000000 | w | red | red | 1 | [1000000000000] | [w]
+-1000000000000 | -1000000000000 | w | red | red | 1 | [-1000000000000] | [w]
+0 | 0 | w | red | red | 1 | [0] | [w]\n'
+records "texts of blanks" ' \t, , \t \n' '-1 | -1 |   | green | green | 1 | [-1] | [ ]\n'
+records "quotes" '"1","a ""b"", c","red"\n1,"two\r\nlines",red\n1,"a"b,red\n1,a"b",red\n' \
+    '1 | 1 | a"b" | red | red | 4 | [1 1 1 1] | [a "b", c two??lines ab a"b"]\n'
+records "a quote that isn't closed" '1,w,red\n2,v,"red' \
+    '1 | 1 | w | red | red | 1 | [1] | [w]\n2 | 2 | v | red | red | 1 | [2] | [v]\n'
+records "CRLF, CR, LF and no end" '1,a,red\r\n1,b,red\r1,c,red\n1,d,red' \
+    '1 | 1 | d | red | red | 4 | [1 1 1 1] | [a b c d]\n'
+records "empty lines" '\n1,a,red\n\r\n\r\r\n1,b,red\n\n' \
+    '1 | 1 | b | red | red | 2 | [1 1] | [a b]\n'
+records "bytes below 32, 127 and beyond ASCII in words" \
+    '1,"\001\t\177\037~\303\244\342\202\254",red\n' \
+    '1 | 1 | ????~\303\244\342\202\254 | red | red | 1 | [1] | [????~\303\244\342\202\254]\n'
+records "a NUL in a word" '1,a\000b,red\n' '1 | 1 | a?b | red | red | 1 | [1] | [a?b]\n'
+records "no records" '' ''
+log ''
+row "a file of no bytes" 0 'user | n\n--\n' run counts.symple log.csv
+log '\n\r\n'
+row "a file of empty lines" 0 'user | n\n--\n' run counts.symple log.csv
+log 'user'
+row "a header without an end" 0 'user | n\n--\n' run counts.symple log.csv
+log '\357\273\277user\na\n'
+row "a byte-order mark" 0 'user | n\na | 1\n--\n' run counts.symple log.csv
+log '\357\273\277\357\273\277user\na\n'
+row "two byte-order marks" 0 'user | n\na | 1\n--\n' run counts.symple log.csv
+log '\357\273\277\357\273\277\357\273\277user\na\n'
+row "three byte-order marks" 4 'log.csv: header: no field user' run counts.symple log.csv
+log '\357\273\277'
+row "a byte-order mark alone" 0 'user | n\n--\n' run counts.symple log.csv
+log 'user\n\357\273\277a\n'
+row "a byte-order mark in a record" 0 'user | n\n\357\273\277a | 1\n--\n' run counts.symple log.csv
+log 'x,user,y\n\377,a,\n1,b,"\300\n"\n\376,a,\n'
+row "bytes that aren't UTF-8 in columns that aren't read" 0 'user | n\na | 2\nb | 1\n--\n' \
+    run counts.symple log.csv
+log 'x,user,x,x\n1,a,2,3\n'
+row "other columns with one name" 0 'user | n\na | 1\n--\n' run counts.symple log.csv
+log 'user,x\na b,\n"a b",\na  b,\na b ,\n'
+row "blanks tell words apart" 0 'user | n\na b | 2\na  b | 1\na b  | 1\n--\n' \
+    run counts.symple log.csv
+log 'user\n""\nann\n""\n'
+row "the empty word" 0 'user | n\n | 2\nann | 1\n--\n' run counts.symple log.csv
+
+# Headers and records that are refused.
+log 'name\na\n'
+row "no such column" 4 'log.csv: header: no field user' run counts.symple log.csv
+log 'user,user\na,b\n'
+row "two such columns" 4 'log.csv: header: field user twice' run counts.symple log.csv
+log 'User\na\n'
+row "another case" 4 'log.csv: header: no field user' run counts.symple log.csv
+log ' user\na\n'
+row "a blank in a header" 4 'log.csv: header: no field user' run counts.symple log.csv
+log '\377\n\377,\n'
+row "a header that isn't UTF-8" 4 'log.csv: header: no field user' run counts.symple log.csv
+log 'User ID,action,Amount,Action,Amount\na\n'
+row "a header text of the script, before a record" 4 'log.csv: header: field Amount twice' \
+    run purchases.symple log.csv
+unread "the first field's fault" 'text,text,label\n' 'header: no field key'
+unread "the header's faults in order of the script" 'label,label,text,text,key\n' \
+    'header: field text twice'
+unread "a short row" 'key,text,label\n1,w,red\n1,w\n' 'record 2: 2 fields'
+unread "a long row" 'key,text,label\n1,w,red,\n' 'record 1: 4 fields'
+unread "a row of one blank" 'key,text,label\n1,w,red\n \n' 'record 2: 1 fields'
+unread "a quote that takes the next line" 'key,text,label\n1,"w,red\n1,w,red\n' 'record 1: 2 fields'
+unread "another separator" 'key,text,label\n1;w;red\n' 'record 1: 1 fields'
+for text in x 1.0 1e3 0x1 '1 2' - + +-1 1- '"1,000"' 1000000000001 -1000000000001 \
+    9223372036854775808 340282366920938463463374607431768211457 \
+    '1\000' '\357\274\221' '\302\2401'; do
+    unread "no number" "key,text,label\n1,w,red\n$text,w,red\n" \
+        'record 2: field key is not a number'
+done
+for text in Red 're d' redd '\000' 0 empty k1; do
+    unread "no label" "key,text,label\n1,w,$text\n" 'record 1: field label is not a label'
+done
+for text in '\377' 'a\303' '\355\240\200' '\300\200' '\364\220\200\200' '"\342\202"'; do
+    unread "a word that isn't UTF-8" "key,text,label\n1,$text,red\n" \
+        'record 1: field text is not UTF-8'
+done
+unread "a number that isn't UTF-8" 'key,text,label\n1\377,w,red\n' \
+    'record 1: field key is not UTF-8'
+unread "a label that isn't UTF-8" 'key,text,label\n1,w,\377\n' 'record 1: field label is not UTF-8'
+unread "the fields' faults in order of the script" 'label,text,key\nx,\377,y\n' \
+    'record 1: field key is not a number'
+unread "the number of fields comes first" 'key,text,label\nx,\377,x,x\n' 'record 1: 4 fields'
+log 'user,x\na,1\nb,x\n'
+row "the first bad record" 4 'log.csv: record 2: field x is not a number' run sums.symple log.csv
+unread "an empty number without a value" 'key,text,label\n1,w,red\n,w,red\n' \
+    'record 2: field key is not a number'
+unread "a label of blanks without a value" 'key,text,label\n1,w, \t\n' \
+    'record 1: field label is not a label'
+log 'ts,user\n1,a\n2,a\n3,a\n4,a\n1,a,x\n6,a\nt,a\n8,a\n'
+row "the first of two bad records" 4 'log.csv: record 5: 3 fields' run sessions.symple log.csv
+log 'x\n5\n5\n5\n5\n5\nx\n'
+row "a bad record after a fault" 4 'log.csv: record 6: field x is not a number' \
+    run capped.symple log.csv
+
+# Several files.
+printf 'user,x\na,1\nb,2\n' >first.csv
+printf 'y,x,user\n,1000000000000,a\n,5,c\n' >second.csv
+printf 'user,x\nb,x\n' >third.csv
+printf 'name\nb\n' >fourth.csv
+: >empty.csv
+: >-
+row "two files" 1 \
+    'user | n | big
+a | fault: n overflows at record 3\nb | 2 | 2000000000000\nc | 5 | 5000000000000\n--\n' \
+    run sums.symple first.csv second.csv
+row "the same file twice" 0 'user | n | big\na | 2 | 2000000000000\nb | 4 | 4000000000000\n--\n' \
+    run sums.symple first.csv first.csv
+row "a file of no bytes between two files" 0 'user | n\na | 2\nb | 2\n--\n' \
+    run counts.symple empty.csv first.csv empty.csv ./first.csv
+row "a file named -" 0 'user | n\n--\n' run counts.symple -
+row "records are numbered on" 4 'third.csv: record 5: field x is not a number' \
+    run sums.symple first.csv second.csv third.csv
+row "a later header" 4 'fourth.csv: header: no field user' run sums.symple first.csv fourth.csv
+row "an absent later file" 5 'absent.csv: read fault' run sums.symple first.csv absent.csv
+row "a bad record before an absent file" 4 'third.csv: record 3: field x is not a number' \
+    run sums.symple first.csv third.csv absent.csv
+row "an absent file before a bad record" 5 'absent.csv: read fault' \
+    run sums.symple first.csv absent.csv third.csv
+row "a header before an absent file" 4 'fourth.csv: header: no field user' \
+    run sums.symple fourth.csv absent.csv
+row "a folder as a later file" 5 './: read fault' run sums.symple first.csv ./
+truncate -s 67108865 large.csv
+row "a large file" 7 'large.csv: too large' run counts.symple large.csv
+row "a large later file" 7 'large.csv: too large' run counts.symple first.csv large.csv
+row "a bad record before a large file" 4 'third.csv: record 1: field x is not a number' \
+    run sums.symple third.csv large.csv
+{
+    printf 'user\na\n'
+    head -c $((67108864 - 7)) /dev/zero | tr '\0' '\n'
+} >limit.csv
+row_once "a file of 67,108,864 bytes" 0 'user | n\na | 1\n--\n' run counts.symple limit.csv
+name=$(printf 'a b\nc \303\244')
+cp third.csv "$name"
+row "a name with a blank, a line end and a letter" 4 \
+    "$name: record 1: field x is not a number" run sums.symple "$name"
+name=$(many a 5000)
+row "a long name" 5 "$name: read fault" run sums.symple "$name"
+# A run for each allocation of so many arguments would take hours.
+# shellcheck disable=SC2046 # so many arguments
+row_once "65,536 files" 0 'user | n\na | 1\nb | 1\n--\n' \
+    run counts.symple $(yes empty.csv | head -n 65535) first.csv
+# shellcheck disable=SC2046 # so many arguments
+row_once "65,537 files" 2 usage run counts.symple $(yes empty.csv | head -n 65537)
+
+# Arguments.
+row "no arguments" 2 usage
+row "no script" 2 usage run
+row "no file" 2 usage run counts.symple
+row "another command" 2 usage walk counts.symple first.csv
+row "another case of the command" 2 usage Run counts.symple first.csv
+row "an option" 2 usage run --form counts.symple first.csv
+row "a version" 2 usage --version
+row "help" 2 usage run counts.symple first.csv -h
+row "two dashes" 2 usage run -- counts.symple first.csv
+row "an argument that isn't UTF-8" 2 usage run counts.symple "$(printf '\377')"
+row "an empty argument" 5 ': read fault' run '' first.csv
+row "faulty arguments before an absent script" 2 usage run absent.symple
+
+# Scripts that aren't read.
+row "an absent script" 5 'absent.symple: read fault' run absent.symple first.csv
+row "a folder as a script" 5 './: read fault' run ./ first.csv
+row "an absent script before an absent file" 5 'absent.symple: read fault' \
+    run absent.symple absent.csv
+head -c 65537 /dev/zero | tr '\0' ' ' >large.symple
+row "a large script" 7 'large.symple: too large' run large.symple absent.csv
+head -c 65536 large.symple >blank.symple
+row "a script of 65,536 blanks" 3 'script: unexpected token at byte 65536' \
+    run blank.symple first.csv
+{
+    cat counts.symple
+    head -c $((65536 - $(wc -c <counts.symple))) large.symple
+} >filled.symple
+row "a script of 65,536 bytes" 0 'user | n\na | 1\nb | 1\n--\n' run filled.symple first.csv
+row "a log as a script" 3 'script: unexpected token at byte 0' run first.csv first.csv
+
+# Scripts that are refused, before their absent file is read.
+script "a product of cells" 'n = n * n;' 'not linear at byte 54'
+script "a sum of cells" 'n = n + n;' 'not linear at byte 54'
+script "a name that isn't declared" 'n = m;' 'unknown name at byte 52'
+script "a word for a number" 'n = "a";' 'wrong kind at byte 52'
+script "a sum with a word" 'n = 1 + "a";' 'wrong kind at byte 54'
+script "a local with a cell's name" 'let n = 1;' 'name taken at byte 52'
+script "a cell as a condition" 'if n { }' 'wrong kind at byte 51'
+script "a number beyond the range" 'n = 1000000000001;' 'bad number at byte 52'
+script "a number with a letter" 'n = 1x;' 'bad number at byte 52'
+script "a text without an end" 'n = "a;' 'bad text at byte 52'
+script "another escape" 'n = "\n";' 'bad text at byte 52'
+script "a byte of no token" '$' 'bad byte at byte 48'
+script "a symbol's first half" 'if n ! 1 { }' 'bad byte at byte 53'
+script "a name of 65 letters" "n = $(many a 65);" 'long name at byte 52'
+script "a lexical fault after an unexpected token" 'n 1; $' 'bad byte at byte 53'
+script "an unexpected token" 'n 1;' 'unexpected token at byte 50'
+script "a quotient of a cell" 'n = n / 2;' 'not linear at byte 54'
+script "two cells compared" 'if n == n { }' 'not linear at byte 53'
+script "statements: 513" "$(many 'n = 1; ' 513)" 'limit of statements at byte 3632'
+script "depth: 65" "n = $(many '(' 65)1$(many ')' 65);" 'limit of depth at byte 116'
+script "operands: 257" "n = 1$(many ' + 1' 256);" 'limit of operands at byte 1076'
+script "2,048 paths" "$(many 'if n < 1 { } ' 11)" '2048 paths'
+script "paths beyond a million" "$(many 'if n < 1 { n = 0; } ' 20)" '1000000 paths'
+whole_script "no bytes" '' 'unexpected token at byte 0'
+whole_script "a comment alone" '# field' 'unexpected token at byte 7'
+whole_script "a byte-order mark" '\357\273\277field x: num;' 'bad byte at byte 0'
+whole_script "a NUL" 'field x\000: num;' 'bad byte at byte 7'
+whole_script "a text that isn't UTF-8" 'field x from "\377": num;' 'bad text at byte 13'
+whole_script "no colon" 'field x num;' 'unexpected token at byte 8'
+whole_script "no state" 'field x: num; update { } report { n = 1; }' 'unexpected token at byte 14'
+whole_script "enums: 17" "$(many 'enum e { a } ' 17)" 'limit of enums at byte 208'
+whole_script "labels: 33" "enum e { a$(many ',a' 32) }" 'limit of labels at byte 73'
+whole_script "fields: 33" "$(many 'field x: num; ' 33)" 'limit of fields at byte 448'
+whole_script "cells: 33" "field x: num; $(many 'state s: words; ' 33)" 'limit of cells at byte 526'
+whole_script "parts: 5" "field x: num; state h: hold(num = 0$(many ',num=0' 4));" \
+    'limit of parts at byte 54'
+whole_script "tests: 33" "field x: num; state s: words; $(many 'test t(a: num) = a; ' 33)" \
+    'limit of tests at byte 670'
+whole_script "parameters: 9" "field x: num; state s: words; test t(a: num$(many ',a:num' 8)) = a;" \
+    'limit of parameters at byte 86'
+whole_script "columns: 33" \
+    "field x: num; state s: words; update { } report { $(many 'c = 1; ' 33)}" \
+    'limit of columns at byte 274'
+whole_script "a range upside down" \
+    'field x: num; state n: int [3..0] = 0; update { } report { n = n; }' \
+    'wrong range at byte 20'
+whole_script "a part of a cell without parts" \
+    'field x: num; state n: words; update { } report { a = part(n, 1); }' 'wrong kind at byte 54'
+whole_script "a part beyond the parts" \
+    'field x: num; state h: hold(num = 0); update { } report { a = part(h, 2); }' \
+    'wrong range at byte 70'
+whole_script "a group that is no field" \
+    'field x: num; group y; state n: words; update { } report { n = n; }' \
+    'unknown name at byte 20'
+
 # A script of 65,536 bytes, which is a keep of as many values as there is room for, and a stack of
 # 1 MiB. It is no row, since a run for each allocation would take hours.
 {
     printf 'field x: num; state n: int [0..99] = 0; state h: hold(num = 0); update { keep h(1'
     yes ,1 | head -n 32716 | tr -d '\n'
     printf '); } report { n = n; }\n'
-} >"$work/many.symple"
-(ulimit -s 1024 && exec "$program" run "$work/many.symple" "$work/two.csv") \
-    >"$out" 2>"$work/err"
-status=$?
-[ "$(wc -c <"$work/many.symple")" -eq 65536 ] && answered 3 ""
+} >many.symple
+expect 3 'script: wrong kind at byte 78'
+# shellcheck disable=SC2016 # the inner shell's arguments
+run sh -c 'ulimit -s 1024 && exec "$0" run many.symple first.csv' "$program"
+[ "$(wc -c <many.symple)" -eq 65536 ] && answered
 note $? "a keep of many values, with a stack of 1 MiB: status $status"
 
-# What goes to this device can't be read back: only the status is compared.
+# Reports that can't be written, or only in part.
 out=/dev/full
-row "a full device" 6 '' run "$counter" "$work/two.csv"
+row "a full device" 6 'write fault' run counts.symple first.csv
+row "a full device, and a report with a fault" 6 'write fault' run sums.symple first.csv second.csv
+out=$work/out
+
+# A file that may have 1,024 bytes at most, or fewer, takes a prefix of a longer report.
+{
+    echo user
+    seq 1000
+} >numbers.csv
+run "$program" run counts.symple numbers.csv
+cp "$work/out" whole.txt
+# shellcheck disable=SC2016 # the inner shell's arguments
+run sh -c 'trap "" XFSZ; ulimit -f 1 && exec "$0" run counts.symple numbers.csv' "$program"
+size=$(wc -c <"$work/out")
+head -c "$size" whole.txt >"$work/wanted.out"
+echo "symple: write fault" >"$work/wanted.err"
+wanted=6
+[ "$size" -lt "$(wc -c <whole.txt)" ] && [ "$size" -gt 0 ] && answered
+note $? "a report that is written in part: status $status, $size bytes"
 
 echo "checks/program.sh: $passed passed, $failed failed"
 [ "$failed" -eq 0 ]
