@@ -11,6 +11,6 @@ mod status;
 mod top;
 
 pub use message::refuse_start;
-pub use refusal::{Place, Refusal, ScriptFault, StartErr};
+pub use refusal::StartErr;
 pub use status::Status;
 pub use top::symple;
