@@ -20,9 +20,9 @@ file_at files name = option_map (λ file. file.bytes) (find (λ file. bytes_eq n
 abbrev pub bytes_of : List File → List ℕ → List ℕ
 bytes_of files name = unwrap_or (file_at files name) []
 
--- A store that never fails tells of every name.
-abbrev pub told : List File → List ℕ → Option (List ℕ)
-told files name = Some (bytes_of files name)
+-- The files of a store that never fails are all visible.
+abbrev pub visible_bytes : List File → List ℕ → Option (List ℕ)
+visible_bytes files name = Some (bytes_of files name)
 
 -- The files that the entries of a map from names to bytes are.
 abbrev pub files_of : {A : Type 0} → List (String A × List ℕ) → List File

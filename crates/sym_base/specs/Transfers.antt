@@ -8,7 +8,8 @@ pub record ReadsAt (bytes : List ℕ) (place count : ℕ) (before after : List �
   pub filled : after ≡ take count (drop place bytes) ++ drop count before
   pub ends : count ≡ 0 → (length before ≡ 0) ⊎ (length bytes ≤ place)
 
--- What a sink holds after some bytes are appended. A sink that doesn't tell goes on not telling.
+-- What a sink holds after some bytes are appended. Content that isn't visible
+-- stays so.
 abbrev pub appended : Option (List ℕ) → List ℕ → Option (List ℕ)
 appended None bytes = None
 appended (Some written) bytes = Some (written ++ bytes)

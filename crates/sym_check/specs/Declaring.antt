@@ -15,7 +15,7 @@ use Rattle.sym_check.specs.Scopes.{Scope, in_tests}
 use Rattle.sym_check.specs.InOrder.{Planned}
 use Rattle.sym_check.specs.ElaborateDeclarations.{PlannedParts, PlannedCell}
 
--- The plan and the scope after it are those of the definition, or an allocation was refused.
+-- The plan and the scope after it are those of the definition, or `NoMemory` is returned.
 abbrev pub Declares : {A B : Type 0}
     → (A → B) → Result (Planned B) CheckErr → Result A CheckErr → Scope → Type 0
 Declares view outcome (Ok a) s = outcome ≡ Ok (record { plan = view a; scope = s })

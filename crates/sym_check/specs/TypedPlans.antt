@@ -26,7 +26,7 @@ located_plan a = record { at = a.at; typed = typed_plan a.typed }
 abbrev pub arguments_plan : ArgumentTrees → Arguments
 arguments_plan a = record { first = located_plan a.first; others = map located_plan a.others.items }
 
--- The outcome is that of the definition, or an allocation was refused.
+-- The outcome is that of the definition, or `NoMemory` is returned.
 abbrev pub Answers : {A B : Type 0} → (A → B) → Result B CheckErr → Result A CheckErr → Type 0
 Answers view outcome (Ok a) = outcome ≡ Ok (view a)
 Answers view outcome (Err e) = e ≢ broken.NoMemory → outcome ≡ Err e

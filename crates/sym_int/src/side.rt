@@ -1,5 +1,6 @@
 //! The two sides of a span: the points at which a form is at most a limit, and the others.
-ghost use Rattle.std.specs.Prelude.{◌≤◌, ◌+◌, ◌*◌, ◌^◌, ◌≤ℤ◌, ◌<ℤ◌, unsigned_abs};
+ghost use Rattle.std.specs.Prelude.{◌≤◌, ◌+◌, ◌*◌, ◌≤ℤ◌, ◌<ℤ◌, unsigned_abs};
+ghost use Rattle.sym_base.specs.Limits.{num_max};
 ghost use Rattle.sym_int.specs.Points.{HasPoint, IsPart};
 ghost use Rattle.sym_int.specs.Parts.{AtMost, Above, IsAtAnEnd};
 ghost use Rattle.sym_int.specs.declared.wide.Wide.TheVariants as wide_form;
@@ -35,7 +36,7 @@ fn split_at(span: &Span, last: i128) -> (Option<Span>, Option<Span>)
 
 /// The points at which the line is at most `limit`, and those at which it is above.
 fn line_sides(span: &Span, line: &WideLine, limit: i64) -> (Option<Span>, Option<Span>)
-    requires { unsigned_abs limit ≤ 10 ^ 12 + 1 }
+    requires { unsigned_abs limit ≤ num_max + 1 }
     ensures at_most { IsPart (AtMost span.now (wide_form.Line line.now) limit) result.0 }
     ensures above { IsPart (Above span.now (wide_form.Line line.now) limit) result.1 }
     ensures end { IsAtAnEnd span.now result.0 }
@@ -53,7 +54,7 @@ fn line_sides(span: &Span, line: &WideLine, limit: i64) -> (Option<Span>, Option
 
 /// The points at which the form is at most `limit`, and those at which it is above.
 pub(crate) fn sides(span: &Span, wide: &Wide, limit: i64) -> (Option<Span>, Option<Span>)
-    requires { unsigned_abs limit ≤ 10 ^ 12 + 1 }
+    requires { unsigned_abs limit ≤ num_max + 1 }
     ensures at_most { IsPart (AtMost span.now wide.now limit) result.0 }
     ensures above { IsPart (Above span.now wide.now limit) result.1 }
     ensures end { IsAtAnEnd span.now result.0 }

@@ -1,6 +1,6 @@
 //! Why a text has no tokens.
 
-use std::alloc::{AllocError, AllocFailed};
+use std::alloc::AllocFailed;
 use sym_base::NoMemory as OutOfMemory;
 use thiserror::Error;
 
@@ -25,20 +25,9 @@ pub enum LexErr {
     /// The text breaks the lexical rules: here first.
     #[error("Fault")]
     Fault(LexFault),
-    /// An allocation was refused.
+    /// An allocation failed.
     #[error("NoMemory")]
     NoMemory,
-}
-
-impl From<AllocError> for LexErr {
-    ghost use Rattle.std.specs.Prelude.{◌≡◌};
-    ghost use Rattle.sym_lex.specs.declared.error.LexErr.TheVariants.{NoMemory};
-
-    ghost from_gives = { λ _ e. e ≡ NoMemory };
-
-    fn from(_refused: AllocError) -> LexErr {
-        LexErr::NoMemory
-    }
 }
 
 impl<T: Drop> From<AllocFailed<T>> for LexErr {

@@ -50,7 +50,7 @@ by_tokens text (Err fault) = Err (answer.Lex fault)
 unfoldable pub parsed : List ℕ → Result ScriptTree ParseErr
 parsed text = by_tokens text (lexed text)
 
--- The answer is this one, unless an allocation was refused.
+-- The answer is this one, unless it is `NoMemory`.
 abbrev pub Gives : Result Script ParseErr → Result ScriptTree ParseErr → Type 0
 Gives (Ok script) outcome = outcome ≡ Ok (script_tree script)
 Gives (Err err) outcome = err ≢ answer.NoMemory → outcome ≡ Err err

@@ -1,4 +1,4 @@
--- The steps that every line of the grammar is read by. A parser takes tokens from the front, and
+-- The steps that every line of the grammar is read by. A parser takes the first tokens, and
 -- gives what they say, or stops at the first token at which it can't go on.
 use Rattle.std.specs.Prelude.{◌≡◌, ◌≢◌, ℕ, zero, suc, ◌+◌, ℤ, Bool, true, false, nat_lt, if◌then◌else◌, List, [], ◌∷◌, ◌++◌, length, Option, Some, None, Result, Ok, Err}
 use Rattle.sym_base.specs.declared.tree.name.Name.{Name as NameRecord}
@@ -229,7 +229,7 @@ module _ {A : Type 0} (which : LimitKind) (begins : Input → Bool) (item : Pars
       choose (sees_sign symbol.Comma) (bump >> (item >>= (λ x. separated free (found ++ x ∷ []))))
       (pure found)
 
--- ---- what a function that parses ensures: the parser's outcome, unless an allocation was refused
+-- ---- what a function that parses ensures: the parser's outcome, unless it is `NoMemory`
 
 abbrev pub Parses : {A B : Type 0} → (A → B) → Parsed B → Result A Stop → Input → Type 0
 Parses view outcome (Ok a) new = outcome ≡ Ok (view a, new)

@@ -43,7 +43,7 @@ pub enum ParseErr {
     /// The token at this place begins a thing that passes its number.
     #[error("Limit")]
     Limit { at: u32, which: LimitKind },
-    /// An allocation was refused.
+    /// An allocation failed.
     #[error("NoMemory")]
     NoMemory,
 }

@@ -86,7 +86,7 @@ fn values(alloc: Global, cursor: &mut Cursor<'_>, room: usize) -> Result<Exprs, 
     arguments(alloc, cursor, room)
 }
 
-/// A call of this name, behind which a parenthesis stands.
+/// A call of this name, after which a parenthesis stands.
 #[cycle(expression)]
 #[tactic(auto, unfolding(crate::specs::Parsing::Expressions::call))]
 fn call(alloc: Global, cursor: &mut Cursor<'_>, room: usize, name: Name) -> Result<Expr, Stop>

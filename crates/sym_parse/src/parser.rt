@@ -88,7 +88,7 @@ fn parse_text(alloc: Global, bytes: &[u8]) -> Result<Script, ParseErr>
 /// `Lex` with the first lexical fault, wherever it stands in the text. Else, at the first token at
 /// which reading can't go on, or at the text's end: `Expected` where no sentence of the grammar
 /// goes on so, and `Limit` where the token begins a thing that passes its number. `NoMemory` where
-/// an allocation was refused.
+/// an allocation failed.
 pub fn parse(alloc: Global, bytes: &[u8]) -> Result<Script, ParseErr>
     requires { length bytes.now < 2 ^ 32 }
     ensures accepted { IfOk result (λ s. IsScriptOf bytes.now (script_tree s)) }

@@ -11,7 +11,7 @@ pub enum Stop {
     Expected(usize),
     /// The token at this place begins a thing that passes its number.
     Limit(usize, LimitKind),
-    /// An allocation was refused.
+    /// An allocation failed.
     NoMemory,
 }
 

@@ -7,7 +7,7 @@ use std::alloc::Global;
 use sym_base::{Column, Columns, NoMemory, Text, Texts};
 
 /// The names above a report's rows.
-#[derive(Debug, PartialEq, Eq, Drop)]
+#[derive(PartialEq, Eq, Drop)]
 pub struct Heads {
     /// The name of the group's field; none where all records are of one group.
     pub keys: Texts,
@@ -16,7 +16,7 @@ pub struct Heads {
 }
 
 /// What a report shows of a group.
-#[derive(Debug, PartialEq, Eq, Drop)]
+#[derive(PartialEq, Eq, Drop)]
 pub struct Row {
     /// The value of the group's field; none where all records are of one group.
     pub keys: Columns,
@@ -24,7 +24,7 @@ pub struct Row {
 }
 
 /// What a row shows after its keys.
-#[derive(Debug, PartialEq, Eq, Drop)]
+#[derive(PartialEq, Eq, Drop)]
 pub enum RowBody {
     /// The columns of the group's last state, in order of declaration.
     Columns(Columns),

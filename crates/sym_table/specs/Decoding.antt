@@ -24,7 +24,7 @@ abbrev pub IfRecord : Decoded → (Record → Type 0) → Type 0
 IfRecord (decoded.Is rec) P = P rec
 IfRecord (decoded.Bad bad) P = Unit {0}
 
--- What is left behind a reference is the value that is meant, or the rule that is broken is meant;
+-- What is left at a reference is the value that is meant, or the rule that is broken is meant;
 -- where memory is out, anything.
 abbrev pub Leaves : {A B : Type 0} → Result A Stop → B → Result B BadCause → Type 0
 Leaves (Ok x) left meaning = meaning ≡ Ok left

@@ -26,7 +26,7 @@ pub struct Bad {
 }
 
 /// What a row is.
-#[derive(Debug, PartialEq, Eq, Drop)]
+#[derive(PartialEq, Eq, Drop)]
 pub enum Decoded {
     Is(Record),
     Bad(Bad),

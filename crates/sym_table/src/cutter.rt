@@ -20,7 +20,7 @@ use sym_base::NoMemory;
 use sym_check::{Checked, FieldPlan, Plan};
 
 /// Reads a file's rows from its bytes where they lie, in chunks or one by one. A contract sees the
-/// rows that are left, `None` after memory was refused; the header; the number of the next row;
+/// rows that are left, `None` after memory ran out; the header; the number of the next row;
 /// and how many rows a full chunk has.
 #[derive(Drop)]
 pub struct Cutter<'a> {

@@ -9,7 +9,7 @@ use thiserror::Error;
 pub type Places = Sequence<u64>;
 
 /// Where a file has the fields of a script.
-#[derive(Debug, PartialEq, Eq, Drop)]
+#[derive(PartialEq, Eq, Drop)]
 pub struct Header {
     /// For each field of the script its column, counted from 0.
     pub places: Places,

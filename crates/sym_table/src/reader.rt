@@ -21,7 +21,7 @@ pub enum Stage {
 }
 
 /// Reads rows of CSV from bytes where they lie. A contract sees the rows that are left, or `None`
-/// after memory was refused.
+/// after memory ran out.
 #[derive(Drop)]
 pub struct RowReader<'a> {
     reader: Reader<&'a [u8]>,
@@ -72,7 +72,7 @@ impl<'a> RowReader<'a> {
         }
     }
 
-    /// Whether memory was refused, after which no row is read.
+    /// Whether memory ran out, after which no row is read.
     pub fn has_failed(&self) -> bool
         ensures { result ≡ is_none self.now }
     {
@@ -82,7 +82,7 @@ impl<'a> RowReader<'a> {
         }
     }
 
-    /// Reads no row any more, as where memory was refused.
+    /// Reads no row any more, as where memory ran out.
     pub fn fail(&mut self)
         ensures { self.new ≡ None }
     {

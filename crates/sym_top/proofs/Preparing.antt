@@ -28,7 +28,7 @@ use Rattle.sym_top.specs.declared.refusal.Refusal.TheVariants as refusal
 use Rattle.sym_top.specs.declared.report.Report.{Report}
 use Rattle.sym_top.specs.declared.status.Status.TheVariants as status
 use Rattle.sym_top.specs.Commands.{Run, options}
-use Rattle.sym_top.specs.Ends.{Held, IsTextOf, table, usage, no_program, problem, report, file_max, report_of}
+use Rattle.sym_top.specs.Ends.{Held, IsTextOf, table, usage, no_program, problem, report, file_max_default, report_of}
 use Rattle.sym_top.specs.Loading.{MayRefuse, Loads, Unloads, refused, unread, no_memory, Reports, StopsFiles, stops, Ready, Stops}
 use Rattle.sym_top.specs.Messages.{line_of}
 use Rattle.sym_top.specs.Programs.{Program, IsProgram, IsNoProgram, checked_program, program_headers, script_max}
@@ -103,7 +103,7 @@ unloads-by told before after text (Err why) may (inr is) = refused text why may 
 -- ---- the files
 
 pub reports-by : (program : Program) (holds : Files) (names : List (List ℕ)) (groups : List (Key × Outcome)) (made : Report) →
-    PassedAll program.plan file_max holds names groups →
+    PassedAll program.plan file_max_default holds names groups →
     made.text.items ≡ table_text (heads_of program.tree program.plan) (map (row_of program.tree program.plan) groups) →
     made.status ≡ (if some_faulty (map (row_of program.tree program.plan) groups) then status.Faulted else status.Done) →
     Reports program holds names made
@@ -219,7 +219,7 @@ module _ (call : Call) (run : Run) (checked : Checked) (middle : List ℕ → �
             (sym (program-found loads.text (checked_program checked) loads.is_program));
       }
 
-  error-stops : (why : PassErr) → StopsPass (checked_program checked).plan file_max call.holds run.files middle call.after why →
+  error-stops : (why : PassErr) → StopsPass (checked_program checked).plan file_max_default call.holds run.files middle call.after why →
       Stops call (record { why = pass_refusal why; checked = Some checked })
   error-stops (pass_error.Read file) s =
       known (refusal.Read (place.File file)) s.files s.may

@@ -1,4 +1,4 @@
--- Commands: what the words after the program's name mean.
+-- Commands: what the arguments after the program's name mean.
 -- The command is this project's profile.
 use Rattle.std.specs.Prelude.{ℕ, Bool, false, not, nat_le, ◌==◌, ◌&&◌, if◌then◌else◌, List, [], ◌∷◌, length, Option, None, Some, codes}
 use Rattle.std.specs.List.{list_all}
@@ -31,7 +31,7 @@ run_of command script files =
     then Some (record { script = script; files = files })
     else None
 
--- The run that the words ask for, where they are the words of one.
+-- The run that the arguments ask for, where they are a run's.
 abbrev pub options : List (List ℕ) → Option Run
 options (command ∷ script ∷ files) = run_of command script files
 options _ = None

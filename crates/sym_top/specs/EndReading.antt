@@ -6,7 +6,7 @@ use Rattle.sym_engine.specs.FirstProblems.{records_in}
 use Rattle.sym_top.specs.declared.refusal.Refusal.{Refusal}
 use Rattle.sym_top.specs.declared.refusal.Refusal.TheVariants as refusal
 use Rattle.sym_top.specs.Commands.{Run, options}
-use Rattle.sym_top.specs.Ends.{End, Refused, Held, file_max, report_of}
+use Rattle.sym_top.specs.Ends.{End, Refused, Held, file_max_default, report_of}
 use Rattle.sym_top.specs.Programs.{Program, program_in}
 use Rattle.sym_top.specs.Refusals.{pass_refusal}
 
@@ -15,7 +15,8 @@ files_end program (Ok records) = report_of program records
 files_end program (Err why) = Refused (pass_refusal why)
 
 abbrev pub program_end : Result Program Refusal → List (List ℕ) → End
-program_end (Ok program) files = files_end program (records_in program.plan file_max 0 1 files)
+program_end (Ok program) files =
+    files_end program (records_in program.plan file_max_default 0 1 files)
 program_end (Err why) files = Refused why
 
 abbrev pub run_end : Option Run → Held → End

@@ -20,8 +20,8 @@ use Rattle.sym_top.specs.Programs.{Program, IsProgram, IsNoProgram}
 use Rattle.sym_top.specs.Refusals.{pass_refusal, status_of_refusal}
 
 -- The most bytes of a file of records.
-abbrev pub file_max : ℕ
-file_max = limit.FILE_MAX_DEFAULT
+abbrev pub file_max_default : ℕ
+file_max_default = limit.FILE_MAX_DEFAULT
 
 -- How a run ends: refused for a cause, or with the names and rows of its report.
 pub data End : Type 0 where
@@ -38,8 +38,8 @@ pub data IsTextOf : End → List ℕ → Type 0 where
   nothing : (why : Refusal) → IsTextOf (Refused why) []
   table : (heads : Heads) (rows : List Row) → IsTextOf (Reported heads rows) (table_text heads rows)
 
--- The bytes of the files that a run's arguments name: the script, and the files in order, as many as
--- are named (`MayHold` says so of a call's store).
+-- The bytes of the files that a run's arguments name: the script, and the files in order, as many
+-- as are named (`MayHold` says so of a call's store).
 pub record Held : Type 0 where
   pub script : List ℕ
   pub files : List (List ℕ)
@@ -61,10 +61,10 @@ pub data IsEnd (words : List (List ℕ)) (held : Held) : End → Type 0 where
   problem : (run : Run) (program : Program) (why : PassErr)
       → options words ≡ Some run
       → IsProgram held.script program
-      → FirstProblem program.plan file_max 0 1 held.files why
+      → FirstProblem program.plan file_max_default 0 1 held.files why
       → IsEnd words held (Refused (pass_refusal why))
   report : (run : Run) (program : Program) (records : List Record)
       → options words ≡ Some run
       → IsProgram held.script program
-      → AllFine program.plan file_max 1 held.files records
+      → AllFine program.plan file_max_default 1 held.files records
       → IsEnd words held (report_of program records)

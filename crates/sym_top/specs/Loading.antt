@@ -13,7 +13,7 @@ use Rattle.sym_top.specs.declared.refusal.Refusal.TheVariants as refusal
 use Rattle.sym_top.specs.declared.report.Report.{Report}
 use Rattle.sym_top.specs.declared.load.Failure.{Failure}
 use Rattle.sym_top.specs.Commands.{options}
-use Rattle.sym_top.specs.Ends.{Held, IsTextOf, file_max, report_of, status_of}
+use Rattle.sym_top.specs.Ends.{Held, IsTextOf, file_max_default, report_of, status_of}
 use Rattle.sym_top.specs.Messages.{headers_of, line_of}
 use Rattle.sym_top.specs.Programs.{Program, IsProgram, IsNoProgram, headers_in}
 use Rattle.sym_top.specs.Promises.{Call, Files, MayHold, IsStop, HasReport}
@@ -50,15 +50,15 @@ pub record Reports (program : Program) (holds : Files) (names : List (List ℕ))
   pub files : List (List ℕ)
   pub may : MayAll holds names files
   pub records : List Record
-  pub fine : AllFine program.plan file_max 1 files records
+  pub fine : AllFine program.plan file_max_default 1 files records
   pub status_is : report.status ≡ status_of (report_of program records)
   pub text_is : IsTextOf (report_of program records) report.text.items
 
 -- Why there is no report: the pass over the files was stopped, or memory ran out.
-pub data StopsFiles (program : Program) (holds : Files) (names : List (List ℕ)) (before after : List ℕ → ℕ) :
-    Refusal → Type 0 where
+pub data StopsFiles (program : Program) (holds : Files) (names : List (List ℕ))
+    (before after : List ℕ → ℕ) : Refusal → Type 0 where
   stops : (why : PassErr)
-      → StopsPass program.plan file_max holds names before after why
+      → StopsPass program.plan file_max_default holds names before after why
       → StopsFiles program holds names before after (pass_refusal why)
 
 -- A run that is ready to write its report.
@@ -80,4 +80,5 @@ pub record Stops (call : Call) (failure : Failure) : Type 0 where
   pub held : Held
   pub may : MayHold call.holds (options call.words) held
   pub stop : IsStop call held failure.why
-  pub line : failure_line call.words failure ≡ line_of call.words (headers_in held.script) failure.why
+  pub line : failure_line call.words failure
+      ≡ line_of call.words (headers_in held.script) failure.why

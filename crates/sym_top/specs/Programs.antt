@@ -36,9 +36,9 @@ pub record IsProgram (text : List ℕ) (program : Program) : Type 0 where
   pub script : IsScriptOf text program.tree
   pub accepted : IsAccepted program.tree program.plan
 
--- Where a text can't be read as a script: its first lexical fault; else a place at which no sentence
--- of the grammar goes on, or one that is reached under wider limits. Which place it is, and which
--- limit is passed, is what the parser's function answers (`parsed`).
+-- Where a text can't be read as a script: its first lexical fault; else a place at which no
+-- sentence of the grammar goes on, or one that is reached under wider limits. Which place it is, and
+-- which limit is passed, is what the parser's function answers (`parsed`).
 pub data IsUnread (text : List ℕ) : ParseErr → Type 0 where
   lexical : (fault : LexFault)
       → Reads 0 text (Err fault)
@@ -52,8 +52,8 @@ pub data IsUnread (text : List ℕ) : ParseErr → Type 0 where
       → parsed text ≡ Err (parse_error.Limit at which)
       → IsUnread text (parse_error.Limit at which)
 
--- Why a text is refused as a script: its size; else where it can't be read; else the first rule that
--- its script breaks.
+-- Why a text is refused as a script: its size; else where it can't be read; else the first rule
+-- that its script breaks.
 pub data IsNoProgram (text : List ℕ) : Refusal → Type 0 where
   too_large : script_max < length text
       → IsNoProgram text (refusal.TooLarge place.Script)

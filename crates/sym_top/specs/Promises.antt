@@ -13,7 +13,7 @@ use Rattle.sym_top.specs.declared.refusal.Refusal.TheVariants as refusal
 use Rattle.sym_top.specs.declared.status.Status.{Status}
 use Rattle.sym_top.specs.declared.status.Status.TheVariants as status
 use Rattle.sym_top.specs.Commands.{Run, options}
-use Rattle.sym_top.specs.Ends.{End, Refused, Reported, Held, IsEnd, IsTextOf, file_max, status_of}
+use Rattle.sym_top.specs.Ends.{End, Refused, Reported, Held, IsEnd, IsTextOf, file_max_default, status_of}
 use Rattle.sym_top.specs.Messages.{line_of}
 use Rattle.sym_top.specs.Programs.{Program, IsProgram, headers_in}
 use Rattle.sym_top.specs.Refusals.{status_of_refusal}
@@ -73,7 +73,7 @@ pub data IsStop (call : Call) (held : Held) : Refusal → Type 0 where
   file_unread : (run : Run) (program : Program) (records : List Record) (number : ℕ) (name : List ℕ)
       → options call.words ≡ Some run
       → IsProgram held.script program
-      → AllFine program.plan file_max 1 (take number held.files) records
+      → AllFine program.plan file_max_default 1 (take number held.files) records
       → slice_get run.files number ≡ Some name
       → Rose (call.before name) (call.after name)
       → IsStop call held (refusal.Read (place.File number))
@@ -82,7 +82,8 @@ pub data IsStop (call : Call) (held : Held) : Refusal → Type 0 where
       → IsStop call held refusal.NoMemory
 
 -- The run comes to a report of this status and text.
-pub record HasReport (words : List (List ℕ)) (held : Held) (status : Status) (text : List ℕ) : Type 0 where
+pub record HasReport (words : List (List ℕ)) (held : Held) (status : Status)
+    (text : List ℕ) : Type 0 where
   pub heads : Heads
   pub rows : List Row
   pub is_end : IsEnd words held (Reported heads rows)
@@ -111,8 +112,8 @@ pub data IsCause (call : Call) (held : Held) (out : Sunk) (why : Refusal) : Type
       → WriteFails out text why
       → IsCause call held out why
 
--- A run that is refused with this status: there are bytes that the files may hold, by which it has a
--- cause, and the line of the cause is told on `err`.
+-- A run that is refused with this status: there are bytes that the files may hold, by which it has
+-- a cause, and the line of the cause is told on `err`.
 pub record Refuses (call : Call) (out err : Sunk) (status : Status) : Type 0 where
   pub held : Held
   pub may : MayHold call.holds (options call.words) held
@@ -121,8 +122,8 @@ pub record Refuses (call : Call) (out err : Sunk) (status : Status) : Type 0 whe
   pub cause : IsCause call held out why
   pub line : Tells err (line_of call.words (headers_in held.script) why)
 
--- A run that wrote its report: there are bytes that the files may hold, and the text of their report
--- is what was written.
+-- A run that wrote its report: there are bytes that the files may hold, and the text of their
+-- report is what was written.
 pub record Wrote (call : Call) (out : Sunk) (status : Status) : Type 0 where
   pub held : Held
   pub may : MayHold call.holds (options call.words) held
@@ -139,7 +140,8 @@ Ends call held out err (Reported heads rows) =
     ((text : List ℕ) × IsTextOf (Reported heads rows) text × Has out text) × IsUntouched err
 
 -- The status is that of the end, and the sinks were left so.
-pub record Answers (call : Call) (held : Held) (end : End) (out err : Sunk) (result : Status) : Type 0 where
+pub record Answers (call : Call) (held : Held) (end : End) (out err : Sunk)
+    (result : Status) : Type 0 where
   pub status_is : result ≡ status_of end
   pub ends : Ends call held out err end
 

@@ -1,4 +1,4 @@
--- What a contract sees of the words that were read.
+-- What a contract sees of the arguments that were read.
 use Rattle.std.specs.Prelude.{map}
 use Rattle.std.specs.String.{string_bytes}
 use Rattle.sym_top.specs.declared.commands.Run.{Run as RunRead}

@@ -1,4 +1,4 @@
-//! The words after the program's name.
+//! The arguments after the program's name.
 ghost use Rattle.std.specs.Prelude.{◌≡◌, ◌≤◌, map, IfSome, length};
 ghost use Rattle.std.specs.List.{list_all};
 ghost use Rattle.std.specs.String.{string_bytes};
@@ -10,7 +10,7 @@ ghost use Rattle.sym_top.specs.Words.{run_words};
 use sym_base::FILES_MAX;
 
 /// `run SCRIPT FILE...`: the names of the script and of the files of records.
-#[derive(Clone, Copy, Debug)]
+#[derive(Clone, Copy)]
 pub struct Run<'a> {
     pub script: &'a str,
     pub files: &'a [String],
@@ -33,14 +33,14 @@ fn are_names(words: &[String]) -> bool
     words.iter().all(|word| !is_option(word.as_str()))
 }
 
-// Whether the words name one file or more, and no more than a run takes.
+// Whether the arguments name one file or more, and no more than a run takes.
 fn are_files(words: &[String]) -> bool
     ensures { result ≡ are_files_of (map string_bytes words.now) }
 {
     1 <= words.len() && words.len() <= FILES_MAX && are_names(words)
 }
 
-/// The run that the words ask for; `None` where they aren't the words of one.
+/// The run that the arguments ask for; `None` where they are no run's.
 pub fn read_words(words: &[String]) -> Option<Run<'_>>
     ensures read { option_map run_words result ≡ options (map string_bytes words.now) }
     ensures few { IfSome result (λ run. length run.files.now ≤ limit.FILES_MAX) }

@@ -1,4 +1,4 @@
-//! The top call: words in, report out.
+//! The top call: arguments in, report out.
 #![tactic(auto)]
 
 mod commands;

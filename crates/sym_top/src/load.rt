@@ -53,7 +53,7 @@ fn load_script<F: Store>(alloc: Global, files: &mut F, name: &str) -> Result<Che
     accept(alloc, text.as_slice())
 }
 
-/// Reads the files that the words name, and makes the run's report.
+/// Reads the files that the arguments name, and makes the run's report.
 pub fn prepare<F: Store>(alloc: Global, words: &[String], files: &mut F) -> Result<Report, Failure>
     ensures ready { let words = map string_bytes words.now in
         let call = called F.holds F.faults words files.old files.new in

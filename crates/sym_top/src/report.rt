@@ -19,7 +19,7 @@ use sym_plain::Groups;
 use sym_report::{Heads, TableForm, heads, report_row};
 
 /// A report's text, and the status with which it is written.
-#[derive(Debug, Drop)]
+#[derive(Drop)]
 pub struct Report {
     pub text: Vec<u8>,
     pub status: Status,

@@ -7,7 +7,7 @@ pub enum Status {
     Done,
     /// The report was written, and a row is faulty.
     Faulted,
-    /// The words aren't those of a command.
+    /// The arguments aren't a command's.
     Usage,
     /// The script isn't one that may be run.
     Script,

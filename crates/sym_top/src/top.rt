@@ -91,16 +91,16 @@ fn run<F: Store, O: Sink, E: Sink>(
     }
 }
 
-/// Runs the program on these words, which are those after its name.
+/// Runs the program on these arguments, `words`, which are those after its name.
 ///
 /// `run SCRIPT FILE...` runs the script over the records of the files, in order, and writes the
 /// report to `out`. The script has at most 65,536 bytes, each file at most 67,108,864, and there
 /// are at most 65,536 files. What is refused is told on `err`, in one line.
 ///
-/// The order is: words, the script's reading, its size, the script, then of each file its reading,
-/// its size, its header and its first row that is no record, then the writing. A read that fails
-/// stops the run. Nothing is written to `out` before the whole report is made. A failure of `err`
-/// leaves the status as it is.
+/// The order is: arguments, the script's reading, its size, the script, then of each file its
+/// reading, its size, its header and its first row that is no record, then the writing. A read that
+/// fails stops the run. Nothing is written to `out` before the whole report is made. A failure of
+/// `err` leaves the status as it is.
 pub fn symple<F: Store, O: Sink, E: Sink>(
     alloc: Global,
     words: &Vec<String>,

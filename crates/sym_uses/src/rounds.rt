@@ -1,6 +1,7 @@
-//! A round on a board: workers claim the chunks of an input, each makes its piece and carries it up, and one piece
-//! stands for the whole input in the end. The input here is a number of chunks, and a piece lists the numbers of its
-//! chunks, so a round gives 0 to n - 1 in order, whatever worker claimed which chunk.
+//! A round on a board: workers claim the chunks of an input, each makes its piece and carries it up,
+//! and one piece stands for the whole input in the end. The input here is a number of chunks, and a
+//! piece lists the numbers of its chunks, so a round gives 0 to n - 1 in order, whatever worker
+//! claimed which chunk.
 ghost use Rattle.std.specs.Prelude.{◌≡◌, ℕ, ◌+◌, ◌-◌, ◌*◌, ◌/◌, ◌<◌, ◌≤◌, All, IfOk, IfSome, IfNone, vec_len};
 ghost use Rattle.std.specs.Thread.{IsSync};
 ghost use Rattle.sym_board.specs.Passes.{board_leaves, board_seats, board_input, IsPassOf, IsFree, IsNewPassOf};
@@ -47,7 +48,8 @@ fn leaf(alloc: Global, chunk: u32) -> Result<Row, NoMemory>
     Ok(Row { numbers })
 }
 
-// A worker claims chunks and carries their pieces up, until every chunk is claimed or an allocation fails.
+// A worker claims chunks and carries their pieces up, until every chunk is claimed or an allocation
+// fails.
 fn run_worker(alloc: Global, board: &Board<Row>, input: &Work, mut pass: Pass<Row>) -> Pass<Row>
     requires pass { IsPassOf board.now pass × IsFree pass }
     requires input { board_input board.now ≡ input.now }
@@ -65,7 +67,8 @@ fn run_worker(alloc: Global, board: &Board<Row>, input: &Work, mut pass: Pass<Ro
     pass
 }
 
-// The numbers of the piece that stands for the whole input. There is one wherever all workers got to the end.
+// The numbers of the piece that stands for the whole input. There is one wherever all workers got to
+// the end.
 fn numbers_of(board: Board<Row>, passes: Vec<Pass<Row>>) -> Option<Vec<u32>>
     requires of { All (λ p. IsPassOf board p) passes.items }
     requires all { vec_len passes ≡ board_seats board }

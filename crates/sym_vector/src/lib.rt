@@ -110,7 +110,7 @@ impl<E: Element> ListForm<E> {
         ensures elements { IfOk result (λ form.
             AllZip (λ old new. E.goes_through_to old context.now new)
             self.now (drop (length left.now) form)) }
-        ensures behind { IfOk result (λ form.
+        ensures values { IfOk result (λ form.
             AllZip (λ old new. (state : OneState) → E.covers context.now state →
             E.value_at new state ≡ E.value_at old (E.leads_to context.now state))
             self.now (drop (length left.now) form)) }
@@ -138,7 +138,7 @@ impl<E: Element> ListForm<E> {
         ensures elements { IfOk result (λ form.
             AllZip (λ old new. E.goes_through_to old context.now new)
             self (drop (length left) form)) }
-        ensures behind { IfOk result (λ form.
+        ensures values { IfOk result (λ form.
             AllZip (λ old new. (state : OneState) → E.covers context.now state →
             E.value_at new state ≡ E.value_at old (E.leads_to context.now state))
             self (drop (length left) form)) }

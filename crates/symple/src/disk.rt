@@ -112,7 +112,7 @@ impl<'a, R: Files> DiskStore<'a, R> {
     }
 }
 
-// One read of a file into the front of `into`, by way of a piece, which keeps its length.
+// One read of a file into the first bytes of `into`, by way of a piece, which keeps its length.
 fn read_through<F: Read>(file: &mut F, piece: &mut [u8], into: &mut [u8]) -> io::Result<usize>
     ensures bound { IfOk result (λ k. k ≤ length into.old) }
     ensures rest { IfOk result (λ k. drop k into.new ≡ drop k into.old) }
@@ -148,7 +148,8 @@ impl<'a, R: Files> Store for DiskStore<'a, R> {
         requires { at ≤ FILE_MAX }
         ensures bound { IfOk result (λ k. k ≤ length into.old) }
         ensures rest { IfOk result (λ k. drop k into.new ≡ drop k into.old) }
-        ensures bytes { IfOk result (λ k. IfSome None (λ bytes. ReadsAt bytes at k into.old into.new)) }
+        ensures bytes { IfOk result (λ k.
+            IfSome None (λ bytes. ReadsAt bytes at k into.old into.new)) }
         ensures later { (other : List ℕ) → self.old ≤ self.new }
         ensures failed { OnErr result (Rose self.old self.new) }
         ensures read { OnOk result (self.new ≡ self.old) }

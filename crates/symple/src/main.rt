@@ -35,7 +35,7 @@ where
     symple(rt.alloc(), &words, &mut files, &mut out, &mut err)
 }
 
-// The words behind the program's name. Where one of them isn't UTF-8 there is no such command.
+// The arguments after the program's name. Where one of them isn't UTF-8 there is no such command.
 fn words_of<R: Env + AllocGlobal>(rt: &R) -> Result<Vec<String>, StartErr> {
     let words = match env::args(rt) {
         Ok(words) => words,

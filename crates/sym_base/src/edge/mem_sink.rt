@@ -10,9 +10,9 @@ use crate::values::memory::NoMemory;
 use std::alloc::Global;
 use std::marker::Model;
 
-/// A sink in memory, which tells what was written to it. A write takes at most a fixed number of
-/// bytes. Writes are counted from 1, and a write fails where its number was set by `fail_at`. A
-/// contract sees the bytes, the numbers and the counts.
+/// A sink in memory. A write takes at most a fixed number of bytes. Writes are counted from 1, and a
+/// write fails where its number was set by `fail_at`. A contract sees the bytes, the numbers and the
+/// counts.
 #[derive(Drop)]
 pub struct MemSink {
     bytes: Vec<u8>,

@@ -12,9 +12,9 @@ use std::alloc::Global;
 use std::collections::BTreeMap;
 use std::marker::Model;
 
-/// A store of files in memory, which tells what they hold. Its reads are counted from 1, and a
-/// read fails where its number was set by `fail_at` or where there is no file of the name; it has
-/// one count of faults, for every name. A contract sees the files, the numbers and the counts.
+/// A store of files in memory. Its reads are counted from 1, and a read fails where its number was
+/// set by `fail_at` or where there is no file of the name; it has one count of faults, for every
+/// name. A contract sees the files, the numbers and the counts.
 #[derive(Drop)]
 pub struct MemStore {
     files: Files,

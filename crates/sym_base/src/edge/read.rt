@@ -6,7 +6,7 @@ ghost use Rattle.sym_base.specs.declared.edge.read.ReadErr.TheVariants as read_e
 use crate::edge::store::{Failed, Store};
 use crate::limits::FILE_MAX;
 use crate::values::memory::NoMemory;
-use std::alloc::{AllocError, AllocFailed, Global};
+use std::alloc::{AllocError, Global};
 
 /// Why a file was not read whole.
 #[derive(Clone, Copy, Debug, PartialEq, Eq)]
@@ -15,7 +15,7 @@ pub enum ReadErr {
     Failed,
     /// The file has more bytes than were allowed.
     TooLarge,
-    /// An allocation was refused.
+    /// An allocation failed.
     NoMemory,
 }
 
@@ -23,14 +23,6 @@ impl From<AllocError> for ReadErr {
     ghost from_gives = { λ _ e. e ≡ read_error.NoMemory };
 
     fn from(_refused: AllocError) -> ReadErr {
-        ReadErr::NoMemory
-    }
-}
-
-impl<T: Drop> From<AllocFailed<T>> for ReadErr {
-    ghost from_gives = { λ _ e. e ≡ read_error.NoMemory };
-
-    fn from(_refused: AllocFailed<T>) -> ReadErr {
         ReadErr::NoMemory
     }
 }

@@ -12,9 +12,9 @@ pub enum SinkErr {
     NoMemory,
 }
 
-/// A sink of bytes. A sink may tell what was written to it or not, as a stream doesn't.
+/// A sink of bytes. What was written to it may be visible to contracts, or not, as on a stream.
 pub trait Sink {
-    // All bytes that were written, where the sink tells them.
+    // All bytes that were written, where they are visible.
     ghost written: { Self → Option (List ℕ) };
 
     // How many writes have failed.

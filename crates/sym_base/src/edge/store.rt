@@ -9,9 +9,9 @@ use crate::limits::FILE_MAX;
 #[derive(Clone, Copy, Debug, PartialEq, Eq)]
 pub struct Failed;
 
-/// A store of named files. A store may tell what a file holds or not, as a disk doesn't.
+/// A store of named files. What a file holds may be visible to contracts, or not, as on a disk.
 pub trait Store {
-    // The bytes of the file of each name, where the store tells them.
+    // The bytes of the file of each name, where they are visible.
     ghost holds: { Self → List ℕ → Option (List ℕ) };
 
     // How many reads of each name have failed. A store with one counter has it for every name.

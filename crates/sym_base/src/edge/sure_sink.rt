@@ -7,8 +7,8 @@ use crate::edge::sink::{Sink, SinkErr};
 use std::alloc::Global;
 use std::marker::Model;
 
-/// A sink in memory, which tells what was written to it and takes all bytes of a write at once.
-/// Only its own memory may run out, which it counts. A contract sees the bytes and that count.
+/// A sink in memory, which takes all bytes of a write at once. Only its own memory may run out,
+/// which it counts. A contract sees the bytes and that count.
 #[derive(Drop)]
 pub struct SureSink {
     bytes: Vec<u8>,

@@ -2,7 +2,7 @@
 ghost use Rattle.std.specs.Prelude.{◌≡◌, ◌≢◌, ℕ, ◌-◌, ◌≤◌, List, [], length, drop, min, IfOk, OnOk, OnErr};
 ghost use Rattle.sym_base.specs.Counts.{Rose};
 ghost use Rattle.sym_base.specs.Transfers.{ReadsAt};
-ghost use Rattle.sym_base.specs.InMemory.{bytes_of, told};
+ghost use Rattle.sym_base.specs.InMemory.{bytes_of, visible_bytes};
 
 use crate::edge::files::{Files, copy_from, find, put};
 use crate::edge::store::{Failed, Store};
@@ -12,8 +12,8 @@ use std::alloc::Global;
 use std::collections::BTreeMap;
 use std::marker::Model;
 
-/// A store of files in memory, which tells what they hold and never fails. A name that was not
-/// added is a file of no bytes. A contract sees the files.
+/// A store of files in memory, which never fails. A name that was not added is a file of no bytes.
+/// A contract sees the files.
 #[derive(Drop)]
 pub struct SureStore {
     files: Files,
@@ -51,7 +51,7 @@ impl SureStore {
 }
 
 impl Store for SureStore {
-    ghost holds = { told };
+    ghost holds = { visible_bytes };
 
     ghost faults = { λ _ _. 0 };
 
@@ -62,7 +62,7 @@ impl Store for SureStore {
         ensures rest { IfOk result (λ k. drop k into.new ≡ drop k into.old) }
         ensures bytes { IfOk result (λ k.
             ReadsAt (bytes_of self.old name.now) at k into.old into.new) }
-        ensures same { told self.new ≡ told self.old }
+        ensures same { visible_bytes self.new ≡ visible_bytes self.old }
         ensures later { (other : List ℕ) → 0 ≤ 0 }
         ensures failed { OnErr result (Rose 0 0) }
         ensures sure { OnErr result ⊥ }

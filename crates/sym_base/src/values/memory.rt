@@ -1,8 +1,8 @@
-//! Want of memory, the one refusal that every call with an allocator may give.
+//! Out of memory, the one error that every call with an allocator may return.
 
 use std::alloc::{AllocError, AllocFailed};
 
-/// An allocation was refused.
+/// An allocation failed.
 #[derive(Clone, Copy, Debug, PartialEq, Eq)]
 pub struct NoMemory;
 

@@ -7,7 +7,7 @@ use std::alloc::Global;
 
 /// A record: its number, counted from 1 over all files, and one value for each field of the
 /// script, in order of declaration.
-#[derive(Debug, PartialEq, Eq, Drop)]
+#[derive(PartialEq, Eq, Drop)]
 pub struct Record {
     pub no: u64,
     pub fields: Values,

@@ -17,7 +17,7 @@ pub enum ReportFault {
 }
 
 /// The value of one column of a report row.
-#[derive(Debug, PartialEq, Eq, Drop)]
+#[derive(PartialEq, Eq, Drop)]
 pub enum Column {
     Num(i128),
     Word(Text),

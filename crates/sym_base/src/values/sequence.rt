@@ -17,7 +17,7 @@ pub trait Plain: Sized + Drop {
 }
 
 /// A list over a vector. A contract sees the list of its items.
-#[derive(Debug, Drop)]
+#[derive(Drop)]
 pub struct Sequence<T> {
     items: Vec<T>,
 }
@@ -151,6 +151,12 @@ impl<T: Plain> Plain for Sequence<T> {
 
 impl Plain for i64 {
     fn copied(&self, _alloc: Global) -> Result<i64, NoMemory> {
+        Ok(*self)
+    }
+}
+
+impl Plain for u64 {
+    fn copied(&self, _alloc: Global) -> Result<u64, NoMemory> {
         Ok(*self)
     }
 }

@@ -9,7 +9,7 @@ use crate::values::value::{Nums, Value, Values};
 use std::alloc::Global;
 
 /// What one cell of a state holds.
-#[derive(Debug, PartialEq, Eq, Drop)]
+#[derive(PartialEq, Eq, Drop)]
 pub enum Cell {
     /// The number of a label of the cell's enum, counted from 0.
     Enum(u8),
@@ -27,7 +27,7 @@ pub enum Cell {
 pub type Cells = Sequence<Cell>;
 
 /// A state: one cell for each `state` declaration of the script, in order.
-#[derive(Debug, PartialEq, Eq, Drop)]
+#[derive(PartialEq, Eq, Drop)]
 pub struct State {
     pub cells: Cells,
 }
@@ -51,7 +51,7 @@ pub struct Fault {
 }
 
 /// How a group stands after some records.
-#[derive(Debug, PartialEq, Eq, Drop)]
+#[derive(PartialEq, Eq, Drop)]
 pub enum Outcome {
     Going(State),
     Ended(Fault),

@@ -25,7 +25,7 @@ pub type Values = Sequence<Value>;
 pub type Nums = Sequence<i64>;
 
 /// What tells one group of records from another.
-#[derive(Debug, PartialEq, Eq, Hash, Drop)]
+#[derive(PartialEq, Eq, Hash, Drop)]
 pub enum Key {
     /// All records are of one group.
     Whole,

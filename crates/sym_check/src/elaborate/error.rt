@@ -2,7 +2,7 @@
 ghost use Rattle.std.specs.Prelude.{◌≡◌};
 ghost use Rattle.sym_check.specs.declared.elaborate.error.CheckErr.TheVariants as rule_err;
 
-use std::alloc::{AllocError, AllocFailed};
+use std::alloc::AllocFailed;
 use sym_base::NoMemory;
 use thiserror::Error;
 
@@ -27,7 +27,7 @@ pub enum CheckErr {
     /// No rule is broken but the last: the path bound, or 1,000,000 where it is more.
     #[error("Branchy")]
     Branchy { paths: u32 },
-    /// An allocation was refused.
+    /// An allocation failed.
     #[error("NoMemory")]
     NoMemory,
 }
@@ -36,14 +36,6 @@ impl From<NoMemory> for CheckErr {
     ghost from_gives = { λ _ e. e ≡ rule_err.NoMemory };
 
     fn from(_refused: NoMemory) -> CheckErr {
-        CheckErr::NoMemory
-    }
-}
-
-impl From<AllocError> for CheckErr {
-    ghost from_gives = { λ _ e. e ≡ rule_err.NoMemory };
-
-    fn from(_refused: AllocError) -> CheckErr {
         CheckErr::NoMemory
     }
 }

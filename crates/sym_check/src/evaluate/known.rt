@@ -7,7 +7,7 @@ use crate::plan::expression::{LabelOf, WordOf};
 use sym_base::Value;
 
 /// The fields of a record, the locals so far, and in the body of a test its parameters: the parts
-/// of a hold cell and the arguments behind them.
+/// of a hold cell and the arguments after them.
 #[derive(Drop)]
 pub struct Known<'a> {
     pub fields: &'a [Value],

@@ -17,7 +17,7 @@ pub enum Cond {
     CellIs(u16, LabelOf),
     /// Two labels are equal.
     LabelIs(LabelOf, LabelOf),
-    /// The test answers true for the parts of the hold cell and the arguments behind them.
+    /// The test answers true for the parts of the hold cell and the arguments after them.
     Test {
         test: u16,
         cell: u16,

@@ -24,9 +24,9 @@ pub enum Do {
     Keep(u16, FixedList),
     /// Copies the parts of the second hold cell into the first.
     KeepFrom(u16, u16),
-    /// Puts a number behind the others of a `nums` cell.
+    /// Puts a number after the others of a `nums` cell.
     PushNum(u16, Term),
-    /// Puts a word behind the others of a `words` cell.
+    /// Puts a word after the others of a `words` cell.
     PushWord(u16, WordOf),
     /// The statements where the condition is true, and those where it is false.
     If(Cond, Dos, Dos),
