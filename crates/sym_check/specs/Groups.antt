@@ -29,9 +29,9 @@ key_of p rec = key_by p.group rec
 abbrev pub is_key : Key → Key → Bool
 is_key k other = (same_key.ghosts).eq k other
 
--- The records with a key, in order.
-abbrev pub records_of : ScriptPlan → Key → List Record → List Record
-records_of p k records = filter (λ rec. is_key (key_of p rec) k) records
+-- The records with a key, in order, where `key` gives the key of a record.
+abbrev pub records_by : (Record → Key) → Key → List Record → List Record
+records_by key k records = filter (λ rec. is_key (key rec) k) records
 
 -- Keys without repetition, in order of first appearance.
 abbrev pub distinct : List Key → List Key
@@ -39,10 +39,20 @@ distinct [] = []
 distinct (k ∷ rest) = k ∷ filter (λ other. not (is_key other k)) (distinct rest)
 
 -- The keys of records, in order of first appearance.
-abbrev pub keys : ScriptPlan → List Record → List Key
-keys p records = distinct (map (key_of p) records)
+abbrev pub keys_by : (Record → Key) → List Record → List Key
+keys_by key records = distinct (map key records)
 
 -- Each key with how its group stands after its records.
+abbrev pub pass_by : (Record → Key) → ScriptPlan → List Record → List (Key × Outcome)
+pass_by key p records =
+    map (λ k. (k, after p (records_by key k records) (Going (initial p)))) (keys_by key records)
+
+-- The same of the key that the script names.
+abbrev pub records_of : ScriptPlan → Key → List Record → List Record
+records_of p k records = records_by (key_of p) k records
+
+abbrev pub keys : ScriptPlan → List Record → List Key
+keys p records = keys_by (key_of p) records
+
 abbrev pub pass : ScriptPlan → List Record → List (Key × Outcome)
-pass p records =
-    map (λ k. (k, after p (records_of p k records) (Going (initial p)))) (keys p records)
+pass p records = pass_by (key_of p) p records
