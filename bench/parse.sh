@@ -1,9 +1,9 @@
 #!/bin/sh
 # Counts the instructions that symple takes to read a script of 8,192 and one of 65,536 bytes, for
-# scripts of several kinds, and those that awk (mawk, else gawk) takes to read the larger one line by
-# line. Counts don't depend on what else the machine does. Those of a run over no bytes are taken off,
-# so that the start of a process isn't counted. Fails where 65,536 bytes of a kind cost more than 12
-# times what 8,192 bytes of it cost.
+# scripts of several kinds, and those that awk (mawk, else gawk) takes to read the larger one line
+# by line. Counts don't depend on what else the machine does. Those of a run over no bytes are taken
+# off, so that the start of a process isn't counted. Fails where 65,536 bytes of a kind cost more
+# than 12 times what 8,192 bytes of it cost.
 # Needs valgrind, and mawk or gawk (Debian's packages valgrind and mawk).
 # Usage: bench/parse.sh [PROGRAM]
 set -eu

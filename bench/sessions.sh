@@ -1,9 +1,9 @@
 #!/bin/sh
 # Measures symple over two logs of 4,000,000 records, of 10 and of 98,304 users: the sessions of
 # each user, against gawk, mawk, miller, Python with its csv, and a program written by hand in Rust.
-# All have to write the same report, and each runs three times, in turn; Python and miller, which
-# take ten times as long and more, run once, and are stopped after two minutes. Prints the least
-# wall time and the most memory of each, and their ratios to symple's, as a table.
+# All have to write the same report, and each runs three times, in turn; miller, which takes 8 to 11
+# times as long as symple, runs once, and is stopped after two minutes. Prints the least wall time
+# and the most memory of each, and their ratios to symple's, as a table.
 # Needs rustc, gawk, mawk, miller, python3, GNU date, time and timeout (Debian's packages rustc,
 # gawk, mawk, miller, python3, time and coreutils).
 # Usage: bench/sessions.sh [RECORDS]
@@ -12,8 +12,8 @@ set -eu
 records=${1:-4000000}
 most_bytes=67108864
 turns=3
-programs="symple rust mawk gawk"
-slow="python miller"
+programs="symple rust mawk gawk python"
+slow=miller
 patience=120
 here=$(CDPATH='' cd -P "$(dirname "$0")" && pwd)
 root=$(dirname "$here")
@@ -34,7 +34,7 @@ work=$(mktemp -d)
 trap 'rm -rf "$work"' EXIT
 trap 'exit 1' HUP INT TERM
 
-# run PROGRAM USERS: one of the programs over one of the logs. Its status is 124 where a slow one
+# run PROGRAM USERS: one of the programs over one of the logs. Its status is 124 where the slow one
 # was stopped.
 run() {
     log=$work/$2.csv
@@ -42,7 +42,7 @@ run() {
         symple) set -- "$root/crates/symple/out/symple" run "$here/sessions.symple" "$log" ;;
         rust) set -- "$work/sessions" "$log" ;;
         mawk | gawk) set -- "$1" -f "$here/sessions.awk" "$log" ;;
-        python) set -- timeout "$patience" "$python" "$here/sessions.py" "$log" ;;
+        python) set -- "$python" "$here/sessions.py" "$log" ;;
         miller)
             set -- timeout "$patience" mlr --icsv --from "$log" put -q -f "$here/sessions.mlr"
             ;;
@@ -50,7 +50,8 @@ run() {
     "$timer" -o "$work/used" -f '%M' "$@" >"$work/report"
 }
 
-# measure PROGRAM USERS: runs it, and notes its microseconds and its kilobytes, unless it is stopped.
+# measure PROGRAM USERS: runs it, and notes its microseconds and its kilobytes, unless it is
+# stopped.
 measure() {
     status=0
     begin=$(date +%s%N)
@@ -90,9 +91,7 @@ while [ "$turn" -le "$turns" ]; do
 done
 
 for users in 10 98304; do
-    for program in $slow; do
-        measure "$program" $users
-    done
+    measure "$slow" $users
 done
 
 # shellcheck disable=SC2016 # what is quoted is awk's

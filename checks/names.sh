@@ -3,8 +3,10 @@
 # - each path in backticks, from the top of the repository, or in a crate's README from there;
 # - each definition that is named with its file, `NAME` in `FILE`, which each entry of
 #   docs/DEFINITIONS.md is;
-# - in the README's rows on a crate, each call and its clauses: (`CALL`: `CLAUSE`, `CLAUSE`);
-# - in a crate's README, each single name in backticks, in the sources of some crate.
+# - in the README's rows on a crate, each call and its clauses, between `fn CALL` and its body:
+#   (`CALL`: `CLAUSE`, `CLAUSE`);
+# - in a crate's README, docs/ARCHITECTURE.md, docs/DECISIONS.md and CONTRIBUTING.md, each single
+#   name in backticks, in the sources of some crate.
 # The last line counts what was looked up and what is missing.
 # shellcheck disable=SC2016 # the backticks are those of the documents
 set -u
@@ -62,7 +64,8 @@ check_paths() {
 
 # Whether a source defines the name: an item, or a definition or meaning that contracts use.
 defines() {
-    grep -qE "(^|[^A-Za-z0-9_])(pub|ghost|data|record|fn|struct|enum|trait|const|type) $1(\$|[^A-Za-z0-9_-])" "$2"
+    items='pub|ghost|data|record|fn|struct|enum|trait|const|type'
+    grep -qE "(^|[^A-Za-z0-9_])($items) $1(\$|[^A-Za-z0-9_-])" "$2"
 }
 
 # Each definition that a document names with its file.
@@ -86,6 +89,16 @@ check_glossary() {
     done <"$work/entries"
 }
 
+# The clauses of the calls of a name in a crate: those between `fn NAME` and a line that begins the
+# body or ends the declaration.
+clauses_of() {
+    find "crates/$1/src" -name '*.rt' -exec awk -v call="$2" '
+        $0 ~ "fn " call "($|[^A-Za-z0-9_])" { inside = 1 }
+        inside && match($0, /ensures [a-z_]+ [{]/) { print substr($0, RSTART + 8, RLENGTH - 10) }
+        /^ *[{]}?$/ || /;$/ || (/[{]$/ && !/(ensures|requires) /) { inside = 0 }
+    ' '{}' +
+}
+
 # A row begins with the crate: - **`CRATE`**, or a link of it.
 check_clauses() {
     entries "$1" | grep -E '^- \*\*\[?`sym' >"$work/entries"
@@ -93,7 +106,8 @@ check_clauses() {
     note $? "$1: no row on a crate"
     while read -r entry; do
         crate=$(printf "%s\n" "$entry" | sed 's/^[^`]*`\([a-z_]*\)`.*/\1/')
-        printf "%s\n" "$entry" | grep -oE '\(`[A-Za-z_:]+`(: `[a-z_]+`(, `[a-z_]+`)*)?\)' >"$work/groups"
+        printf "%s\n" "$entry" |
+            grep -oE '\(`[A-Za-z_:]+`(: `[a-z_]+`(, `[a-z_]+`)*)?\)' >"$work/groups"
         while read -r group; do
             call=$(printf "%s\n" "$group" | sed 's/^(`\([A-Za-z_:]*\)`.*/\1/')
             grep -rqE "fn ${call##*:}(\$|[^A-Za-z0-9_])" "crates/$crate/src"
@@ -102,21 +116,25 @@ check_clauses() {
                 *': '*) clauses=$(printf "%s\n" "${group#*: }" | tr -d '`,)') ;;
                 *) clauses= ;;
             esac
+            clauses_of "$crate" "${call##*:}" >"$work/clauses"
             for clause in $clauses; do
-                grep -rqE "ensures $clause \{" "crates/$crate/src"
-                note $? "$1: $crate has no clause $clause, which $call is said to have"
+                grep -qx "$clause" "$work/clauses"
+                note $? "$1: $call of $crate has no clause $clause"
             done
         done <"$work/groups"
     done <"$work/entries"
 }
 
-# All words of the sources, the crates' names and the handles.
-find crates -name out -prune -o -type f \( -name '*.rt' -o -name '*.antt' \) -exec cat {} + |
-    cat - crates.txt HANDLES |
-    grep -oE '[A-Za-z_][A-Za-z0-9_]*' | sort -u >"$work/words"
+# All words of the sources, the crates' names, the handles, and the directories at the top.
+{
+    find crates -name out -prune -o -type f \( -name '*.rt' -o -name '*.antt' \) -exec cat {} +
+    cat crates.txt HANDLES checks/*.c
+    ls
+} | grep -oE '[A-Za-z_][A-Za-z0-9_]*' | sort -u >"$work/words"
 
 check_words() {
-    quoted "$1" | grep -E '^[A-Za-z_][A-Za-z0-9_:]*$' | sed 's/.*:://' | sort -u >"$work/names"
+    quoted "$1" | grep -E '^([A-Za-z_][A-Za-z0-9_]*::)*[A-Za-z_][A-Za-z0-9_]*$' |
+        sed 's/.*:://' | sort -u >"$work/names"
     while read -r name; do
         grep -qx "$name" "$work/words"
         note $? "$1: no source has $name"
@@ -129,7 +147,7 @@ for document in README.md CONTRIBUTING.md docs/*.md crates/*/README.md; do
 done
 check_glossary docs/DEFINITIONS.md
 check_clauses README.md
-for document in crates/*/README.md; do
+for document in docs/ARCHITECTURE.md docs/DECISIONS.md CONTRIBUTING.md crates/*/README.md; do
     check_words "$document"
 done
 
