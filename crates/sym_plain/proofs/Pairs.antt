@@ -1,11 +1,12 @@
 -- Pairs with distinct keys, as the map keeps them.
 use Rattle.std.proofs.Common.{◌≡◌, ◌∙◌, ap, sym, refl, rules, Bool, true, false, cond, ◌||◌, if◌then◌else◌, List, [], ◌∷◌, ◌++◌, map, Option, Some, None}
 use Rattle.std.specs.Bool.{Decides}
+use Rattle.std.specs.List.{AllByRecursion}
 use Rattle.std.specs.Cmp.{IsEquivalence}
 use Rattle.std.specs.Map.{keys_of, lookup, set_value}
 use Rattle.std.proofs.lemmas.Map.{NonePasses}
 use Rattle.std.proofs.lemmas.Map.Entries.{none_past_head}
-use Rattle.std.proofs.lemmas.Map.Keys.{IsDistinct-tail}
+use Rattle.std.proofs.lemmas.Map.Keys.{IsDistinct-head, IsDistinct-tail}
 use Rattle.indexmap.specs.IndexMap.{insert_entry}
 use Rattle.sym_base.specs.declared.values.value.Key.{Key}
 use Rattle.sym_base.specs.declared.values.state.Outcome.{Outcome}
@@ -83,6 +84,19 @@ set-put (p ∷ rest) key old outcome apart found =
     of : (b : Bool) → is_key key p.0 ≡ b → (lookup (is_key key) rest ≡ Some old → set_value (is_key key) rest outcome ≡ put rest key outcome) → cond b (Some p.1) (lookup (is_key key) rest) ≡ Some old → cond b ((p.0, outcome) ∷ rest) (p ∷ set_value (is_key key) rest outcome) ≡ put (p ∷ rest) key outcome
     of true here later f = put_here p rest key outcome apart here
     of false past later f = ap (λ ps. p ∷ ps) (later f) ∙ put_past p rest key outcome past
+
+-- What holds of the keys of all pairs holds of one among them.
+at_one : (P : Key → Type 0) (before : List (Key × Outcome)) (p : Key × Outcome) (rest : List (Key × Outcome)) → AllByRecursion P (keys_of (before ++ p ∷ rest)) → P p.0
+at_one P [] p rest h = h.0
+at_one P (q ∷ before) p rest h = at_one P before p rest h.1
+
+-- Of distinct pairs the next one goes last.
+pub insert-next : (done : List (Key × Outcome)) (p : Key × Outcome) (rest : List (Key × Outcome)) → HaveDistinctKeys (done ++ p ∷ rest) → insert_entry is_key done p.0 p.1 ≡ done ++ p ∷ []
+insert-next [] p rest apart = refl
+insert-next (q ∷ done) p rest apart =
+    let past : is_key p.0 q.0 ≡ false = keys_equiv.symm p.0 q.0 ∙ at_one (λ k. is_key q.0 k ≡ false) done p rest (IsDistinct-head is_key q.0 (keys_of (done ++ p ∷ rest)) apart) in
+    ap (λ (b : Bool). if b then (q.0, p.1) ∷ done else q ∷ insert_entry is_key done p.0 p.1) past
+    ∙ ap (λ ps. q ∷ ps) (insert-next done p rest (IsDistinct-tail is_key q.0 (keys_of (done ++ p ∷ rest)) apart))
 
 -- A new group makes its first step,
 pub begun : (p : ScriptPlan) (key : Key) (rec : Record) (pairs : List (Key × Outcome)) → HaveDistinctKeys pairs → lookup (is_key key) pairs ≡ None → insert_entry is_key pairs key (step p (Going (initial p)) rec) ≡ stepped p key rec pairs

@@ -55,7 +55,8 @@ pub fn key_of(alloc: Global, checked: &Checked, rec: &Record) -> Result<Key, NoM
 
 /// The groups after one record more: the record's group makes its next step, a new group goes last
 /// with one step from the initial state, and all others stay. A group that has ended stays as it
-/// is. A key that is there isn't copied, and its group's state is changed where it lies.
+/// is. The record's key is written over the one that was looked up last, a new group gets a copy of
+/// it, and the state of a group that is there is changed where it lies.
 pub fn fold(
     alloc: Global,
     checked: &Checked,

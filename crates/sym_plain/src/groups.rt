@@ -15,6 +15,17 @@ use std::marker::Model;
 use sym_base::{Key, NoMemory, Outcome, Record};
 use sym_check::Plan;
 
+// The entries are inserted in order, each with the hash of its key.
+fn copy_map(alloc: Global, map: &IndexMap<Key, Outcome>) -> Result<IndexMap<Key, Outcome>, NoMemory>
+    ensures { IfOk result (λ copied. copied.entries ≡ map.now.entries) }
+{
+    let mut copied = IndexMap::with_capacity(alloc, map.len())?;
+    'entries: for (key, outcome) in map.iter() {
+        drop(copied.insert(key.copy(alloc)?, outcome.copy(alloc)?)?);
+    }
+    Ok(copied)
+}
+
 /// Each key with how its group stands. A contract sees a list of pairs with distinct keys.
 #[derive(Drop)]
 pub struct Groups {
@@ -72,6 +83,17 @@ impl Groups {
         let mut groups = self;
         groups.map.insert(key, outcome)?;
         Ok(groups)
+    }
+
+    /// Equal groups of their own.
+    pub fn copy(&self, alloc: Global) -> Result<Groups, NoMemory>
+        ensures { IfOk result (λ groups. groups ≡ self.now) }
+    {
+        Ok(Groups {
+            map: copy_map(alloc, &self.map)?,
+            key: Key::Whole,
+            buffers: Buffers::new(alloc),
+        })
     }
 
     /// Makes the step of the record's group. After an `Err` the groups may stand anyhow.

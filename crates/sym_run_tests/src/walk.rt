@@ -168,6 +168,28 @@ fn fold_into_is_a_plain_walk(rt: HostRuntime) -> Result<(), Fail> {
     check_fold_into(&rt, rt.alloc(), &sums(&rt, rt.alloc()), &MOVES)
 }
 
+// Folds the records into groups of which a copy is made before each.
+fn check_copies(
+    rt: &impl Abort,
+    alloc: Global,
+    checked: &Checked,
+    moves: &[(i64, &'static str)],
+) -> Result<(), Fail> {
+    let mut groups = Groups::new(alloc);
+    'moves: for (at, (x, who)) in moves.iter().enumerate() {
+        let before = groups.copy(alloc)?;
+        let rec = record(alloc, at as u64 + 1, *x, who)?;
+        fold_into(alloc, checked, &mut groups, &rec)?;
+        check_groups(rt, &before, &moves[..at]);
+    }
+    Ok(())
+}
+
+#[test]
+fn a_copy_of_groups_stays_as_it_is(rt: HostRuntime) -> Result<(), Fail> {
+    check_copies(&rt, rt.alloc(), &sums(&rt, rt.alloc()), &MOVES)
+}
+
 #[test]
 fn a_record_has_the_key_of_its_name(rt: HostRuntime) -> Result<(), Fail> {
     let checked = sums(&rt, rt.alloc());

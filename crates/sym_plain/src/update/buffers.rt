@@ -17,7 +17,8 @@ pub struct Buffers {
 impl Buffers {
     /// Empty lists. It takes no memory.
     pub fn new(alloc: Global) -> Buffers
-        ensures { result.locals ≡ [] }
+        ensures locals { result.locals ≡ [] }
+        ensures args { result.args ≡ [] }
     {
         Buffers {
             locals: Values::new(alloc),

@@ -43,7 +43,7 @@ fn text_over(alloc: Global, old: Option<Value>, word: &str) -> Result<Text, NoMe
 }
 
 #[inline(never)]
-fn put_at(values: &mut Values, index: usize, value: Value) -> Result<(), NoMemory>
+pub(crate) fn put_at(values: &mut Values, index: usize, value: Value) -> Result<(), NoMemory>
     requires { index ≤ length values.old }
     ensures values { OnOk result (take (index + 1) values.new ≡ take index values.old ++ value ∷ []) }
     ensures length { OnOk result (index + 1 ≤ length values.new) }
@@ -56,7 +56,7 @@ fn put_at(values: &mut Values, index: usize, value: Value) -> Result<(), NoMemor
     Ok(())
 }
 
-fn put_num(values: &mut Values, index: usize, number: i64) -> Result<(), NoMemory>
+pub(crate) fn put_num(values: &mut Values, index: usize, number: i64) -> Result<(), NoMemory>
     requires { index ≤ length values.old }
     ensures values { let before = take index values.old in
         OnOk result (take (index + 1) values.new ≡ before ++ Value.Num number ∷ []) }
@@ -71,7 +71,12 @@ fn put_num(values: &mut Values, index: usize, number: i64) -> Result<(), NoMemor
 
 // The word is written over that of the value at this place.
 #[inline(never)]
-fn put_word(alloc: Global, values: &mut Values, index: usize, word: &str) -> Result<(), NoMemory>
+pub(crate) fn put_word(
+    alloc: Global,
+    values: &mut Values,
+    index: usize,
+    word: &str,
+) -> Result<(), NoMemory>
     requires { index ≤ length values.old }
     ensures values { let before = take index values.old in
         OnOk result (take (index + 1) values.new ≡ before ++ Value.Word word.now ∷ []) }

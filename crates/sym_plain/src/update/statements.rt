@@ -1,5 +1,5 @@
 //! Statements of the update, run on a state's cells where they lie.
-ghost use Rattle.std.specs.Prelude.{◌≡◌, ◌++◌, ◌∷◌, [], ◌-◌, IsTrue, IfOk, OnOk, Some, length, map, pos, replicate, take};
+ghost use Rattle.std.specs.Prelude.{◌≡◌, ◌≤◌, ◌+◌, ◌++◌, ◌∷◌, [], ◌-◌, IsTrue, IfOk, OnOk, Some, length, map, pos, replicate, take};
 ghost use Rattle.std.specs.List.{list_all};
 ghost use Rattle.sym_check.specs.Conditions.{has_fixed_body};
 ghost use Rattle.sym_check.specs.DoPlans.{do_plan, dos_plan};
@@ -7,11 +7,11 @@ ghost use Rattle.sym_check.specs.FixedPlans.{fixed_plan};
 ghost use Rattle.sym_check.specs.KnownValues.{known_values};
 ghost use Rattle.sym_check.specs.ScriptPlans.{script_plan};
 ghost use Rattle.sym_check.specs.Updates.{environment, environment_after, do_step, dos_step};
-ghost use Rattle.sym_base.specs.States.{nums_in, words_in, with_num, with_word};
+ghost use Rattle.sym_base.specs.States.{nums_in, parts_at, parts_in, words_in, with_cell, with_num, with_word};
 ghost use Rattle.sym_plain.specs.Running.{IsAssignment, Makes, kept, kept_cell};
 
 use crate::update::buffers::{Buffers, shorten};
-use crate::update::conditions::{fixed_value, set_values, truth_of};
+use crate::update::conditions::{fixed_value, put_at, put_num, put_word, set_values, truth_of};
 use crate::update::stop::Stop;
 use crate::update::terms::{in_range, term_number};
 use std::alloc::Global;
@@ -74,15 +74,54 @@ fn push_word(alloc: Global, state: &mut State, cell: u16, word: &str) -> Result<
     Ok(())
 }
 
-#[inline(never)]
-fn copy_parts(alloc: Global, parts: &[Value]) -> Result<Values, NoMemory>
-    ensures { IfOk result (λ v. v ≡ parts.now) }
+// A part is written over the value at this place; those before it stay.
+fn put_part(alloc: Global, values: &mut Values, index: usize, part: &Value) -> Result<(), NoMemory>
+    requires { index ≤ length values.old }
+    ensures values { OnOk result (take (index + 1) values.new ≡ take index values.old ++ part.now ∷ []) }
+    ensures length { OnOk result (index + 1 ≤ length values.new) }
 {
-    let mut copied = Values::new(alloc);
-    'parts: for part in parts {
-        copied.push(part.copy(alloc)?)?;
+    match part {
+        Value::Num(number) => put_num(values, index, *number),
+        Value::Word(word) => put_word(alloc, values, index, word.as_str()),
+        Value::Label(label) => put_at(values, index, Value::Label(*label)),
     }
-    Ok(copied)
+}
+
+// Makes the list that of these parts, over the memory that it has.
+fn set_parts(alloc: Global, parts: &[Value], values: &mut Values) -> Result<(), NoMemory>
+    ensures { OnOk result (values.new ≡ parts.now) }
+{
+    'parts: for (index, part) in parts.iter().enumerate() {
+        put_part(alloc, values, index, part)?;
+    }
+    if parts.len() < values.len() {
+        shorten(alloc, values, parts.len());
+    }
+    Ok(())
+}
+
+fn parts_of(alloc: Global, cell: Option<Cell>) -> Values
+    ensures { result ≡ parts_in cell }
+{
+    match cell {
+        Some(Cell::Hold(parts)) => parts,
+        _ => Values::new(alloc),
+    }
+}
+
+// The parts of a cell are written over those of another. A cell keeps its own where they are one.
+#[inline(never)]
+fn keep_from(alloc: Global, state: &mut State, cell: u16, from: u16) -> Result<(), NoMemory>
+    ensures { let kept = Cell.Hold (parts_at state.old from) in
+        OnOk result (state.new ≡ with_cell state.old cell kept) }
+{
+    let index = usize::from(cell);
+    let mut parts = parts_of(alloc, state.cells.replace(index, Cell::Enum(0)));
+    if cell != from {
+        set_parts(alloc, state.parts_at(from), &mut parts)?;
+    }
+    state.cells.set(index, Cell::Hold(parts));
+    Ok(())
 }
 
 fn push_zeros(locals: &mut Values, count: usize) -> Result<(), NoMemory>
@@ -168,10 +207,7 @@ fn assign(
         Do::Keep(cell, values) => {
             keep(alloc, known, *cell, values, state)?;
         }
-        Do::KeepFrom(cell, from) => {
-            let parts = copy_parts(alloc, state.parts_at(*from))?;
-            state.cells.set(usize::from(*cell), Cell::Hold(parts));
-        }
+        Do::KeepFrom(cell, from) => keep_from(alloc, state, *cell, *from)?,
         Do::PushNum(cell, term) => {
             let number = term_number(known, term, state)?;
             let number = in_range(plan, *cell, number)?;
