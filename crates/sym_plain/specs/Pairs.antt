@@ -38,6 +38,8 @@ abbrev pub after_record : ScriptPlan → Record → List (Key × Outcome) → Li
 after_record p rec pairs = stepped p (key_of p rec) rec pairs
 
 -- A group with this key makes its step; where there is none, the groups stay.
-abbrev pub Steps : ScriptPlan → Key → Record → List (Key × Outcome) → Bool → List (Key × Outcome) → Type 0
+abbrev pub Steps :
+    ScriptPlan → Key → Record → List (Key × Outcome) → Bool → List (Key × Outcome) → Type 0
 Steps p key rec old true new = new ≡ stepped p key rec old
-Steps p key rec old false new = (lookup (is_key key) old ≡ None) × (new ≡ old) × HaveDistinctKeys old
+Steps p key rec old false new =
+    (lookup (is_key key) old ≡ None) × (new ≡ old) × HaveDistinctKeys old

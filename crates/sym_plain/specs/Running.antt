@@ -20,8 +20,8 @@ Gives (Ok x) meaning = meaning ≡ Ok x
 Gives (Err (stop.Fault kind)) meaning = meaning ≡ Err kind
 Gives (Err stop.NoMemory) meaning = Unit {0}
 
--- What was written in the course of the part is the value that it means, or its fault is meant; where
--- memory is out, anything.
+-- What was written in the course of the part is the value that it means, or its fault is meant;
+-- where memory is out, anything.
 abbrev pub Makes : {A B : Type 0} → Result A Stop → B → Result B FaultKind → Type 0
 Makes (Ok x) made meaning = meaning ≡ Ok made
 Makes (Err (stop.Fault kind)) made meaning = meaning ≡ Err kind
@@ -50,7 +50,8 @@ kept_cell k es = and_then (λ parts. Ok (cell.Hold parts)) (or_fault (fixed_valu
 
 -- What `keep` with these values does to a state.
 abbrev pub kept : Environment → ℕ → List FixedPlan → State → Result State FaultKind
-kept k c es s = and_then (λ parts. Ok (with_cell s c (cell.Hold parts))) (or_fault (fixed_values k es))
+kept k c es s =
+    and_then (λ parts. Ok (with_cell s c (cell.Hold parts))) (or_fault (fixed_values k es))
 
 -- These values and that of one expression more.
 abbrev pub with_value : Environment → List Value → FixedPlan → Result (List Value) FaultKind

@@ -170,7 +170,8 @@ call_column f (Some (cell.Words ts)) = of_words f ts
 abbrev pub shown : ScriptPlan → State → ShowPlan → Column
 shown p s (show.Num n) = Num n
 shown p s (show.Text t) = Word t
-shown p s (show.Cell c) = cell_column (cell_labels p.enums (slice_get p.cells c)) (slice_get s.cells c)
+shown p s (show.Cell c) =
+    cell_column (cell_labels p.enums (slice_get p.cells c)) (slice_get s.cells c)
 shown p s (show.Part c part) =
     let of = part_kind (slice_get p.cells c) (part - 1) in
     value_column (kind_labels p.enums of) (slice_get (parts_at s c) (part - 1))

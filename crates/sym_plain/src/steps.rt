@@ -15,7 +15,8 @@ use std::alloc::Global;
 use sym_base::{Fault, FaultKind, NoMemory, Outcome, Record, State};
 use sym_check::Plan;
 
-// Runs the update on a state where it lies, and gives the fault that ends the group, if there is one.
+// Runs the update on a state where it lies, and gives the fault that ends the group, if there is
+// one.
 fn update(
     alloc: Global,
     plan: &Plan,
@@ -25,7 +26,8 @@ fn update(
 ) -> Result<Option<FaultKind>, NoMemory>
     requires { IsTrue (list_all has_fixed_body (script_plan plan.now).tests) }
     ensures { let p = script_plan plan.now in
-        IfOk result (λ kind. Ends kind state.new (dos_step p (environment rec.now []) p.update state.old)) }
+        IfOk result (λ kind.
+        Ends kind state.new (dos_step p (environment rec.now []) p.update state.old)) }
 {
     if !buffers.locals.is_empty() {
         shorten(alloc, &mut buffers.locals, 0);

@@ -45,7 +45,8 @@ fn text_over(alloc: Global, old: Option<Value>, word: &str) -> Result<Text, NoMe
 #[inline(never)]
 pub(crate) fn put_at(values: &mut Values, index: usize, value: Value) -> Result<(), NoMemory>
     requires { index ≤ length values.old }
-    ensures values { OnOk result (take (index + 1) values.new ≡ take index values.old ++ value ∷ []) }
+    ensures values { let before = take index values.old in
+        OnOk result (take (index + 1) values.new ≡ before ++ value ∷ []) }
     ensures length { OnOk result (index + 1 ≤ length values.new) }
 {
     if index < values.len() {
@@ -122,7 +123,8 @@ pub fn set_values(
     expressions: &FixedList,
     values: &mut Values,
 ) -> Result<(), Stop>
-    ensures { let meaning = fixed_values (known_values known.now) (map fixed_plan expressions.now) in
+    ensures { let meaning =
+        fixed_values (known_values known.now) (map fixed_plan expressions.now) in
         Makes result values.new (or_fault meaning) }
 {
     'values: for (index, expression) in expressions.as_slice().iter().enumerate() {

@@ -77,7 +77,8 @@ fn push_word(alloc: Global, state: &mut State, cell: u16, word: &str) -> Result<
 // A part is written over the value at this place; those before it stay.
 fn put_part(alloc: Global, values: &mut Values, index: usize, part: &Value) -> Result<(), NoMemory>
     requires { index ≤ length values.old }
-    ensures values { OnOk result (take (index + 1) values.new ≡ take index values.old ++ part.now ∷ []) }
+    ensures values { let before = take index values.old in
+        OnOk result (take (index + 1) values.new ≡ before ++ part.now ∷ []) }
     ensures length { OnOk result (index + 1 ≤ length values.new) }
 {
     match part {
@@ -233,7 +234,8 @@ pub(crate) fn run_all(
     ensures state { let p = script_plan plan.now in
         let k = environment rec.now buffers.old.locals in
         Makes result state.new (dos_step p k (dos_plan statements.now) state.old) }
-    ensures locals { OnOk result (take (length buffers.old.locals) buffers.new.locals ≡ buffers.old.locals) }
+    ensures locals { let count = length buffers.old.locals in
+        OnOk result (take count buffers.new.locals ≡ buffers.old.locals) }
 {
     match statements {
         Dos::End => Ok(()),
@@ -286,7 +288,8 @@ fn run(
         let k = environment rec.now buffers.old.locals in
         Makes result state.new (do_step p k (do_plan statement.now) state.old) }
     ensures locals { let k = environment rec.now buffers.old.locals in
-        OnOk result (environment rec.now buffers.new.locals ≡ environment_after k (do_plan statement.now)) }
+        OnOk result (environment rec.now buffers.new.locals
+        ≡ environment_after k (do_plan statement.now)) }
 {
     let known = known_in(rec, &buffers.locals);
     match statement {
