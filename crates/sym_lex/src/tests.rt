@@ -95,7 +95,7 @@ const TOKENS: [(&[u8], Wanted); 16] = [
 ];
 
 #[test]
-fn each_token_is_read(rt: HostRuntime) -> Result<(), LexErr> {
+fn each_token_is_read(rt: HostRuntime) -> Result<(), Fail> {
     for (bytes, wanted) in TOKENS {
         let mut text = Vec::from_slice(rt.alloc(), b" \t\r\n#\n")?;
         text.extend_from_slice(bytes)?;
