@@ -37,7 +37,7 @@ use Rattle.sym_path.specs.declared.form.Form.{Form}
 use Rattle.sym_path.specs.declared.form.Form.TheVariants as form
 use Rattle.sym_path.specs.Fitting.{FitsEnum, FitsRange, Suits, PartFits, StaysWithin, NumberFits, FormFits, FormsFit}
 use Rattle.sym_path.specs.Fitting as fitting
-use Rattle.sym_path.specs.Following.{PartLeft, AreLeft, CanPutLeft}
+use Rattle.sym_path.specs.Following.{PartLeft, AreLeft, CanPutAllLeft}
 use Rattle.sym_path.specs.Narrowing.{CanPutNumber}
 use Rattle.sym_path.specs.Possible.{IsNeeded}
 use Rattle.sym_path.specs.Taking.{HasOneLabel, HasOneNumber, copied_cell, LabelIsTakenTo, NumberIsTakenTo, IsEnumForm, IsIntForm, IsNumsForm, IsTakenTo, AreTakenTo, IsTakenOn}
@@ -321,8 +321,9 @@ module _ (p : ScriptPlan) (when : List Part) (forms : List Form) (needs lefts : 
       again : (f g : Form) → IsTakenTo lefts f g → IsTakenOn lefts g
       again f g t = taken_again lefts f g t
 
-  -- ---- numbers that are put into the forms
+-- ---- numbers that are put into the forms
 
+module _ (p : ScriptPlan) (when : List Part) (forms : List Form) (each : AllZip (FormFits p when) p.cells forms) where
   fix_left : (c : ℕ) (x lo hi : ℤ) (old : Span) (f : IntForm) → slice_get when c ≡ Some (part.Span old) → HasPoint old x → IsNumber lo → IsNumber hi → NumberFits lo hi when f → CanFix f c x
   fix_left c x lo hi old (number.Const n) at q a b h = tt
   fix_left c x lo hi old (number.Line line) at q a b h = λ e.
@@ -343,22 +344,17 @@ module _ (p : ScriptPlan) (when : List Part) (forms : List Form) (needs lefts : 
   put_left c x old _ _ at q w (fitting.of_numbers lo hi added h) = all_from (λ f. CanFix f c x) added (λ i f e. fix_left c x lo hi old f at q w.0 w.1 (all_at (NumberFits lo hi when) added i f h e))
   put_left c x old _ _ at q w (fitting.of_words added) = tt
 
-  pub can_put : IsWellFormed p → (c : ℕ) (new : Part) → slice_get lefts c ≡ Some new → CanPutLeft c new forms
-  can_put w c (part.Set new) e = tt
-  can_put w c (part.Span new) e = λ one.
-      let (cp, at, fits) = zip_get_right (PartFits p) p.cells lefts c (part.Span new) left_parts e in
-      let (old, is, _) = zip_get (PartFits p) p.cells when c cp parts at in
-      go old is (left.each c old (part.Span new) is e)
-    where
-      all : (old : Span) → slice_get when c ≡ Some (part.Span old) → HasPoint old new.lo → All (CanPutNumber c new.lo) forms
-      all old is q = all_from (CanPutNumber c new.lo) forms (λ i f at.
-          let found = zip_get_right (FormFits p when) p.cells forms i f each at in
-          put_left c new.lo old found.0 f is q (all_at (IsCell p.enums) p.cells i found.0 w.cells found.1) found.2)
+  all_put : IsWellFormed p → (c : ℕ) (old : Span) (x : ℤ) → slice_get when c ≡ Some (part.Span old) → HasPoint old x → All (CanPutNumber c x) forms
+  all_put w c old x is q = all_from (CanPutNumber c x) forms (λ i f at.
+      let found = zip_get_right (FormFits p when) p.cells forms i f each at in
+      put_left c x old found.0 f is q (all_at (IsCell p.enums) p.cells i found.0 w.cells found.1) found.2)
 
-      go : (old : Part) → slice_get when c ≡ Some old → PartLeft forms needs c old (part.Span new) → All (CanPutNumber c new.lo) forms
-      go (part.Set old) is h = absurd h
-      go (part.Span old) is h = all old is ((h new.lo).0 (one_point new)).0
-      go (part.Facts old) is h = absurd h
-      go part.Free is h = absurd h
-  can_put w c (part.Facts new) e = tt
-  can_put w c part.Free e = tt
+  -- What is left of a cell may be put into the forms.
+  pub can_put : IsWellFormed p → (needs : List Part) → CanPutAllLeft forms needs when
+  can_put w needs fs c old (part.Set new) is h = tt
+  can_put w needs fs c (part.Set old) (part.Span new) is h = absurd h
+  can_put w needs fs c (part.Span old) (part.Span new) is h = λ one. all_put w c old new.lo is ((h new.lo).0 (one_point new)).0
+  can_put w needs fs c (part.Facts old) (part.Span new) is h = absurd h
+  can_put w needs fs c part.Free (part.Span new) is h = absurd h
+  can_put w needs fs c old (part.Facts new) is h = tt
+  can_put w needs fs c old part.Free is h = tt

@@ -9,6 +9,7 @@ pub mod Followed
 pub mod FollowedStates
 pub mod FollowingFits
 pub mod FollowingForms
+pub mod FollowingNarrowed
 pub mod FollowingSteps
 pub mod FollowingTaken
 pub mod FollowingWhole

@@ -1,6 +1,6 @@
 -- What is left of a path's constraint where another path has to come after it, and what the two are
 -- together.
-use Rattle.std.specs.Prelude.{◌≡◌, ◌≢◌, ℕ, ℤ, ◌<◌, ◌<ℤ◌, ◌↔◌, ◌⊎◌, Bool, IsTrue, List, Option, Some, None, length, map, take, drop, slice_get}
+use Rattle.std.specs.Prelude.{◌≡◌, ◌≢◌, ℕ, ℤ, ◌<◌, ◌<ℤ◌, ◌↔◌, ◌⊎◌, Bool, IsTrue, List, Option, Some, None, length, map, take, drop, slice_get, slice_set}
 use Rattle.std.specs.List.{All, AllZip}
 use Rattle.sym_base.specs.declared.values.state.Fault.{Fault}
 use Rattle.sym_base.specs.declared.values.state.State.{State}
@@ -32,15 +32,19 @@ use Rattle.sym_path.specs.Admitting.{Admits}
 use Rattle.sym_path.specs.Fitting.{EndFits, PathFits}
 use Rattle.sym_path.specs.Giving.{end_at, state_at}
 use Rattle.sym_path.specs.Narrowing.{with_label, CanPutNumber, NumberIsPut}
-use Rattle.sym_path.specs.Possible.{LabelMeets, NumberMeets, IsSaid}
+use Rattle.sym_path.specs.Possible.{LabelMeets, NumberMeets, IsSaid, IsLeft}
 use Rattle.sym_path.specs.Taking.{IsIntForm}
 
 -- What is left of a cell: the labels, or the numbers, of its part that are as they are needed, or
 -- all literals that are known of it or needed of its copies.
 abbrev pub PartLeft : List Form → List Part → ℕ → Part → Part → Type 0
-PartLeft forms needs c (part.Set old) (part.Set new) = ((l : ℕ) × IsTrue (has_label new l)) × ((l : ℕ) → IsTrue (has_label new l) ↔ (IsTrue (has_label old l) × LabelMeets forms needs c l))
-PartLeft forms needs c (part.Span old) (part.Span new) = (x : ℤ) → HasPoint new x ↔ (HasPoint old x × NumberMeets forms needs c x)
-PartLeft forms needs c (part.Facts old) (part.Facts new) = (atom : Atom) (outcome : Bool) → Stands new atom outcome ↔ IsSaid old forms needs c atom outcome
+PartLeft forms needs c (part.Set old) (part.Set new) =
+    ((l : ℕ) × IsTrue (has_label new l))
+    × ((l : ℕ) → IsTrue (has_label new l) ↔ (IsTrue (has_label old l) × LabelMeets forms needs c l))
+PartLeft forms needs c (part.Span old) (part.Span new) =
+    (x : ℤ) → HasPoint new x ↔ (HasPoint old x × NumberMeets forms needs c x)
+PartLeft forms needs c (part.Facts old) (part.Facts new) =
+    (atom : Atom) (outcome : Bool) → Stands new atom outcome ↔ IsSaid old forms needs c atom outcome
 PartLeft forms needs c part.Free part.Free = Unit {0}
 PartLeft forms needs c old new = ⊥
 
@@ -65,7 +69,8 @@ NeedsHere c (form.Nums added) need atom outcome = ⊥
 NeedsHere c (form.Words added) need atom outcome = ⊥
 
 -- It is needed of one of the first forms.
-pub record NeededBelow (forms : List Form) (needs : List Part) (c n : ℕ) (atom : Atom) (outcome : Bool) : Type 0 where
+pub record NeededBelow (forms : List Form) (needs : List Part) (c n : ℕ) (atom : Atom)
+    (outcome : Bool) : Type 0 where
   pub at : ℕ
   pub form : Form
   pub need : Part
@@ -77,7 +82,8 @@ pub record NeededBelow (forms : List Form) (needs : List Part) (c n : ℕ) (atom
 -- What is left of all cells.
 pub record AreLeft (forms : List Form) (needs when lefts : List Part) : Type 0 where
   pub lengths : length lefts ≡ length when
-  pub each : (c : ℕ) (old new : Part) → slice_get when c ≡ Some old → slice_get lefts c ≡ Some new → PartLeft forms needs c old new
+  pub each : (c : ℕ) (old new : Part) → slice_get when c ≡ Some old → slice_get lefts c ≡ Some new →
+      PartLeft forms needs c old new
 
 -- Where one label or one number is left of the cell, it is put in the cell's place in the forms.
 abbrev pub LeftIsPut : ℕ → Part → List Form → List Form → Type 0
@@ -96,6 +102,36 @@ CanPutLeft c (part.Set set) forms = Unit {0}
 CanPutLeft c (part.Span span) forms = span.lo ≡ span.hi → All (CanPutNumber c span.lo) forms
 CanPutLeft c (part.Facts known) forms = Unit {0}
 CanPutLeft c part.Free forms = Unit {0}
+
+-- It may be for whatever can be left of the cells.
+abbrev pub CanPutAllLeft : List Form → List Part → List Part → Type 0
+CanPutAllLeft forms needs when =
+    (fs : List Form) (c : ℕ) (old left : Part) → slice_get when c ≡ Some old →
+    PartLeft fs needs c old left → CanPutLeft c left forms
+
+-- A set or a span is itself.
+abbrev pub IsShape : Part → Part → Type 0
+IsShape (part.Set set) shape = shape ≡ part.Set set
+IsShape (part.Span span) shape = shape ≡ part.Span span
+IsShape (part.Facts known) shape = Unit {0}
+IsShape part.Free shape = shape ≡ part.Free
+
+-- Something is left of the cell c, and may be put into the forms.
+pub record CanNarrow (forms : List Form) (needs : List Part) (c : ℕ) (when : List Part) : Type 0 where
+  pub part : Part
+  pub is : slice_get when c ≡ Some part
+  pub some : IsLeft forms needs c part
+  pub numbers : (left : Part) → PartLeft forms needs c part left → CanPutLeft c left forms
+
+-- What is left of the cell c is in the place of its part, and in its place in the forms.
+pub record NarrowedAt (forms : List Form) (needs : List Part) (c : ℕ) (old new : List Part)
+    (after : List Form) : Type 0 where
+  pub part : Part
+  pub left : Part
+  pub was : slice_get old c ≡ Some part
+  pub is : new ≡ slice_set old c left
+  pub some : PartLeft forms needs c part left
+  pub put : ((part ≡ left) × (after ≡ forms)) ⊎ LeftIsPut c left forms after
 
 -- ---- the forms of both
 
@@ -156,17 +192,22 @@ CanComeAfter forms context c (form.Enum (label.Copy d)) = IsValue (slice_get for
 CanComeAfter forms context c (form.Int f) = CanGoThrough f context
 CanComeAfter forms context c (form.Hold (hold.Const parts)) = Unit {0}
 CanComeAfter forms context c (form.Hold (hold.Copy d)) = IsValue (slice_get forms d)
-CanComeAfter forms context c (form.Nums added) = IsNums (slice_get forms c) × All (λ f. CanGoThrough f context) added
+CanComeAfter forms context c (form.Nums added) =
+    IsNums (slice_get forms c) × All (λ f. CanGoThrough f context) added
 CanComeAfter forms context c (form.Words added) = IsWords (slice_get forms c)
 
 -- Numbers after those of a list form.
 abbrev pub NumsAfter : IntForms → List IntForm → Option Form → Form → Type 0
-NumsAfter context added (Some (form.Nums first)) (form.Nums new) = (take (length first) new ≡ first) × AllZip (λ f g. GoesThroughTo f context g) added (drop (length first) new)
+NumsAfter context added (Some (form.Nums first)) (form.Nums new) =
+    (take (length first) new ≡ first)
+    × AllZip (λ f g. GoesThroughTo f context g) added (drop (length first) new)
 NumsAfter context added own new = ⊥
 
 -- Words after those of a list form.
 abbrev pub WordsAfter : List (List ℕ) → Option Form → Form → Type 0
-WordsAfter added (Some (form.Words first)) (form.Words new) = (take (length first) new ≡ first) × AllZip (λ (old t : List ℕ). t ≡ old) added (drop (length first) new)
+WordsAfter added (Some (form.Words first)) (form.Words new) =
+    (take (length first) new ≡ first)
+    × AllZip (λ (old t : List ℕ). t ≡ old) added (drop (length first) new)
 WordsAfter added own new = ⊥
 
 -- What a form of the cell c becomes after others: a constant stays, a copy becomes the form of the
@@ -183,21 +224,46 @@ FormAfter forms context c (form.Words added) g = WordsAfter added (slice_get for
 
 -- The forms stay but for that of the cell c, if this is a list cell.
 abbrev pub KeepsOthers : ℕ → List Form → List Form → Type 0
-KeepsOthers c old new = (d : ℕ) (f : Form) → slice_get old d ≡ Some f → (d ≢ c) ⊎ (IsList f → ⊥) → slice_get new d ≡ Some f
+KeepsOthers c old new =
+    (d : ℕ) (f : Form) → slice_get old d ≡ Some f → (d ≢ c) ⊎ (IsList f → ⊥) →
+    slice_get new d ≡ Some f
 
 -- All forms after others.
 abbrev pub AllCanComeAfter : List Form → IntForms → List Form → Type 0
-AllCanComeAfter forms context gs = (c : ℕ) (g : Form) → slice_get gs c ≡ Some g → CanComeAfter forms context c g
+AllCanComeAfter forms context gs =
+    (c : ℕ) (g : Form) → slice_get gs c ≡ Some g → CanComeAfter forms context c g
 
 pub record AreAfter (forms : List Form) (context : IntForms) (gs rs : List Form) : Type 0 where
   pub lengths : length rs ≡ length gs
-  pub each : (c : ℕ) (g r : Form) → slice_get gs c ≡ Some g → slice_get rs c ≡ Some r → FormAfter forms context c g r
+  pub each : (c : ℕ) (g r : Form) → slice_get gs c ≡ Some g → slice_get rs c ≡ Some r →
+      FormAfter forms context c g r
+
+-- The second path's end can come after forms on what is left: a fault can, and where it goes on,
+-- its forms can.
+abbrev pub CanEndAfter : List Form → List Part → PathEnd → Type 0
+CanEndAfter forms lefts (Next gs) =
+    (context : IntForms) → IsContext forms lefts context → AllCanComeAfter forms context gs
+CanEndAfter forms lefts (Ended fault) = Unit {0}
+
+-- What its forms become, by the forms of the first path and the spans in which these lie.
+pub record AreNext (forms : List Form) (lefts : List Part) (gs : List Form) (end : PathEnd)
+    : Type 0 where
+  pub after : List Form
+  pub is : end ≡ Next after
+  pub context : IntForms
+  pub known : IsContext forms lefts context
+  pub become : AreAfter forms context gs after
+
+abbrev pub EndsAfter : List Form → List Part → PathEnd → PathEnd → Type 0
+EndsAfter forms lefts (Next gs) end = AreNext forms lefts gs end
+EndsAfter forms lefts (Ended fault) end = end ≡ Ended fault
 
 -- ---- one path and then another
 
 -- The second path's end after the first one's forms: a fault stays, and where the second one goes
 -- on, so does this one, by what the forms give.
-pub record IsEndAfter (plan : ScriptPlan) (lefts : List Part) (forms : List Form) (old new : PathEnd) : Type 0 where
+pub record IsEndAfter (plan : ScriptPlan) (lefts : List Part) (forms : List Form)
+    (old new : PathEnd) : Type 0 where
   pub fits : EndFits plan lefts new
   pub fault : (fault : Fault) → (new ≡ Ended fault) ↔ (old ≡ Ended fault)
   pub gives : (s : State) → Admits (test_truth plan.tests) lefts s →
@@ -218,7 +284,8 @@ end_after end (outcome.Ended fault) = outcome.Ended fault
 pub record IsFollowed (plan : ScriptPlan) (p q path : Path) : Type 0 where
   pub admits : (s : State) →
       Admits (test_truth plan.tests) path.when s ↔
-      (Admits (test_truth plan.tests) p.when s × AdmitsOutcome (test_truth plan.tests) q.when (end_at p.end s))
+      (Admits (test_truth plan.tests) p.when s
+      × AdmitsOutcome (test_truth plan.tests) q.when (end_at p.end s))
   pub gives : (s : State) → Admits (test_truth plan.tests) path.when s →
       end_at path.end s ≡ end_after q.end (end_at p.end s)
   pub fault : (fault : Fault) → (path.end ≡ Ended fault) ↔ (q.end ≡ Ended fault)

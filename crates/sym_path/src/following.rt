@@ -1,5 +1,5 @@
 //! One path after another: what is left of the first one's constraint, and the forms of both.
-ghost use Rattle.std.specs.Prelude.{◌≡◌, ◌≤◌, ◌<◌, ◌^◌, ◌↔◌, ◌⊎◌, ℕ, Bool, IfOk, IfSome, IsSome, Some, All, length, slice_get};
+ghost use Rattle.std.specs.Prelude.{◌≡◌, ◌≤◌, ◌<◌, ◌^◌, ◌↔◌, ◌⊎◌, Bool, IfOk, IfSome, IsSome, Some, All, length, slice_get};
 ghost use Rattle.std.specs.List.{AllZip};
 ghost use Rattle.sym_check.specs.CheckedScripts.{checked_plan};
 ghost use Rattle.sym_check.specs.Conditions.{test_truth};
@@ -8,19 +8,18 @@ ghost use Rattle.sym_check.specs.WellFormed.{IsWellFormed};
 ghost use Rattle.sym_int.specs.declared.element.IntForms.{IntForms as OneContext};
 ghost use Rattle.sym_pred.specs.Facts.{Atom};
 ghost use Rattle.sym_pred.specs.Meaning.{Stands};
-ghost use Rattle.sym_path.specs.Fitting.{FormsFit, PartFits, PathFits};
-ghost use Rattle.sym_path.specs.Following.{PartLeft, CopyNeeds, NeedsHere, AreLeft, LeftIsPut, CanPutLeft, IsNumberOf, IsSpanOf, IsContext, CanComeAfter, FormAfter, NumsAfter, WordsAfter, IsNums, IsWords, IsValue, KeepsOthers, AllCanComeAfter, AreAfter, IsEndAfter, IsFollowed};
-ghost use Rattle.sym_path.specs.Possible.{IsLeft, IsSaid, AllLeft, Possible, IsPossiblePair};
+ghost use Rattle.sym_path.specs.Fitting.{PathFits};
+ghost use Rattle.sym_path.specs.Following.{PartLeft, CopyNeeds, NeedsHere, AreLeft, LeftIsPut, CanPutLeft, CanPutAllLeft, IsShape, CanNarrow, NarrowedAt, IsNumberOf, IsSpanOf, IsContext, CanComeAfter, FormAfter, NumsAfter, WordsAfter, IsNums, IsWords, IsValue, KeepsOthers, AllCanComeAfter, AreAfter, CanEndAfter, EndsAfter, IsFollowed};
+ghost use Rattle.sym_path.specs.Possible.{IsLeft, IsSaid, AllLeft, IsPossiblePair};
 ghost use Rattle.sym_path.specs.Pulling.{Agrees, HoldAgrees};
 ghost use Rattle.sym_path.specs.Taking.{AreTakenTo, IsTakenOn};
 ghost use Rattle.sym_int.specs.Elements.{CanGoThrough, GoesThroughTo};
-ghost use Rattle.sym_path.specs.declared.part.Part.{Part as OnePart};
 ghost use Rattle.sym_path.specs.declared.part.Part.TheVariants as part;
 
 use crate::form::{Form, Forms};
 use crate::joining::same_part;
 use crate::narrowing::{labels_put, numbers_put};
-use crate::part::Part;
+use crate::part::{Constraint, Part};
 use crate::path::{Path, PathEnd};
 use crate::possible_pairs::possible_by;
 use crate::pulling::{labels_left, numbers_left};
@@ -47,7 +46,7 @@ fn hold_passed(
 {
     match form {
         HoldForm::Copy(own) if *own == cell => match need {
-            Part::Facts(needed) => match facts.meet(alloc, needed)? {
+            Part::Facts(needed) => match facts.met_with(alloc, needed)? {
                 Some(met) => Ok(met),
                 None => unreachable!(),
             },
@@ -80,37 +79,37 @@ fn facts_passed(
 fn facts_left(
     alloc: Global,
     cell: u16,
-    facts: &Facts,
+    facts: Facts,
     forms: &[Form],
     needs: &[Part],
 ) -> Result<Facts, NoMemory>
     requires lengths { length forms.now ≡ length needs.now }
-    requires left { IsLeft forms.now needs.now cell (part.Facts facts.now) }
+    requires left { IsLeft forms.now needs.now cell (part.Facts facts) }
     ensures { IfOk result (λ left. (atom : Atom) (outcome : Bool) →
-        Stands left atom outcome ↔ IsSaid facts.now forms.now needs.now cell atom outcome) }
+        Stands left atom outcome ↔ IsSaid facts forms.now needs.now cell atom outcome) }
 {
-    let mut left = facts.copy(alloc)?;
+    let mut facts = facts;
     'cells: for index in 0..forms.len() {
-        left = facts_passed(alloc, cell, left, &forms[index], &needs[index])?;
+        facts = facts_passed(alloc, cell, facts, &forms[index], &needs[index])?;
     }
-    Ok(left)
+    Ok(facts)
 }
 
 /// What is left of a cell of which something is.
-pub(crate) fn left_of(
+fn left_of(
     alloc: Global,
     cell: u16,
-    part: &Part,
+    part: Part,
     forms: &[Form],
     needs: &[Part],
 ) -> Result<Part, NoMemory>
     requires lengths { length forms.now ≡ length needs.now }
-    requires left { IsLeft forms.now needs.now cell part.now }
-    ensures { IfOk result (PartLeft forms.now needs.now cell part.now) }
+    requires left { IsLeft forms.now needs.now cell part }
+    ensures { IfOk result (PartLeft forms.now needs.now cell part) }
 {
     match part {
-        Part::Set(set) => Ok(Part::Set(labels_left(cell, *set, forms, needs))),
-        Part::Span(span) => match numbers_left(cell, span, forms, needs) {
+        Part::Set(set) => Ok(Part::Set(labels_left(cell, set, forms, needs))),
+        Part::Span(span) => match numbers_left(cell, &span, forms, needs) {
             Some(left) => Ok(Part::Span(left)),
             None => unreachable!(),
         },
@@ -119,23 +118,16 @@ pub(crate) fn left_of(
     }
 }
 
-/// What is left of all cells.
-fn all_left_of(
-    alloc: Global,
-    when: &[Part],
-    forms: &[Form],
-    needs: &[Part],
-) -> Result<Vec<Part>, NoMemory>
-    requires lengths { length forms.now ≡ length needs.now }
-    requires few { length when.now ≤ 2 ^ 16 }
-    requires left { AllLeft when.now forms.now needs.now }
-    ensures { IfOk result (λ lefts. AreLeft forms.now needs.now when.now lefts.items) }
+/// The set or the span of a cell; `Free` of any other cell.
+fn shape(part: &Part) -> Part
+    ensures { IsShape part.now result }
 {
-    let mut lefts = Vec::with_capacity(alloc, when.len())?;
-    'cells: for index in 0..when.len() {
-        lefts.push(left_of(alloc, index as u16, &when[index], forms, needs)?)?;
+    match part {
+        Part::Set(set) => Part::Set(*set),
+        Part::Span(span) => Part::Span(*span),
+        Part::Facts(_) => Part::Free,
+        Part::Free => Part::Free,
     }
-    Ok(lefts)
 }
 
 /// Puts what is left of a cell in its place in the forms, where that is one label or one number.
@@ -162,20 +154,54 @@ fn put_left(forms: Forms, cell: u16, old: &Part, left: &Part) -> Forms
     }
 }
 
-/// The forms on what is left of their constraint.
-fn taken_forms(forms: Forms, when: &[Part], lefts: &[Part]) -> Forms
-    requires lengths { length lefts.now ≡ length when.now }
-    requires few { length when.now ≤ 2 ^ 16 }
-    requires taken { All (IsTakenOn when.now) forms }
-    requires numbers { (c : ℕ) (left : OnePart) →
-        slice_get lefts.now c ≡ Some left → CanPutLeft c left forms }
-    ensures { AreTakenTo lefts.now forms result }
+/// Puts what is left of the cell at `index` in the place of its part, and gives the forms on it.
+/// After an `Err` the part is lost.
+fn narrow_at(
+    alloc: Global,
+    when: &mut Constraint,
+    index: usize,
+    forms: Forms,
+    needs: &[Part],
+) -> Result<Forms, NoMemory>
+    requires lengths { length forms ≡ length needs.now }
+    requires few { index < 2 ^ 16 }
+    requires left { CanNarrow forms needs.now index when.old }
+    ensures { IfOk result (NarrowedAt forms needs.now index when.old when.new) }
+{
+    match when.replace(index, Part::Free) {
+        Some(part) => {
+            let cell = index as u16;
+            let old = shape(&part);
+            let left = left_of(alloc, cell, part, forms.as_slice(), needs)?;
+            let after = put_left(forms, cell, &old, &left);
+            when.set(index, left);
+            Ok(after)
+        }
+        None => unreachable!(),
+    }
+}
+
+/// Puts what is left of all cells in the place of their parts, and gives the forms on it.
+fn narrow_all(
+    alloc: Global,
+    when: &mut Constraint,
+    forms: Forms,
+    needs: &[Part],
+) -> Result<Forms, NoMemory>
+    requires lengths { length forms ≡ length needs.now }
+    requires parts { length when.old ≡ length needs.now }
+    requires few { length when.old ≤ 2 ^ 16 }
+    requires left { AllLeft when.old forms needs.now }
+    requires taken { All (IsTakenOn when.old) forms }
+    requires numbers { CanPutAllLeft forms needs.now when.old }
+    ensures { IfOk result (λ after.
+        AreLeft forms needs.now when.old when.new × AreTakenTo when.new forms after) }
 {
     let mut forms = forms;
-    'cells: for index in 0..when.len() {
-        forms = put_left(forms, index as u16, &when[index], &lefts[index]);
+    'cells: for index in 0..needs.len() {
+        forms = narrow_at(alloc, when, index, forms, needs)?;
     }
-    forms
+    Ok(forms)
 }
 
 /// The form of an integer cell; the constant 0 of any other cell.
@@ -337,54 +363,41 @@ fn forms_after(
     Ok(Sequence::of(after))
 }
 
-/// The end of the path of two, of the forms of the first one and what is left of its constraint.
+/// The end of a path after the forms of another one, which are on what is left of its constraint.
 fn end_after(
     alloc: Global,
-    _plan: &Plan,
-    when: &[Part],
     lefts: &[Part],
     forms: Forms,
-    next: &Path,
+    end: &PathEnd,
 ) -> Result<PathEnd, NoMemory>
-    requires known { IsWellFormed (script_plan _plan.now) }
-    requires parts { AllZip (PartFits (script_plan _plan.now))
-        (script_plan _plan.now).cells when.now }
-    requires forms { FormsFit (script_plan _plan.now) when.now forms }
-    requires second { PathFits (script_plan _plan.now) next.now }
-    requires possible { Possible (test_truth (script_plan _plan.now).tests)
-        when.now forms next.now.when }
-    requires left { AreLeft forms next.now.when when.now lefts.now }
-    ensures { IfOk result (IsEndAfter (script_plan _plan.now) lefts.now forms next.now.end) }
+    requires { CanEndAfter forms lefts.now end.now }
+    ensures { IfOk result (EndsAfter forms lefts.now end.now) }
 {
-    match &next.end {
+    match end {
         PathEnd::Ended(fault) => Ok(PathEnd::Ended(*fault)),
         PathEnd::Next(others) => {
-            let taken = taken_forms(forms, when, lefts);
-            let context = context_of(alloc, taken.as_slice(), lefts)?;
-            let after = forms_after(alloc, taken, others.as_slice(), &context)?;
+            let context = context_of(alloc, forms.as_slice(), lefts)?;
+            let after = forms_after(alloc, forms, others.as_slice(), &context)?;
             Ok(PathEnd::Next(after))
         }
     }
 }
 
 /// The path of one and then another that can come after it. What it has is moved.
-fn path_after(alloc: Global, plan: &Plan, path: Path, next: &Path) -> Result<Path, NoMemory>
-    requires known { IsWellFormed (script_plan plan.now) }
-    requires first { PathFits (script_plan plan.now) path }
-    requires second { PathFits (script_plan plan.now) next.now }
-    requires possible { IsPossiblePair (test_truth (script_plan plan.now).tests) path next.now }
-    ensures { IfOk result (IsFollowed (script_plan plan.now) path next.now) }
+fn path_after(alloc: Global, _plan: &Plan, path: Path, next: &Path) -> Result<Path, NoMemory>
+    requires known { IsWellFormed (script_plan _plan.now) }
+    requires first { PathFits (script_plan _plan.now) path }
+    requires second { PathFits (script_plan _plan.now) next.now }
+    requires possible { IsPossiblePair (test_truth (script_plan _plan.now).tests) path next.now }
+    ensures { IfOk result (IsFollowed (script_plan _plan.now) path next.now) }
 {
     let Path { when, end } = path;
     match end {
         PathEnd::Next(forms) => {
-            let needs = next.when.as_slice();
-            let lefts = all_left_of(alloc, when.as_slice(), forms.as_slice(), needs)?;
-            let end = end_after(alloc, plan, when.as_slice(), &lefts, forms, next)?;
-            Ok(Path {
-                when: Sequence::of(lefts),
-                end,
-            })
+            let mut when = when;
+            let after = narrow_all(alloc, &mut when, forms, next.when.as_slice())?;
+            let end = end_after(alloc, when.as_slice(), after, &next.end)?;
+            Ok(Path { when, end })
         }
         PathEnd::Ended(_) => unreachable!(),
     }

@@ -6,4 +6,4 @@ use Rattle.sym_path.specs.Following.{NeededBelow}
 use Rattle.sym_path.proofs.following.facts_left.Given as goal
 
 abbrev pub invariant-cells : goal.invariant-cells
-invariant-cells l = (atom : Atom) (outcome : Bool) → Stands l.left atom outcome ↔ (Stands l.facts atom outcome ⊎ NeededBelow l.forms l.needs l.cell l.index atom outcome)
+invariant-cells l = (atom : Atom) (outcome : Bool) → Stands l.facts atom outcome ↔ (Stands l.initial.facts atom outcome ⊎ NeededBelow l.forms l.needs l.cell l.index atom outcome)
