@@ -7,6 +7,7 @@ mod Examples
 pub mod Fitted
 pub mod Followed
 pub mod FollowedStates
+pub mod FollowingConstants
 pub mod FollowingFits
 pub mod FollowingForms
 pub mod FollowingNarrowed

@@ -13,6 +13,7 @@ use Rattle.sym_check.specs.ScriptPlans.{ScriptPlan}
 use Rattle.sym_enum.specs.Labels.{has_label, IsOnlyLabel}
 use Rattle.sym_enum.specs.declared.form.EnumForm.TheVariants as label
 use Rattle.sym_int.specs.Elements.{CanGoThrough, GoesThroughTo}
+use Rattle.sym_int.specs.Lines.{form_cell}
 use Rattle.sym_int.specs.Points.{HasPoint}
 use Rattle.sym_int.specs.declared.element.IntForms.{IntForms}
 use Rattle.sym_int.specs.declared.form.IntForm.{IntForm}
@@ -154,6 +155,14 @@ IsSpanOf part.Free s = Unit {0}
 pub record IsContext (forms : List Form) (lefts : List Part) (context : IntForms) : Type 0 where
   pub numbers : AllZip IsNumberOf forms context.forms
   pub ranges : AllZip IsSpanOf lefts context.spans
+
+-- The form, or each of its added numbers, names no integer cell.
+abbrev pub NamesNone : Form → Type 0
+NamesNone (form.Enum f) = Unit {0}
+NamesNone (form.Int f) = form_cell f ≡ None
+NamesNone (form.Hold f) = Unit {0}
+NamesNone (form.Nums added) = All (λ f. form_cell f ≡ None) added
+NamesNone (form.Words added) = Unit {0}
 
 -- The form of a list cell.
 abbrev pub IsList : Form → Type 0

@@ -1,5 +1,5 @@
 //! One path after another: what is left of the first one's constraint, and the forms of both.
-ghost use Rattle.std.specs.Prelude.{◌≡◌, ◌≤◌, ◌<◌, ◌^◌, ◌↔◌, ◌⊎◌, Bool, IfOk, IfSome, IsSome, Some, All, length, slice_get};
+ghost use Rattle.std.specs.Prelude.{◌≡◌, ◌≤◌, ◌<◌, ◌^◌, ◌↔◌, ◌⊎◌, Bool, IfOk, IfSome, IsSome, IsTrue, None, Some, All, length, slice_get};
 ghost use Rattle.std.specs.List.{AllZip};
 ghost use Rattle.sym_check.specs.CheckedScripts.{checked_plan};
 ghost use Rattle.sym_check.specs.Conditions.{test_truth};
@@ -9,11 +9,12 @@ ghost use Rattle.sym_int.specs.declared.element.IntForms.{IntForms as OneContext
 ghost use Rattle.sym_pred.specs.Facts.{Atom};
 ghost use Rattle.sym_pred.specs.Meaning.{Stands};
 ghost use Rattle.sym_path.specs.Fitting.{PathFits};
-ghost use Rattle.sym_path.specs.Following.{PartLeft, CopyNeeds, NeedsHere, AreLeft, LeftIsPut, CanPutLeft, CanPutAllLeft, IsShape, CanNarrow, NarrowedAt, IsNumberOf, IsSpanOf, IsContext, CanComeAfter, FormAfter, NumsAfter, WordsAfter, IsNums, IsWords, IsValue, KeepsOthers, AllCanComeAfter, AreAfter, CanEndAfter, EndsAfter, IsFollowed};
+ghost use Rattle.sym_path.specs.Following.{PartLeft, CopyNeeds, NeedsHere, AreLeft, LeftIsPut, CanPutLeft, CanPutAllLeft, IsShape, CanNarrow, NarrowedAt, IsNumberOf, IsSpanOf, IsContext, NamesNone, CanComeAfter, FormAfter, NumsAfter, WordsAfter, IsNums, IsWords, IsValue, KeepsOthers, AllCanComeAfter, AreAfter, CanEndAfter, EndsAfter, IsFollowed};
 ghost use Rattle.sym_path.specs.Possible.{IsLeft, IsSaid, AllLeft, IsPossiblePair};
 ghost use Rattle.sym_path.specs.Pulling.{Agrees, HoldAgrees};
 ghost use Rattle.sym_path.specs.Taking.{AreTakenTo, IsTakenOn};
 ghost use Rattle.sym_int.specs.Elements.{CanGoThrough, GoesThroughTo};
+ghost use Rattle.sym_int.specs.Lines.{form_cell};
 ghost use Rattle.sym_path.specs.declared.part.Part.TheVariants as part;
 
 use crate::form::{Form, Forms};
@@ -244,10 +245,58 @@ fn spans_of(alloc: Global, parts: &[Part]) -> Result<Spans, NoMemory>
     Ok(Sequence::of(spans))
 }
 
-/// The forms of the integer cells, and the spans in which these lie.
-fn context_of(alloc: Global, forms: &[Form], lefts: &[Part]) -> Result<IntForms, NoMemory>
-    ensures { IfOk result (IsContext forms.now lefts.now) }
+/// Whether the added numbers name no integer cell.
+fn are_constants(added: &ListForm<IntForm>) -> bool
+    ensures { IsTrue result → All (λ f. form_cell f ≡ None) added.now }
 {
+    'added: for index in 0..added.len() {
+        if let Some(IntForm::Line(_)) = added.at(index) {
+            return false;
+        }
+    }
+    true
+}
+
+/// Whether the form names no integer cell.
+fn names_none(form: &Form) -> bool
+    ensures { IsTrue result → NamesNone form.now }
+{
+    match form {
+        Form::Int(IntForm::Line(_)) => false,
+        Form::Nums(added) => are_constants(added),
+        _ => true,
+    }
+}
+
+/// Whether no form names an integer cell.
+fn all_name_none(forms: &[Form]) -> bool
+    ensures { IsTrue result → All NamesNone forms.now }
+{
+    'cells: for index in 0..forms.len() {
+        if !names_none(&forms[index]) {
+            return false;
+        }
+    }
+    true
+}
+
+/// The forms of the integer cells, and the spans in which these lie; where no form that comes after
+/// them names an integer cell, nothing, which takes no memory.
+fn context_of(
+    alloc: Global,
+    forms: &[Form],
+    lefts: &[Part],
+    others: &[Form],
+) -> Result<IntForms, NoMemory>
+    ensures { IfOk result (λ context.
+        All NamesNone others.now ⊎ IsContext forms.now lefts.now context) }
+{
+    if all_name_none(others) {
+        return Ok(IntForms {
+            forms: Sequence::new(alloc),
+            spans: Sequence::new(alloc),
+        });
+    }
     let numbers = numbers_of(alloc, forms)?;
     let spans = spans_of(alloc, lefts)?;
     Ok(IntForms {
@@ -376,7 +425,7 @@ fn end_after(
     match end {
         PathEnd::Ended(fault) => Ok(PathEnd::Ended(*fault)),
         PathEnd::Next(others) => {
-            let context = context_of(alloc, forms.as_slice(), lefts)?;
+            let context = context_of(alloc, forms.as_slice(), lefts, others.as_slice())?;
             let after = forms_after(alloc, forms, others.as_slice(), &context)?;
             Ok(PathEnd::Next(after))
         }
