@@ -1,4 +1,4 @@
--- Forms that name no integer cell go through any context as they are.
+-- Numbers that are added to lists and name no integer cell go through any context as they are.
 use Rattle.std.proofs.Common.{◌≡◌, ℕ, pos, List, [], ◌∷◌, ◌⊎◌, inl, inr, Option, Some, None, length, drop, refl, arith, lit≤}
 use Rattle.std.proofs.lemmas.Int.{ints}
 use Rattle.std.specs.Prelude.{slice_get}
@@ -15,7 +15,7 @@ use Rattle.sym_path.specs.declared.part.Part.{Part}
 use Rattle.sym_path.specs.declared.part.Part.TheVariants as part
 use Rattle.sym_path.specs.declared.form.Form.{Form}
 use Rattle.sym_path.specs.declared.form.Form.TheVariants as form
-use Rattle.sym_path.specs.Following.{IsNumberOf, IsSpanOf, IsContext, NamesNone, CanComeAfter, NumsAfter, FormAfter, AllCanComeAfter, AreAfter, AreNext}
+use Rattle.sym_path.specs.Following.{IsNumberOf, IsSpanOf, IsContext, AddsConstants, CanComeAfter, NumsAfter, FormAfter, AllCanComeAfter, AreAfter, AreNext}
 use Rattle.sym_path.specs.declared.path.PathEnd.{PathEnd}
 use Rattle.sym_path.specs.declared.path.PathEnd.TheVariants.{Next}
 use Rattle.sym_path.proofs.Lists.{zip_at, zip_from, zip_length, all_at, all_from}
@@ -57,7 +57,7 @@ some_context forms lefts =
 
 -- ---- in place of one context another
 
-module _ (forms : List Form) (old new : IntForms) where
+module _ (forms : List Form) (lefts : List Part) (old new : IntForms) where
   can_go : (f : IntForm) → form_cell f ≡ None → CanGoThrough f new
   can_go (number.Const n) e = tt
   can_go (number.Line line) e = absurd (cc)
@@ -66,21 +66,14 @@ module _ (forms : List Form) (old new : IntForms) where
   goes (number.Const n) g e h = h
   goes (number.Line line) g e h = absurd (cc)
 
-  can_come : (c : ℕ) (g : Form) → NamesNone g → CanComeAfter forms old c g → CanComeAfter forms new c g
+  can_come : (c : ℕ) (g : Form) → AddsConstants g → CanComeAfter forms lefts old c g → CanComeAfter forms lefts new c g
   can_come c (form.Enum (label.Const l)) none h = h
   can_come c (form.Enum (label.Copy d)) none h = h
-  can_come c (form.Int f) none h = can_go f none
+  can_come c (form.Int f) none h = h
   can_come c (form.Hold (hold.Const ps)) none h = h
   can_come c (form.Hold (hold.Copy d)) none h = h
   can_come c (form.Nums added) none h = (h.0, all_from (λ f. CanGoThrough f new) added (λ i f e. can_go f (all_at (λ g. form_cell g ≡ None) added i f none e)))
   can_come c (form.Words added) none h = h
-
-  int_after : (f : IntForm) (r : Form) → form_cell f ≡ None → FormAfter forms old 0 (form.Int f) r → FormAfter forms new 0 (form.Int f) r
-  int_after f (form.Enum g) e h = absurd h
-  int_after f (form.Int g) e h = goes f g e h
-  int_after f (form.Hold g) e h = absurd h
-  int_after f (form.Nums g) e h = absurd h
-  int_after f (form.Words g) e h = absurd h
 
   nums_after : (added : List IntForm) (o : Option Form) (r : Form) → All (λ f. form_cell f ≡ None) added → NumsAfter old added o r → NumsAfter new added o r
   nums_after added (Some (form.Nums first)) (form.Nums after) none h = (
@@ -97,34 +90,34 @@ module _ (forms : List Form) (old new : IntForms) where
   nums_after added (Some (form.Words first)) r none h = absurd h
   nums_after added None r none h = absurd h
 
-  form_after : (c : ℕ) (g r : Form) → NamesNone g → FormAfter forms old c g r → FormAfter forms new c g r
+  form_after : (c : ℕ) (g r : Form) → AddsConstants g → FormAfter forms lefts old c g r → FormAfter forms lefts new c g r
   form_after c (form.Enum (label.Const l)) r none h = h
   form_after c (form.Enum (label.Copy d)) r none h = h
-  form_after c (form.Int f) r none h = int_after f r none h
+  form_after c (form.Int f) r none h = h
   form_after c (form.Hold (hold.Const ps)) r none h = h
   form_after c (form.Hold (hold.Copy d)) r none h = h
   form_after c (form.Nums added) r none h = nums_after added (slice_get forms c) r none h
   form_after c (form.Words added) r none h = h
 
-  pub all_can_come_by : (gs : List Form) → All NamesNone gs → AllCanComeAfter forms old gs → AllCanComeAfter forms new gs
-  all_can_come_by gs none h c g e = can_come c g (all_at NamesNone gs c g none e) (h c g e)
+  pub all_can_come_by : (gs : List Form) → All AddsConstants gs → AllCanComeAfter forms lefts old gs → AllCanComeAfter forms lefts new gs
+  all_can_come_by gs none h c g e = can_come c g (all_at AddsConstants gs c g none e) (h c g e)
 
-  pub are_after_by : (gs rs : List Form) → All NamesNone gs → AreAfter forms old gs rs → AreAfter forms new gs rs
-  are_after_by gs rs none h = record { lengths = h.lengths; each = λ c g r e k. form_after c g r (all_at NamesNone gs c g none e) (h.each c g r e k) }
+  pub are_after_by : (gs rs : List Form) → All AddsConstants gs → AreAfter forms lefts old gs rs → AreAfter forms lefts new gs rs
+  are_after_by gs rs none h = record { lengths = h.lengths; each = λ c g r e k. form_after c g r (all_at AddsConstants gs c g none e) (h.each c g r e k) }
 
 -- ---- without a context
 
-module _ (forms : List Form) (lefts : List Part) (context : IntForms) (gs : List Form) (known : All NamesNone gs ⊎ IsContext forms lefts context) where
+module _ (forms : List Form) (lefts : List Part) (context : IntForms) (gs : List Form) (known : All AddsConstants gs ⊎ IsContext forms lefts context) where
   -- The forms can come after those of a context that suits them,
-  pub all_come : ((c : IntForms) → IsContext forms lefts c → AllCanComeAfter forms c gs) → AllCanComeAfter forms context gs
+  pub all_come : ((c : IntForms) → IsContext forms lefts c → AllCanComeAfter forms lefts c gs) → AllCanComeAfter forms lefts context gs
   all_come h = elim known [
-    | inl none ↦ let (c, is) = some_context forms lefts in all_can_come_by forms c context gs none (h c is)
+    | inl none ↦ let (c, is) = some_context forms lefts in all_can_come_by forms lefts c context gs none (h c is)
     | inr is ↦ h context is
   ]
 
   -- and become what they do by one.
-  pub next_is : (end : PathEnd) (rs : List Form) → end ≡ Next rs → AreAfter forms context gs rs → AreNext forms lefts gs end
+  pub next_is : (end : PathEnd) (rs : List Form) → end ≡ Next rs → AreAfter forms lefts context gs rs → AreNext forms lefts gs end
   next_is end rs e h = elim known [
-    | inl none ↦ let (c, is) = some_context forms lefts in record { after = rs; is = e; context = c; known = is; become = are_after_by forms context c gs rs none h }
+    | inl none ↦ let (c, is) = some_context forms lefts in record { after = rs; is = e; context = c; known = is; become = are_after_by forms lefts context c gs rs none h }
     | inr is ↦ record { after = rs; is = e; context = context; known = is; become = h }
   ]

@@ -6,11 +6,15 @@ use Rattle.std.specs.List.{All, AllZip}
 use Rattle.sym_int.specs.Elements.{CanGoThrough, GoesThroughTo}
 use Rattle.sym_int.specs.declared.element.IntForms.{IntForms}
 use Rattle.sym_int.specs.declared.form.IntForm.{IntForm}
+use Rattle.sym_int.specs.declared.form.IntForm.TheVariants as number
+use Rattle.sym_int.specs.declared.form.Line.{Line}
 use Rattle.sym_enum.specs.declared.form.EnumForm.TheVariants as label
 use Rattle.sym_pred.specs.declared.form.HoldForm.TheVariants as hold
 use Rattle.sym_path.specs.declared.form.Form.{Form}
 use Rattle.sym_path.specs.declared.form.Form.TheVariants as form
-use Rattle.sym_path.specs.Following.{IsList, IsValue, IsNums, IsWords, CanComeAfter, NumsAfter, WordsAfter, FormAfter, KeepsOthers}
+use Rattle.sym_path.specs.Following.{IsList, IsValue, IsNums, IsWords, CanLeadOver, CanLead, LedOver, LedTo, CanComeAfter, NumsAfter, WordsAfter, FormAfter, KeepsOthers}
+use Rattle.sym_path.specs.declared.part.Part.{Part}
+use Rattle.sym_path.proofs.FollowingTaken.{int_map}
 use Rattle.sym_path.proofs.Lists.{push_cases, set_other}
 
 -- What holds of the items of two lists, with one more item at the end of the second.
@@ -88,23 +92,42 @@ module _ (start now : List Form) (c : ℕ) (kept : (d : ℕ) (f : Form) → slic
   value_same : (d : ℕ) → IsValue (slice_get start d) → slice_get now d ≡ slice_get start d
   value_same d h = let (f, e, g) = value_there d h in g ∙ sym e
 
-  pub can_come_now : (context : IntForms) (f : Form) → CanComeAfter start context c f → CanComeAfter now context c f
-  can_come_now context (form.Enum (label.Const l)) h = tt
-  can_come_now context (form.Enum (label.Copy d)) h = rw (value_same d h) h
-  can_come_now context (form.Int f) h = h
-  can_come_now context (form.Hold (hold.Const ps)) h = tt
-  can_come_now context (form.Hold (hold.Copy d)) h = rw (value_same d h) h
-  can_come_now context (form.Nums added) h = (rw (nums_same h.0) h.0, h.1)
-  can_come_now context (form.Words added) h = rw (words_same h) h
+  lead_value : (lefts : List Part) (outer : IntForm) (o : Option Form) → CanLeadOver lefts outer o → IsValue o
+  lead_value lefts outer (Some (form.Enum f)) h = absurd h
+  lead_value lefts outer (Some (form.Int f)) h = λ t. t
+  lead_value lefts outer (Some (form.Hold f)) h = absurd h
+  lead_value lefts outer (Some (form.Nums f)) h = absurd h
+  lead_value lefts outer (Some (form.Words f)) h = absurd h
+  lead_value lefts outer None h = absurd h
 
-  pub after_start : (context : IntForms) (f g : Form) → CanComeAfter start context c f → FormAfter now context c f g → FormAfter start context c f g
-  after_start context (form.Enum (label.Const l)) g h t = t
-  after_start context (form.Enum (label.Copy d)) g h t = sym (value_same d h) ∙ t
-  after_start context (form.Int f) g h t = t
-  after_start context (form.Hold (hold.Const ps)) g h t = t
-  after_start context (form.Hold (hold.Copy d)) g h t = sym (value_same d h) ∙ t
-  after_start context (form.Nums added) g h t = rw (nums_same h.0) at t
-  after_start context (form.Words added) g h t = rw (words_same h) at t
+  led_same : (lefts : List Part) (line : Line) → CanLead start lefts (number.Line line) → slice_get now line.cell ≡ slice_get start line.cell
+  led_same lefts line h = value_same line.cell (lead_value lefts (number.Line line) (slice_get start line.cell) h)
+
+  can_lead_now : (lefts : List Part) (f : IntForm) → CanLead start lefts f → CanLead now lefts f
+  can_lead_now lefts (number.Const n) h = tt
+  can_lead_now lefts (number.Line line) h = subst (λ (o : Option Form). CanLeadOver lefts (number.Line line) o) (sym (led_same lefts line h)) h
+
+  led_start : (lefts : List Part) (f g : IntForm) → CanLead start lefts f → LedTo now lefts f g → LedTo start lefts f g
+  led_start lefts (number.Const n) g h t = t
+  led_start lefts (number.Line line) g h t = subst (λ (o : Option Form). LedOver lefts (number.Line line) o g) (led_same lefts line h) t
+
+  pub can_come_now : (lefts : List Part) (context : IntForms) (f : Form) → CanComeAfter start lefts context c f → CanComeAfter now lefts context c f
+  can_come_now lefts context (form.Enum (label.Const l)) h = tt
+  can_come_now lefts context (form.Enum (label.Copy d)) h = rw (value_same d h) h
+  can_come_now lefts context (form.Int f) h = can_lead_now lefts f h
+  can_come_now lefts context (form.Hold (hold.Const ps)) h = tt
+  can_come_now lefts context (form.Hold (hold.Copy d)) h = rw (value_same d h) h
+  can_come_now lefts context (form.Nums added) h = (rw (nums_same h.0) h.0, h.1)
+  can_come_now lefts context (form.Words added) h = rw (words_same h) h
+
+  pub after_start : (lefts : List Part) (context : IntForms) (f g : Form) → CanComeAfter start lefts context c f → FormAfter now lefts context c f g → FormAfter start lefts context c f g
+  after_start lefts context (form.Enum (label.Const l)) g h t = t
+  after_start lefts context (form.Enum (label.Copy d)) g h t = sym (value_same d h) ∙ t
+  after_start lefts context (form.Int f) g h t = int_map (LedTo now lefts f) (LedTo start lefts f) (λ k u. led_start lefts f k h u) g t
+  after_start lefts context (form.Hold (hold.Const ps)) g h t = t
+  after_start lefts context (form.Hold (hold.Copy d)) g h t = sym (value_same d h) ∙ t
+  after_start lefts context (form.Nums added) g h t = rw (nums_same h.0) at t
+  after_start lefts context (form.Words added) g h t = rw (words_same h) at t
 
   pub kept_next : (new : List Form) → KeepsOthers c now new → (d : ℕ) (f : Form) → slice_get start d ≡ Some f → (c + 1 ≤ d) ⊎ (IsList f → ⊥) → slice_get new d ≡ Some f
   kept_next new keeps d f e (inl later) = keeps d f (kept d f e (inl (omega arith))) (inl (λ q. omega arith))

@@ -74,10 +74,10 @@ module _ (p : ScriptPlan) (when : List Part) (forms : List Form) (needs lefts : 
         by (form.Words f) is t = absurd (cc)
 
     module _ (context : IntForms) (ctx : IsContext mids lefts context) (gs : List Form) (fits : FormsFit p needs gs) where
-      come_after : AllCanComeAfter mids context gs
+      come_after : AllCanComeAfter mids lefts context gs
       come_after = all_can_come (test_truth p.tests) p lefts mids needs context (left_parts p when forms needs lefts parts own.each others left) mids_fit others ctx meets well gs fits
 
-      next_after : (rs : List Form) → AreAfter mids context gs rs → IsEndAfter p lefts forms (Next gs) (Next rs)
+      next_after : (rs : List Form) → AreAfter mids lefts context gs rs → IsEndAfter p lefts forms (Next gs) (Next rs)
       next_after rs h = record {
         fits = forms_go (test_truth p.tests) p lefts mids needs context (left_parts p when forms needs lefts parts own.each others left) mids_fit others ctx meets gs rs fits h;
         fault = λ fault. (λ e. absurd (cc), λ e. absurd (cc));

@@ -1,6 +1,6 @@
 -- What is left of a path's constraint where another path has to come after it, and what the two are
 -- together.
-use Rattle.std.specs.Prelude.{◌≡◌, ◌≢◌, ℕ, ℤ, ◌<◌, ◌<ℤ◌, ◌↔◌, ◌⊎◌, Bool, IsTrue, List, Option, Some, None, length, map, take, drop, slice_get, slice_set}
+use Rattle.std.specs.Prelude.{◌≡◌, ◌≢◌, ℕ, ℤ, pos, ◌<◌, ◌<ℤ◌, ◌↔◌, ◌⊎◌, Bool, IsTrue, List, Option, Some, None, length, map, take, drop, slice_get, slice_set}
 use Rattle.std.specs.List.{All, AllZip}
 use Rattle.sym_base.specs.declared.values.state.Fault.{Fault}
 use Rattle.sym_base.specs.declared.values.state.State.{State}
@@ -12,11 +12,14 @@ use Rattle.sym_check.specs.Conditions.{test_truth}
 use Rattle.sym_check.specs.ScriptPlans.{ScriptPlan}
 use Rattle.sym_enum.specs.Labels.{has_label, IsOnlyLabel}
 use Rattle.sym_enum.specs.declared.form.EnumForm.TheVariants as label
-use Rattle.sym_int.specs.Elements.{CanGoThrough, GoesThroughTo}
-use Rattle.sym_int.specs.Lines.{form_cell}
+use Rattle.sym_base.specs.Limits.{IsNumber}
+use Rattle.sym_int.specs.Elements.{CanGoThrough, GoesThroughTo, IsConstant}
+use Rattle.sym_int.specs.Lines.{form_on, form_cell}
 use Rattle.sym_int.specs.Points.{HasPoint}
+use Rattle.sym_int.specs.Taken.{IsTaken}
 use Rattle.sym_int.specs.declared.element.IntForms.{IntForms}
 use Rattle.sym_int.specs.declared.form.IntForm.{IntForm}
+use Rattle.sym_int.specs.declared.form.IntForm.TheVariants as number
 use Rattle.sym_int.specs.declared.span.Span.{Span}
 use Rattle.sym_pred.specs.Facts.{Atom, FactMap}
 use Rattle.sym_pred.specs.Meaning.{Stands}
@@ -156,13 +159,68 @@ pub record IsContext (forms : List Form) (lefts : List Part) (context : IntForms
   pub numbers : AllZip IsNumberOf forms context.forms
   pub ranges : AllZip IsSpanOf lefts context.spans
 
--- The form, or each of its added numbers, names no integer cell.
-abbrev pub NamesNone : Form → Type 0
-NamesNone (form.Enum f) = Unit {0}
-NamesNone (form.Int f) = form_cell f ≡ None
-NamesNone (form.Hold f) = Unit {0}
-NamesNone (form.Nums added) = All (λ f. form_cell f ≡ None) added
-NamesNone (form.Words added) = Unit {0}
+-- The numbers that a list form adds name no integer cell.
+abbrev pub AddsConstants : Form → Type 0
+AddsConstants (form.Enum f) = Unit {0}
+AddsConstants (form.Int f) = Unit {0}
+AddsConstants (form.Hold f) = Unit {0}
+AddsConstants (form.Nums added) = All (λ f. form_cell f ≡ None) added
+AddsConstants (form.Words added) = Unit {0}
+
+-- A number that depends on a cell is a number of a script wherever the cell is in its span.
+abbrev pub StaysOnPart : (ℤ → ℤ) → Option Part → Type 0
+StaysOnPart number (Some (part.Set set)) = ⊥
+StaysOnPart number (Some (part.Span span)) = (x : ℤ) → HasPoint span x → IsNumber (number x)
+StaysOnPart number (Some (part.Facts known)) = ⊥
+StaysOnPart number (Some part.Free) = ⊥
+StaysOnPart number None = ⊥
+
+abbrev pub StaysOnParts : (ℤ → ℤ) → Option ℕ → List Part → Type 0
+StaysOnParts number None lefts = IsNumber (number (pos 0))
+StaysOnParts number (Some cell) lefts = StaysOnPart number (slice_get lefts cell)
+
+-- A line can go through the form of its cell: what it then is, is a number of a script.
+abbrev pub CanLeadOver : List Part → IntForm → Option Form → Type 0
+CanLeadOver lefts outer (Some (form.Enum f)) = ⊥
+CanLeadOver lefts outer (Some (form.Int inner)) =
+    StaysOnParts (λ x. form_on outer (form_on inner x)) (form_cell inner) lefts
+CanLeadOver lefts outer (Some (form.Hold f)) = ⊥
+CanLeadOver lefts outer (Some (form.Nums added)) = ⊥
+CanLeadOver lefts outer (Some (form.Words added)) = ⊥
+CanLeadOver lefts outer None = ⊥
+
+abbrev pub CanLead : List Form → List Part → IntForm → Type 0
+CanLead forms lefts (number.Const n) = Unit {0}
+CanLead forms lefts (number.Line line) =
+    CanLeadOver lefts (number.Line line) (slice_get forms line.cell)
+
+-- A form that is a number, which depends on a cell, on what is left of that cell.
+abbrev pub IsOnPart : (ℤ → ℤ) → ℕ → Option Part → IntForm → Type 0
+IsOnPart number cell (Some (part.Set set)) after = ⊥
+IsOnPart number cell (Some (part.Span span)) after = IsTaken number (Some cell) span after
+IsOnPart number cell (Some (part.Facts known)) after = ⊥
+IsOnPart number cell (Some part.Free) after = ⊥
+IsOnPart number cell None after = ⊥
+
+abbrev pub IsOnParts : (ℤ → ℤ) → Option ℕ → List Part → IntForm → Type 0
+IsOnParts number None lefts after = IsConstant (number (pos 0)) after
+IsOnParts number (Some cell) lefts after = IsOnPart number cell (slice_get lefts cell) after
+
+-- What a form becomes: a constant stays, and a line becomes the line over the form of its cell, on
+-- what is left of the cell that it then names.
+abbrev pub LedOver : List Part → IntForm → Option Form → IntForm → Type 0
+LedOver lefts outer (Some (form.Enum f)) after = ⊥
+LedOver lefts outer (Some (form.Int inner)) after =
+    IsOnParts (λ x. form_on outer (form_on inner x)) (form_cell inner) lefts after
+LedOver lefts outer (Some (form.Hold f)) after = ⊥
+LedOver lefts outer (Some (form.Nums added)) after = ⊥
+LedOver lefts outer (Some (form.Words added)) after = ⊥
+LedOver lefts outer None after = ⊥
+
+abbrev pub LedTo : List Form → List Part → IntForm → IntForm → Type 0
+LedTo forms lefts (number.Const n) after = after ≡ number.Const n
+LedTo forms lefts (number.Line line) after =
+    LedOver lefts (number.Line line) (slice_get forms line.cell) after
 
 -- The form of a list cell.
 abbrev pub IsList : Form → Type 0
@@ -195,15 +253,15 @@ IsWords (Some (form.Nums added)) = ⊥
 IsWords None = ⊥
 
 -- The condition under which a form of the cell c can come after others.
-abbrev pub CanComeAfter : List Form → IntForms → ℕ → Form → Type 0
-CanComeAfter forms context c (form.Enum (label.Const l)) = Unit {0}
-CanComeAfter forms context c (form.Enum (label.Copy d)) = IsValue (slice_get forms d)
-CanComeAfter forms context c (form.Int f) = CanGoThrough f context
-CanComeAfter forms context c (form.Hold (hold.Const parts)) = Unit {0}
-CanComeAfter forms context c (form.Hold (hold.Copy d)) = IsValue (slice_get forms d)
-CanComeAfter forms context c (form.Nums added) =
+abbrev pub CanComeAfter : List Form → List Part → IntForms → ℕ → Form → Type 0
+CanComeAfter forms lefts context c (form.Enum (label.Const l)) = Unit {0}
+CanComeAfter forms lefts context c (form.Enum (label.Copy d)) = IsValue (slice_get forms d)
+CanComeAfter forms lefts context c (form.Int f) = CanLead forms lefts f
+CanComeAfter forms lefts context c (form.Hold (hold.Const parts)) = Unit {0}
+CanComeAfter forms lefts context c (form.Hold (hold.Copy d)) = IsValue (slice_get forms d)
+CanComeAfter forms lefts context c (form.Nums added) =
     IsNums (slice_get forms c) × All (λ f. CanGoThrough f context) added
-CanComeAfter forms context c (form.Words added) = IsWords (slice_get forms c)
+CanComeAfter forms lefts context c (form.Words added) = IsWords (slice_get forms c)
 
 -- Numbers after those of a list form.
 abbrev pub NumsAfter : IntForms → List IntForm → Option Form → Form → Type 0
@@ -222,14 +280,14 @@ WordsAfter added own new = ⊥
 -- What a form of the cell c becomes after others: a constant stays, a copy becomes the form of the
 -- copied cell, a line goes through the form of the cell that it names, and elements are added after
 -- those of the cell's form.
-abbrev pub FormAfter : List Form → IntForms → ℕ → Form → Form → Type 0
-FormAfter forms context c (form.Enum (label.Const l)) g = g ≡ form.Enum (label.Const l)
-FormAfter forms context c (form.Enum (label.Copy d)) g = slice_get forms d ≡ Some g
-FormAfter forms context c (form.Int f) g = IsIntForm (λ k. GoesThroughTo f context k) g
-FormAfter forms context c (form.Hold (hold.Const parts)) g = g ≡ form.Hold (hold.Const parts)
-FormAfter forms context c (form.Hold (hold.Copy d)) g = slice_get forms d ≡ Some g
-FormAfter forms context c (form.Nums added) g = NumsAfter context added (slice_get forms c) g
-FormAfter forms context c (form.Words added) g = WordsAfter added (slice_get forms c) g
+abbrev pub FormAfter : List Form → List Part → IntForms → ℕ → Form → Form → Type 0
+FormAfter forms lefts context c (form.Enum (label.Const l)) g = g ≡ form.Enum (label.Const l)
+FormAfter forms lefts context c (form.Enum (label.Copy d)) g = slice_get forms d ≡ Some g
+FormAfter forms lefts context c (form.Int f) g = IsIntForm (LedTo forms lefts f) g
+FormAfter forms lefts context c (form.Hold (hold.Const parts)) g = g ≡ form.Hold (hold.Const parts)
+FormAfter forms lefts context c (form.Hold (hold.Copy d)) g = slice_get forms d ≡ Some g
+FormAfter forms lefts context c (form.Nums added) g = NumsAfter context added (slice_get forms c) g
+FormAfter forms lefts context c (form.Words added) g = WordsAfter added (slice_get forms c) g
 
 -- The forms stay but for that of the cell c, if this is a list cell.
 abbrev pub KeepsOthers : ℕ → List Form → List Form → Type 0
@@ -238,30 +296,32 @@ KeepsOthers c old new =
     slice_get new d ≡ Some f
 
 -- All forms after others.
-abbrev pub AllCanComeAfter : List Form → IntForms → List Form → Type 0
-AllCanComeAfter forms context gs =
-    (c : ℕ) (g : Form) → slice_get gs c ≡ Some g → CanComeAfter forms context c g
+abbrev pub AllCanComeAfter : List Form → List Part → IntForms → List Form → Type 0
+AllCanComeAfter forms lefts context gs =
+    (c : ℕ) (g : Form) → slice_get gs c ≡ Some g → CanComeAfter forms lefts context c g
 
-pub record AreAfter (forms : List Form) (context : IntForms) (gs rs : List Form) : Type 0 where
+pub record AreAfter (forms : List Form) (lefts : List Part) (context : IntForms)
+    (gs rs : List Form) : Type 0 where
   pub lengths : length rs ≡ length gs
   pub each : (c : ℕ) (g r : Form) → slice_get gs c ≡ Some g → slice_get rs c ≡ Some r →
-      FormAfter forms context c g r
+      FormAfter forms lefts context c g r
 
 -- The second path's end can come after forms on what is left: a fault can, and where it goes on,
 -- its forms can.
 abbrev pub CanEndAfter : List Form → List Part → PathEnd → Type 0
 CanEndAfter forms lefts (Next gs) =
-    (context : IntForms) → IsContext forms lefts context → AllCanComeAfter forms context gs
+    (context : IntForms) → IsContext forms lefts context → AllCanComeAfter forms lefts context gs
 CanEndAfter forms lefts (Ended fault) = Unit {0}
 
--- What its forms become, by the forms of the first path and the spans in which these lie.
+-- What its forms become after those of the first path, and their added numbers by a context of
+-- these.
 pub record AreNext (forms : List Form) (lefts : List Part) (gs : List Form) (end : PathEnd)
     : Type 0 where
   pub after : List Form
   pub is : end ≡ Next after
   pub context : IntForms
   pub known : IsContext forms lefts context
-  pub become : AreAfter forms context gs after
+  pub become : AreAfter forms lefts context gs after
 
 abbrev pub EndsAfter : List Form → List Part → PathEnd → PathEnd → Type 0
 EndsAfter forms lefts (Next gs) end = AreNext forms lefts gs end

@@ -9,12 +9,12 @@ ghost use Rattle.sym_int.specs.declared.element.IntForms.{IntForms as OneContext
 ghost use Rattle.sym_pred.specs.Facts.{Atom};
 ghost use Rattle.sym_pred.specs.Meaning.{Stands};
 ghost use Rattle.sym_path.specs.Fitting.{PathFits};
-ghost use Rattle.sym_path.specs.Following.{PartLeft, CopyNeeds, NeedsHere, AreLeft, LeftIsPut, CanPutLeft, CanPutAllLeft, IsShape, CanNarrow, NarrowedAt, IsNumberOf, IsSpanOf, IsContext, NamesNone, CanComeAfter, FormAfter, NumsAfter, WordsAfter, IsNums, IsWords, IsValue, KeepsOthers, AllCanComeAfter, AreAfter, CanEndAfter, EndsAfter, IsFollowed};
+ghost use Rattle.sym_path.specs.Following.{PartLeft, CopyNeeds, NeedsHere, AreLeft, LeftIsPut, CanPutLeft, CanPutAllLeft, IsShape, CanNarrow, NarrowedAt, IsNumberOf, IsSpanOf, IsContext, AddsConstants, StaysOnParts, CanLead, IsOnParts, LedTo, CanComeAfter, FormAfter, NumsAfter, WordsAfter, IsNums, IsWords, IsValue, KeepsOthers, AllCanComeAfter, AreAfter, CanEndAfter, EndsAfter, IsFollowed};
 ghost use Rattle.sym_path.specs.Possible.{IsLeft, IsSaid, AllLeft, IsPossiblePair};
 ghost use Rattle.sym_path.specs.Pulling.{Agrees, HoldAgrees};
 ghost use Rattle.sym_path.specs.Taking.{AreTakenTo, IsTakenOn};
-ghost use Rattle.sym_int.specs.Elements.{CanGoThrough, GoesThroughTo};
-ghost use Rattle.sym_int.specs.Lines.{form_cell};
+ghost use Rattle.sym_int.specs.Elements.{CanGoThrough};
+ghost use Rattle.sym_int.specs.Lines.{form_cell, wide_cell, wide_on};
 ghost use Rattle.sym_path.specs.declared.part.Part.TheVariants as part;
 
 use crate::form::{Form, Forms};
@@ -25,10 +25,10 @@ use crate::path::{Path, PathEnd};
 use crate::possible_pairs::possible_by;
 use crate::pulling::{labels_left, numbers_left};
 use std::alloc::Global;
-use sym_base::{Element, NoMemory, Sequence, Text};
+use sym_base::{NoMemory, Sequence, Text};
 use sym_check::{Checked, Plan};
 use sym_enum::EnumForm;
-use sym_int::{FormList, IntForm, IntForms, Number, Span, Spans};
+use sym_int::{FormList, IntForm, IntForms, Number, Span, Spans, Wide};
 use sym_pred::{Facts, HoldForm};
 use sym_vector::ListForm;
 
@@ -257,31 +257,30 @@ fn are_constants(added: &ListForm<IntForm>) -> bool
     true
 }
 
-/// Whether the form names no integer cell.
-fn names_none(form: &Form) -> bool
-    ensures { IsTrue result → NamesNone form.now }
+/// Whether the numbers that a list form adds name no integer cell.
+fn adds_constants(form: &Form) -> bool
+    ensures { IsTrue result → AddsConstants form.now }
 {
     match form {
-        Form::Int(IntForm::Line(_)) => false,
         Form::Nums(added) => are_constants(added),
         _ => true,
     }
 }
 
-/// Whether no form names an integer cell.
-fn all_name_none(forms: &[Form]) -> bool
-    ensures { IsTrue result → All NamesNone forms.now }
+/// Whether this is so of all forms.
+fn all_add_constants(forms: &[Form]) -> bool
+    ensures { IsTrue result → All AddsConstants forms.now }
 {
     'cells: for index in 0..forms.len() {
-        if !names_none(&forms[index]) {
+        if !adds_constants(&forms[index]) {
             return false;
         }
     }
     true
 }
 
-/// The forms of the integer cells, and the spans in which these lie; where no form that comes after
-/// them names an integer cell, nothing, which takes no memory.
+/// The forms of the integer cells, and the spans in which these lie, for the numbers that are added
+/// to lists; where these name no integer cell, nothing, which takes no memory.
 fn context_of(
     alloc: Global,
     forms: &[Form],
@@ -289,9 +288,9 @@ fn context_of(
     others: &[Form],
 ) -> Result<IntForms, NoMemory>
     ensures { IfOk result (λ context.
-        All NamesNone others.now ⊎ IsContext forms.now lefts.now context) }
+        All AddsConstants others.now ⊎ IsContext forms.now lefts.now context) }
 {
-    if all_name_none(others) {
+    if all_add_constants(others) {
         return Ok(IntForms {
             forms: Sequence::new(alloc),
             spans: Sequence::new(alloc),
@@ -359,13 +358,37 @@ fn words_after(
     }
 }
 
-fn number_after(number: &IntForm, context: &IntForms) -> IntForm
-    requires { CanGoThrough number.now context.now }
-    ensures { GoesThroughTo number.now context.now result }
+/// The form on what is left of the cell that it names.
+fn taken_on(wide: &Wide, lefts: &[Part]) -> IntForm
+    requires { StaysOnParts (wide_on wide.now) (wide_cell wide.now) lefts.now }
+    ensures { IsOnParts (wide_on wide.now) (wide_cell wide.now) lefts.now result }
 {
-    let mut number = *number;
-    number.go_through(context);
-    number
+    match wide {
+        Wide::Const(number) => IntForm::Const(Number {
+            value: number.value as i64,
+        }),
+        Wide::Line(line) => match lefts.get(line.cell as usize) {
+            Some(Part::Span(span)) => wide.taken(span),
+            _ => unreachable!(),
+        },
+    }
+}
+
+/// What an integer form becomes after the form of the cell that it names.
+fn number_after(number: &IntForm, forms: &Forms, lefts: &[Part]) -> IntForm
+    requires { CanLead forms.now lefts.now number.now }
+    ensures { LedTo forms.now lefts.now number.now result }
+{
+    match number {
+        IntForm::Const(_) => *number,
+        IntForm::Line(line) => match forms.get(line.cell as usize) {
+            Some(Form::Int(inner)) => {
+                let wide = IntForm::through(number, inner);
+                taken_on(&wide, lefts)
+            }
+            _ => unreachable!(),
+        },
+    }
 }
 
 /// What a form of the cell at `index` becomes after the others, of which a list form of this cell
@@ -375,16 +398,17 @@ fn form_after(
     forms: &mut Forms,
     index: usize,
     form: &Form,
+    lefts: &[Part],
     context: &IntForms,
 ) -> Result<Form, NoMemory>
-    requires { CanComeAfter forms.old context.now index form.now }
-    ensures form { IfOk result (FormAfter forms.old context.now index form.now) }
+    requires { CanComeAfter forms.old lefts.now context.now index form.now }
+    ensures form { IfOk result (FormAfter forms.old lefts.now context.now index form.now) }
     ensures others { KeepsOthers index forms.old forms.new }
 {
     match form {
         Form::Enum(EnumForm::Const(label)) => Ok(Form::Enum(EnumForm::Const(*label))),
         Form::Enum(EnumForm::Copy(cell)) => form_at(alloc, forms, *cell),
-        Form::Int(number) => Ok(Form::Int(number_after(number, context))),
+        Form::Int(number) => Ok(Form::Int(number_after(number, forms, lefts))),
         Form::Hold(HoldForm::Const(parts)) => {
             Ok(Form::Hold(HoldForm::Const(parts.copy(alloc)?)))
         }
@@ -399,15 +423,17 @@ fn forms_after(
     alloc: Global,
     forms: Forms,
     others: &[Form],
+    lefts: &[Part],
     context: &IntForms,
 ) -> Result<Forms, NoMemory>
-    requires { AllCanComeAfter forms context.now others.now }
-    ensures { IfOk result (AreAfter forms context.now others.now) }
+    requires { AllCanComeAfter forms lefts.now context.now others.now }
+    ensures { IfOk result (AreAfter forms lefts.now context.now others.now) }
 {
     let mut forms = forms;
     let mut after = Vec::with_capacity(alloc, others.len())?;
     'cells: for index in 0..others.len() {
-        after.push(form_after(alloc, &mut forms, index, &others[index], context)?)?;
+        let form = form_after(alloc, &mut forms, index, &others[index], lefts, context)?;
+        after.push(form)?;
     }
     Ok(Sequence::of(after))
 }
@@ -426,7 +452,7 @@ fn end_after(
         PathEnd::Ended(fault) => Ok(PathEnd::Ended(*fault)),
         PathEnd::Next(others) => {
             let context = context_of(alloc, forms.as_slice(), lefts, others.as_slice())?;
-            let after = forms_after(alloc, forms, others.as_slice(), &context)?;
+            let after = forms_after(alloc, forms, others.as_slice(), lefts, &context)?;
             Ok(PathEnd::Next(after))
         }
     }

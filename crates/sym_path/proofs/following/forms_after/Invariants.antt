@@ -8,5 +8,5 @@ use Rattle.sym_path.proofs.following.forms_after.Given as goal
 abbrev pub invariant-cells : goal.invariant-cells
 invariant-cells l =
     (length l.after.items ≡ l.index)
-    × ((c : ℕ) (g r : Form) → slice_get l.others c ≡ Some g → slice_get l.after.items c ≡ Some r → FormAfter l.initial.forms l.context c g r)
+    × ((c : ℕ) (g r : Form) → slice_get l.others c ≡ Some g → slice_get l.after.items c ≡ Some r → FormAfter l.initial.forms l.lefts l.context c g r)
     × ((d : ℕ) (f : Form) → slice_get l.initial.forms d ≡ Some f → (l.index ≤ d) ⊎ (IsList f → ⊥) → slice_get l.forms d ≡ Some f)
