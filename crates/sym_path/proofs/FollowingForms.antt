@@ -38,7 +38,7 @@ use Rattle.sym_path.specs.declared.form.Form.TheVariants as form
 use Rattle.sym_path.specs.Admitting.{Admits, PartAdmits}
 use Rattle.sym_path.specs.Fitting.{PartFits, StaysWithin, NumberFits, FormFits, FormsFit}
 use Rattle.sym_path.specs.Fitting as fitting
-use Rattle.sym_path.specs.Following.{IsNumberOf, IsSpanOf, IsContext, StaysOnParts, CanLead, IsOnPart, IsOnParts, LedOver, LedTo, IsValue, IsNums, IsWords, CanComeAfter, NumsAfter, WordsAfter, FormAfter, AllCanComeAfter, AreAfter}
+use Rattle.sym_path.specs.Following.{IsNumberOf, IsSpanOf, IsContext, StaysOnParts, CanLead, IsOnPart, IsOnParts, LedOver, LedTo, IsCopied, IsNums, IsWords, CanComeAfter, NumsAfter, WordsAfter, FormAfter, AllCanComeAfter, AreAfter}
 use Rattle.sym_path.specs.Giving.{cell_at, cells_at, state_at}
 use Rattle.sym_path.specs.Taking.{HasOneNumber, NumberIsTakenTo, IsIntForm, IsTakenOn}
 use Rattle.sym_path.proofs.Fitted.{number_between, number_held}
@@ -366,23 +366,23 @@ module _ (truth : Truth) (p : ScriptPlan) (lefts : List Part) (mids : List Form)
 
   -- ---- the forms together
 
-  label_there : (of : ℕ) (d : ℕ) → IsEnumCell p.cells d of → IsValue (slice_get mids d)
+  label_there : (of : ℕ) (d : ℕ) → IsEnumCell p.cells d of → IsCopied (slice_get mids d)
   label_there of d h =
       let (m, is, own) = zip_get (FormFits p lefts) p.cells mids d (plan.Enum of h.first) mids_fit.each h.is in
       go m own is
     where
-      go : (m : Form) → FormFits p lefts (plan.Enum of h.first) m → slice_get mids d ≡ Some m → IsValue (slice_get mids d)
-      go _ (fitting.of_label _ _ l k) is = rw is (λ t. t)
-      go _ (fitting.copied_label _ _ e k) is = rw is (λ t. t)
+      go : (m : Form) → FormFits p lefts (plan.Enum of h.first) m → slice_get mids d ≡ Some m → IsCopied (slice_get mids d)
+      go _ (fitting.of_label _ _ l k) is = rw is tt
+      go _ (fitting.copied_label _ _ e k) is = rw is tt
 
-  parts_there : (kinds : List KindPlan) (d : ℕ) → IsHoldCell p.cells d kinds → IsValue (slice_get mids d)
+  parts_there : (kinds : List KindPlan) (d : ℕ) → IsHoldCell p.cells d kinds → IsCopied (slice_get mids d)
   parts_there kinds d h =
       let (m, is, own) = zip_get (FormFits p lefts) p.cells mids d (plan.Hold kinds h.first) mids_fit.each h.is in
       go m own is
     where
-      go : (m : Form) → FormFits p lefts (plan.Hold kinds h.first) m → slice_get mids d ≡ Some m → IsValue (slice_get mids d)
-      go _ (fitting.of_parts _ _ ps k) is = rw is (λ t. t)
-      go _ (fitting.copied_parts _ _ e k) is = rw is (λ t. t)
+      go : (m : Form) → FormFits p lefts (plan.Hold kinds h.first) m → slice_get mids d ≡ Some m → IsCopied (slice_get mids d)
+      go _ (fitting.of_parts _ _ ps k) is = rw is tt
+      go _ (fitting.copied_parts _ _ e k) is = rw is tt
 
   nums_there : (lo hi : ℤ) (c : ℕ) → slice_get p.cells c ≡ Some (plan.Nums lo hi) → IsNums (slice_get mids c)
   nums_there lo hi c at =

@@ -1,6 +1,6 @@
 -- What is left of a path's constraint where another path has to come after it, and what the two are
 -- together.
-use Rattle.std.specs.Prelude.{◌≡◌, ◌≢◌, ℕ, ℤ, pos, ◌<◌, ◌<ℤ◌, ◌↔◌, ◌⊎◌, Bool, IsTrue, List, Option, Some, None, length, map, take, drop, slice_get, slice_set}
+use Rattle.std.specs.Prelude.{◌≡◌, ◌≢◌, ℕ, ℤ, pos, ◌<◌, ◌≤◌, ◌+◌, ◌<ℤ◌, ◌↔◌, ◌⊎◌, Bool, IsTrue, List, Option, Some, None, length, map, take, drop, slice_get, slice_set}
 use Rattle.std.specs.List.{All, AllZip}
 use Rattle.sym_base.specs.declared.values.state.Fault.{Fault}
 use Rattle.sym_base.specs.declared.values.state.State.{State}
@@ -230,10 +230,41 @@ IsList (form.Hold f) = ⊥
 IsList (form.Nums added) = Unit {0}
 IsList (form.Words added) = Unit {0}
 
--- A form that is there, and of no list cell.
-abbrev pub IsValue : Option Form → Type 0
-IsValue None = ⊥
-IsValue (Some f) = IsList f → ⊥
+-- The form of an enum cell or of a hold cell, which other forms may copy.
+abbrev pub IsCopied : Option Form → Type 0
+IsCopied (Some (form.Enum f)) = Unit {0}
+IsCopied (Some (form.Int f)) = ⊥
+IsCopied (Some (form.Hold f)) = Unit {0}
+IsCopied (Some (form.Nums added)) = ⊥
+IsCopied (Some (form.Words added)) = ⊥
+IsCopied None = ⊥
+
+-- The form copies the cell c.
+abbrev pub Copies : ℕ → Form → Type 0
+Copies c (form.Enum (label.Const l)) = ⊥
+Copies c (form.Enum (label.Copy d)) = d ≡ c
+Copies c (form.Int f) = ⊥
+Copies c (form.Hold (hold.Const parts)) = ⊥
+Copies c (form.Hold (hold.Copy d)) = d ≡ c
+Copies c (form.Nums added) = ⊥
+Copies c (form.Words added) = ⊥
+
+-- A form from the n-th on copies the cell c.
+pub record CopiedFrom (gs : List Form) (n c : ℕ) : Type 0 where
+  pub at : ℕ
+  pub form : Form
+  pub from : n ≤ at
+  pub has : slice_get gs at ≡ Some form
+  pub copies : Copies c form
+
+-- The form f of the cell c is needed for the forms from the n-th on: lines may name any integer
+-- cell, and elements are added to the form of the list cell itself.
+abbrev pub NeededFrom : List Form → ℕ → ℕ → Form → Type 0
+NeededFrom gs n c (form.Enum f) = CopiedFrom gs n c
+NeededFrom gs n c (form.Int f) = Unit {0}
+NeededFrom gs n c (form.Hold f) = CopiedFrom gs n c
+NeededFrom gs n c (form.Nums added) = n ≤ c
+NeededFrom gs n c (form.Words added) = n ≤ c
 
 -- A list form of numbers, or of words, that is there.
 abbrev pub IsNums : Option Form → Type 0
@@ -255,10 +286,10 @@ IsWords None = ⊥
 -- The condition under which a form of the cell c can come after others.
 abbrev pub CanComeAfter : List Form → List Part → IntForms → ℕ → Form → Type 0
 CanComeAfter forms lefts context c (form.Enum (label.Const l)) = Unit {0}
-CanComeAfter forms lefts context c (form.Enum (label.Copy d)) = IsValue (slice_get forms d)
+CanComeAfter forms lefts context c (form.Enum (label.Copy d)) = IsCopied (slice_get forms d)
 CanComeAfter forms lefts context c (form.Int f) = CanLead forms lefts f
 CanComeAfter forms lefts context c (form.Hold (hold.Const parts)) = Unit {0}
-CanComeAfter forms lefts context c (form.Hold (hold.Copy d)) = IsValue (slice_get forms d)
+CanComeAfter forms lefts context c (form.Hold (hold.Copy d)) = IsCopied (slice_get forms d)
 CanComeAfter forms lefts context c (form.Nums added) =
     IsNums (slice_get forms c) × All (λ f. CanGoThrough f context) added
 CanComeAfter forms lefts context c (form.Words added) = IsWords (slice_get forms c)
@@ -288,6 +319,15 @@ FormAfter forms lefts context c (form.Hold (hold.Const parts)) g = g ≡ form.Ho
 FormAfter forms lefts context c (form.Hold (hold.Copy d)) g = slice_get forms d ≡ Some g
 FormAfter forms lefts context c (form.Nums added) g = NumsAfter context added (slice_get forms c) g
 FormAfter forms lefts context c (form.Words added) g = WordsAfter added (slice_get forms c) g
+
+-- The forms stay but for that of the cell c.
+abbrev pub LacksOnly : ℕ → List Form → List Form → Type 0
+LacksOnly c old new = (d : ℕ) → d ≢ c → slice_get new d ≡ slice_get old d
+
+-- The forms that are needed after the n-th one stay.
+abbrev pub KeepsNeeded : List Form → ℕ → List Form → List Form → Type 0
+KeepsNeeded gs n old new =
+    (d : ℕ) (f : Form) → slice_get old d ≡ Some f → NeededFrom gs (n + 1) d f → slice_get new d ≡ Some f
 
 -- The forms stay but for that of the cell c, if this is a list cell.
 abbrev pub KeepsOthers : ℕ → List Form → List Form → Type 0

@@ -9,7 +9,7 @@ ghost use Rattle.sym_int.specs.declared.element.IntForms.{IntForms as OneContext
 ghost use Rattle.sym_pred.specs.Facts.{Atom};
 ghost use Rattle.sym_pred.specs.Meaning.{Stands};
 ghost use Rattle.sym_path.specs.Fitting.{PathFits};
-ghost use Rattle.sym_path.specs.Following.{PartLeft, CopyNeeds, NeedsHere, AreLeft, LeftIsPut, CanPutLeft, CanPutAllLeft, IsShape, CanNarrow, NarrowedAt, IsNumberOf, IsSpanOf, IsContext, AddsConstants, StaysOnParts, CanLead, IsOnParts, LedTo, CanComeAfter, FormAfter, NumsAfter, WordsAfter, IsNums, IsWords, IsValue, KeepsOthers, AllCanComeAfter, AreAfter, CanEndAfter, EndsAfter, IsFollowed};
+ghost use Rattle.sym_path.specs.Following.{PartLeft, CopyNeeds, NeedsHere, AreLeft, LeftIsPut, CanPutLeft, CanPutAllLeft, IsShape, CanNarrow, NarrowedAt, IsNumberOf, IsSpanOf, IsContext, AddsConstants, StaysOnParts, CanLead, IsOnParts, LedTo, CanComeAfter, FormAfter, NumsAfter, WordsAfter, IsNums, IsWords, IsCopied, Copies, CopiedFrom, LacksOnly, KeepsNeeded, KeepsOthers, AllCanComeAfter, AreAfter, CanEndAfter, EndsAfter, IsFollowed};
 ghost use Rattle.sym_path.specs.Possible.{IsLeft, IsSaid, AllLeft, IsPossiblePair};
 ghost use Rattle.sym_path.specs.Pulling.{Agrees, HoldAgrees};
 ghost use Rattle.sym_path.specs.Taking.{AreTakenTo, IsTakenOn};
@@ -309,14 +309,70 @@ fn no_form() -> Form {
     Form::Enum(EnumForm::Const(0))
 }
 
+/// Whether the form copies the cell with this number.
+fn copies(form: &Form, cell: u16) -> bool
+    ensures { Copies cell form.now → IsTrue result }
+{
+    match form {
+        Form::Enum(EnumForm::Copy(own)) => *own == cell,
+        Form::Hold(HoldForm::Copy(own)) => *own == cell,
+        _ => false,
+    }
+}
+
+/// Whether a form from the one at `index` on does.
+fn is_copied(forms: &[Form], index: usize, cell: u16) -> bool
+    ensures { CopiedFrom forms.now index cell → IsTrue result }
+{
+    'cells: for at in index..forms.len() {
+        if copies(&forms[at], cell) {
+            return true;
+        }
+    }
+    false
+}
+
 /// A copy of the form of the cell with this number.
 fn form_at(alloc: Global, forms: &Forms, cell: u16) -> Result<Form, NoMemory>
-    requires { IsValue (slice_get forms.now cell) }
+    requires { IsCopied (slice_get forms.now cell) }
     ensures { IfOk result (λ form. slice_get forms.now cell ≡ Some form) }
 {
     match forms.get(cell as usize) {
         Some(form) => form.copy(alloc),
         None => unreachable!(),
+    }
+}
+
+/// The form of the cell with this number, which is moved out.
+fn form_out(forms: &mut Forms, cell: u16) -> Form
+    requires { IsCopied (slice_get forms.old cell) }
+    ensures form { slice_get forms.old cell ≡ Some result }
+    ensures others { LacksOnly cell forms.old forms.new }
+{
+    match forms.replace(cell as usize, no_form()) {
+        Some(form) => form,
+        None => unreachable!(),
+    }
+}
+
+/// The form of the cell with this number, for a copy at `index` of the other forms: moved out where
+/// no later one copies the cell.
+fn copy_after(
+    alloc: Global,
+    forms: &mut Forms,
+    index: usize,
+    others: &[Form],
+    cell: u16,
+) -> Result<Form, NoMemory>
+    requires within { index < length others.now }
+    requires there { IsCopied (slice_get forms.old cell) }
+    ensures form { IfOk result (λ form. slice_get forms.old cell ≡ Some form) }
+    ensures others { KeepsNeeded others.now index forms.old forms.new }
+{
+    if is_copied(others, index + 1, cell) {
+        form_at(alloc, forms, cell)
+    } else {
+        Ok(form_out(forms, cell))
     }
 }
 
@@ -391,34 +447,36 @@ fn number_after(number: &IntForm, forms: &Forms, lefts: &[Part]) -> IntForm
     }
 }
 
-/// What a form of the cell at `index` becomes after the others, of which a list form of this cell
-/// is moved out.
+/// What a form of the cell at `index`, one of `others`, becomes after the forms. A list form of this
+/// cell is moved out of these, and a form that it copies and no later one does.
 fn form_after(
     alloc: Global,
     forms: &mut Forms,
     index: usize,
     form: &Form,
+    others: &[Form],
     lefts: &[Part],
     context: &IntForms,
 ) -> Result<Form, NoMemory>
-    requires { CanComeAfter forms.old lefts.now context.now index form.now }
+    requires within { index < length others.now }
+    requires can { CanComeAfter forms.old lefts.now context.now index form.now }
     ensures form { IfOk result (FormAfter forms.old lefts.now context.now index form.now) }
-    ensures others { KeepsOthers index forms.old forms.new }
+    ensures others { KeepsNeeded others.now index forms.old forms.new }
 {
     match form {
         Form::Enum(EnumForm::Const(label)) => Ok(Form::Enum(EnumForm::Const(*label))),
-        Form::Enum(EnumForm::Copy(cell)) => form_at(alloc, forms, *cell),
+        Form::Enum(EnumForm::Copy(cell)) => copy_after(alloc, forms, index, others, *cell),
         Form::Int(number) => Ok(Form::Int(number_after(number, forms, lefts))),
         Form::Hold(HoldForm::Const(parts)) => {
             Ok(Form::Hold(HoldForm::Const(parts.copy(alloc)?)))
         }
-        Form::Hold(HoldForm::Copy(cell)) => form_at(alloc, forms, *cell),
+        Form::Hold(HoldForm::Copy(cell)) => copy_after(alloc, forms, index, others, *cell),
         Form::Nums(added) => nums_after(alloc, forms, index, added, context),
         Form::Words(added) => words_after(alloc, forms, index, added),
     }
 }
 
-/// What forms become after others, whose lists are moved.
+/// What other forms become after the forms, whose lists are moved, and the last copy of each.
 fn forms_after(
     alloc: Global,
     forms: Forms,
@@ -432,7 +490,8 @@ fn forms_after(
     let mut forms = forms;
     let mut after = Vec::with_capacity(alloc, others.len())?;
     'cells: for index in 0..others.len() {
-        let form = form_after(alloc, &mut forms, index, &others[index], lefts, context)?;
+        let other = &others[index];
+        let form = form_after(alloc, &mut forms, index, other, others, lefts, context)?;
         after.push(form)?;
     }
     Ok(Sequence::of(after))
