@@ -1,9 +1,9 @@
 -- What is left of a constraint fits, and so do forms that are taken on it.
-use Rattle.std.proofs.Common.{get_or, ◌≡◌, ◌<◌, ◌≤◌, ℕ, ℤ, ◌≤ℤ◌, ◌<ℤ◌, List, [], ◌∷◌, Option, Some, None, ◌⊎◌, inl, inr, length, refl, sym, ap, ◌∙◌, subst, arith}
+use Rattle.std.proofs.Common.{get_or, ◌≡◌, ◌<◌, ◌≤◌, ℕ, ℤ, ◌≤ℤ◌, ◌<ℤ◌, List, [], ◌∷◌, Option, Some, None, inl, inr, length, refl, sym, ap, ◌∙◌, subst, arith}
 use Rattle.std.proofs.lemmas.Bool.{cases_lt}
 use Rattle.std.proofs.lemmas.Option.{slice_get_within}
 use Rattle.std.proofs.lemmas.Int.{ints, by_lt_z}
-use Rattle.std.specs.Prelude.{slice_get, IsTrue}
+use Rattle.std.specs.Prelude.{slice_get}
 use Rattle.std.specs.List.{All, AllZip}
 use Rattle.sym_base.specs.Limits.{IsNumber}
 use Rattle.sym_base.specs.declared.values.value.Value.{Value}
@@ -14,7 +14,6 @@ use Rattle.sym_check.specs.CellKinds.{IsEnumCell, IsHoldCell}
 use Rattle.sym_check.specs.ScriptPlans.{ScriptPlan}
 use Rattle.sym_check.specs.Validity.{label_count, InRange}
 use Rattle.sym_check.specs.WellFormed.{IsCell, IsWellFormed}
-use Rattle.sym_enum.specs.Labels.{has_label, IsOnlyLabel}
 use Rattle.sym_enum.specs.declared.form.EnumForm.{EnumForm}
 use Rattle.sym_enum.specs.declared.form.EnumForm.TheVariants as label
 use Rattle.sym_enum.specs.declared.label_set.LabelSet.{LabelSet}
@@ -35,12 +34,11 @@ use Rattle.sym_path.specs.declared.part.Part.{Part}
 use Rattle.sym_path.specs.declared.part.Part.TheVariants as part
 use Rattle.sym_path.specs.declared.form.Form.{Form}
 use Rattle.sym_path.specs.declared.form.Form.TheVariants as form
-use Rattle.sym_path.specs.Fitting.{FitsEnum, FitsRange, Suits, PartFits, StaysWithin, NumberFits, FormFits, FormsFit}
+use Rattle.sym_path.specs.Fitting.{Suits, PartFits, StaysWithin, NumberFits, FormFits, FormsFit}
 use Rattle.sym_path.specs.Fitting as fitting
 use Rattle.sym_path.specs.Following.{PartLeft, AreLeft, CanPutAllLeft}
 use Rattle.sym_path.specs.Narrowing.{CanPutNumber}
-use Rattle.sym_path.specs.Possible.{IsNeeded}
-use Rattle.sym_path.specs.Taking.{HasOneLabel, HasOneNumber, copied_cell, LabelIsTakenTo, NumberIsTakenTo, IsEnumForm, IsIntForm, IsNumsForm, IsTakenTo, AreTakenTo, IsTakenOn}
+use Rattle.sym_path.specs.Taking.{HasOneLabel, HasOneNumber, copied_cell, LabelIsTakenTo, NumberIsTakenTo, IsTakenTo, AreTakenTo, IsTakenOn}
 use Rattle.sym_path.proofs.Fitted.{number_between}
 use Rattle.sym_path.proofs.JoiningFits.{same_literal}
 use Rattle.sym_path.proofs.Lists.{zip_at, zip_from, zip_get, zip_get_right, zip_length, zip_trans, get_within, all_from, all_at}

@@ -1,6 +1,6 @@
 -- The forms that a path's forms become after those of another one: they fit, are taken, and give
 -- what they gave at the state that the others give.
-use Rattle.std.proofs.Common.{◌≡◌, ◌<◌, ℕ, zero, suc, ℤ, ◌+ℤ◌, ◌*ℤ◌, ◌<ℤ◌, ◌≤ℤ◌, List, [], ◌∷◌, ◌++◌, Option, Some, None, ◌⊎◌, inl, inr, length, map, take, drop, refl, sym, ap, ◌∙◌, subst, append_assoc, arith}
+use Rattle.std.proofs.Common.{◌≡◌, ◌<◌, ℕ, suc, ℤ, ◌+ℤ◌, ◌*ℤ◌, ◌<ℤ◌, ◌≤ℤ◌, List, [], ◌∷◌, ◌++◌, Option, Some, None, length, map, take, drop, refl, sym, ap, ◌∙◌, subst, append_assoc, arith}
 use Rattle.std.proofs.lemmas.Int.{ints, by_lt_z}
 use Rattle.std.proofs.lemmas.List.Elements.{All-append}
 use Rattle.std.proofs.lemmas.Option.{slice_get_within}
@@ -21,7 +21,7 @@ use Rattle.sym_check.specs.ScriptPlans.{ScriptPlan}
 use Rattle.sym_check.specs.Validity.{InRange}
 use Rattle.sym_check.specs.WellFormed.{IsCell, IsWellFormed}
 use Rattle.sym_enum.specs.declared.form.EnumForm.TheVariants as label
-use Rattle.sym_int.specs.Elements.{IsConstant, CanGoThrough, Composes, StaysOn, StaysOnSpan, GoesThroughTo, IsComposed, IsOnSpans, IsOnSpan}
+use Rattle.sym_int.specs.Elements.{IsConstant, CanGoThrough, StaysOn, GoesThroughTo, IsComposed, IsOnSpans, IsOnSpan}
 use Rattle.sym_int.specs.Lines.{form_on, form_cell, form_value}
 use Rattle.sym_int.specs.Points.{HasPoint}
 use Rattle.sym_int.specs.Taken.{IsTaken}
@@ -36,11 +36,11 @@ use Rattle.sym_path.specs.declared.part.Part.TheVariants as part
 use Rattle.sym_path.specs.declared.form.Form.{Form}
 use Rattle.sym_path.specs.declared.form.Form.TheVariants as form
 use Rattle.sym_path.specs.Admitting.{Admits, PartAdmits}
-use Rattle.sym_path.specs.Fitting.{PartFits, StaysWithin, NumberFits, FormFits, FormsFit}
+use Rattle.sym_path.specs.Fitting.{PartFits, NumberFits, FormFits, FormsFit}
 use Rattle.sym_path.specs.Fitting as fitting
 use Rattle.sym_path.specs.Following.{IsNumberOf, IsSpanOf, IsContext, StaysOnParts, CanLead, IsOnPart, IsOnParts, LedOver, LedTo, IsCopied, IsNums, IsWords, CanComeAfter, NumsAfter, WordsAfter, FormAfter, AllCanComeAfter, AreAfter}
 use Rattle.sym_path.specs.Giving.{cell_at, cells_at, state_at}
-use Rattle.sym_path.specs.Taking.{HasOneNumber, NumberIsTakenTo, IsIntForm, IsTakenOn}
+use Rattle.sym_path.specs.Taking.{NumberIsTakenTo, IsTakenOn}
 use Rattle.sym_path.proofs.Fitted.{number_between, number_held}
 use Rattle.sym_path.proofs.FollowedStates.{cells_at_get, cells_at-length}
 use Rattle.sym_path.proofs.FollowingFits.{line_span, one_point, constant_in}

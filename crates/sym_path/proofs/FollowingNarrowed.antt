@@ -1,13 +1,11 @@
 -- A constraint that becomes what is left of it in place, cell by cell, and the forms on it.
-use Rattle.std.proofs.Common.{◌≡◌, ◌<◌, ◌≤◌, ◌+◌, ℕ, ℤ, Bool, not, List, [], ◌∷◌, Option, Some, None, ◌⊎◌, inl, inr, length, refl, sym, ap, ◌∙◌, subst, zero, suc, arith}
+use Rattle.std.proofs.Common.{◌≡◌, ◌<◌, ◌≤◌, ◌+◌, ℕ, ℤ, Bool, not, List, [], ◌∷◌, Some, ◌⊎◌, inl, inr, length, refl, sym, ap, ◌∙◌, subst, zero, suc, arith}
 use Rattle.std.proofs.lemmas.Bool.{cases_eq}
 use Rattle.std.proofs.lemmas.Option.{slice_get_within}
 use Rattle.std.specs.Prelude.{slice_get, slice_set}
-use Rattle.std.specs.List.{All, AllZip}
+use Rattle.std.specs.List.{All}
 use Rattle.sym_enum.specs.declared.form.EnumForm.TheVariants as label
-use Rattle.sym_enum.specs.declared.form.EnumForm.{EnumForm}
-use Rattle.sym_int.specs.Elements.{IsConstant}
-use Rattle.sym_int.specs.Lines.{form_on, form_cell}
+use Rattle.sym_int.specs.Lines.{form_cell}
 use Rattle.sym_int.specs.declared.form.IntForm.{IntForm}
 use Rattle.sym_int.specs.declared.form.IntForm.TheVariants as number
 use Rattle.sym_pred.specs.Facts.{Atom, FactMap}
@@ -17,9 +15,9 @@ use Rattle.sym_path.specs.declared.part.Part.{Part}
 use Rattle.sym_path.specs.declared.part.Part.TheVariants as part
 use Rattle.sym_path.specs.declared.form.Form.{Form}
 use Rattle.sym_path.specs.declared.form.Form.TheVariants as form
-use Rattle.sym_path.specs.Following.{PartLeft, AreLeft, LeftIsPut, CanPutLeft, CanPutAllLeft, IsShape, CanNarrow, NarrowedAt}
-use Rattle.sym_path.specs.Possible.{Meets, LabelMeets, NumberMeets, IsNeeded, IsSaid, IsLeft, AllLeft}
-use Rattle.sym_path.specs.Taking.{HasOneLabel, HasOneNumber, copied_cell, LabelIsTakenTo, NumberIsTakenTo, IsTakenTo, AreTakenTo, IsTakenOn}
+use Rattle.sym_path.specs.Following.{PartLeft, AreLeft, LeftIsPut, CanPutAllLeft, IsShape, CanNarrow, NarrowedAt}
+use Rattle.sym_path.specs.Possible.{Meets, LabelMeets, NumberMeets, IsSaid, IsLeft, AllLeft}
+use Rattle.sym_path.specs.Taking.{copied_cell, LabelIsTakenTo, NumberIsTakenTo, IsTakenTo, AreTakenTo, IsTakenOn}
 use Rattle.sym_path.proofs.FollowingTaken.{left_step, own_taken, can_put_left_taken}
 use Rattle.sym_path.proofs.Lists.{set_same, set_other, zip_get, zip_get_right, zip_length, all_at, get_within}
 use Rattle.sym_path.proofs.NarrowedFits.{label_free, number_free}

@@ -1,16 +1,14 @@
 -- One path and then another.
-use Rattle.std.proofs.Common.{◌≡◌, ◌↔◌, ℕ, ℤ, List, Some, ◌∙◌, refl, sym, ap, subst}
+use Rattle.std.proofs.Common.{◌≡◌, ℕ, ℤ, List, Some, ◌∙◌, refl, sym, ap, subst}
 use Rattle.std.specs.Prelude.{slice_get}
 use Rattle.std.specs.List.{All, AllZip}
 use Rattle.sym_base.specs.Tests.{Truth}
 use Rattle.sym_base.specs.declared.values.state.Fault.{Fault}
 use Rattle.sym_base.specs.declared.values.state.State.{State}
-use Rattle.sym_base.specs.declared.values.state.Outcome.{Outcome}
 use Rattle.sym_base.specs.declared.values.state.Outcome.TheVariants.{Going}
 use Rattle.sym_check.specs.declared.plan.script.CellPlan.{CellPlan}
 use Rattle.sym_check.specs.Conditions.{test_truth}
 use Rattle.sym_check.specs.ScriptPlans.{ScriptPlan}
-use Rattle.sym_check.specs.Validity.{InRange}
 use Rattle.sym_check.specs.WellFormed.{IsWellFormed}
 use Rattle.sym_int.specs.Elements.{IsConstant}
 use Rattle.sym_int.specs.Points.{HasPoint}
@@ -28,9 +26,9 @@ use Rattle.sym_path.specs.declared.path.PathEnd.TheVariants.{Next, Ended}
 use Rattle.sym_path.specs.Admitting.{Admits}
 use Rattle.sym_path.specs.Fitting.{PartFits, NumberFits, FormFits, FormsFit, EndFits, PathFits}
 use Rattle.sym_path.specs.Fitting as fitting
-use Rattle.sym_path.specs.Following.{AreLeft, IsContext, AllCanComeAfter, AreAfter, CanEndAfter, EndsAfter, AdmitsOutcome, end_after, IsEndAfter, IsFollowed}
-use Rattle.sym_path.specs.Giving.{end_at, state_at}
-use Rattle.sym_path.specs.Possible.{Meets, ConstantMeets, Possible, IsPossiblePair}
+use Rattle.sym_path.specs.Following.{AreLeft, IsContext, AllCanComeAfter, AreAfter, CanEndAfter, EndsAfter, IsEndAfter, IsFollowed}
+use Rattle.sym_path.specs.Giving.{state_at}
+use Rattle.sym_path.specs.Possible.{Possible, IsPossiblePair}
 use Rattle.sym_path.specs.Taking.{NumberIsTakenTo, IsTakenTo, AreTakenTo}
 use Rattle.sym_path.proofs.FollowedStates.{left_is_admitted, left_gives, both_are_left}
 use Rattle.sym_path.proofs.FollowingFits.{left_parts, taken_forms_fit, taken_meets}

@@ -21,7 +21,7 @@ use Rattle.sym_int.specs.declared.element.IntForms.{IntForms}
 use Rattle.sym_int.specs.declared.form.IntForm.{IntForm}
 use Rattle.sym_int.specs.declared.form.IntForm.TheVariants as number
 use Rattle.sym_int.specs.declared.span.Span.{Span}
-use Rattle.sym_pred.specs.Facts.{Atom, FactMap}
+use Rattle.sym_pred.specs.Facts.{Atom}
 use Rattle.sym_pred.specs.Meaning.{Stands}
 use Rattle.sym_pred.specs.declared.form.HoldForm.{HoldForm}
 use Rattle.sym_pred.specs.declared.form.HoldForm.TheVariants as hold

@@ -1,4 +1,4 @@
-use Rattle.std.proofs.Common.{◌≡◌, ◌⊎◌, List, refl, sym, subst}
+use Rattle.std.proofs.Common.{◌⊎◌, List, refl, sym, subst}
 use Rattle.std.specs.List.{All}
 use Rattle.sym_int.specs.declared.element.IntForms.{IntForms}
 use Rattle.sym_path.specs.declared.part.Part.{Part}

@@ -1,4 +1,4 @@
-use Rattle.std.proofs.Common.{◌≡◌, length, refl, Some, arith}
+use Rattle.std.proofs.Common.{◌≡◌, length, refl, Some}
 use Rattle.std.proofs.lemmas.Option.{slice_get_read}
 use Rattle.std.specs.Prelude.{slice_get}
 use Rattle.sym_path.proofs.Followed.{agrees_here, facts_next, facts_whole, none_below}

@@ -1,5 +1,5 @@
 -- The literals are those of the facts and those needed of the copies so far.
-use Rattle.std.proofs.Common.{◌≡◌, ◌↔◌, ◌⊎◌, Bool, length}
+use Rattle.std.proofs.Common.{◌↔◌, ◌⊎◌, Bool}
 use Rattle.sym_pred.specs.Facts.{Atom}
 use Rattle.sym_pred.specs.Meaning.{Stands}
 use Rattle.sym_path.specs.Following.{NeededBelow}

@@ -1,4 +1,4 @@
-use Rattle.std.proofs.Common.{◌≡◌, ◌∙◌, sym, ap}
+use Rattle.std.proofs.Common.{◌∙◌, sym, ap}
 use Rattle.std.specs.FinMap.{insert}
 use Rattle.sym_pred.specs.Facts.{FactMap}
 use Rattle.sym_pred.specs.Literals.{atom_of}
