@@ -121,7 +121,8 @@ IsShape (part.Facts known) shape = Unit {0}
 IsShape part.Free shape = shape ≡ part.Free
 
 -- Something is left of the cell c, and may be put into the forms.
-pub record CanNarrow (forms : List Form) (needs : List Part) (c : ℕ) (when : List Part) : Type 0 where
+pub record CanNarrow (forms : List Form) (needs : List Part) (c : ℕ)
+    (when : List Part) : Type 0 where
   pub part : Part
   pub is : slice_get when c ≡ Some part
   pub some : IsLeft forms needs c part
@@ -327,7 +328,8 @@ LacksOnly c old new = (d : ℕ) → d ≢ c → slice_get new d ≡ slice_get ol
 -- The forms that are needed after the n-th one stay.
 abbrev pub KeepsNeeded : List Form → ℕ → List Form → List Form → Type 0
 KeepsNeeded gs n old new =
-    (d : ℕ) (f : Form) → slice_get old d ≡ Some f → NeededFrom gs (n + 1) d f → slice_get new d ≡ Some f
+    (d : ℕ) (f : Form) → slice_get old d ≡ Some f → NeededFrom gs (n + 1) d f →
+    slice_get new d ≡ Some f
 
 -- The forms stay but for that of the cell c, if this is a list cell.
 abbrev pub KeepsOthers : ℕ → List Form → List Form → Type 0
