@@ -447,8 +447,8 @@ fn number_after(number: &IntForm, forms: &Forms, lefts: &[Part]) -> IntForm
     }
 }
 
-/// What a form of the cell at `index`, one of `others`, becomes after the forms. A list form of this
-/// cell is moved out of these, and a form that it copies and no later one does.
+/// What a form of the cell at `index`, one of `others`, becomes after the forms. A list form of
+/// this cell is moved out of these, and a form that it copies and no later one does.
 fn form_after(
     alloc: Global,
     forms: &mut Forms,
