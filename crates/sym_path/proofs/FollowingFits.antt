@@ -1,9 +1,9 @@
 -- What is left of a constraint fits, and so do forms that are taken on it.
-use Rattle.std.proofs.Common.{get_or, ◌≡◌, ◌<◌, ◌≤◌, ℕ, ℤ, ◌≤ℤ◌, ◌<ℤ◌, List, [], ◌∷◌, Option, Some, None, ◌⊎◌, inl, inr, length, refl, sym, ap, ◌∙◌, subst, arith}
+use Rattle.std.proofs.Common.{get_or, ◌≡◌, ◌<◌, ◌≤◌, ℕ, ℤ, ◌≤ℤ◌, ◌<ℤ◌, List, [], ◌∷◌, Option, Some, None, inl, inr, length, refl, sym, ap, ◌∙◌, subst, arith}
 use Rattle.std.proofs.lemmas.Bool.{cases_lt}
 use Rattle.std.proofs.lemmas.Option.{slice_get_within}
 use Rattle.std.proofs.lemmas.Int.{ints, by_lt_z}
-use Rattle.std.specs.Prelude.{slice_get, IsTrue}
+use Rattle.std.specs.Prelude.{slice_get}
 use Rattle.std.specs.List.{All, AllZip}
 use Rattle.sym_base.specs.Limits.{IsNumber}
 use Rattle.sym_base.specs.declared.values.value.Value.{Value}
@@ -14,7 +14,6 @@ use Rattle.sym_check.specs.CellKinds.{IsEnumCell, IsHoldCell}
 use Rattle.sym_check.specs.ScriptPlans.{ScriptPlan}
 use Rattle.sym_check.specs.Validity.{label_count, InRange}
 use Rattle.sym_check.specs.WellFormed.{IsCell, IsWellFormed}
-use Rattle.sym_enum.specs.Labels.{has_label, IsOnlyLabel}
 use Rattle.sym_enum.specs.declared.form.EnumForm.{EnumForm}
 use Rattle.sym_enum.specs.declared.form.EnumForm.TheVariants as label
 use Rattle.sym_enum.specs.declared.label_set.LabelSet.{LabelSet}
@@ -35,12 +34,11 @@ use Rattle.sym_path.specs.declared.part.Part.{Part}
 use Rattle.sym_path.specs.declared.part.Part.TheVariants as part
 use Rattle.sym_path.specs.declared.form.Form.{Form}
 use Rattle.sym_path.specs.declared.form.Form.TheVariants as form
-use Rattle.sym_path.specs.Fitting.{FitsEnum, FitsRange, Suits, PartFits, StaysWithin, NumberFits, FormFits, FormsFit}
+use Rattle.sym_path.specs.Fitting.{Suits, PartFits, StaysWithin, NumberFits, FormFits, FormsFit}
 use Rattle.sym_path.specs.Fitting as fitting
-use Rattle.sym_path.specs.Following.{PartLeft, AreLeft, CanPutLeft}
+use Rattle.sym_path.specs.Following.{PartLeft, AreLeft, CanPutAllLeft}
 use Rattle.sym_path.specs.Narrowing.{CanPutNumber}
-use Rattle.sym_path.specs.Possible.{IsNeeded}
-use Rattle.sym_path.specs.Taking.{HasOneLabel, HasOneNumber, copied_cell, LabelIsTakenTo, NumberIsTakenTo, IsEnumForm, IsIntForm, IsNumsForm, IsTakenTo, AreTakenTo, IsTakenOn}
+use Rattle.sym_path.specs.Taking.{HasOneLabel, HasOneNumber, copied_cell, LabelIsTakenTo, NumberIsTakenTo, IsTakenTo, AreTakenTo, IsTakenOn}
 use Rattle.sym_path.proofs.Fitted.{number_between}
 use Rattle.sym_path.proofs.JoiningFits.{same_literal}
 use Rattle.sym_path.proofs.Lists.{zip_at, zip_from, zip_get, zip_get_right, zip_length, zip_trans, get_within, all_from, all_at}
@@ -321,8 +319,9 @@ module _ (p : ScriptPlan) (when : List Part) (forms : List Form) (needs lefts : 
       again : (f g : Form) → IsTakenTo lefts f g → IsTakenOn lefts g
       again f g t = taken_again lefts f g t
 
-  -- ---- numbers that are put into the forms
+-- ---- numbers that are put into the forms
 
+module _ (p : ScriptPlan) (when : List Part) (forms : List Form) (each : AllZip (FormFits p when) p.cells forms) where
   fix_left : (c : ℕ) (x lo hi : ℤ) (old : Span) (f : IntForm) → slice_get when c ≡ Some (part.Span old) → HasPoint old x → IsNumber lo → IsNumber hi → NumberFits lo hi when f → CanFix f c x
   fix_left c x lo hi old (number.Const n) at q a b h = tt
   fix_left c x lo hi old (number.Line line) at q a b h = λ e.
@@ -343,22 +342,17 @@ module _ (p : ScriptPlan) (when : List Part) (forms : List Form) (needs lefts : 
   put_left c x old _ _ at q w (fitting.of_numbers lo hi added h) = all_from (λ f. CanFix f c x) added (λ i f e. fix_left c x lo hi old f at q w.0 w.1 (all_at (NumberFits lo hi when) added i f h e))
   put_left c x old _ _ at q w (fitting.of_words added) = tt
 
-  pub can_put : IsWellFormed p → (c : ℕ) (new : Part) → slice_get lefts c ≡ Some new → CanPutLeft c new forms
-  can_put w c (part.Set new) e = tt
-  can_put w c (part.Span new) e = λ one.
-      let (cp, at, fits) = zip_get_right (PartFits p) p.cells lefts c (part.Span new) left_parts e in
-      let (old, is, _) = zip_get (PartFits p) p.cells when c cp parts at in
-      go old is (left.each c old (part.Span new) is e)
-    where
-      all : (old : Span) → slice_get when c ≡ Some (part.Span old) → HasPoint old new.lo → All (CanPutNumber c new.lo) forms
-      all old is q = all_from (CanPutNumber c new.lo) forms (λ i f at.
-          let found = zip_get_right (FormFits p when) p.cells forms i f each at in
-          put_left c new.lo old found.0 f is q (all_at (IsCell p.enums) p.cells i found.0 w.cells found.1) found.2)
+  all_put : IsWellFormed p → (c : ℕ) (old : Span) (x : ℤ) → slice_get when c ≡ Some (part.Span old) → HasPoint old x → All (CanPutNumber c x) forms
+  all_put w c old x is q = all_from (CanPutNumber c x) forms (λ i f at.
+      let found = zip_get_right (FormFits p when) p.cells forms i f each at in
+      put_left c x old found.0 f is q (all_at (IsCell p.enums) p.cells i found.0 w.cells found.1) found.2)
 
-      go : (old : Part) → slice_get when c ≡ Some old → PartLeft forms needs c old (part.Span new) → All (CanPutNumber c new.lo) forms
-      go (part.Set old) is h = absurd h
-      go (part.Span old) is h = all old is ((h new.lo).0 (one_point new)).0
-      go (part.Facts old) is h = absurd h
-      go part.Free is h = absurd h
-  can_put w c (part.Facts new) e = tt
-  can_put w c part.Free e = tt
+  -- What is left of a cell may be put into the forms.
+  pub can_put : IsWellFormed p → (needs : List Part) → CanPutAllLeft forms needs when
+  can_put w needs fs c old (part.Set new) is h = tt
+  can_put w needs fs c (part.Set old) (part.Span new) is h = absurd h
+  can_put w needs fs c (part.Span old) (part.Span new) is h = λ one. all_put w c old new.lo is ((h new.lo).0 (one_point new)).0
+  can_put w needs fs c (part.Facts old) (part.Span new) is h = absurd h
+  can_put w needs fs c part.Free (part.Span new) is h = absurd h
+  can_put w needs fs c old (part.Facts new) is h = tt
+  can_put w needs fs c old part.Free is h = tt

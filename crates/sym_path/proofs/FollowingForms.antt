@@ -1,6 +1,6 @@
 -- The forms that a path's forms become after those of another one: they fit, are taken, and give
 -- what they gave at the state that the others give.
-use Rattle.std.proofs.Common.{◌≡◌, ◌<◌, ℕ, zero, suc, ℤ, ◌+ℤ◌, ◌*ℤ◌, ◌<ℤ◌, ◌≤ℤ◌, List, [], ◌∷◌, ◌++◌, Option, Some, None, ◌⊎◌, inl, inr, length, map, take, drop, refl, sym, ap, ◌∙◌, subst, append_assoc, arith}
+use Rattle.std.proofs.Common.{◌≡◌, ◌<◌, ℕ, suc, ℤ, ◌+ℤ◌, ◌*ℤ◌, ◌<ℤ◌, ◌≤ℤ◌, List, [], ◌∷◌, ◌++◌, Option, Some, None, length, map, take, drop, refl, sym, ap, ◌∙◌, subst, append_assoc, arith}
 use Rattle.std.proofs.lemmas.Int.{ints, by_lt_z}
 use Rattle.std.proofs.lemmas.List.Elements.{All-append}
 use Rattle.std.proofs.lemmas.Option.{slice_get_within}
@@ -21,7 +21,7 @@ use Rattle.sym_check.specs.ScriptPlans.{ScriptPlan}
 use Rattle.sym_check.specs.Validity.{InRange}
 use Rattle.sym_check.specs.WellFormed.{IsCell, IsWellFormed}
 use Rattle.sym_enum.specs.declared.form.EnumForm.TheVariants as label
-use Rattle.sym_int.specs.Elements.{IsConstant, CanGoThrough, Composes, StaysOn, StaysOnSpan, GoesThroughTo, IsComposed, IsOnSpans, IsOnSpan}
+use Rattle.sym_int.specs.Elements.{IsConstant, CanGoThrough, StaysOn, GoesThroughTo, IsComposed, IsOnSpans, IsOnSpan}
 use Rattle.sym_int.specs.Lines.{form_on, form_cell, form_value}
 use Rattle.sym_int.specs.Points.{HasPoint}
 use Rattle.sym_int.specs.Taken.{IsTaken}
@@ -36,11 +36,11 @@ use Rattle.sym_path.specs.declared.part.Part.TheVariants as part
 use Rattle.sym_path.specs.declared.form.Form.{Form}
 use Rattle.sym_path.specs.declared.form.Form.TheVariants as form
 use Rattle.sym_path.specs.Admitting.{Admits, PartAdmits}
-use Rattle.sym_path.specs.Fitting.{PartFits, StaysWithin, NumberFits, FormFits, FormsFit}
+use Rattle.sym_path.specs.Fitting.{PartFits, NumberFits, FormFits, FormsFit}
 use Rattle.sym_path.specs.Fitting as fitting
-use Rattle.sym_path.specs.Following.{IsNumberOf, IsSpanOf, IsContext, IsValue, IsNums, IsWords, CanComeAfter, NumsAfter, WordsAfter, FormAfter, AllCanComeAfter, AreAfter}
+use Rattle.sym_path.specs.Following.{IsNumberOf, IsSpanOf, IsContext, StaysOnParts, CanLead, IsOnPart, IsOnParts, LedOver, LedTo, IsCopied, IsNums, IsWords, CanComeAfter, NumsAfter, WordsAfter, FormAfter, AllCanComeAfter, AreAfter}
 use Rattle.sym_path.specs.Giving.{cell_at, cells_at, state_at}
-use Rattle.sym_path.specs.Taking.{HasOneNumber, NumberIsTakenTo, IsIntForm, IsTakenOn}
+use Rattle.sym_path.specs.Taking.{NumberIsTakenTo, IsTakenOn}
 use Rattle.sym_path.proofs.Fitted.{number_between, number_held}
 use Rattle.sym_path.proofs.FollowedStates.{cells_at_get, cells_at-length}
 use Rattle.sym_path.proofs.FollowingFits.{line_span, one_point, constant_in}
@@ -173,6 +173,13 @@ module _ (truth : Truth) (p : ScriptPlan) (lefts : List Part) (mids : List Form)
         let all : (x : ℤ) → HasPoint sp x → IsNumber (form_on (number.Line line) (form_on (number.Line l) x)) = λ x q. number_between lo hi (form_on (number.Line line) (form_on (number.Line l) x)) a b (range (form_on (number.Line l) x) (inside x q)) in
         rw there all
 
+    can_any_left : IsNumber lo → IsNumber hi → (inner : IntForm) → NumberFits need.lo need.hi lefts inner → StaysOnParts (λ x. form_on (number.Line line) (form_on inner x)) (form_cell inner) lefts
+    can_any_left a b (number.Const n) fits = number_between lo hi (form_on (number.Line line) n.value) a b (range n.value fits)
+    can_any_left a b (number.Line l) fits =
+        let (sp, at_l, inside) = line_span need.lo need.hi (form_on (number.Line l)) lefts l.cell fits in
+        let all : (x : ℤ) → HasPoint sp x → IsNumber (form_on (number.Line line) (form_on (number.Line l) x)) = λ x q. number_between lo hi (form_on (number.Line line) (form_on (number.Line l) x)) a b (range (form_on (number.Line l) x) (inside x q)) in
+        rw at_l all
+
   number_goes : (lo hi : ℤ) (f r : IntForm) → NumberFits lo hi needs f → GoesThroughTo f context r → NumberGoes p lefts truth mids lo hi f r
   number_goes lo hi (number.Const n) r fits h = subst (λ (k : IntForm). NumberGoes p lefts truth mids lo hi (number.Const n) k) (sym h) (record {
     fits = fits;
@@ -192,6 +199,42 @@ module _ (truth : Truth) (p : ScriptPlan) (lefts : List Part) (mids : List Form)
       let (inner, is, there, own) = inner_at line.cell need at in
       let stays : StaysOn (λ x. form_on (number.Line line) (form_on inner x)) (form_cell inner) context.spans = can_any lo hi line need range a b inner own in
       rw there stays
+
+  -- ---- without a context
+
+  on_part : (number : ℤ → ℤ) (c : ℕ) (o : Option Part) (r : IntForm) → slice_get lefts c ≡ o → IsOnPart number c o r → IsOnSpan number c (slice_get context.spans c) r
+  on_part number c (Some (part.Set set)) r e h = absurd h
+  on_part number c (Some (part.Span span)) r e h = let there : slice_get context.spans c ≡ Some span = span_at c span e in rw there h
+  on_part number c (Some (part.Facts known)) r e h = absurd h
+  on_part number c (Some part.Free) r e h = absurd h
+  on_part number c None r e h = absurd h
+
+  on_parts : (number : ℤ → ℤ) (o : Option ℕ) (r : IntForm) → IsOnParts number o lefts r → IsOnSpans number o context.spans r
+  on_parts number None r h = h
+  on_parts number (Some c) r h = on_part number c (slice_get lefts c) r refl h
+
+  led_over : (line : Line) (o : Option Form) (r : IntForm) → slice_get mids line.cell ≡ o → LedOver lefts (number.Line line) o r → IsComposed (number.Line line) (slice_get context.forms line.cell) context.spans r
+  led_over line (Some (form.Enum f)) r e h = absurd h
+  led_over line (Some (form.Int inner)) r e h =
+      let (g, at, same) = zip_get IsNumberOf mids context.forms line.cell (form.Int inner) ctx.numbers e in
+      let there : slice_get context.forms line.cell ≡ Some inner = at ∙ ap Some same in
+      rw there (on_parts (λ x. form_on (number.Line line) (form_on inner x)) (form_cell inner) r h)
+  led_over line (Some (form.Hold f)) r e h = absurd h
+  led_over line (Some (form.Nums f)) r e h = absurd h
+  led_over line (Some (form.Words f)) r e h = absurd h
+  led_over line None r e h = absurd h
+
+  led_goes : (f r : IntForm) → LedTo mids lefts f r → GoesThroughTo f context r
+  led_goes (number.Const n) r h = h
+  led_goes (number.Line line) r h = led_over line (slice_get mids line.cell) r refl h
+
+  can_lead : (lo hi : ℤ) (f : IntForm) → IsNumber lo → IsNumber hi → NumberFits lo hi needs f → CanLead mids lefts f
+  can_lead lo hi (number.Const n) a b fits = tt
+  can_lead lo hi (number.Line line) a b fits =
+      let (need, at, range) = line_span lo hi (form_on (number.Line line)) needs line.cell fits in
+      let (inner, is, there, own) = inner_at line.cell need at in
+      let stays : StaysOnParts (λ x. form_on (number.Line line) (form_on inner x)) (form_cell inner) lefts = can_any_left lo hi line need range a b inner own in
+      rw is stays
 
   -- ---- copies
 
@@ -284,14 +327,14 @@ module _ (truth : Truth) (p : ScriptPlan) (lefts : List Part) (mids : List Form)
   constant_goes : (c : ℕ) (cp : CellPlan) (f r : Form) → r ≡ f → FormFits p lefts cp f → IsTakenOn lefts f → ((s t : State) (x y : Cell) → cell_at f s x ≡ cell_at f t y) → FormGoes p lefts truth mids c cp f r
   constant_goes c cp f r e fits taken same = subst (λ (k : Form). FormGoes p lefts truth mids c cp f k) (sym e) (record { fits = fits; taken = taken; value = λ s x y a ex ey. same s (state_at mids s) x y })
 
-  form_goes : (c : ℕ) (cp : CellPlan) (f r : Form) → slice_get p.cells c ≡ Some cp → FormFits p needs cp f → FormAfter mids context c f r → FormGoes p lefts truth mids c cp f r
+  form_goes : (c : ℕ) (cp : CellPlan) (f r : Form) → slice_get p.cells c ≡ Some cp → FormFits p needs cp f → FormAfter mids lefts context c f r → FormGoes p lefts truth mids c cp f r
   form_goes c _ _ r at (fitting.of_label of first l h) t = constant_goes c (plan.Enum of first) (form.Enum (label.Const l)) r t (fitting.of_label of first l h) (label_taken lefts (label.Const l) (λ d m q o. cc)) (λ s u x y. refl)
   form_goes c _ _ r at (fitting.copied_label of first d h) t =
       let own : FormFits p lefts (plan.Enum of h.first) r = zip_at (FormFits p lefts) p.cells mids d (plan.Enum of h.first) r mids_fit.each h.is t in
       record { fits = label_form of first h.first r own; taken = all_at (IsTakenOn lefts) mids d r mids_fit.taken t; value = λ s x y a ex ey. label_value_given of h.first d r s x own a t }
   form_goes c _ _ (form.Enum r) at (fitting.of_number lo hi first f h) t = absurd t
   form_goes c _ _ (form.Int r) at (fitting.of_number lo hi first f h) t =
-      let g = number_goes lo hi f r h t in
+      let g = number_goes lo hi f r h (led_goes f r t) in
       record { fits = fitting.of_number lo hi first r g.fits; taken = g.taken; value = λ s x y a ex ey. ap cell.Int (g.value s a) }
   form_goes c _ _ (form.Hold r) at (fitting.of_number lo hi first f h) t = absurd t
   form_goes c _ _ (form.Nums r) at (fitting.of_number lo hi first f h) t = absurd t
@@ -323,23 +366,23 @@ module _ (truth : Truth) (p : ScriptPlan) (lefts : List Part) (mids : List Form)
 
   -- ---- the forms together
 
-  label_there : (of : ℕ) (d : ℕ) → IsEnumCell p.cells d of → IsValue (slice_get mids d)
+  label_there : (of : ℕ) (d : ℕ) → IsEnumCell p.cells d of → IsCopied (slice_get mids d)
   label_there of d h =
       let (m, is, own) = zip_get (FormFits p lefts) p.cells mids d (plan.Enum of h.first) mids_fit.each h.is in
       go m own is
     where
-      go : (m : Form) → FormFits p lefts (plan.Enum of h.first) m → slice_get mids d ≡ Some m → IsValue (slice_get mids d)
-      go _ (fitting.of_label _ _ l k) is = rw is (λ t. t)
-      go _ (fitting.copied_label _ _ e k) is = rw is (λ t. t)
+      go : (m : Form) → FormFits p lefts (plan.Enum of h.first) m → slice_get mids d ≡ Some m → IsCopied (slice_get mids d)
+      go _ (fitting.of_label _ _ l k) is = rw is tt
+      go _ (fitting.copied_label _ _ e k) is = rw is tt
 
-  parts_there : (kinds : List KindPlan) (d : ℕ) → IsHoldCell p.cells d kinds → IsValue (slice_get mids d)
+  parts_there : (kinds : List KindPlan) (d : ℕ) → IsHoldCell p.cells d kinds → IsCopied (slice_get mids d)
   parts_there kinds d h =
       let (m, is, own) = zip_get (FormFits p lefts) p.cells mids d (plan.Hold kinds h.first) mids_fit.each h.is in
       go m own is
     where
-      go : (m : Form) → FormFits p lefts (plan.Hold kinds h.first) m → slice_get mids d ≡ Some m → IsValue (slice_get mids d)
-      go _ (fitting.of_parts _ _ ps k) is = rw is (λ t. t)
-      go _ (fitting.copied_parts _ _ e k) is = rw is (λ t. t)
+      go : (m : Form) → FormFits p lefts (plan.Hold kinds h.first) m → slice_get mids d ≡ Some m → IsCopied (slice_get mids d)
+      go _ (fitting.of_parts _ _ ps k) is = rw is tt
+      go _ (fitting.copied_parts _ _ e k) is = rw is tt
 
   nums_there : (lo hi : ℤ) (c : ℕ) → slice_get p.cells c ≡ Some (plan.Nums lo hi) → IsNums (slice_get mids c)
   nums_there lo hi c at =
@@ -357,21 +400,21 @@ module _ (truth : Truth) (p : ScriptPlan) (lefts : List Part) (mids : List Form)
       go : (m : Form) → FormFits p lefts plan.Words m → slice_get mids c ≡ Some m → IsWords (slice_get mids c)
       go _ (fitting.of_words first) is = rw is tt
 
-  can_come : (c : ℕ) (cp : CellPlan) (f : Form) → slice_get p.cells c ≡ Some cp → IsCell p.enums cp → FormFits p needs cp f → CanComeAfter mids context c f
+  can_come : (c : ℕ) (cp : CellPlan) (f : Form) → slice_get p.cells c ≡ Some cp → IsCell p.enums cp → FormFits p needs cp f → CanComeAfter mids lefts context c f
   can_come c _ _ at w (fitting.of_label of first l h) = tt
   can_come c _ _ at w (fitting.copied_label of first d h) = label_there of d h
-  can_come c _ _ at w (fitting.of_number lo hi first f h) = can_go lo hi f w.0 w.1 h
+  can_come c _ _ at w (fitting.of_number lo hi first f h) = can_lead lo hi f w.0 w.1 h
   can_come c _ _ at w (fitting.of_parts kinds first ps h) = tt
   can_come c _ _ at w (fitting.copied_parts kinds first d h) = parts_there kinds d h
   can_come c _ _ at w (fitting.of_numbers lo hi added h) = (nums_there lo hi c at, all_from (λ f. CanGoThrough f context) added (λ i f e. can_go lo hi f w.0 w.1 (all_at (NumberFits lo hi needs) added i f h e)))
   can_come c _ _ at w (fitting.of_words added) = words_there c at
 
-  pub all_can_come : IsWellFormed p → (gs : List Form) → FormsFit p needs gs → AllCanComeAfter mids context gs
+  pub all_can_come : IsWellFormed p → (gs : List Form) → FormsFit p needs gs → AllCanComeAfter mids lefts context gs
   all_can_come w gs fits c g e =
       let (cp, at, own) = zip_get_right (FormFits p needs) p.cells gs c g fits.each e in
       can_come c cp g at (all_at (IsCell p.enums) p.cells c cp w.cells at) own
 
-  module _ (gs rs : List Form) (fits : FormsFit p needs gs) (h : AreAfter mids context gs rs) where
+  module _ (gs rs : List Form) (fits : FormsFit p needs gs) (h : AreAfter mids lefts context gs rs) where
     goes_at : (c : ℕ) (cp : CellPlan) (r : Form) → slice_get p.cells c ≡ Some cp → slice_get rs c ≡ Some r → (g : Form) × (slice_get gs c ≡ Some g) × FormGoes p lefts truth mids c cp g r
     goes_at c cp r at e =
         let (g, is, own) = zip_get (FormFits p needs) p.cells gs c cp fits.each at in

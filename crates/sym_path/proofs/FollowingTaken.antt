@@ -1,10 +1,10 @@
 -- Forms taken on what is left of a constraint, cell by cell.
-use Rattle.std.proofs.Common.{◌≡◌, ◌≢◌, ◌<◌, ◌≤◌, ◌+◌, ℕ, zero, suc, ℤ, ◌≤ℤ◌, ◌<ℤ◌, List, [], ◌∷◌, Option, Some, None, ◌⊎◌, inl, inr, map, length, refl, sym, ap, ◌∙◌, subst, arith, add-one}
+use Rattle.std.proofs.Common.{◌≡◌, ◌≢◌, ◌<◌, ℕ, zero, suc, ℤ, ◌<ℤ◌, List, [], ◌∷◌, Some, None, ◌⊎◌, inl, inr, map, length, refl, sym, ap, ◌∙◌, subst, arith}
 use Rattle.std.proofs.lemmas.Bool.{cases_eq, eq-eqb, ne_eqb}
 use Rattle.std.proofs.lemmas.Int.{ints}
 use Rattle.std.specs.Prelude.{slice_get, slice_set}
 use Rattle.std.specs.List.{All, AllZip}
-use Rattle.sym_enum.specs.Labels.{has_label, IsOnlyLabel}
+use Rattle.sym_enum.specs.Labels.{IsOnlyLabel}
 use Rattle.sym_enum.specs.declared.form.EnumForm.{EnumForm}
 use Rattle.sym_enum.specs.declared.form.EnumForm.TheVariants as label
 use Rattle.sym_enum.specs.declared.label_set.LabelSet.{LabelSet}
@@ -354,35 +354,7 @@ left_step u v c old part.Free fs gs hs at_u at_v all t (inr e) = forms_stay u v 
     number_clash : {s : Span} → Some part.Free ≡ Some (part.Span s) → ⊥
     number_clash q = cc
 
--- ---- the first cells
-
--- The first parts are those left, and the others the old ones.
-abbrev pub mixed : ℕ → List Part → List Part → List Part
-mixed zero lefts when = when
-mixed (suc n) [] when = when
-mixed (suc n) (l ∷ lefts) [] = []
-mixed (suc n) (l ∷ lefts) (w ∷ when) = l ∷ mixed n lefts when
-
-pub mixed_here : (n : ℕ) (lefts when : List Part) (old : Part) → slice_get when n ≡ Some old → slice_get (mixed n lefts when) n ≡ Some old
-mixed_here zero lefts when old e = e
-mixed_here (suc n) [] when old e = e
-mixed_here (suc n) (l ∷ lefts) [] old e = e
-mixed_here (suc n) (l ∷ lefts) (w ∷ when) old e = mixed_here n lefts when old e
-
-pub mixed_next : (n : ℕ) (lefts when : List Part) (old left : Part) → slice_get when n ≡ Some old → slice_get lefts n ≡ Some left → mixed (n + 1) lefts when ≡ slice_set (mixed n lefts when) n left
-mixed_next n [] when old left e f = absurd (cc)
-mixed_next n (l ∷ lefts) [] old left e f = absurd (cc)
-mixed_next zero (l ∷ lefts) (w ∷ when) old left e f = let same : l ≡ left = cc in ap (λ (p : Part). p ∷ when) same
-mixed_next (suc n) (l ∷ lefts) (w ∷ when) old left e f = rw add-one (ap (λ (ps : List Part). l ∷ ps) (rw add-one at (mixed_next n lefts when old left e f)))
-
-pub mixed_whole : (n : ℕ) (lefts when : List Part) → length lefts ≡ length when → length when ≤ n → mixed n lefts when ≡ lefts
-mixed_whole zero [] [] e h = refl
-mixed_whole zero (l ∷ lefts) [] e h = absurd (omega arith)
-mixed_whole zero lefts (w ∷ when) e h = absurd (omega arith)
-mixed_whole (suc n) [] [] e h = refl
-mixed_whole (suc n) [] (w ∷ when) e h = absurd (omega arith)
-mixed_whole (suc n) (l ∷ lefts) [] e h = absurd (omega arith)
-mixed_whole (suc n) (l ∷ lefts) (w ∷ when) e h = ap (λ (ps : List Part). l ∷ ps) (mixed_whole n lefts when (omega arith) (omega arith))
+-- ---- the forms themselves, and numbers that are put into them
 
 pub own_taken : (when : List Part) (fs : List Form) → All (IsTakenOn when) fs → AreTakenTo when fs fs
 own_taken when fs all = zip_trans (λ f g. IsTakenOn when f × (g ≡ f)) (λ (g h : Form). h ≡ g) (IsTakenTo when) fs fs fs (λ f g h t same. subst (λ (k : Form). IsTakenTo when f k) (sym (same ∙ t.1)) t.0) (zip_with (IsTakenOn when) (λ (f g : Form). g ≡ f) fs fs all (same_items fs)) (same_items fs)

@@ -1,16 +1,14 @@
 -- One path and then another.
-use Rattle.std.proofs.Common.{◌≡◌, ◌↔◌, ℕ, ℤ, List, Some, ◌∙◌, refl, sym, ap, subst}
+use Rattle.std.proofs.Common.{◌≡◌, ℕ, ℤ, List, Some, ◌∙◌, refl, sym, ap, subst}
 use Rattle.std.specs.Prelude.{slice_get}
 use Rattle.std.specs.List.{All, AllZip}
 use Rattle.sym_base.specs.Tests.{Truth}
 use Rattle.sym_base.specs.declared.values.state.Fault.{Fault}
 use Rattle.sym_base.specs.declared.values.state.State.{State}
-use Rattle.sym_base.specs.declared.values.state.Outcome.{Outcome}
 use Rattle.sym_base.specs.declared.values.state.Outcome.TheVariants.{Going}
 use Rattle.sym_check.specs.declared.plan.script.CellPlan.{CellPlan}
 use Rattle.sym_check.specs.Conditions.{test_truth}
 use Rattle.sym_check.specs.ScriptPlans.{ScriptPlan}
-use Rattle.sym_check.specs.Validity.{InRange}
 use Rattle.sym_check.specs.WellFormed.{IsWellFormed}
 use Rattle.sym_int.specs.Elements.{IsConstant}
 use Rattle.sym_int.specs.Points.{HasPoint}
@@ -28,9 +26,9 @@ use Rattle.sym_path.specs.declared.path.PathEnd.TheVariants.{Next, Ended}
 use Rattle.sym_path.specs.Admitting.{Admits}
 use Rattle.sym_path.specs.Fitting.{PartFits, NumberFits, FormFits, FormsFit, EndFits, PathFits}
 use Rattle.sym_path.specs.Fitting as fitting
-use Rattle.sym_path.specs.Following.{AreLeft, IsContext, AllCanComeAfter, AreAfter, AdmitsOutcome, end_after, IsEndAfter, IsFollowed}
-use Rattle.sym_path.specs.Giving.{end_at, state_at}
-use Rattle.sym_path.specs.Possible.{Meets, ConstantMeets, Possible, IsPossiblePair}
+use Rattle.sym_path.specs.Following.{AreLeft, IsContext, AllCanComeAfter, AreAfter, CanEndAfter, EndsAfter, IsEndAfter, IsFollowed}
+use Rattle.sym_path.specs.Giving.{state_at}
+use Rattle.sym_path.specs.Possible.{Possible, IsPossiblePair}
 use Rattle.sym_path.specs.Taking.{NumberIsTakenTo, IsTakenTo, AreTakenTo}
 use Rattle.sym_path.proofs.FollowedStates.{left_is_admitted, left_gives, both_are_left}
 use Rattle.sym_path.proofs.FollowingFits.{left_parts, taken_forms_fit, taken_meets}
@@ -41,6 +39,14 @@ use Rattle.sym_path.proofs.Lists.{zip_get_right}
 module _ (p : ScriptPlan) (when : List Part) (forms : List Form) (needs lefts : List Part) (well : IsWellFormed p)
     (parts : AllZip (PartFits p) p.cells when) (own : FormsFit p when forms) (others : AllZip (PartFits p) p.cells needs)
     (left : AreLeft forms needs when lefts) (possible : Possible (test_truth p.tests) when forms needs) where
+  -- A fault after a path that goes on.
+  fault_after : (fault : Fault) → EndFits p needs (Ended fault) → IsEndAfter p lefts forms (Ended fault) (Ended fault)
+  fault_after fault h = record {
+    fits = h;
+    fault = λ g. (λ e. e, λ e. e);
+    gives = λ s a. refl;
+  }
+
   module _ (mids : List Form) (taken : AreTakenTo lefts forms mids) where
     mids_fit : FormsFit p lefts mids
     mids_fit = taken_forms_fit p when forms needs lefts parts own.each others left mids taken
@@ -66,10 +72,10 @@ module _ (p : ScriptPlan) (when : List Part) (forms : List Form) (needs lefts : 
         by (form.Words f) is t = absurd (cc)
 
     module _ (context : IntForms) (ctx : IsContext mids lefts context) (gs : List Form) (fits : FormsFit p needs gs) where
-      pub come_after : AllCanComeAfter mids context gs
+      come_after : AllCanComeAfter mids lefts context gs
       come_after = all_can_come (test_truth p.tests) p lefts mids needs context (left_parts p when forms needs lefts parts own.each others left) mids_fit others ctx meets well gs fits
 
-      pub next_after : (rs : List Form) → AreAfter mids context gs rs → IsEndAfter p lefts forms (Next gs) (Next rs)
+      next_after : (rs : List Form) → AreAfter mids lefts context gs rs → IsEndAfter p lefts forms (Next gs) (Next rs)
       next_after rs h = record {
         fits = forms_go (test_truth p.tests) p lefts mids needs context (left_parts p when forms needs lefts parts own.each others left) mids_fit others ctx meets gs rs fits h;
         fault = λ fault. (λ e. absurd (cc), λ e. absurd (cc));
@@ -79,12 +85,13 @@ module _ (p : ScriptPlan) (when : List Part) (forms : List Form) (needs lefts : 
             ap Going (states_same (test_truth p.tests) p lefts mids needs context (left_parts p when forms needs lefts parts own.each others left) mids_fit others ctx meets gs rs fits h s a ∙ ap (λ (t : State). state_at gs t) states);
       }
 
-  pub fault_after : (fault : Fault) → EndFits p needs (Ended fault) → IsEndAfter p lefts forms (Ended fault) (Ended fault)
-  fault_after fault h = record {
-    fits = h;
-    fault = λ g. (λ e. e, λ e. e);
-    gives = λ s a. refl;
-  }
+    pub can_end : (e : PathEnd) → EndFits p needs e → CanEndAfter mids lefts e
+    can_end (Next gs) fits = λ context ctx. come_after context ctx gs fits
+    can_end (Ended fault) fits = tt
+
+    pub end_is : (e end : PathEnd) → EndFits p needs e → EndsAfter mids lefts e end → IsEndAfter p lefts forms e end
+    end_is (Next gs) end fits h = subst (λ (k : PathEnd). IsEndAfter p lefts forms (Next gs) k) (sym h.is) (next_after h.context h.known gs fits h.after h.become)
+    end_is (Ended fault) end fits h = subst (λ (k : PathEnd). IsEndAfter p lefts forms (Ended fault) k) (sym h) (fault_after fault fits)
 
   -- The path of both.
   pub path_is : (q : Path) (end : PathEnd) → q.when ≡ needs → IsEndAfter p lefts forms q.end end → IsFollowed p (record { when = when; end = Next forms }) q (record { when = lefts; end = end })

@@ -7,8 +7,10 @@ mod Examples
 pub mod Fitted
 pub mod Followed
 pub mod FollowedStates
+pub mod FollowingConstants
 pub mod FollowingFits
 pub mod FollowingForms
+pub mod FollowingNarrowed
 pub mod FollowingSteps
 pub mod FollowingTaken
 pub mod FollowingWhole

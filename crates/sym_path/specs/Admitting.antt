@@ -52,7 +52,8 @@ abbrev pub same_truth : Bool → Bool → Bool
 same_truth a b = if a then b else not b
 
 abbrev pub gives_outcome : Truth → List Value → Literal → Bool
-gives_outcome truth parts literal = same_truth literal.outcome (truth literal.test literal.args parts)
+gives_outcome truth parts literal =
+    same_truth literal.outcome (truth literal.test literal.args parts)
 
 abbrev pub part_admits : Truth → Part → Cell → Bool
 part_admits truth (part.Set set) (cell.Enum label) = has_label set label
@@ -67,7 +68,8 @@ part_admits truth (part.Span span) (cell.Nums xs) = false
 part_admits truth (part.Span span) (cell.Words ts) = false
 part_admits truth (part.Facts known) (cell.Enum label) = false
 part_admits truth (part.Facts known) (cell.Int x) = false
-part_admits truth (part.Facts known) (cell.Hold parts) = list_all (gives_outcome truth parts) (literals known)
+part_admits truth (part.Facts known) (cell.Hold parts) =
+    list_all (gives_outcome truth parts) (literals known)
 part_admits truth (part.Facts known) (cell.Nums xs) = false
 part_admits truth (part.Facts known) (cell.Words ts) = false
 part_admits truth part.Free (cell.Enum label) = false

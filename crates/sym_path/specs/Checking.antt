@@ -21,7 +21,8 @@ use Rattle.sym_path.specs.declared.form.Form.TheVariants as form
 use Rattle.sym_path.specs.Fitting.{FitsEnum, FitsRange, Suits, NumberFits}
 
 -- The first parameters are of these kinds, and the others of the values' kinds.
-pub record AreParameters (enums : List EnumPlan) (kinds params : List KindPlan) (values : List Value) : Type 0 where
+pub record AreParameters (enums : List EnumPlan) (kinds params : List KindPlan)
+    (values : List Value) : Type 0 where
   pub others : List KindPlan
   pub is : params ≡ kinds ++ others
   pub args : AreOfKinds enums others values

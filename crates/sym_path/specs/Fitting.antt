@@ -66,14 +66,16 @@ pub data PartFits (p : ScriptPlan) : CellPlan → Part → Type 0 where
 abbrev pub StaysWithin : ℤ → ℤ → (ℤ → ℤ) → Option Part → Type 0
 StaysWithin lo hi number None = ⊥
 StaysWithin lo hi number (Some (part.Set set)) = ⊥
-StaysWithin lo hi number (Some (part.Span span)) = (x : ℤ) → HasPoint span x → InRange lo hi (number x)
+StaysWithin lo hi number (Some (part.Span span)) =
+    (x : ℤ) → HasPoint span x → InRange lo hi (number x)
 StaysWithin lo hi number (Some (part.Facts known)) = ⊥
 StaysWithin lo hi number (Some part.Free) = ⊥
 
 -- A constant in the range, or a line over an integer cell that lies in it.
 abbrev pub NumberFits : ℤ → ℤ → List Part → IntForm → Type 0
 NumberFits lo hi when (number.Const n) = InRange lo hi n.value
-NumberFits lo hi when (number.Line line) = StaysWithin lo hi (form_on (number.Line line)) (slice_get when line.cell)
+NumberFits lo hi when (number.Line line) =
+    StaysWithin lo hi (form_on (number.Line line)) (slice_get when line.cell)
 
 -- A form is of its cell's kind. A constant is a value of that kind, a copied cell has the same enum
 -- or the same kinds of parts, and numbers lie in the cell's range.

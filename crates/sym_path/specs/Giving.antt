@@ -1,5 +1,5 @@
--- What paths make of the states that they admit. Paths with a constraint and a transfer are those of
--- the SYMPLE paper (SOSP 2015).
+-- What paths make of the states that they admit. Paths with a constraint and a transfer are those
+-- of the SYMPLE paper (SOSP 2015).
 use Rattle.std.specs.Prelude.{◌≡◌, ℕ, ℤ, List, [], ◌∷◌, ◌++◌, map, if◌then◌else◌, Some, slice_get}
 use Rattle.std.specs.List.{All}
 use Rattle.sym_base.specs.Limits.{IsNumber}
@@ -29,8 +29,8 @@ nums_after added s old = nums_in (Some old) ++ map (λ f. form_value f s) added
 abbrev pub words_after : List (List ℕ) → Cell → List (List ℕ)
 words_after added old = words_in (Some old) ++ added
 
--- What a cell holds by its form at a state, in which it holds `old`: a constant, the label, number or
--- parts that the form takes from the state, or a list with elements added.
+-- What a cell holds by its form at a state, in which it holds `old`: a constant, the label, number
+-- or parts that the form takes from the state, or a list with elements added.
 abbrev pub cell_at : Form → State → Cell → Cell
 cell_at (form.Enum f) s old = cell.Enum (label_value f s)
 cell_at (form.Int f) s old = cell.Int (form_value f s)
@@ -70,10 +70,12 @@ outcomes truth [] s = []
 outcomes truth (p ∷ paths) s = given truth p s ++ outcomes truth paths s
 
 -- One of the paths admits the state and gives this outcome, and no other admits it.
-pub record IsOnlyOutcome (truth : Truth) (paths : List Path) (s : State) (o : Outcome) : Type 0 where
+pub record IsOnlyOutcome (truth : Truth) (paths : List Path) (s : State)
+    (o : Outcome) : Type 0 where
   pub index : ℕ
   pub path : Path
   pub is : slice_get paths index ≡ Some path
   pub admitted : Admits truth path.when s
   pub gives : end_at path.end s ≡ o
-  pub no_other : (i : ℕ) (other : Path) → slice_get paths i ≡ Some other → Admits truth other.when s → i ≡ index
+  pub no_other : (i : ℕ) (other : Path) → slice_get paths i ≡ Some other →
+      Admits truth other.when s → i ≡ index

@@ -55,7 +55,8 @@ IsWholeCell p c plan.Words part.Free (form.Words added) = added ≡ []
 IsWholeCell p c cell when f = ⊥
 
 -- One part and one form for each of the first cells, and each as above.
-pub record AreWhole (p : ScriptPlan) (count : ℕ) (when : List Part) (forms : List Form) : Type 0 where
+pub record AreWhole (p : ScriptPlan) (count : ℕ) (when : List Part)
+    (forms : List Form) : Type 0 where
   pub part_count : length when ≡ count
   pub form_count : length forms ≡ count
   pub each : (c : ℕ) (cell : CellPlan) (now : Part) (f : Form)

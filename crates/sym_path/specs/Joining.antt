@@ -12,8 +12,8 @@ use Rattle.sym_path.specs.declared.path.PathEnd.TheVariants.{Next, Ended}
 use Rattle.sym_path.specs.declared.path.Path.{Path}
 use Rattle.sym_path.specs.Taking.{AreTakenTo}
 
--- Two parts unite: any two sets, two spans whose numbers are those of one span, and two lots of facts
--- that are equal or differ in exactly one outcome.
+-- Two parts unite: any two sets, two spans whose numbers are those of one span, and two lots of
+-- facts that are equal or differ in exactly one outcome.
 abbrev pub PartsUnite : Part → Part → Type 0
 PartsUnite (part.Set a) (part.Set b) = Unit {0}
 PartsUnite (part.Set a) (part.Span b) = ⊥

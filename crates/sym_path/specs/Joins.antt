@@ -55,8 +55,8 @@ pub data IsUnitedPart : Part → Part → Part → Type 0 where
       → IsUnitedPart (part.Facts a) (part.Facts b) (part.Facts united)
   free : IsUnitedPart part.Free part.Free part.Free
 
--- The third constraint is the first one but for one cell, in which it is the union of the first two,
--- which are equal elsewhere.
+-- The third constraint is the first one but for one cell, in which it is the union of the first
+-- two, which are equal elsewhere.
 pub record IsUnitedInOne (v w united : List Part) : Type 0 where
   pub cell : ℕ
   pub first : Part

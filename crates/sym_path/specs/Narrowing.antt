@@ -35,7 +35,8 @@ cell_admitted truth p (Some c) = part_admits truth p c
 -- The second path gives what the first one gives, and only where this cell is as the part says.
 abbrev pub GivesWhere : Path → ℕ → Part → Path → Type 0
 GivesWhere old c p new = (truth : Truth) (s : State) →
-    given truth new s ≡ (if cell_admitted truth p (slice_get s.cells c) then given truth old s else [])
+    given truth new s
+    ≡ (if cell_admitted truth p (slice_get s.cells c) then given truth old s else [])
 
 -- A set with some of the labels of another one.
 pub record IsSubset (old new : LabelSet) : Type 0 where
@@ -122,7 +123,9 @@ abbrev pub NarrowsFacts : FactMap → Option Part → Type 0
 NarrowsFacts new None = ⊥
 NarrowsFacts new (Some (part.Set old)) = ⊥
 NarrowsFacts new (Some (part.Span old)) = ⊥
-NarrowsFacts new (Some (part.Facts old)) = (truth : Truth) (parts : List Value) → facts.Admits truth new parts → facts.Admits truth old parts
+NarrowsFacts new (Some (part.Facts old)) =
+    (truth : Truth) (parts : List Value) → facts.Admits truth new parts →
+    facts.Admits truth old parts
 NarrowsFacts new (Some part.Free) = ⊥
 
 -- The part is one that the cell of the script with this number may have.

@@ -62,7 +62,8 @@ in_span part.Free x = true
 
 abbrev pub int_passes : ℕ → ℤ → Part → IntForm → Bool
 int_passes c x need (number.Const n) = true
-int_passes c x need (number.Line line) = if line.cell == c then in_span need (form_on (number.Line line) x) else true
+int_passes c x need (number.Line line) =
+    if line.cell == c then in_span need (form_on (number.Line line) x) else true
 
 -- Whether a form over the integer cell c is in the span needed of it, where the cell holds x.
 abbrev pub number_passes : ℕ → ℤ → Form → Part → Bool
@@ -93,7 +94,9 @@ Agrees c known (form.Words added) need = Unit {0}
 
 -- It is so of all forms.
 abbrev pub AllAgree : ℕ → FactMap → List Form → List Part → Type 0
-AllAgree c known forms needs = (d : ℕ) (f : Form) (need : Part) → slice_get forms d ≡ Some f → slice_get needs d ≡ Some need → Agrees c known f need
+AllAgree c known forms needs =
+    (d : ℕ) (f : Form) (need : Part) → slice_get forms d ≡ Some f → slice_get needs d ≡ Some need →
+    Agrees c known f need
 
 abbrev pub NeedAgrees : ℕ → List Form → List Part → Part → Type 0
 NeedAgrees c forms needs (part.Set need) = Unit {0}
@@ -114,4 +117,6 @@ OthersAgree c forms needs (form.Nums added) need = Unit {0}
 OthersAgree c forms needs (form.Words added) need = Unit {0}
 
 abbrev pub NeedsAgree : ℕ → List Form → List Part → Type 0
-NeedsAgree c forms needs = (d : ℕ) (f : Form) (need : Part) → slice_get forms d ≡ Some f → slice_get needs d ≡ Some need → OthersAgree c forms needs f need
+NeedsAgree c forms needs =
+    (d : ℕ) (f : Form) (need : Part) → slice_get forms d ≡ Some f → slice_get needs d ≡ Some need →
+    OthersAgree c forms needs f need

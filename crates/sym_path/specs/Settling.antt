@@ -45,8 +45,8 @@ GivesSame old new = (truth : Truth) (s : State) →
 abbrev pub EndsAsOne : List Path → List Path → Type 0
 EndsAsOne old new = All (λ (path : Path). Any (λ (q : Path). q.end ≡ path.end) old) new
 
--- The second paths admit and give what the first ones do wherever no two of the first ones admit the
--- state, fit where those do, have no fault that none of those has, and are no more.
+-- The second paths admit and give what the first ones do wherever no two of the first ones admit
+-- the state, fit where those do, have no fault that none of those has, and are no more.
 pub record IsReduced (old new : List Path) : Type 0 where
   pub same : GivesSame old new
   pub fits : (plan : ScriptPlan) → SegmentFits plan old → SegmentFits plan new

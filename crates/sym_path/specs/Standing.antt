@@ -26,9 +26,12 @@ EndsAmong records (Ended fault) = Any (λ rec. rec.no ≡ fault.no) records
 pub record StandsFor (p : ScriptPlan) (records : List Record) (paths : List Path) : Type 0 where
   pub fits : SegmentFits p paths
   pub faults : All (λ (path : Path). EndsAmong records path.end) paths
-  pub exact : (s : State) → IsValid p s → IsOnlyOutcome (test_truth p.tests) paths s (after p records (Going s))
+  pub exact : (s : State) → IsValid p s →
+      IsOnlyOutcome (test_truth p.tests) paths s (after p records (Going s))
 
 -- The last fact as an equation: what the paths that admit the state give is this one outcome. The
 -- law that the two are the same is `only_outcomes_are_equations`.
 abbrev pub GivesExactly : ScriptPlan → List Record → List Path → Type 0
-GivesExactly p records paths = (s : State) → IsValid p s → outcomes (test_truth p.tests) paths s ≡ after p records (Going s) ∷ []
+GivesExactly p records paths =
+    (s : State) → IsValid p s →
+    outcomes (test_truth p.tests) paths s ≡ after p records (Going s) ∷ []

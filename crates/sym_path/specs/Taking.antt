@@ -40,7 +40,8 @@ pub record LabelIsTakenTo (when : List Part) (f g : EnumForm) : Type 0 where
 
 -- The second integer form is the first one on the constraint.
 pub record NumberIsTakenTo (when : List Part) (f g : IntForm) : Type 0 where
-  pub one : (c : ℕ) (x : ℤ) → form_cell f ≡ Some c → HasOneNumber when c x → IsConstant (form_on f x) g
+  pub one : (c : ℕ) (x : ℤ) → form_cell f ≡ Some c → HasOneNumber when c x →
+      IsConstant (form_on f x) g
   pub more : ((c : ℕ) (x : ℤ) → form_cell f ≡ Some c → HasOneNumber when c x → ⊥) → g ≡ f
 
 -- A form of this kind with a property.

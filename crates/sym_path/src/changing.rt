@@ -37,8 +37,8 @@ impl Path {
         }
     }
 
-    /// Puts a form in the place of that of the cell with this number. Where there is none, as after a
-    /// fault, the path is as before, and the form is dropped. It takes no memory.
+    /// Puts a form in the place of that of the cell with this number. Where there is none, as
+    /// after a fault, the path is as before, and the form is dropped. It takes no memory.
     pub fn set_form(&mut self, cell: u16, form: Form)
         ensures new { self.new ≡ with_form self.old cell form }
     {

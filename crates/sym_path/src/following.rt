@@ -1,5 +1,5 @@
 //! One path after another: what is left of the first one's constraint, and the forms of both.
-ghost use Rattle.std.specs.Prelude.{◌≡◌, ◌≤◌, ◌<◌, ◌^◌, ◌↔◌, ◌⊎◌, ℕ, Bool, IfOk, IfSome, IsSome, Some, All, length, slice_get};
+ghost use Rattle.std.specs.Prelude.{◌≡◌, ◌≤◌, ◌<◌, ◌^◌, ◌↔◌, ◌⊎◌, Bool, IfOk, IfSome, IsSome, IsTrue, None, Some, All, length, slice_get};
 ghost use Rattle.std.specs.List.{AllZip};
 ghost use Rattle.sym_check.specs.CheckedScripts.{checked_plan};
 ghost use Rattle.sym_check.specs.Conditions.{test_truth};
@@ -8,27 +8,27 @@ ghost use Rattle.sym_check.specs.WellFormed.{IsWellFormed};
 ghost use Rattle.sym_int.specs.declared.element.IntForms.{IntForms as OneContext};
 ghost use Rattle.sym_pred.specs.Facts.{Atom};
 ghost use Rattle.sym_pred.specs.Meaning.{Stands};
-ghost use Rattle.sym_path.specs.Fitting.{FormsFit, PartFits, PathFits};
-ghost use Rattle.sym_path.specs.Following.{PartLeft, CopyNeeds, NeedsHere, AreLeft, LeftIsPut, CanPutLeft, IsNumberOf, IsSpanOf, IsContext, CanComeAfter, FormAfter, NumsAfter, WordsAfter, IsNums, IsWords, IsValue, KeepsOthers, AllCanComeAfter, AreAfter, IsEndAfter, IsFollowed};
-ghost use Rattle.sym_path.specs.Possible.{IsLeft, IsSaid, AllLeft, Possible, IsPossiblePair};
+ghost use Rattle.sym_path.specs.Fitting.{PathFits};
+ghost use Rattle.sym_path.specs.Following.{PartLeft, CopyNeeds, NeedsHere, AreLeft, LeftIsPut, CanPutLeft, CanPutAllLeft, IsShape, CanNarrow, NarrowedAt, IsNumberOf, IsSpanOf, IsContext, AddsConstants, StaysOnParts, CanLead, IsOnParts, LedTo, CanComeAfter, FormAfter, NumsAfter, WordsAfter, IsNums, IsWords, IsCopied, Copies, CopiedFrom, LacksOnly, KeepsNeeded, KeepsOthers, AllCanComeAfter, AreAfter, CanEndAfter, EndsAfter, IsFollowed};
+ghost use Rattle.sym_path.specs.Possible.{IsLeft, IsSaid, AllLeft, IsPossiblePair};
 ghost use Rattle.sym_path.specs.Pulling.{Agrees, HoldAgrees};
 ghost use Rattle.sym_path.specs.Taking.{AreTakenTo, IsTakenOn};
-ghost use Rattle.sym_int.specs.Elements.{CanGoThrough, GoesThroughTo};
-ghost use Rattle.sym_path.specs.declared.part.Part.{Part as OnePart};
+ghost use Rattle.sym_int.specs.Elements.{CanGoThrough};
+ghost use Rattle.sym_int.specs.Lines.{form_cell, wide_cell, wide_on};
 ghost use Rattle.sym_path.specs.declared.part.Part.TheVariants as part;
 
 use crate::form::{Form, Forms};
 use crate::joining::same_part;
 use crate::narrowing::{labels_put, numbers_put};
-use crate::part::Part;
+use crate::part::{Constraint, Part};
 use crate::path::{Path, PathEnd};
 use crate::possible_pairs::possible_by;
 use crate::pulling::{labels_left, numbers_left};
 use std::alloc::Global;
-use sym_base::{Element, NoMemory, Sequence, Text};
+use sym_base::{NoMemory, Sequence, Text};
 use sym_check::{Checked, Plan};
 use sym_enum::EnumForm;
-use sym_int::{FormList, IntForm, IntForms, Number, Span, Spans};
+use sym_int::{FormList, IntForm, IntForms, Number, Span, Spans, Wide};
 use sym_pred::{Facts, HoldForm};
 use sym_vector::ListForm;
 
@@ -47,7 +47,7 @@ fn hold_passed(
 {
     match form {
         HoldForm::Copy(own) if *own == cell => match need {
-            Part::Facts(needed) => match facts.meet(alloc, needed)? {
+            Part::Facts(needed) => match facts.met_with(alloc, needed)? {
                 Some(met) => Ok(met),
                 None => unreachable!(),
             },
@@ -80,37 +80,37 @@ fn facts_passed(
 fn facts_left(
     alloc: Global,
     cell: u16,
-    facts: &Facts,
+    facts: Facts,
     forms: &[Form],
     needs: &[Part],
 ) -> Result<Facts, NoMemory>
     requires lengths { length forms.now ≡ length needs.now }
-    requires left { IsLeft forms.now needs.now cell (part.Facts facts.now) }
+    requires left { IsLeft forms.now needs.now cell (part.Facts facts) }
     ensures { IfOk result (λ left. (atom : Atom) (outcome : Bool) →
-        Stands left atom outcome ↔ IsSaid facts.now forms.now needs.now cell atom outcome) }
+        Stands left atom outcome ↔ IsSaid facts forms.now needs.now cell atom outcome) }
 {
-    let mut left = facts.copy(alloc)?;
+    let mut facts = facts;
     'cells: for index in 0..forms.len() {
-        left = facts_passed(alloc, cell, left, &forms[index], &needs[index])?;
+        facts = facts_passed(alloc, cell, facts, &forms[index], &needs[index])?;
     }
-    Ok(left)
+    Ok(facts)
 }
 
 /// What is left of a cell of which something is.
-pub(crate) fn left_of(
+fn left_of(
     alloc: Global,
     cell: u16,
-    part: &Part,
+    part: Part,
     forms: &[Form],
     needs: &[Part],
 ) -> Result<Part, NoMemory>
     requires lengths { length forms.now ≡ length needs.now }
-    requires left { IsLeft forms.now needs.now cell part.now }
-    ensures { IfOk result (PartLeft forms.now needs.now cell part.now) }
+    requires left { IsLeft forms.now needs.now cell part }
+    ensures { IfOk result (PartLeft forms.now needs.now cell part) }
 {
     match part {
-        Part::Set(set) => Ok(Part::Set(labels_left(cell, *set, forms, needs))),
-        Part::Span(span) => match numbers_left(cell, span, forms, needs) {
+        Part::Set(set) => Ok(Part::Set(labels_left(cell, set, forms, needs))),
+        Part::Span(span) => match numbers_left(cell, &span, forms, needs) {
             Some(left) => Ok(Part::Span(left)),
             None => unreachable!(),
         },
@@ -119,23 +119,16 @@ pub(crate) fn left_of(
     }
 }
 
-/// What is left of all cells.
-fn all_left_of(
-    alloc: Global,
-    when: &[Part],
-    forms: &[Form],
-    needs: &[Part],
-) -> Result<Vec<Part>, NoMemory>
-    requires lengths { length forms.now ≡ length needs.now }
-    requires few { length when.now ≤ 2 ^ 16 }
-    requires left { AllLeft when.now forms.now needs.now }
-    ensures { IfOk result (λ lefts. AreLeft forms.now needs.now when.now lefts.items) }
+/// The set or the span of a cell; `Free` of any other cell.
+fn shape(part: &Part) -> Part
+    ensures { IsShape part.now result }
 {
-    let mut lefts = Vec::with_capacity(alloc, when.len())?;
-    'cells: for index in 0..when.len() {
-        lefts.push(left_of(alloc, index as u16, &when[index], forms, needs)?)?;
+    match part {
+        Part::Set(set) => Part::Set(*set),
+        Part::Span(span) => Part::Span(*span),
+        Part::Facts(_) => Part::Free,
+        Part::Free => Part::Free,
     }
-    Ok(lefts)
 }
 
 /// Puts what is left of a cell in its place in the forms, where that is one label or one number.
@@ -162,20 +155,54 @@ fn put_left(forms: Forms, cell: u16, old: &Part, left: &Part) -> Forms
     }
 }
 
-/// The forms on what is left of their constraint.
-fn taken_forms(forms: Forms, when: &[Part], lefts: &[Part]) -> Forms
-    requires lengths { length lefts.now ≡ length when.now }
-    requires few { length when.now ≤ 2 ^ 16 }
-    requires taken { All (IsTakenOn when.now) forms }
-    requires numbers { (c : ℕ) (left : OnePart) →
-        slice_get lefts.now c ≡ Some left → CanPutLeft c left forms }
-    ensures { AreTakenTo lefts.now forms result }
+/// Puts what is left of the cell at `index` in the place of its part, and gives the forms on it.
+/// After an `Err` the part is lost.
+fn narrow_at(
+    alloc: Global,
+    when: &mut Constraint,
+    index: usize,
+    forms: Forms,
+    needs: &[Part],
+) -> Result<Forms, NoMemory>
+    requires lengths { length forms ≡ length needs.now }
+    requires few { index < 2 ^ 16 }
+    requires left { CanNarrow forms needs.now index when.old }
+    ensures { IfOk result (NarrowedAt forms needs.now index when.old when.new) }
+{
+    match when.replace(index, Part::Free) {
+        Some(part) => {
+            let cell = index as u16;
+            let old = shape(&part);
+            let left = left_of(alloc, cell, part, forms.as_slice(), needs)?;
+            let after = put_left(forms, cell, &old, &left);
+            when.set(index, left);
+            Ok(after)
+        }
+        None => unreachable!(),
+    }
+}
+
+/// Puts what is left of all cells in the place of their parts, and gives the forms on it.
+fn narrow_all(
+    alloc: Global,
+    when: &mut Constraint,
+    forms: Forms,
+    needs: &[Part],
+) -> Result<Forms, NoMemory>
+    requires lengths { length forms ≡ length needs.now }
+    requires parts { length when.old ≡ length needs.now }
+    requires few { length when.old ≤ 2 ^ 16 }
+    requires left { AllLeft when.old forms needs.now }
+    requires taken { All (IsTakenOn when.old) forms }
+    requires numbers { CanPutAllLeft forms needs.now when.old }
+    ensures { IfOk result (λ after.
+        AreLeft forms needs.now when.old when.new × AreTakenTo when.new forms after) }
 {
     let mut forms = forms;
-    'cells: for index in 0..when.len() {
-        forms = put_left(forms, index as u16, &when[index], &lefts[index]);
+    'cells: for index in 0..needs.len() {
+        forms = narrow_at(alloc, when, index, forms, needs)?;
     }
-    forms
+    Ok(forms)
 }
 
 /// The form of an integer cell; the constant 0 of any other cell.
@@ -218,10 +245,57 @@ fn spans_of(alloc: Global, parts: &[Part]) -> Result<Spans, NoMemory>
     Ok(Sequence::of(spans))
 }
 
-/// The forms of the integer cells, and the spans in which these lie.
-fn context_of(alloc: Global, forms: &[Form], lefts: &[Part]) -> Result<IntForms, NoMemory>
-    ensures { IfOk result (IsContext forms.now lefts.now) }
+/// Whether the added numbers name no integer cell.
+fn are_constants(added: &ListForm<IntForm>) -> bool
+    ensures { IsTrue result → All (λ f. form_cell f ≡ None) added.now }
 {
+    'added: for index in 0..added.len() {
+        if let Some(IntForm::Line(_)) = added.at(index) {
+            return false;
+        }
+    }
+    true
+}
+
+/// Whether the numbers that a list form adds name no integer cell.
+fn adds_constants(form: &Form) -> bool
+    ensures { IsTrue result → AddsConstants form.now }
+{
+    match form {
+        Form::Nums(added) => are_constants(added),
+        _ => true,
+    }
+}
+
+/// Whether this is so of all forms.
+fn all_add_constants(forms: &[Form]) -> bool
+    ensures { IsTrue result → All AddsConstants forms.now }
+{
+    'cells: for index in 0..forms.len() {
+        if !adds_constants(&forms[index]) {
+            return false;
+        }
+    }
+    true
+}
+
+/// The forms of the integer cells, and the spans in which these lie, for the numbers that are added
+/// to lists; where these name no integer cell, nothing, which takes no memory.
+fn context_of(
+    alloc: Global,
+    forms: &[Form],
+    lefts: &[Part],
+    others: &[Form],
+) -> Result<IntForms, NoMemory>
+    ensures { IfOk result (λ context.
+        All AddsConstants others.now ⊎ IsContext forms.now lefts.now context) }
+{
+    if all_add_constants(others) {
+        return Ok(IntForms {
+            forms: Sequence::new(alloc),
+            spans: Sequence::new(alloc),
+        });
+    }
     let numbers = numbers_of(alloc, forms)?;
     let spans = spans_of(alloc, lefts)?;
     Ok(IntForms {
@@ -235,14 +309,70 @@ fn no_form() -> Form {
     Form::Enum(EnumForm::Const(0))
 }
 
+/// Whether the form copies the cell with this number.
+fn copies(form: &Form, cell: u16) -> bool
+    ensures { Copies cell form.now → IsTrue result }
+{
+    match form {
+        Form::Enum(EnumForm::Copy(own)) => *own == cell,
+        Form::Hold(HoldForm::Copy(own)) => *own == cell,
+        _ => false,
+    }
+}
+
+/// Whether a form from the one at `index` on does.
+fn is_copied(forms: &[Form], index: usize, cell: u16) -> bool
+    ensures { CopiedFrom forms.now index cell → IsTrue result }
+{
+    'cells: for at in index..forms.len() {
+        if copies(&forms[at], cell) {
+            return true;
+        }
+    }
+    false
+}
+
 /// A copy of the form of the cell with this number.
 fn form_at(alloc: Global, forms: &Forms, cell: u16) -> Result<Form, NoMemory>
-    requires { IsValue (slice_get forms.now cell) }
+    requires { IsCopied (slice_get forms.now cell) }
     ensures { IfOk result (λ form. slice_get forms.now cell ≡ Some form) }
 {
     match forms.get(cell as usize) {
         Some(form) => form.copy(alloc),
         None => unreachable!(),
+    }
+}
+
+/// The form of the cell with this number, which is moved out.
+fn form_out(forms: &mut Forms, cell: u16) -> Form
+    requires { IsCopied (slice_get forms.old cell) }
+    ensures form { slice_get forms.old cell ≡ Some result }
+    ensures others { LacksOnly cell forms.old forms.new }
+{
+    match forms.replace(cell as usize, no_form()) {
+        Some(form) => form,
+        None => unreachable!(),
+    }
+}
+
+/// The form of the cell with this number, for a copy at `index` of the other forms: moved out where
+/// no later one copies the cell.
+fn copy_after(
+    alloc: Global,
+    forms: &mut Forms,
+    index: usize,
+    others: &[Form],
+    cell: u16,
+) -> Result<Form, NoMemory>
+    requires within { index < length others.now }
+    requires there { IsCopied (slice_get forms.old cell) }
+    ensures form { IfOk result (λ form. slice_get forms.old cell ≡ Some form) }
+    ensures others { KeepsNeeded others.now index forms.old forms.new }
+{
+    if is_copied(others, index + 1, cell) {
+        form_at(alloc, forms, cell)
+    } else {
+        Ok(form_out(forms, cell))
     }
 }
 
@@ -284,107 +414,124 @@ fn words_after(
     }
 }
 
-fn number_after(number: &IntForm, context: &IntForms) -> IntForm
-    requires { CanGoThrough number.now context.now }
-    ensures { GoesThroughTo number.now context.now result }
+/// The form on what is left of the cell that it names.
+fn taken_on(wide: &Wide, lefts: &[Part]) -> IntForm
+    requires { StaysOnParts (wide_on wide.now) (wide_cell wide.now) lefts.now }
+    ensures { IsOnParts (wide_on wide.now) (wide_cell wide.now) lefts.now result }
 {
-    let mut number = *number;
-    number.go_through(context);
-    number
+    match wide {
+        Wide::Const(number) => IntForm::Const(Number {
+            value: number.value as i64,
+        }),
+        Wide::Line(line) => match lefts.get(line.cell as usize) {
+            Some(Part::Span(span)) => wide.taken(span),
+            _ => unreachable!(),
+        },
+    }
 }
 
-/// What a form of the cell at `index` becomes after the others, of which a list form of this cell
-/// is moved out.
+/// What an integer form becomes after the form of the cell that it names.
+fn number_after(number: &IntForm, forms: &Forms, lefts: &[Part]) -> IntForm
+    requires { CanLead forms.now lefts.now number.now }
+    ensures { LedTo forms.now lefts.now number.now result }
+{
+    match number {
+        IntForm::Const(_) => *number,
+        IntForm::Line(line) => match forms.get(line.cell as usize) {
+            Some(Form::Int(inner)) => {
+                let wide = IntForm::through(number, inner);
+                taken_on(&wide, lefts)
+            }
+            _ => unreachable!(),
+        },
+    }
+}
+
+/// What a form of the cell at `index`, one of `others`, becomes after the forms. A list form of
+/// this cell is moved out of these, and a form that it copies and no later one does.
 fn form_after(
     alloc: Global,
     forms: &mut Forms,
     index: usize,
     form: &Form,
+    others: &[Form],
+    lefts: &[Part],
     context: &IntForms,
 ) -> Result<Form, NoMemory>
-    requires { CanComeAfter forms.old context.now index form.now }
-    ensures form { IfOk result (FormAfter forms.old context.now index form.now) }
-    ensures others { KeepsOthers index forms.old forms.new }
+    requires within { index < length others.now }
+    requires can { CanComeAfter forms.old lefts.now context.now index form.now }
+    ensures form { IfOk result (FormAfter forms.old lefts.now context.now index form.now) }
+    ensures others { KeepsNeeded others.now index forms.old forms.new }
 {
     match form {
         Form::Enum(EnumForm::Const(label)) => Ok(Form::Enum(EnumForm::Const(*label))),
-        Form::Enum(EnumForm::Copy(cell)) => form_at(alloc, forms, *cell),
-        Form::Int(number) => Ok(Form::Int(number_after(number, context))),
+        Form::Enum(EnumForm::Copy(cell)) => copy_after(alloc, forms, index, others, *cell),
+        Form::Int(number) => Ok(Form::Int(number_after(number, forms, lefts))),
         Form::Hold(HoldForm::Const(parts)) => {
             Ok(Form::Hold(HoldForm::Const(parts.copy(alloc)?)))
         }
-        Form::Hold(HoldForm::Copy(cell)) => form_at(alloc, forms, *cell),
+        Form::Hold(HoldForm::Copy(cell)) => copy_after(alloc, forms, index, others, *cell),
         Form::Nums(added) => nums_after(alloc, forms, index, added, context),
         Form::Words(added) => words_after(alloc, forms, index, added),
     }
 }
 
-/// What forms become after others, whose lists are moved.
+/// What other forms become after the forms, whose lists are moved, and the last copy of each.
 fn forms_after(
     alloc: Global,
     forms: Forms,
     others: &[Form],
+    lefts: &[Part],
     context: &IntForms,
 ) -> Result<Forms, NoMemory>
-    requires { AllCanComeAfter forms context.now others.now }
-    ensures { IfOk result (AreAfter forms context.now others.now) }
+    requires { AllCanComeAfter forms lefts.now context.now others.now }
+    ensures { IfOk result (AreAfter forms lefts.now context.now others.now) }
 {
     let mut forms = forms;
     let mut after = Vec::with_capacity(alloc, others.len())?;
     'cells: for index in 0..others.len() {
-        after.push(form_after(alloc, &mut forms, index, &others[index], context)?)?;
+        let other = &others[index];
+        let form = form_after(alloc, &mut forms, index, other, others, lefts, context)?;
+        after.push(form)?;
     }
     Ok(Sequence::of(after))
 }
 
-/// The end of the path of two, of the forms of the first one and what is left of its constraint.
+/// The end of a path after the forms of another one, which are on what is left of its constraint.
 fn end_after(
     alloc: Global,
-    _plan: &Plan,
-    when: &[Part],
     lefts: &[Part],
     forms: Forms,
-    next: &Path,
+    end: &PathEnd,
 ) -> Result<PathEnd, NoMemory>
-    requires known { IsWellFormed (script_plan _plan.now) }
-    requires parts { AllZip (PartFits (script_plan _plan.now))
-        (script_plan _plan.now).cells when.now }
-    requires forms { FormsFit (script_plan _plan.now) when.now forms }
-    requires second { PathFits (script_plan _plan.now) next.now }
-    requires possible { Possible (test_truth (script_plan _plan.now).tests)
-        when.now forms next.now.when }
-    requires left { AreLeft forms next.now.when when.now lefts.now }
-    ensures { IfOk result (IsEndAfter (script_plan _plan.now) lefts.now forms next.now.end) }
+    requires { CanEndAfter forms lefts.now end.now }
+    ensures { IfOk result (EndsAfter forms lefts.now end.now) }
 {
-    match &next.end {
+    match end {
         PathEnd::Ended(fault) => Ok(PathEnd::Ended(*fault)),
         PathEnd::Next(others) => {
-            let taken = taken_forms(forms, when, lefts);
-            let context = context_of(alloc, taken.as_slice(), lefts)?;
-            let after = forms_after(alloc, taken, others.as_slice(), &context)?;
+            let context = context_of(alloc, forms.as_slice(), lefts, others.as_slice())?;
+            let after = forms_after(alloc, forms, others.as_slice(), lefts, &context)?;
             Ok(PathEnd::Next(after))
         }
     }
 }
 
 /// The path of one and then another that can come after it. What it has is moved.
-fn path_after(alloc: Global, plan: &Plan, path: Path, next: &Path) -> Result<Path, NoMemory>
-    requires known { IsWellFormed (script_plan plan.now) }
-    requires first { PathFits (script_plan plan.now) path }
-    requires second { PathFits (script_plan plan.now) next.now }
-    requires possible { IsPossiblePair (test_truth (script_plan plan.now).tests) path next.now }
-    ensures { IfOk result (IsFollowed (script_plan plan.now) path next.now) }
+fn path_after(alloc: Global, _plan: &Plan, path: Path, next: &Path) -> Result<Path, NoMemory>
+    requires known { IsWellFormed (script_plan _plan.now) }
+    requires first { PathFits (script_plan _plan.now) path }
+    requires second { PathFits (script_plan _plan.now) next.now }
+    requires possible { IsPossiblePair (test_truth (script_plan _plan.now).tests) path next.now }
+    ensures { IfOk result (IsFollowed (script_plan _plan.now) path next.now) }
 {
     let Path { when, end } = path;
     match end {
         PathEnd::Next(forms) => {
-            let needs = next.when.as_slice();
-            let lefts = all_left_of(alloc, when.as_slice(), forms.as_slice(), needs)?;
-            let end = end_after(alloc, plan, when.as_slice(), &lefts, forms, next)?;
-            Ok(Path {
-                when: Sequence::of(lefts),
-                end,
-            })
+            let mut when = when;
+            let after = narrow_all(alloc, &mut when, forms, next.when.as_slice())?;
+            let end = end_after(alloc, when.as_slice(), after, &next.end)?;
+            Ok(Path { when, end })
         }
         PathEnd::Ended(_) => unreachable!(),
     }

@@ -91,10 +91,11 @@ const ZERO: Row = Row::Next(0, 0, 0, 0);
 /// An overflow where n is 3.
 const OVER: Row = Row::Over(3, 3);
 
-const PAIRS: [Pair; 4] = [
+const PAIRS: [Pair; 5] = [
     (MORE, MORE, Some(Row::Next(0, 1, 1, 2))),
     (MORE, OVER, Some(Row::Over(2, 2))),
     (ZERO, OVER, None),
+    (ZERO, Row::Next(3, 3, 0, 3), None),
     (OVER, ZERO, None),
 ];
 

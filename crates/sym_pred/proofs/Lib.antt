@@ -5,3 +5,4 @@ pub mod FactsLemmas
 pub mod MeaningLemmas
 pub mod Merged
 pub mod MergedLemmas
+pub mod WithLemmas

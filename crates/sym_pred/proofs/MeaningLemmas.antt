@@ -47,7 +47,7 @@ other_atom a b e same = let both : true ≡ false = sym (itself a) ∙ ap (λ (x
 pub atoms : (a b : Atom) → (eq_by_cmp atom_cmp a b ≡ true) ⊎ (eq_by_cmp atom_cmp a b ≡ false)
 atoms a b = elim (eq_by_cmp atom_cmp a b) as (λ t. (t ≡ true) ⊎ (t ≡ false)) [ true ↦ inl refl | false ↦ inr refl ]
 
-one_outcome : (facts : FactMap) (atom : Atom) (a b : Bool) → Stands facts atom a → Stands facts atom b → a ≡ b
+pub one_outcome : (facts : FactMap) (atom : Atom) (a b : Bool) → Stands facts atom a → Stands facts atom b → a ≡ b
 one_outcome facts atom a b p q = same_Some _ _ (sym p ∙ q)
 
 -- ---- adding

@@ -7,7 +7,7 @@ ghost use Rattle.std.specs.FinMap.{empty, get, insert, remove, len as count_of};
 ghost use Rattle.sym_pred.specs.Literals.{literals, atom_of};
 ghost use Rattle.sym_base.specs.Tests.{Truth};
 ghost use Rattle.sym_pred.specs.Meaning.{Stands, Admits, Clash, Unite};
-ghost use Rattle.sym_pred.specs.Answers.{IsAdded, AdmitsAdded};
+ghost use Rattle.sym_pred.specs.Answers.{IsAdded, AdmitsAdded, IsWith, AreWith, AreAgainst};
 ghost use Rattle.sym_pred.specs.Places.{IsInOrder, IsPlace};
 ghost use Rattle.sym_pred.specs.Differences.{IsDifference};
 ghost use Rattle.sym_pred.specs.Merges.{ClashIn, IsMerged};
@@ -356,6 +356,42 @@ impl Facts {
         }
     }
 
+    /// `meet` of facts that are given away: their literals are moved, and copies of the others'
+    /// are put between them. It takes no memory where no literal is new. After an `Err`, and where
+    /// there are none, they are dropped.
+    pub fn met_with(self, alloc: Global, other: &Facts) -> Result<Option<Facts>, NoMemory>
+        ensures none { IfOk result (λ met. IsNone met ↔ Clash self other.now) }
+        ensures literals { IfOk result (λ met. IfSome met (λ facts.
+            (atom : Atom) (outcome : Bool) → Stands facts atom outcome ↔
+            (Stands self atom outcome ⊎ Stands other.now atom outcome))) }
+        ensures admits { IfOk result (λ met. IfSome met (λ facts.
+            (truth : Truth) (parts : List OneValue) → Admits truth facts parts ↔
+            (Admits truth self parts × Admits truth other.now parts))) }
+        ensures nothing { IfOk result (λ met. IfNone met
+            ((truth : Truth) (parts : List OneValue) →
+            Admits truth self parts → ¬ (Admits truth other.now parts))) }
+    {
+        with_all(alloc, self, other.literals.as_slice())
+    }
+
+    /// The facts with a copy of the literal; `None` where it stands with the other outcome. After
+    /// an `Err` they are dropped.
+    fn with_copy(self, alloc: Global, literal: &Literal) -> Result<Option<Facts>, NoMemory>
+        ensures { IfOk result (λ found. MatchOption found
+            (Stands self (atom_of literal.now) (not literal.now.outcome))
+            (IsWith self literal.now)) }
+    {
+        match self.says(literal.test, &literal.args) {
+            Some(outcome) => {
+                if outcome == literal.outcome {
+                    return Ok(Some(self));
+                }
+                Ok(None)
+            }
+            None => Ok(Some(self.with(literal.copy(alloc)?)?)),
+        }
+    }
+
     /// Whether the two have the same tests and arguments and differ in exactly one outcome, or are
     /// equal. It takes no memory.
     pub fn unites(&self, other: &Facts) -> bool
@@ -420,6 +456,22 @@ fn is_in_order(literals: &[Literal]) -> bool
         }
     }
     true
+}
+
+/// The facts with copies of the literals; `None` where one of these stands with the other outcome
+/// in the facts, or is among the literals with it.
+fn with_all(alloc: Global, facts: Facts, literals: &[Literal]) -> Result<Option<Facts>, NoMemory>
+    ensures { IfOk result (λ found.
+        MatchOption found (AreAgainst facts literals.now) (AreWith facts literals.now)) }
+{
+    let mut facts = facts;
+    'literals: for literal in literals {
+        match facts.with_copy(alloc, literal)? {
+            Some(more) => facts = more,
+            None => return Ok(None),
+        }
+    }
+    Ok(Some(facts))
 }
 
 /// Whether one of the literals stands in the facts with the other outcome.

@@ -85,6 +85,9 @@ fn expect_met(
     let met = known(alloc, left)?.meet(alloc, &known(alloc, right)?)?;
     let same = is_known(alloc, met, wanted)?;
     assert!(rt; same);
+    let moved = known(alloc, left)?.met_with(alloc, &known(alloc, right)?)?;
+    let same = is_known(alloc, moved, wanted)?;
+    assert!(rt; same);
     Ok(())
 }
 
