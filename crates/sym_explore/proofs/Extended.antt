@@ -1,17 +1,18 @@
 -- Segments taken a record further.
 use Rattle.std.proofs.Common.{◌≡◌, ◌≤◌, ◌<◌, ◌+◌, ◌*◌, ◌++◌, ◌∷◌, ℕ, Bool, true, List, [], map, length, refl, sym, ap, ◌∙◌, subst, arith, length-append}
-use Rattle.std.proofs.Math.Nat.{add-mul}
-use Rattle.std.proofs.lemmas.List.{get_or_append_left, length_push, length-map}
-use Rattle.std.proofs.lemmas.List.Elements.{All-nil, All-push, All-weaker}
+use Rattle.std.proofs.Math.Nat.{mul-le-mul_left}
+use Rattle.std.proofs.lemmas.List.{append-nil, get_or_append_left, length-map}
+use Rattle.std.proofs.lemmas.List.Elements.{All-append, All-nil, All-push, All-weaker}
 use Rattle.std.proofs.lemmas.List.Quantifiers.{Any-push}
 use Rattle.std.specs.List.{Any}
-use Rattle.std.specs.Prelude.{IfOk, OnOk, Result, Ok, Err, if◌then◌else◌}
+use Rattle.std.specs.Prelude.{IfOk, Result, Ok, Err, if◌then◌else◌}
 use Rattle.sym_base.specs.declared.limits.TheConstants as limit
 use Rattle.sym_base.specs.declared.values.record.Record.{Record}
 use Rattle.sym_base.specs.declared.values.value.Value.{Value}
 use Rattle.sym_base.specs.declared.values.state.State.{State}
 use Rattle.sym_base.specs.declared.values.state.Outcome.{Outcome}
 use Rattle.sym_base.specs.declared.values.state.Outcome.TheVariants.{Going}
+use Rattle.sym_base.specs.declared.values.state.Outcome.TheVariants as outcome
 use Rattle.sym_base.specs.Tests.{Truth}
 use Rattle.sym_check.specs.Conditions.{test_truth}
 use Rattle.sym_check.specs.PathBounds.{path_bound}
@@ -25,6 +26,7 @@ use Rattle.sym_path.specs.declared.path.Path.{Path}
 use Rattle.sym_path.specs.declared.path.PathEnd.{PathEnd}
 use Rattle.sym_path.specs.declared.path.PathEnd.TheVariants.{Next, Ended}
 use Rattle.sym_path.specs.Admitting.{admits}
+use Rattle.sym_path.specs.Changing.{GoesOn}
 use Rattle.sym_path.specs.Fitting.{PathFits, SegmentFits}
 use Rattle.sym_path.specs.Giving.{end_at, outcomes}
 use Rattle.sym_path.specs.Identity.{AdmitsAll, IsWholeEnd, IsWholePath, LeavesAll}
@@ -33,49 +35,100 @@ use Rattle.sym_path.specs.Standing.{EndsAmong, StandsFor}
 use Rattle.sym_path.proofs.Decided.{admits_decided}
 use Rattle.sym_path.proofs.OnlyOutcomes.{only_outcome}
 use Rattle.sym_path.proofs.SettlingStands.{settled_stand}
-use Rattle.sym_explore.specs.Counting.{made_paths}
-use Rattle.sym_explore.specs.Faulting.{EndAmong, FaultsCameAt, HasNumber}
+use Rattle.sym_explore.specs.Counting.{dos_ended, dos_going, made_paths}
+use Rattle.sym_explore.specs.Ending.{AreMoved, AreParted}
+use Rattle.sym_explore.specs.Faulting.{EndAmong, HasNumber}
 use Rattle.sym_explore.specs.Growing.{GivesAfter}
 use Rattle.sym_explore.specs.Knowing.{DosAreKnown}
-use Rattle.sym_explore.specs.Running.{RunsPaths}
-use Rattle.sym_explore.specs.Stepping.{Steps, after_dos, after_record}
-use Rattle.sym_explore.proofs.CountedPaths.{bound_is_count}
-use Rattle.sym_explore.proofs.Faults.{faults_run}
+use Rattle.sym_explore.specs.Parting.{AllGoOn, AreFewRun, AreRun, at_state, those_ended, those_going}
+use Rattle.sym_explore.specs.Stepping.{after_dos, after_record}
+use Rattle.sym_explore.proofs.CountedPaths.{bound_is_count, updates_go_on}
+use Rattle.sym_explore.proofs.EndedLists.{moved_away, moved_count, moved_stay, outcomes_append, run_exact}
 use Rattle.sym_explore.proofs.KnownParts.{update_known}
-use Rattle.sym_explore.proofs.RunLists.{steps_record}
+use Rattle.sym_explore.proofs.RunLists.{after_update, map_same, run_then}
 
 -- What follows where a call answers.
-pub when_done : {A E X Y : Type 0} (r : Result A E) → (X → Y) → OnOk r X → OnOk r Y
-when_done (Ok x) f h = f h
-when_done (Err e) f h = tt
-
 pub when_answered : {A E : Type 0} {P Q : A → Type 0} (r : Result A E) → ((x : A) → P x → Q x) → IfOk r P → IfOk r Q
 when_answered (Ok x) f h = f x h
 when_answered (Err e) f h = tt
-
--- ---- one path and one record
 
 -- A record begins with no local.
 pub known_update : (p : ScriptPlan) (rec : Record) (locals : List Value) → locals ≡ [] → IsWellFormed p → IsRecord p rec → DosAreKnown p (environment rec locals) p.update
 known_update p rec locals none well is =
     subst (λ (xs : List Value). DosAreKnown p (environment rec xs) p.update) (sym none) (update_known p rec well is)
 
-pub explored_steps : (p : ScriptPlan) (rec : Record) (locals : List Value) (old : Path) (before : List Path) (path : Path) (others : List Path) → locals ≡ [] → Steps p (after_dos p (environment rec locals) rec.no p.update) old before path others → Steps p (after_record p rec) old before path others
-explored_steps p rec locals old before path others none h =
-    steps_record p rec old before path others
-    (subst (λ (xs : List Value). Steps p (after_dos p (environment rec xs) rec.no p.update) old before path others) none h)
+-- ---- one record
 
--- ---- one path more
+-- Paths of which those that have ended are moved away: no outcome changes.
+apart : (p : ScriptPlan) (old going none ended : List Path) → none ≡ [] → AreMoved old going none ended → AllGoOn going → AreRun p (λ o. o) old going none ended
+apart p old going none ended empty moves on =
+    run_exact p (λ o. o) old old going none none ended same moves on
+  where
+    same : AreParted p (λ o. o) old old none none
+    same s once = record {
+      added = [];
+      others = sym (append-nil (at_state p none s));
+      over = refl;
+      gives = sym (map_same (λ o. o) (at_state p old s) (λ o. refl));
+    }
 
-pub few_more : (most : ℕ) (done : List Path) (old : Path) (before : List Path) (path : Path) (others now : List Path) → now ≡ others ++ path ∷ [] → length before ≤ length done * most → length others + 1 ≤ length before + most → length now ≤ length (done ++ old ∷ []) * most
-few_more most done old before path others now is h step =
-    let product : length (done ++ old ∷ []) * most ≡ length done * most + 1 * most = ap (λ (n : ℕ). n * most) (length_push done old) ∙ add-mul (length done) 1 most in
-    omega (arith, ap length is, length_push others path)
+one_outcome : (os : List Outcome) → length os ≤ 1 → those_ended os ++ those_going os ≡ os
+one_outcome [] once = refl
+one_outcome (Going s ∷ []) once = refl
+one_outcome (outcome.Ended fault ∷ []) once = refl
+one_outcome (o ∷ q ∷ os) once = absurd (omega (arith, once))
 
-pub faults_more : (n : ℕ) (done : List Path) (old : Path) (before : List Path) (path : Path) (others now : List Path) → now ≡ others ++ path ∷ [] → ((records : List Record) → HasNumber n records → EndAmong records done → EndAmong records before) → FaultsCameAt n old before path others → (records : List Record) → HasNumber n records → EndAmong records (done ++ old ∷ []) → EndAmong records now
-faults_more n done old before path others now is h step records has ends =
-    subst (λ (paths : List Path). EndAmong records paths) (sym is)
-    (faults_run n done old [] before path others (λ rs number faults none. h rs number faults) step records has ends (All-nil (λ (x : Path). EndsAmong records x.end)))
+module _ (p : ScriptPlan) (rec : Record) (old going none ended new after now : List Path) (empty : none ≡ []) (moves : AreMoved old going none ended) (on : AllGoOn going) (is : now ≡ after ++ new) where
+  pub explored_gives : (locals : List Value) → locals ≡ [] → AreRun p (after_dos p (environment rec locals) rec.no p.update) going new ended after → GivesAfter p rec old now
+  explored_gives locals fresh run s once =
+      let tests = test_truth p.tests in
+      let f = after_record p rec in
+      let update : Outcome → Outcome = after_dos p (environment rec []) rec.no p.update in
+      let step : AreRun p update going new ended after = subst (λ (xs : List Value). AreRun p (after_dos p (environment rec xs) rec.no p.update) going new ended after) fresh run in
+      let all : AreRun p f old new none after = run_then (λ o. o) update f (λ fault. refl) (after_update p rec) p old going new none ended after (apart p old going none ended empty moves on) step in
+      let at = all s once in
+      let os = at_state p old s in
+      let few : length (map f os) ≤ 1 = omega (arith, length-map os f, once) in
+      ap (λ ps. outcomes tests ps s) is
+      ∙ outcomes_append tests after new s
+      ∙ ap (λ zs. zs ++ at_state p new s) (at.ended ∙ ap (λ ps. outcomes tests ps s ++ those_ended (map f os)) empty)
+      ∙ ap (λ zs. those_ended (map f os) ++ zs) at.going
+      ∙ one_outcome (map f os) few
+
+  pub explored_few : AreFewRun (dos_going p.update) (dos_ended p.update) going new ended after → length now ≤ length old * made_paths p.update
+  explored_few h =
+      fewer (length going) (length ended) (length old) (made_paths p.update) (length now)
+      (omega (arith, moved_count old going none ended moves, ap length empty)) (omega (arith, updates_go_on p.update)) (omega (arith, ap length is, length-append after new, h.all))
+    where
+      fewer : (g e o most n : ℕ) → g + e ≡ o → 1 ≤ most → n ≤ e + g * most → n ≤ o * most
+      fewer g e o most n sum once h =
+          let m : e * 1 ≤ e * most = mul-le-mul_left e once in
+          let q : (g + e) * most ≡ o * most = ap (λ k. k * most) sum in
+          omega (arith, m, q, h)
+
+  pub explored_faults : (records : List Record) → AllGoOn new → EndAmong records after → EndAmong records now
+  explored_faults records goes ends =
+      let P : Path → Type 0 = λ path. EndsAmong records path.end in
+      let G : Path → Type 0 = λ path. GoesOn path.end in
+      subst (λ (ps : List Path). EndAmong records ps) (sym is)
+      (All-append P after new ends (All-weaker G P (λ path h. goes_among path.end h) new goes))
+    where
+      goes_among : (end : PathEnd) → GoesOn end → EndsAmong records end
+      goes_among (Next forms) h = tt
+      goes_among (Ended fault) h = absurd h
+
+-- What is true of all of the paths is true of those that go on, and of those that have ended.
+module _ (p : ScriptPlan) (old going none ended : List Path) (empty : none ≡ []) (moves : AreMoved old going none ended) where
+  pub going_fit : SegmentFits p old → SegmentFits p going
+  going_fit = moved_stay (PathFits p) old going none ended moves
+
+  pub ended_fit : SegmentFits p old → SegmentFits p ended
+  ended_fit h = moved_away (PathFits p) old going none ended moves h (subst (λ (ps : List Path). SegmentFits p ps) (sym empty) (All-nil (PathFits p)))
+
+  pub ended_came : (records : List Record) → EndAmong records old → EndAmong records ended
+  ended_came records h =
+      let P : Path → Type 0 = λ path. EndsAmong records path.end in
+      moved_away P old going none ended moves h (subst (λ (ps : List Path). EndAmong records ps) (sym empty) (All-nil P))
 
 -- ---- one record more
 
@@ -98,7 +151,7 @@ number_among records rec = Any-push (λ (r : Record). r.no ≡ rec.no) records r
 
 -- The paths after a record, by those before it.
 pub record IsExplored (p : ScriptPlan) (rec : Record) (old new : List Path) : Type 0 where
-  pub exact : RunsPaths p (after_record p rec) old [] new
+  pub exact : GivesAfter p rec old new
   pub fits : SegmentFits p new
   pub few : length new ≤ length old * made_paths p.update
   pub faults : (records : List Record) → HasNumber rec.no records → EndAmong records old → EndAmong records new
@@ -123,8 +176,9 @@ explored_stand p rec records old new h stand = record {
   where
     gives : (s : State) → IsValid p s → outcomes (test_truth p.tests) new s ≡ after p (records ++ rec ∷ []) (Going s) ∷ []
     gives s valid =
-        h.exact s
-        ∙ ap (map (after_record p rec)) ((only_outcome (test_truth p.tests) old s (after p records (Going s))).1 (stand.exact s valid))
+        let one : outcomes (test_truth p.tests) old s ≡ after p records (Going s) ∷ [] = (only_outcome (test_truth p.tests) old s (after p records (Going s))).1 (stand.exact s valid) in
+        h.exact s (omega (arith, ap length one))
+        ∙ ap (map (after_record p rec)) one
         ∙ ap (λ (o : Outcome). o ∷ []) (sym (after_more p records rec (Going s)))
 
 -- ---- the first record
@@ -170,8 +224,9 @@ first_settled p rec path new segment h settling identity =
 pub settled_gives : (p : ScriptPlan) (rec : Record) (old new segment : List Path) → IsExplored p rec old new → IsSettling new segment → GivesAfter p rec old segment
 settled_gives p rec old new segment h settling s once =
     let tests : Truth = test_truth p.tests in
-    let few : length (outcomes tests new s) ≤ 1 = omega (arith, ap length (h.exact s), length-map (outcomes tests old s) (after_record p rec)) in
-    settling.reduced.same tests s few ∙ h.exact s
+    let gives = h.exact s once in
+    let few : length (outcomes tests new s) ≤ 1 = omega (arith, ap length gives, length-map (outcomes tests old s) (after_record p rec), once) in
+    settling.reduced.same tests s few ∙ gives
 
 -- ---- how many
 

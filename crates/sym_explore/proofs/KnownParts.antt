@@ -1,8 +1,7 @@
 -- The parts of conditions and statements that are known are known too.
 use Rattle.std.proofs.Common.{◌≡◌, []}
 use Rattle.sym_base.specs.declared.values.record.Record.{Record}
-use Rattle.sym_check.specs.CondPlans.{CondPlan, Not, And, Or}
-use Rattle.sym_check.specs.DoPlans.{DoPlan, If, DosPlan, Then}
+use Rattle.sym_check.specs.DoPlans.{DoPlan, DosPlan, Then}
 use Rattle.sym_check.specs.FixedValues.{Environment}
 use Rattle.sym_check.specs.ScriptPlans.{ScriptPlan}
 use Rattle.sym_check.specs.Updates.{environment, environment_after}
@@ -10,25 +9,10 @@ use Rattle.sym_check.specs.Validity.{IsRecord}
 use Rattle.sym_check.specs.WellFormed.{Kinds, IsKnown, IsDo, IsDos, IsWellFormed, known_kinds}
 use Rattle.sym_check.specs.WellFormed as well
 use Rattle.sym_check.proofs.ValidSteps.{fixed_is, more_known, record_known}
-use Rattle.sym_explore.specs.Knowing.{CondIsKnown, DoIsKnown, DosAreKnown}
+use Rattle.sym_explore.specs.Knowing.{DoIsKnown, DosAreKnown}
 use Rattle.sym_explore.specs.Running.{HasValue}
 
 -- ---- conditions
-
-pub not_known : (p : ScriptPlan) (k : Environment) (c : CondPlan) → CondIsKnown p k (Not c) → CondIsKnown p k c
-not_known p k c h = record { kinds = h.kinds; known = h.known; well = h.well }
-
-pub and_left : (p : ScriptPlan) (k : Environment) (c d : CondPlan) → CondIsKnown p k (And c d) → CondIsKnown p k c
-and_left p k c d h = record { kinds = h.kinds; known = h.known; well = h.well.0 }
-
-pub and_right : (p : ScriptPlan) (k : Environment) (c d : CondPlan) → CondIsKnown p k (And c d) → CondIsKnown p k d
-and_right p k c d h = record { kinds = h.kinds; known = h.known; well = h.well.1 }
-
-pub or_left : (p : ScriptPlan) (k : Environment) (c d : CondPlan) → CondIsKnown p k (Or c d) → CondIsKnown p k c
-or_left p k c d h = record { kinds = h.kinds; known = h.known; well = h.well.0 }
-
-pub or_right : (p : ScriptPlan) (k : Environment) (c d : CondPlan) → CondIsKnown p k (Or c d) → CondIsKnown p k d
-or_right p k c d h = record { kinds = h.kinds; known = h.known; well = h.well.1 }
 
 -- ---- statements
 
@@ -55,13 +39,6 @@ rest_is p k _ _ _ h (well.followed kinds later d rest t r) v = record { kinds = 
 -- The rest of a block after a statement that gives its local a value, if it names one.
 pub rest_known : (p : ScriptPlan) (k after : Environment) (d : DoPlan) (rest : DosPlan) → DosAreKnown p k (Then d rest) → HasValue k d → after ≡ environment_after k d → DosAreKnown p after rest
 rest_known p k after d rest h v e = rw e (rest_is p k h.kinds d rest h.known h.well v)
-
-cond_is : (p : ScriptPlan) (k : Environment) (kinds later : Kinds) (c : CondPlan) (a b : DosPlan) → IsKnown p.enums kinds k → IsDo p kinds (If c a b) later → CondIsKnown p k c × DosAreKnown p k a × DosAreKnown p k b
-cond_is p k _ _ _ _ _ h (well.branch kinds c a b t ta tb) = (record { kinds = kinds; known = h; well = t }, record { kinds = kinds; known = h; well = ta }, record { kinds = kinds; known = h; well = tb })
-
--- The condition of an `if` and both of its sides.
-pub if_known : (p : ScriptPlan) (k : Environment) (c : CondPlan) (a b : DosPlan) → DoIsKnown p k (If c a b) → CondIsKnown p k c × DosAreKnown p k a × DosAreKnown p k b
-if_known p k c a b h = cond_is p k h.kinds h.later c a b h.known h.well
 
 -- The update at a record.
 pub update_known : (p : ScriptPlan) (rec : Record) → IsWellFormed p → IsRecord p rec → DosAreKnown p (environment rec []) p.update

@@ -233,7 +233,7 @@ split_both p old copy path branches c l set only rest is h g one other s =
 -- ---- what comes of the question
 
 -- A constant label is compared.
-pub const_splits : (p : ScriptPlan) (path : Path) (branches : List Branch) (c of l own : ℕ) → IsEnumCell p.cells c of → PathFits p path → label_form path c ≡ Some (label.Const own) → (n : ℕ) → Splits p (answered n (cell_has c l)) path branches path branches (Some (own == l))
+pub const_splits : (p : ScriptPlan) (path : Path) (branches : List Branch) (c of l own : ℕ) → IsEnumCell p.cells c of → PathFits p path → label_form path c ≡ Some (label.Const own) → (n : ℕ) → Splits p (answered n (cell_has c l)) path branches path branches (own == l)
 const_splits p path branches c of l own h fits same n s =
     let tests = test_truth p.tests in
     ap (λ (js : Judged). judged tests branches s ++ js)
@@ -241,7 +241,7 @@ const_splits p path branches c of l own h fits same n s =
     (λ admitted forms end. ap (λ (k : ℕ). Ok (k == l)) (label_after p tests path s c of (label.Const own) h fits same admitted forms end)))
 
 -- A copied label is that before the path.
-pub copy_splits : (p : ScriptPlan) (old path : Path) (before after : List Branch) (c of l from : ℕ) (last : Bool) → IsEnumCell p.cells c of → PathFits p old → label_form old c ≡ Some (label.Copy from) → WasSplit p from l old before path after last → (n : ℕ) → Splits p (answered n (cell_has c l)) old before path after (Some last)
+pub copy_splits : (p : ScriptPlan) (old path : Path) (before after : List Branch) (c of l from : ℕ) (last : Bool) → IsEnumCell p.cells c of → PathFits p old → label_form old c ≡ Some (label.Copy from) → WasSplit p from l old before path after last → (n : ℕ) → Splits p (answered n (cell_has c l)) old before path after last
 copy_splits p old path before after c of l from last h fits same split n s =
     let tests = test_truth p.tests in
     split s

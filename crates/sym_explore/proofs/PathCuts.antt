@@ -1,14 +1,12 @@
 -- A path that is cut at the pieces of a cell's span.
-use Rattle.std.proofs.Common.{◌≡◌, ◌+◌, ℕ, ℤ, ◌<ℤ◌, ◌≤ℤ◌, Bool, true, false, List, [], ◌∷◌, ◌++◌, Option, Some, None, ◌⊎◌, inl, inr, length, refl, sym, ap, ◌∙◌, subst, append_assoc, arith}
+use Rattle.std.proofs.Common.{◌≡◌, ◌+◌, ℕ, ℤ, ◌<ℤ◌, ◌≤ℤ◌, Bool, List, [], ◌∷◌, ◌++◌, Option, Some, None, ◌⊎◌, inl, inr, refl, sym, ap, ◌∙◌, subst, append_assoc, arith}
 use Rattle.std.proofs.lemmas.Int.{ints}
-use Rattle.std.proofs.lemmas.List.{append-nil, length-append}
+use Rattle.std.proofs.lemmas.List.{append-nil}
 use Rattle.std.proofs.lemmas.List.Elements.{All-push}
 use Rattle.std.specs.Prelude.{slice_get, IfSome}
 use Rattle.sym_base.specs.States.{number_at}
 use Rattle.sym_base.specs.Tests.{Truth}
-use Rattle.sym_base.specs.declared.values.record.Record.{Record}
 use Rattle.sym_base.specs.declared.values.state.Cell.TheVariants as cell
-use Rattle.sym_base.specs.declared.values.state.Fault.{Fault}
 use Rattle.sym_base.specs.declared.values.state.State.{State}
 use Rattle.sym_base.specs.declared.values.state.Outcome.{Outcome}
 use Rattle.sym_check.specs.Conditions.{test_truth}
@@ -21,15 +19,13 @@ use Rattle.sym_int.specs.declared.span.Span.{Span}
 use Rattle.sym_path.specs.Changing.{GoesOn}
 use Rattle.sym_path.specs.Giving.{given}
 use Rattle.sym_path.specs.Narrowing.{GivesWhere, NarrowsNumbers}
-use Rattle.sym_path.specs.Standing.{EndsAmong}
 use Rattle.sym_path.specs.declared.part.Part.{Part}
 use Rattle.sym_path.specs.declared.part.Part.TheVariants as part
 use Rattle.sym_path.specs.declared.path.Path.{Path}
-use Rattle.sym_path.specs.declared.path.PathEnd.TheVariants.{Ended}
-use Rattle.sym_explore.proofs.PathNumbers.{IsHeld, number_is_held, given_none, given_in, given_out, end_among}
-use Rattle.sym_explore.specs.Branches.{judged, with_truth, one_with, branches_with, AreFewBranches, BranchFits, BranchesFit}
+use Rattle.sym_explore.proofs.JudgedBranches.{branches_with-push}
+use Rattle.sym_explore.proofs.PathNumbers.{IsHeld, number_is_held, given_none, given_in, given_out}
+use Rattle.sym_explore.specs.Branches.{judged, with_truth, branches_with, AreFewBranches, IsGoing, BranchesGo}
 use Rattle.sym_explore.specs.Comparing.{ArePieces, ArePiecesOf, CutsPath, IsPiecePushed, PieceTells, PiecesTell}
-use Rattle.sym_explore.specs.Faulting.{BranchFaultsCameAt, BranchesEndAmong}
 use Rattle.sym_explore.specs.declared.branch.Branch.{Branch}
 
 pub none_of : {A : Type 0} (o : Option A) → ((x : A) → o ≡ Some x → ⊥) → o ≡ None
@@ -38,25 +34,11 @@ none_of (Some x) h = absurd (h x refl)
 
 -- ---- branches, and one more
 
-pub judged_push : (truth : Truth) (branches : List Branch) (b : Branch) (s : State) → judged truth (branches ++ b ∷ []) s ≡ judged truth branches s ++ with_truth b.truth (given truth b.path s)
-judged_push truth [] b s = append-nil (with_truth b.truth (given truth b.path s))
+pub judged_push : (truth : Truth) (branches : List Branch) (b : Branch) (s : State) → judged truth (branches ++ b ∷ []) s ≡ judged truth branches s ++ with_truth (Some b.truth) (given truth b.path s)
+judged_push truth [] b s = append-nil (with_truth (Some b.truth) (given truth b.path s))
 judged_push truth (x ∷ branches) b s =
-    ap (λ (js : List (Outcome × Option Bool)). with_truth x.truth (given truth x.path s) ++ js) (judged_push truth branches b s)
-    ∙ sym (append_assoc (with_truth x.truth (given truth x.path s)) (judged truth branches s) (with_truth b.truth (given truth b.path s)))
-
-pub branches_push : (x : Bool) (branches : List Branch) (b : Branch) → branches_with x (branches ++ b ∷ []) ≡ branches_with x branches + one_with x b.truth
-branches_push x [] b = omega arith
-branches_push x (y ∷ branches) b = let h = branches_push x branches b in omega (arith, h)
-
-one_counted : (x truth : Bool) → one_with x (Some truth) ≡ count_truth x truth
-one_counted true true = refl
-one_counted true false = refl
-one_counted false true = refl
-one_counted false false = refl
-
-one_of_both : (truth : Bool) → count_truth true truth + count_truth false truth ≡ 1
-one_of_both true = refl
-one_of_both false = refl
+    ap (λ (js : List (Outcome × Option Bool)). with_truth (Some x.truth) (given truth x.path s) ++ js) (judged_push truth branches b s)
+    ∙ sym (append_assoc (with_truth (Some x.truth) (given truth x.path s)) (judged truth branches s) (with_truth (Some b.truth) (given truth b.path s)))
 
 -- ---- a piece that is pushed
 
@@ -65,32 +47,23 @@ module _ (p : ScriptPlan) (c : ℕ) (piece : Cut) (old : Path) (before after : L
   pushed_judged s rest =
       let b : Branch = pushed.pushed in
       let gives : List Outcome = given (test_truth p.tests) b.path s in
-      let longer : judged (test_truth p.tests) after s ≡ judged (test_truth p.tests) before s ++ with_truth b.truth gives =
+      let longer : judged (test_truth p.tests) after s ≡ judged (test_truth p.tests) before s ++ with_truth (Some b.truth) gives =
       ap (λ (bs : List Branch). judged (test_truth p.tests) bs s) pushed.is ∙ judged_push (test_truth p.tests) before b s in
       let told : judged (test_truth p.tests) after s ≡ judged (test_truth p.tests) before s ++ with_truth (Some piece.truth) gives =
-      longer ∙ ap (λ (t : Option Bool). judged (test_truth p.tests) before s ++ with_truth t gives) pushed.truth in
+      longer ∙ ap (λ (t : Bool). judged (test_truth p.tests) before s ++ with_truth (Some t) gives) pushed.truth in
       ap (λ (js : List (Outcome × Option Bool)). js ++ rest) told
       ∙ append_assoc (judged (test_truth p.tests) before s) (with_truth (Some piece.truth) gives) rest
 
-  pub pushed_fit : BranchesFit p before → BranchesFit p after
-  pushed_fit others =
+  pub pushed_fit : GoesOn old.end → BranchesGo p before → BranchesGo p after
+  pushed_fit goes others =
       let b : Branch = pushed.pushed in
-      let fits : BranchFits p b.path b.truth = record { fits = pushed.fits; told = λ e. let t = pushed.truth in absurd (cc) } in
-      subst (BranchesFit p) (sym pushed.is) (All-push (λ (x : Branch). BranchFits p x.path x.truth) before b others fits)
+      let going : IsGoing p b.path = record { fits = pushed.fits; goes_on = pushed.next goes } in
+      subst (BranchesGo p) (sym pushed.is) (All-push (λ (x : Branch). IsGoing p x.path) before b others going)
 
   pub pushed_with : (x : Bool) → branches_with x after ≡ branches_with x before + count_truth x piece.truth
   pushed_with x =
-      ap (branches_with x) pushed.is ∙ branches_push x before pushed.pushed
-      ∙ ap (λ (t : Option Bool). branches_with x before + one_with x t) pushed.truth
-      ∙ ap (λ (n : ℕ). branches_with x before + n) (one_counted x piece.truth)
-
-  pub pushed_length : length after ≡ length before + 1
-  pushed_length = ap length pushed.is ∙ length-append before (pushed.pushed ∷ [])
-
-  pub pushed_faults : (records : List Record) → EndsAmong records old.end → BranchesEndAmong records before → BranchesEndAmong records after
-  pushed_faults records ends others =
-      subst (BranchesEndAmong records) (sym pushed.is)
-      (All-push (λ (b : Branch). EndsAmong records b.path.end) before pushed.pushed others (pushed.faults records ends))
+      ap (branches_with x) pushed.is ∙ branches_with-push x before pushed.pushed
+      ∙ ap (λ (t : Bool). branches_with x before + count_truth x t) pushed.truth
 
 -- ---- pieces of a span
 
@@ -259,59 +232,23 @@ cut_three p c pieces second third old path before between after parts e f first 
 
 -- ---- how many branches
 
-pub few_one : (pieces : Pieces) (before : List Branch) → AreFewBranches (λ x. count_with x pieces) before before (Some pieces.first.truth)
-few_one pieces before = record {
-  each = λ x. let h = one_counted x pieces.first.truth in omega (arith, h);
-  all = let h = one_of_both pieces.first.truth in omega (arith, h);
+pub few_first : (pieces : Pieces) (before : List Branch) → AreFewBranches (λ x. count_with x pieces) before before pieces.first.truth
+few_first pieces before = record { each = λ x. omega arith }
+
+pub few_two : (p : ScriptPlan) (c : ℕ) (pieces : Pieces) (second : Cut) (old : Path) (before after : List Branch) → pieces.second ≡ Some second → IsPiecePushed p c pieces.first old before after → AreFewBranches (λ x. count_with x pieces) before after second.truth
+few_two p c pieces second old before after e pushed = record {
+  each = λ x.
+      let h = pushed_with p c pieces.first old before after pushed x in
+      let k : count_piece x pieces.second ≡ count_truth x second.truth = ap (count_piece x) e in
+      omega (arith, h, k);
 }
 
-pub few_two : (p : ScriptPlan) (c : ℕ) (pieces : Pieces) (second : Cut) (old : Path) (before after : List Branch) → pieces.second ≡ Some second → IsPiecePushed p c pieces.first old before after → AreFewBranches (λ x. count_with x pieces) before after (Some second.truth)
-few_two p c pieces second old before after e pushed =
-    let counted : (x : Bool) → count_piece x pieces.second ≡ count_truth x second.truth = λ x. ap (count_piece x) e in
-    record {
-      each = λ x. let h = pushed_with p c pieces.first old before after pushed x in let g = one_counted x second.truth in let k = counted x in omega (arith, h, g, k);
-      all =
-          let h = pushed_length p c pieces.first old before after pushed in
-          let g = one_of_both pieces.first.truth in
-          let k = one_of_both second.truth in
-          let t = counted true in
-          let u = counted false in
-          omega (arith, h, g, k, t, u);
-    }
-
-pub few_three : (p : ScriptPlan) (c : ℕ) (pieces : Pieces) (second third : Cut) (old : Path) (before between after : List Branch) → pieces.second ≡ Some second → pieces.third ≡ Some third → IsPiecePushed p c pieces.first old before between → IsPiecePushed p c second old between after → AreFewBranches (λ x. count_with x pieces) before after (Some third.truth)
-few_three p c pieces second third old before between after e f first next =
-    let counted : (x : Bool) → count_piece x pieces.second ≡ count_truth x second.truth = λ x. ap (count_piece x) e in
-    let last : (x : Bool) → count_piece x pieces.third ≡ count_truth x third.truth = λ x. ap (count_piece x) f in
-    record {
-      each = λ x.
-          let h = pushed_with p c pieces.first old before between first x in
-          let i = pushed_with p c second old between after next x in
-          let g = one_counted x third.truth in
-          let k = counted x in
-          let l = last x in
-          omega (arith, h, i, g, k, l);
-      all =
-          let h = pushed_length p c pieces.first old before between first in
-          let i = pushed_length p c second old between after next in
-          let g = one_of_both pieces.first.truth in
-          let k = one_of_both second.truth in
-          let l = one_of_both third.truth in
-          let t = counted true in
-          let u = counted false in
-          let v = last true in
-          let w = last false in
-          omega (arith, h, i, g, k, l, t, u, v, w);
-    }
-
--- ---- faults
-
-pub faults_two : (p : ScriptPlan) (c n : ℕ) (piece : Cut) (old path : Path) (before after : List Branch) → IsPiecePushed p c piece old before after → (GoesOn old.end → GoesOn path.end) → ((fault : Fault) → old.end ≡ Ended fault → path.end ≡ Ended fault) → BranchFaultsCameAt n old before path after
-faults_two p c n piece old path before after pushed next ended records here ends others =
-    (end_among records old.end path.end next ended ends, pushed_faults p c piece old before after pushed records ends others)
-
-pub faults_three : (p : ScriptPlan) (c n : ℕ) (piece second : Cut) (old path : Path) (before between after : List Branch) → IsPiecePushed p c piece old before between → IsPiecePushed p c second old between after → (GoesOn old.end → GoesOn path.end) → ((fault : Fault) → old.end ≡ Ended fault → path.end ≡ Ended fault) → BranchFaultsCameAt n old before path after
-faults_three p c n piece second old path before between after first pushed next ended records here ends others = (
-  end_among records old.end path.end next ended ends,
-  pushed_faults p c second old between after pushed records ends (pushed_faults p c piece old before between first records ends others),
-)
+pub few_three : (p : ScriptPlan) (c : ℕ) (pieces : Pieces) (second third : Cut) (old : Path) (before between after : List Branch) → pieces.second ≡ Some second → pieces.third ≡ Some third → IsPiecePushed p c pieces.first old before between → IsPiecePushed p c second old between after → AreFewBranches (λ x. count_with x pieces) before after third.truth
+few_three p c pieces second third old before between after e f first next = record {
+  each = λ x.
+      let h = pushed_with p c pieces.first old before between first x in
+      let i = pushed_with p c second old between after next x in
+      let k : count_piece x pieces.second ≡ count_truth x second.truth = ap (count_piece x) e in
+      let l : count_piece x pieces.third ≡ count_truth x third.truth = ap (count_piece x) f in
+      omega (arith, h, i, k, l);
+}

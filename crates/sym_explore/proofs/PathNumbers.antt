@@ -1,11 +1,9 @@
 -- What a path gives at a state, by the number that an integer cell holds there.
-use Rattle.std.proofs.Common.{◌≡◌, ℕ, ℤ, Bool, true, false, List, [], ◌∷◌, Option, Some, ◌⊎◌, inl, inr, None, map, refl, sym, ap, ◌∙◌, subst}
+use Rattle.std.proofs.Common.{◌≡◌, ℕ, ℤ, Bool, true, false, List, [], ◌∷◌, Option, Some, ◌⊎◌, inl, inr, None, map, refl, sym, ap, ◌∙◌}
 use Rattle.std.specs.Prelude.{slice_get, if◌then◌else◌}
 use Rattle.sym_base.specs.States.{number_at}
 use Rattle.sym_base.specs.Tests.{Truth}
-use Rattle.sym_base.specs.declared.values.record.Record.{Record}
 use Rattle.sym_base.specs.declared.values.state.Cell.TheVariants as cell
-use Rattle.sym_base.specs.declared.values.state.Fault.{Fault}
 use Rattle.sym_base.specs.declared.values.state.State.{State}
 use Rattle.sym_base.specs.declared.values.state.Outcome.{Outcome}
 use Rattle.sym_base.specs.declared.values.state.Outcome.TheVariants.{Going}
@@ -20,7 +18,6 @@ use Rattle.sym_path.specs.Admitting.{has_point, admits}
 use Rattle.sym_path.specs.Changing.{GoesOn}
 use Rattle.sym_path.specs.Giving.{end_at, given, state_at}
 use Rattle.sym_path.specs.Narrowing.{GivesWhere, cell_admitted}
-use Rattle.sym_path.specs.Standing.{EndsAmong}
 use Rattle.sym_explore.specs.Terms.{span_in}
 use Rattle.sym_path.specs.declared.part.Part.{Part}
 use Rattle.sym_path.specs.declared.part.Part.TheVariants as part
@@ -82,13 +79,6 @@ pub given_out : (truth : Truth) (old new : Path) (c : ℕ) (span : Span) (s : St
 given_out truth old new c span s x g e n =
     let t : cell_admitted truth (part.Span span) (slice_get s.cells c) ≡ false = ap (cell_admitted truth (part.Span span)) e ∙ no_point span x n in
     g truth s ∙ ap (λ (b : Bool). if b then given truth old s else []) t
-
--- A path that goes on still does, or has ended by the same fault: so its fault came at the records.
-pub end_among : (records : List Record) (old new : PathEnd) → (GoesOn old → GoesOn new) → ((fault : Fault) → old ≡ Ended fault → new ≡ Ended fault) → EndsAmong records old → EndsAmong records new
-end_among records (Next fs) (Next gs) next ended h = tt
-end_among records (Next fs) (Ended b) next ended h = absurd (next tt)
-end_among records (Ended a) (Next gs) next ended h = let e = ended a refl in absurd (cc)
-end_among records (Ended a) (Ended b) next ended h = let e = ended a refl in let same : a ≡ b = cc in subst (λ (f : Fault). EndsAmong records (Ended f)) same h
 
 -- A number over the cell, by what the cell holds.
 pub wide_at : (number : Wide) (c : ℕ) (s : State) → wide_cell number ≡ Some c → wide_value number s ≡ wide_on number (number_at s c)

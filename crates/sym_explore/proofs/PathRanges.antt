@@ -1,5 +1,5 @@
 -- A path that is parted by whether a number over a cell lies in a range.
-use Rattle.std.proofs.Common.{◌≡◌, ◌≢◌, ◌+◌, ◌≤◌, ℕ, ℤ, ◌<ℤ◌, ◌≤ℤ◌, Bool, List, [], ◌∷◌, ◌++◌, Option, Some, None, inl, inr, map, length, refl, sym, ap, ◌∙◌, subst, append_assoc, arith}
+use Rattle.std.proofs.Common.{◌≡◌, ◌≢◌, ◌+◌, ◌≤◌, ℕ, suc, ℤ, pos, negsuc, neg_ℤ, ◌+ℤ◌, ◌*ℤ◌, ◌<ℤ◌, ◌≤ℤ◌, Bool, true, false, List, [], ◌∷◌, ◌++◌, Option, Some, None, inl, inr, map, length, refl, sym, ap, ◌∙◌, subst, append_assoc, arith}
 use Rattle.std.proofs.lemmas.Int.{ints, by_lt_z}
 use Rattle.std.proofs.lemmas.List.{append-nil, length-append}
 use Rattle.std.proofs.lemmas.List.Elements.{All-push}
@@ -11,8 +11,11 @@ use Rattle.sym_base.specs.declared.values.state.Cell.TheVariants as cell
 use Rattle.sym_base.specs.declared.values.state.Fault.{Fault}
 use Rattle.sym_base.specs.declared.values.state.State.{State}
 use Rattle.sym_base.specs.declared.values.state.Outcome.{Outcome}
+use Rattle.sym_base.specs.declared.values.state.Outcome.TheVariants.{Going}
+use Rattle.sym_base.specs.declared.values.state.Outcome.TheVariants as outcome
 use Rattle.sym_check.specs.Conditions.{test_truth}
 use Rattle.sym_check.specs.ScriptPlans.{ScriptPlan}
+use Rattle.sym_int.proofs.Products.{opposites, times_keeps}
 use Rattle.sym_int.specs.Fits.{IsFitted, IsInside, inside_span}
 use Rattle.sym_int.specs.Lines.{form_on, wide_cell, wide_on, wide_value}
 use Rattle.sym_int.specs.Parts.{Above, Below, Within}
@@ -26,9 +29,10 @@ use Rattle.sym_int.specs.declared.span.Span.{Span}
 use Rattle.sym_int.specs.declared.wide.Wide.{Wide}
 use Rattle.sym_path.proofs.Changed.{faults_give}
 use Rattle.sym_path.proofs.Decided.{point_decided}
+use Rattle.sym_path.specs.Admitting.{admits}
 use Rattle.sym_path.specs.Changing.{GoesOn, changed, end_by, ended_by, with_fault}
 use Rattle.sym_path.specs.Fitting.{NumberFits, PathFits, SegmentFits, StaysWithin}
-use Rattle.sym_path.specs.Giving.{given, outcomes}
+use Rattle.sym_path.specs.Giving.{end_at, given, outcomes}
 use Rattle.sym_path.specs.Narrowing.{GivesWhere, IsSubspan, NarrowsNumbers}
 use Rattle.sym_path.specs.Standing.{EndsAmong}
 use Rattle.sym_path.specs.Taking.{HasOneNumber, NumberIsTakenTo}
@@ -39,7 +43,8 @@ use Rattle.sym_path.specs.declared.path.PathEnd.{PathEnd}
 use Rattle.sym_path.specs.declared.path.PathEnd.TheVariants.{Next, Ended}
 use Rattle.sym_explore.proofs.PathNumbers.{number_is_held, given_none, given_in, given_out, no_point, wide_at}
 use Rattle.sym_explore.specs.Faulting.{EndAmong, FaultsCameAt, HasNumber}
-use Rattle.sym_explore.specs.Ranging.{IsPartPushed, NumberFitsOn, WideRanges, form_stored, wide_stored}
+use Rattle.sym_explore.specs.Parting.{those_going}
+use Rattle.sym_explore.specs.Ranging.{IsPartPushed, IsPartedAt, IsWholeOn, NumberFitsOn, WideRanges, form_stored, wide_stored}
 use Rattle.sym_explore.specs.Stepping.{AreFewPaths, going_paths, most_paths, one_going}
 
 -- ---- paths, and one more
@@ -68,13 +73,40 @@ pub going_most : (end : PathEnd) (most : ℕ) → GoesOn end → most_paths end 
 going_most (Next forms) most h = refl
 going_most (Ended fault) most h = absurd h
 
-goes_among : (records : List Record) (end : PathEnd) → GoesOn end → EndsAmong records end
+pub goes_among : (records : List Record) (end : PathEnd) → GoesOn end → EndsAmong records end
 goes_among records (Next forms) h = tt
 goes_among records (Ended fault) h = absurd h
 
 one_at_most : (end : PathEnd) → one_going end ≤ 1
 one_at_most (Next forms) = omega arith
 one_at_most (Ended fault) = omega arith
+
+fault_ends : (fault : Fault) (end : PathEnd) → ¬ (GoesOn (end_by fault end))
+fault_ends fault (Next forms) h = h
+fault_ends fault (Ended old) h = h
+
+pub going_append : (xs ys : List Outcome) → those_going (xs ++ ys) ≡ those_going xs ++ those_going ys
+going_append [] ys = refl
+going_append (Going s ∷ xs) ys = ap (λ (os : List Outcome). Going s ∷ os) (going_append xs ys)
+going_append (outcome.Ended fault ∷ xs) ys = going_append xs ys
+
+-- What a path gives that has ended.
+pub over_gives : (truth : Truth) (path : Path) (s : State) → ¬ (GoesOn path.end) → those_going (given truth path s) ≡ []
+over_gives truth path s over = go path.end (admits truth path.when s.cells) over
+  where
+    go : (end : PathEnd) (a : Bool) → ¬ (GoesOn end) → those_going (if a then end_at end s ∷ [] else []) ≡ []
+    go (Next forms) a h = absurd (h tt)
+    go (Ended fault) true h = refl
+    go (Ended fault) false h = refl
+
+-- Nothing is added to the others.
+pub nothing_added : (p : ScriptPlan) (step kept : Outcome → Outcome) (old : Path) (before : List Path) (path : Path) (s : State) → map kept (given (test_truth p.tests) path s) ≡ map step (given (test_truth p.tests) old s) → IsPartedAt p step kept old before path before s
+nothing_added p step kept old before path s e = record {
+  added = [];
+  others = sym (append-nil (outcomes (test_truth p.tests) before s));
+  over = refl;
+  gives = e;
+}
 
 -- ---- a part that is pushed
 
@@ -119,26 +151,28 @@ module _ (p : ScriptPlan) (c : ℕ) (old : Path) (span : Span) (s : State) where
   fault_none : (fault : Fault) → all ≡ [] → given (test_truth p.tests) (with_fault old fault) s ≡ []
   fault_none fault e = faults_give (test_truth p.tests) s old fault ∙ ap (map (ended_by fault)) e
 
-  -- The paths after a part is pushed: those before, and what is given on the part.
+  -- The paths after a part is pushed: those before, and what is given on the part, which has ended.
   part_given : (o : Option Span) (property : ℤ → Type 0) (fault : Fault) (before after : List Path) → IsPart property o → IsPartPushed p c o fault old before after →
-      (gives : List Outcome) × ((rest : List Outcome) → outcomes (test_truth p.tests) after s ++ rest ≡ outcomes (test_truth p.tests) before s ++ (gives ++ rest))
-      × IsGivenWhere (test_truth p.tests) old c span s property (map (ended_by fault) all) gives
+      (gives : List Outcome) × (outcomes (test_truth p.tests) after s ≡ outcomes (test_truth p.tests) before s ++ gives)
+      × IsGivenWhere (test_truth p.tests) old c span s property (map (ended_by fault) all) gives × (those_going gives ≡ [])
   part_given None property fault before after is pushed = (
     [],
-    λ rest. ap (λ (ps : List Path). outcomes (test_truth p.tests) ps s ++ rest) pushed,
+    ap (λ (ps : List Path). outcomes (test_truth p.tests) ps s) pushed ∙ sym (append-nil (outcomes (test_truth p.tests) before s)),
     record { none = λ e. refl; here = λ h x q. absurd (is (number_at s c) q); away = λ h x n. refl },
+    refl,
   )
   part_given (Some part_span) property fault before after is pushed =
       let T = test_truth p.tests in
       let q : Path = pushed.pushed in
       let ended : Path = with_fault old fault in (
         given T q s,
-        λ rest. ap (λ (ps : List Path). outcomes T ps s ++ rest) pushed.is ∙ ap (λ (os : List Outcome). os ++ rest) (outcomes_push T before q s) ∙ append_assoc (outcomes T before s) (given T q s) rest,
+        ap (λ (ps : List Path). outcomes T ps s) pushed.is ∙ outcomes_push T before q s,
         record {
           none = λ e. given_none T ended q c part_span s pushed.gives (fault_none fault e);
           here = λ h x g. given_in T ended q c part_span s (number_at s c) pushed.gives h ((is (number_at s c)).1 g) ∙ faults_give T s old fault;
           away = λ h x n. given_out T ended q c part_span s (number_at s c) pushed.gives h (λ g. n ((is (number_at s c)).0 g));
         },
+        over_gives T q s (λ g. fault_ends fault old.end (subst GoesOn pushed.end g)),
       )
 
 pub stored_in : (number : Wide) (range : Span) (fault : Fault) (store : ℤ → State → State) (s : State) (os : List Outcome) → HasPoint range (wide_value number s) → map (wide_stored number range fault store s) os ≡ map (changed (store (wide_value number s))) os
@@ -199,8 +233,7 @@ module _ (p : ScriptPlan) (c : ℕ) (old : Path) (span range : Span) (number : W
 
   -- No number over the cell is in the range: the path ends.
   pub none_inside : (before : List Path) → IsPart (Within span number range) None → WideRanges p number range fault old before (with_fault old fault) before None
-  none_inside before outside store s =
-      ap (λ (os : List Outcome). outcomes (test_truth p.tests) before s ++ os)
+  none_inside before outside store s = nothing_added p (wide_stored number range fault store s) (λ (o : Outcome). o) old before (with_fault old fault) s
       (elim (number_is_held (test_truth p.tests) old s c span is) [
         | inl none ↦ same_map (faults_give (test_truth p.tests) s old fault ∙ ap (map (ended_by fault)) none) ∙ sym (ap (map (wide_stored number range fault store s)) none)
         | inr (held, point) ↦
@@ -256,6 +289,53 @@ module _ (when : List Part) (c : ℕ) (span range : Span) (number : ℤ → ℤ)
             absurd (omega (arith, ints, ends, more));
         more = λ none. refl;
       }
+
+-- ---- a number that is in the range on the whole path
+
+-- A number between two lies, along a line, between their numbers.
+pub line_between : (a b lo hi x first last : ℤ) → lo ≤ℤ x → x ≤ℤ hi → first ≤ℤ (a *ℤ lo +ℤ b) → (a *ℤ lo +ℤ b) ≤ℤ last → first ≤ℤ (a *ℤ hi +ℤ b) → (a *ℤ hi +ℤ b) ≤ℤ last → (first ≤ℤ (a *ℤ x +ℤ b)) × ((a *ℤ x +ℤ b) ≤ℤ last)
+line_between (pos k) b lo hi x first last l h p q r t =
+    let one = times_keeps k lo x l in
+    let two = times_keeps k x hi h in
+    (omega (arith, ints), omega (arith, ints))
+line_between (negsuc k) b lo hi x first last l h p q r t =
+    let less : neg_ℤ x ≤ℤ neg_ℤ lo = omega (arith, ints) in
+    let more : neg_ℤ hi ≤ℤ neg_ℤ x = omega (arith, ints) in
+    let one : (neg_ℤ (negsuc k) *ℤ neg_ℤ x) ≤ℤ (neg_ℤ (negsuc k) *ℤ neg_ℤ lo) = times_keeps (suc k) (neg_ℤ x) (neg_ℤ lo) less in
+    let two : (neg_ℤ (negsuc k) *ℤ neg_ℤ hi) ≤ℤ (neg_ℤ (negsuc k) *ℤ neg_ℤ x) = times_keeps (suc k) (neg_ℤ hi) (neg_ℤ x) more in
+    let e = opposites (negsuc k) x in
+    let f = opposites (negsuc k) lo in
+    let g = opposites (negsuc k) hi in
+    (omega (arith, ints), omega (arith, ints))
+
+module _ (c : ℕ) (old : Path) (range : Span) (number : Wide) (f : IntForm) (names : wide_cell number ≡ Some c) (whole : IsWholeOn number c range old f) where
+  pub whole_ranges : (p : ScriptPlan) (fault : Fault) (before : List Path) → WideRanges p number range fault old before old before (Some f)
+  whole_ranges p fault before store s =
+      let T = test_truth p.tests in
+      let os : List Outcome = given T old s in
+      nothing_added p (wide_stored number range fault store s) (form_stored (Some f) store s) old before old s
+      (elim (number_is_held T old s c whole.span whole.is) [
+        | inl none ↦ ap (map (form_stored (Some f) store s)) none ∙ sym (ap (map (wide_stored number range fault store s)) none)
+        | inr (held, point) ↦
+            let cell_in : IsCellIn (wide_cell number) whole.span s = subst (λ (o : Option ℕ). IsCellIn o whole.span s) (sym names) point in
+            let inside : HasPoint range (wide_value number s) = subst (HasPoint range) (sym (wide_at number c s names)) (whole.within (number_at s c) point) in
+            ap (λ (y : ℤ). map (changed (store y)) os) (whole.value s cell_in) ∙ sym (stored_in number range fault store s os inside)
+      ])
+
+  pub whole_number : GoesOn old.end → NumberFitsOn range.lo range.hi old f
+  whole_number goes =
+      let taken : IsTaken (wide_on number) (Some c) whole.span f = subst (λ (o : Option ℕ). IsTaken (wide_on number) o whole.span f) names whole.form in
+      record {
+        goes_on = goes;
+        fits = taken_fits old.when c whole.span range (wide_on number) whole.is whole.within f taken;
+        taken = taken_is_taken old.when c whole.span range (wide_on number) whole.is whole.within f taken;
+      }
+
+pub few_stay : (path : Path) (before : List Path) → GoesOn path.end → AreFewPaths 1 2 path before path before
+few_stay path before goes =
+    let a = one_goes path.end goes in
+    let b = going_most path.end 3 goes in
+    record { going = omega (arith, a); all = omega (arith, b) }
 
 -- ---- the parts of a fitted span
 
@@ -314,9 +394,12 @@ parts_range p c old path span range number fault fitted inside before between af
     let under = part_given p c old span s fitted.below (Below span number range.lo) fault before between fits.below low in
     let over = part_given p c old span s fitted.above (Above span number range.hi) fault between after fits.above high in
     let mid = map (form_stored (Some inside.form) store s) (given T path s) in
-    over.1 mid ∙ under.1 (over.0 ++ mid)
-    ∙ ap (λ (os : List Outcome). outcomes T before s ++ os)
-    (parts_give p c old span range number fault is names store s under.0 over.0 mid under.2 over.2 (inside_given p c old path span range number inside names points form_is gives store s))
+    record {
+      added = under.0 ++ over.0;
+      others = over.1 ∙ ap (λ (os : List Outcome). os ++ over.0) under.1 ∙ append_assoc (outcomes T before s) under.0 over.0;
+      over = going_append under.0 over.0 ∙ (λ i. under.3 i ++ over.3 i);
+      gives = append_assoc under.0 over.0 mid ∙ parts_give p c old span range number fault is names store s under.0 over.0 mid under.2 over.2 (inside_given p c old path span range number inside names points form_is gives store s);
+    }
 
 module _ (p : ScriptPlan) (c : ℕ) (old : Path) (fault : Fault) (fitted : Fitted) (before between after : List Path)
     (low : IsPartPushed p c fitted.below fault old before between) (high : IsPartPushed p c fitted.above fault old between after) where

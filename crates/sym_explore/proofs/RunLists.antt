@@ -1,14 +1,14 @@
--- Paths that statements make: what they make of a state, list by list.
-use Rattle.std.proofs.Common.{◌≡◌, ℕ, Bool, true, false, List, [], ◌∷◌, ◌++◌, Option, None, Result, Ok, Err, map, refl, sym, ap, ◌∙◌, append_assoc}
-use Rattle.std.proofs.lemmas.List.{map-append}
+-- What lists of paths give that statements are run on.
+use Rattle.std.proofs.Common.{◌≡◌, ◌≤◌, ℕ, Bool, true, false, List, [], ◌∷◌, ◌++◌, Option, Some, None, Result, Ok, Err, map, length, refl, sym, ap, ◌∙◌, arith}
+use Rattle.std.proofs.lemmas.List.{append-nil, length-map}
 use Rattle.std.specs.Prelude.{if◌then◌else◌}
 use Rattle.sym_base.specs.declared.values.record.Record.{Record}
 use Rattle.sym_base.specs.declared.values.state.State.{State}
+use Rattle.sym_base.specs.declared.values.state.Fault.{Fault}
 use Rattle.sym_base.specs.declared.values.state.FaultKind.{FaultKind}
 use Rattle.sym_base.specs.declared.values.state.Outcome.{Outcome}
 use Rattle.sym_base.specs.declared.values.state.Outcome.TheVariants.{Going}
 use Rattle.sym_base.specs.declared.values.state.Outcome.TheVariants as outcome
-use Rattle.sym_base.specs.Tests.{Truth}
 use Rattle.sym_check.specs.declared.evaluate.arithmetic.Arith.{Arith}
 use Rattle.sym_check.specs.Arithmetic.{◌>>=◌}
 use Rattle.sym_check.specs.Conditions.{test_truth, truth}
@@ -16,46 +16,77 @@ use Rattle.sym_check.specs.CondPlans.{CondPlan}
 use Rattle.sym_check.specs.DoPlans.{DoPlan, If, DosPlan, End, Then}
 use Rattle.sym_check.specs.FixedValues.{Environment}
 use Rattle.sym_check.specs.ScriptPlans.{ScriptPlan}
-use Rattle.sym_check.specs.Updates.{at_record, do_step, dos_step, environment, environment_after, or_fault, step}
+use Rattle.sym_check.specs.Updates.{at_record, do_step, dos_step, environment, environment_after, or_fault}
 use Rattle.sym_path.specs.declared.path.Path.{Path}
-use Rattle.sym_path.specs.declared.path.PathEnd.{PathEnd}
-use Rattle.sym_path.specs.declared.path.PathEnd.TheVariants.{Next, Ended}
-use Rattle.sym_path.specs.Admitting.{admits}
-use Rattle.sym_path.specs.Changing.{GoesOn}
-use Rattle.sym_path.specs.Giving.{given, outcomes, end_at}
-use Rattle.sym_explore.specs.declared.branch.Branch.{Branch}
-use Rattle.sym_explore.specs.Branches.{with_truth, judged, with_answer, tried, Splits}
-use Rattle.sym_explore.specs.Running.{RunsPaths, RunsBranches, side_step}
-use Rattle.sym_explore.specs.Stepping.{going_on, after_do, after_dos, after_record, Becomes, Steps}
-use Rattle.sym_explore.proofs.PathCuts.{judged_push}
-use Rattle.sym_explore.proofs.PathRanges.{outcomes_push}
-use Rattle.sym_explore.proofs.SplitLists.{map_then}
+use Rattle.sym_explore.specs.Branches.{with_answer, tried}
+use Rattle.sym_explore.specs.Parting.{AllGoOn, those_going, those_ended, those_true, those_false, those_failed, at_state, AreParts, AreRun}
+use Rattle.sym_explore.specs.Stepping.{going_on, after_do, after_dos, after_record}
+use Rattle.sym_explore.proofs.EndedLists.{all_going, outcomes_append}
 
 -- What a function that changes nothing makes of the items.
 pub map_same : {A : Type 0} (f : A → A) (xs : List A) → ((x : A) → f x ≡ x) → map f xs ≡ xs
 map_same f [] each = refl
 map_same f (x ∷ xs) each = ap (λ y. y ∷ map f xs) (each x) ∙ ap (λ ys. x ∷ ys) (map_same f xs each)
 
-map_alike : {A B : Type 0} (f g : A → B) (xs : List A) → ((x : A) → f x ≡ g x) → map f xs ≡ map g xs
+pub map_alike : {A B : Type 0} (f g : A → B) (xs : List A) → ((x : A) → f x ≡ g x) → map f xs ≡ map g xs
 map_alike f g [] each = refl
 map_alike f g (x ∷ xs) each = ap (λ y. y ∷ map f xs) (each x) ∙ ap (λ ys. g x ∷ ys) (map_alike f g xs each)
 
--- ---- paths that have ended
+-- ---- at most one outcome
 
-ended_stays : (n : ℕ) (part : State → Result State FaultKind) (end : PathEnd) (s : State) (admitted : Bool) → (GoesOn end → ⊥) → map (going_on n part) (if admitted then end_at end s ∷ [] else []) ≡ (if admitted then end_at end s ∷ [] else [])
-ended_stays n part end s false over = refl
-ended_stays n part (Next forms) s true over = absurd (over tt)
-ended_stays n part (Ended fault) s true over = refl
+fewer_going : (os : List Outcome) → length (those_going os) ≤ length os
+fewer_going [] = omega arith
+fewer_going (Going s ∷ os) = omega (arith, fewer_going os)
+fewer_going (outcome.Ended fault ∷ os) = omega (arith, fewer_going os)
 
--- A path that has ended gives what a part of an update makes of what it gives.
-pub over_stays : (tests : Truth) (n : ℕ) (part : State → Result State FaultKind) (path : Path) (s : State) → (GoesOn path.end → ⊥) → map (going_on n part) (given tests path s) ≡ given tests path s
-over_stays tests n part path s over = ended_stays n part path.end s (admits tests path.when s.cells) over
+fewer_true : (js : List (Outcome × Option Bool)) → length (those_true js) ≤ length js
+fewer_true [] = omega arith
+fewer_true ((o, Some true) ∷ js) = omega (arith, fewer_true js)
+fewer_true ((o, Some false) ∷ js) = omega (arith, fewer_true js)
+fewer_true ((o, None) ∷ js) = omega (arith, fewer_true js)
 
-pub steps_over : (p : ScriptPlan) (n : ℕ) (part : State → Result State FaultKind) (path : Path) (before : List Path) → (GoesOn path.end → ⊥) → Steps p (going_on n part) path before path before
-steps_over p n part path before over s =
-    ap (λ zs. outcomes (test_truth p.tests) before s ++ zs) (sym (over_stays (test_truth p.tests) n part path s over))
+fewer_false : (js : List (Outcome × Option Bool)) → length (those_false js) ≤ length js
+fewer_false [] = omega arith
+fewer_false ((o, Some true) ∷ js) = omega (arith, fewer_false js)
+fewer_false ((o, Some false) ∷ js) = omega (arith, fewer_false js)
+fewer_false ((o, None) ∷ js) = omega (arith, fewer_false js)
 
--- ---- statements in order
+-- ---- one step and then another
+
+module _ (first rest both : Outcome → Outcome) (stays : (fault : Fault) → rest (outcome.Ended fault) ≡ outcome.Ended fault) (same : (o : Outcome) → rest (first o) ≡ both o) where
+  goes_then : (x : Outcome) → those_going (map rest (those_going (x ∷ []))) ≡ those_going (rest x ∷ [])
+  goes_then (Going s) = refl
+  goes_then (outcome.Ended fault) = ap (λ y. those_going (y ∷ [])) (sym (stays fault))
+
+  ends_then : (es : List Outcome) (x : Outcome) → (es ++ those_ended (x ∷ [])) ++ those_ended (map rest (those_going (x ∷ []))) ≡ es ++ those_ended (rest x ∷ [])
+  ends_then es (Going s) = ap (λ zs. zs ++ those_ended (rest (Going s) ∷ [])) (append-nil es)
+  ends_then es (outcome.Ended fault) = append-nil (es ++ outcome.Ended fault ∷ []) ∙ ap (λ y. es ++ those_ended (y ∷ [])) (sym (stays fault))
+
+  going_then : (os : List Outcome) → length os ≤ 1 → those_going (map rest (those_going (map first os))) ≡ those_going (map both os)
+  going_then [] once = refl
+  going_then (o ∷ []) once = goes_then (first o) ∙ ap (λ y. those_going (y ∷ [])) (same o)
+  going_then (o ∷ q ∷ os) once = absurd (omega (arith, once))
+
+  ended_then : (es os : List Outcome) → length os ≤ 1 → (es ++ those_ended (map first os)) ++ those_ended (map rest (those_going (map first os))) ≡ es ++ those_ended (map both os)
+  ended_then es [] once = append-nil (es ++ [])
+  ended_then es (o ∷ []) once = ends_then es (first o) ∙ ap (λ y. es ++ those_ended (y ∷ [])) (same o)
+  ended_then es (o ∷ q ∷ os) once = absurd (omega (arith, once))
+
+  pub run_then : (p : ScriptPlan) (old middle new before ended after : List Path) → AreRun p first old middle before ended → AreRun p rest middle new ended after → AreRun p both old new before after
+  run_then p old middle new before ended after h k s once =
+      let os = at_state p old s in
+      let es = at_state p before s in
+      let a = h s once in
+      let few : length (at_state p middle s) ≤ 1 = omega (arith, ap length a.going, fewer_going (map first os), length-map os first, once) in
+      let b = k s few in
+      record {
+        going = b.going ∙ ap (λ zs. those_going (map rest zs)) a.going ∙ going_then os once;
+        ended =
+            b.ended
+            ∙ ap (λ zs. zs ++ those_ended (map rest (at_state p middle s))) a.ended
+            ∙ ap (λ zs. (es ++ those_ended (map first os)) ++ those_ended (map rest zs)) a.going
+            ∙ ended_then es os once;
+      }
 
 chained : (n : ℕ) (r : Result State FaultKind) (part : State → Result State FaultKind) → going_on n part (at_record n r) ≡ at_record n (r >>= part)
 chained n (Ok s) part = refl
@@ -65,115 +96,109 @@ pub after_then : (p : ScriptPlan) (k : Environment) (n : ℕ) (d : DoPlan) (rest
 after_then p k n d rest (Going s) = chained n (do_step p k d s) (dos_step p (environment_after k d) rest)
 after_then p k n d rest (outcome.Ended fault) = refl
 
--- No statement changes anything.
-pub steps_end : (p : ScriptPlan) (k : Environment) (n : ℕ) (path : Path) (before : List Path) → Steps p (after_dos p k n End) path before path before
-steps_end p k n path before s =
-    ap (λ zs. outcomes (test_truth p.tests) before s ++ zs) (sym (map_same (after_dos p k n End) (given (test_truth p.tests) path s) same))
-  where
-    same : (o : Outcome) → after_dos p k n End o ≡ o
-    same (Going s) = refl
-    same (outcome.Ended fault) = refl
+-- A statement and the rest of its block.
+pub runs_then : (p : ScriptPlan) (k : Environment) (n : ℕ) (d : DoPlan) (rest : DosPlan) (old middle new before ended after : List Path) → AreRun p (after_do p k n d) old middle before ended → AreRun p (after_dos p (environment_after k d) n rest) middle new ended after → AreRun p (after_dos p k n (Then d rest)) old new before after
+runs_then p k n d rest = run_then (after_do p k n d) (after_dos p (environment_after k d) n rest) (after_dos p k n (Then d rest)) (λ fault. refl) (after_then p k n d rest) p
 
--- The paths that come of the first statement, each taken through the rest, and then the path.
-pub steps_then : (p : ScriptPlan) (first rest both : Outcome → Outcome) → ((o : Outcome) → rest (first o) ≡ both o) → (old : Path) (before : List Path) (path : Path) (firsts middle : List Path) (last : Path) (after : List Path) → Steps p first old [] path firsts → RunsPaths p rest firsts before middle → Steps p rest path middle last after → Steps p both old before last after
-steps_then p first rest both same old before path firsts middle last after h each more s =
+-- No path is left: nothing more happens.
+pub run_none : (p : ScriptPlan) (step : Outcome → Outcome) (before : List Path) → AreRun p step [] [] before before
+run_none p step before s once = record { going = refl; ended = sym (append-nil (at_state p before s)) }
+
+-- ---- a step that changes nothing
+
+pub run_same : (p : ScriptPlan) (step : Outcome → Outcome) → ((o : Outcome) → step o ≡ o) → (paths before : List Path) → AllGoOn paths → AreRun p step paths paths before before
+run_same p step same paths before on s once =
     let tests = test_truth p.tests in
-    let b = outcomes tests before s in
-    let f = outcomes tests firsts s in
-    let g = given tests path s in
-    more s
-    ∙ ap (λ zs. zs ++ map rest g) (each s)
-    ∙ append_assoc b (map rest f) (map rest g)
-    ∙ ap (λ zs. b ++ zs) (sym (map-append rest f g))
-    ∙ ap (λ zs. b ++ map rest zs) (h s)
-    ∙ ap (λ zs. b ++ zs) (map_then first rest both (given tests old s) same)
+    let os = at_state p paths s in
+    let all = all_going tests s paths on in
+    record {
+      going = sym (ap those_going (map_same step os same) ∙ all.0);
+      ended = sym (append-nil (at_state p before s)) ∙ ap (λ zs. at_state p before s ++ zs) (sym (ap those_ended (map_same step os same) ∙ all.1));
+    }
 
--- Where the first statement ends the path, the rest changes nothing.
-pub steps_ended : (p : ScriptPlan) (k : Environment) (n : ℕ) (d : DoPlan) (rest : DosPlan) (old : Path) (before : List Path) (path : Path) (firsts : List Path) → Steps p (after_do p k n d) old [] path firsts → firsts ≡ [] → (GoesOn path.end → ⊥) → Steps p (after_dos p k n (Then d rest)) old before path before
-steps_ended p k n d rest old before path firsts h none over s =
-    let tests = test_truth p.tests in
-    let later = environment_after k d in
-    let g = given tests old s in
-    let one : given tests path s ≡ map (after_do p k n d) g = sym (ap (λ ps. outcomes tests ps s ++ given tests path s) none) ∙ h s in
-    ap (λ zs. outcomes tests before s ++ zs)
-    (sym (over_stays tests n (dos_step p later rest) path s over)
-    ∙ ap (map (after_dos p later n rest)) one
-    ∙ map_then (after_do p k n d) (after_dos p later n rest) (after_dos p k n (Then d rest)) g (after_then p k n d rest))
-
--- One path more is run.
-pub run_more : (p : ScriptPlan) (f : Outcome → Outcome) (done : List Path) (old : Path) (before middle : List Path) (path : Path) (after : List Path) → RunsPaths p f done before middle → Steps p f old middle path after → RunsPaths p f (done ++ old ∷ []) before (after ++ path ∷ [])
-run_more p f done old before middle path after h step s =
-    let tests = test_truth p.tests in
-    let b = outcomes tests before s in
-    let d = outcomes tests done s in
-    let g = given tests old s in
-    outcomes_push tests after path s
-    ∙ step s
-    ∙ ap (λ zs. zs ++ map f g) (h s)
-    ∙ append_assoc b (map f d) (map f g)
-    ∙ ap (λ zs. b ++ zs) (sym (map-append f d g))
-    ∙ ap (λ zs. b ++ map f zs) (sym (outcomes_push tests done old s))
-
--- ---- one path that becomes another
-
-pub steps_becomes : (p : ScriptPlan) (f : Outcome → Outcome) (old path : Path) (before : List Path) → Becomes p f old path → Steps p f old before path before
-steps_becomes p f old path before h s = ap (λ zs. outcomes (test_truth p.tests) before s ++ zs) (h s)
+pub end_stays : (p : ScriptPlan) (k : Environment) (n : ℕ) (o : Outcome) → after_dos p k n End o ≡ o
+end_stays p k n (Going s) = refl
+end_stays p k n (outcome.Ended fault) = refl
 
 -- ---- both sides of an `if`
 
-sided : (p : ScriptPlan) (k : Environment) (n : ℕ) (a b : DosPlan) (s : State) (r : Result Bool Arith) → side_step p k n a b (with_answer n s r).1 (with_answer n s r).0 ≡ at_record n (or_fault r >>= λ x. if x then dos_step p k a s else dos_step p k b s)
-sided p k n a b s (Ok true) = refl
-sided p k n a b s (Ok false) = refl
-sided p k n a b s (Err e) = refl
+-- The outcome is what the sides make of the one that the condition was tried on.
+abbrev IsSided : (Outcome → Outcome) → (Outcome → Outcome) → Outcome × Option Bool → Outcome → Type 0
+IsSided a b (x, Some true) end = a x ≡ end
+IsSided a b (x, Some false) end = b x ≡ end
+IsSided a b (x, None) end = (fault : Fault) × (x ≡ outcome.Ended fault) × (end ≡ outcome.Ended fault)
 
-pub after_if : (p : ScriptPlan) (k : Environment) (n : ℕ) (c : CondPlan) (a b : DosPlan) (o : Outcome) → side_step p k n a b (tried p k n c o).1 (tried p k n c o).0 ≡ after_do p k n (If c a b) o
-after_if p k n c a b (Going s) = sided p k n a b s (truth (test_truth p.tests) k c s)
-after_if p k n c a b (outcome.Ended fault) = refl
+module _ (a b : Outcome → Outcome) where
+  goes_sided : (j : Outcome × Option Bool) (end : Outcome) → IsSided a b j end → those_going (map a (those_true (j ∷ []))) ++ those_going (map b (those_false (j ∷ []))) ≡ those_going (end ∷ [])
+  goes_sided (x, Some true) end is = append-nil (those_going (a x ∷ [])) ∙ ap (λ y. those_going (y ∷ [])) is
+  goes_sided (x, Some false) end is = ap (λ y. those_going (y ∷ [])) is
+  goes_sided (x, None) end is = ap (λ y. those_going (y ∷ [])) (sym is.2)
 
-side_on : (f : Option Bool → Outcome → Outcome) (t : Option Bool) (os : List Outcome) → map (f t) os ≡ map (λ (o : Outcome × Option Bool). f o.1 o.0) (with_truth t os)
-side_on f t os = sym (map_then (λ o. (o, t)) (λ (o : Outcome × Option Bool). f o.1 o.0) (f t) os (λ o. refl))
+  ends_sided : (es : List Outcome) (j : Outcome × Option Bool) (end : Outcome) → IsSided a b j end → ((es ++ those_failed (j ∷ [])) ++ those_ended (map a (those_true (j ∷ [])))) ++ those_ended (map b (those_false (j ∷ []))) ≡ es ++ those_ended (end ∷ [])
+  ends_sided es (x, Some true) end is =
+      append-nil ((es ++ []) ++ those_ended (a x ∷ []))
+      ∙ ap (λ zs. zs ++ those_ended (a x ∷ [])) (append-nil es)
+      ∙ ap (λ y. es ++ those_ended (y ∷ [])) is
+  ends_sided es (x, Some false) end is =
+      ap (λ zs. zs ++ those_ended (b x ∷ [])) (append-nil (es ++ []) ∙ append-nil es)
+      ∙ ap (λ y. es ++ those_ended (y ∷ [])) is
+  ends_sided es (x, None) end is =
+      append-nil ((es ++ x ∷ []) ++ [])
+      ∙ append-nil (es ++ x ∷ [])
+      ∙ ap (λ y. es ++ y ∷ []) is.1
+      ∙ ap (λ y. es ++ those_ended (y ∷ [])) (sym is.2)
 
--- The branches of the condition, each with the side of its truth, and then the path.
-pub steps_sides : (p : ScriptPlan) (meaning : Outcome → Outcome × Option Bool) (f : Option Bool → Outcome → Outcome) (both : Outcome → Outcome) → ((o : Outcome) → f (meaning o).1 (meaning o).0 ≡ both o) → (old : Path) (before : List Path) (path : Path) (firsts : List Branch) (t : Option Bool) (middle : List Path) (last : Path) (after : List Path) → Splits p meaning old [] path firsts t → RunsBranches p f firsts before middle → Steps p (f t) path middle last after → Steps p both old before last after
-steps_sides p meaning f both same old before path firsts t middle last after h each more s =
-    let tests = test_truth p.tests in
-    let on : Outcome × Option Bool → Outcome = λ o. f o.1 o.0 in
-    let b = outcomes tests before s in
-    let j = judged tests firsts s in
-    let w = with_truth t (given tests path s) in
-    more s
-    ∙ ap (λ zs. zs ++ map (f t) (given tests path s)) (each s)
-    ∙ append_assoc b (map on j) (map (f t) (given tests path s))
-    ∙ ap (λ zs. b ++ (map on j ++ zs)) (side_on f t (given tests path s))
-    ∙ ap (λ zs. b ++ zs) (sym (map-append on j w))
-    ∙ ap (λ zs. b ++ map on zs) (h s)
-    ∙ ap (λ zs. b ++ zs) (map_then meaning on both (given tests old s) same)
+  module _ (meaning : Outcome → Outcome × Option Bool) (both : Outcome → Outcome) (sided : (o : Outcome) → IsSided a b (meaning o) (both o)) where
+    going_sided : (os : List Outcome) → length os ≤ 1 → those_going (map a (those_true (map meaning os))) ++ those_going (map b (those_false (map meaning os))) ≡ those_going (map both os)
+    going_sided [] once = refl
+    going_sided (o ∷ []) once = goes_sided (meaning o) (both o) (sided o)
+    going_sided (o ∷ q ∷ os) once = absurd (omega (arith, once))
 
--- One branch more takes its side.
-pub side_more : (p : ScriptPlan) (f : Option Bool → Outcome → Outcome) (done : List Branch) (b : Branch) (before middle : List Path) (path : Path) (after : List Path) → RunsBranches p f done before middle → Steps p (f b.truth) b.path middle path after → RunsBranches p f (done ++ b ∷ []) before (after ++ path ∷ [])
-side_more p f done b before middle path after h step s =
-    let tests = test_truth p.tests in
-    let on : Outcome × Option Bool → Outcome = λ o. f o.1 o.0 in
-    let old = outcomes tests before s in
-    let j = judged tests done s in
-    let w = with_truth b.truth (given tests b.path s) in
-    outcomes_push tests after path s
-    ∙ step s
-    ∙ ap (λ zs. zs ++ map (f b.truth) (given tests b.path s)) (h s)
-    ∙ append_assoc old (map on j) (map (f b.truth) (given tests b.path s))
-    ∙ ap (λ zs. old ++ (map on j ++ zs)) (side_on f b.truth (given tests b.path s))
-    ∙ ap (λ zs. old ++ zs) (sym (map-append on j w))
-    ∙ ap (λ zs. old ++ map on zs) (sym (judged_push tests done b s))
+    ended_sided : (es os : List Outcome) → length os ≤ 1 → ((es ++ those_failed (map meaning os)) ++ those_ended (map a (those_true (map meaning os)))) ++ those_ended (map b (those_false (map meaning os))) ≡ es ++ those_ended (map both os)
+    ended_sided es [] once = append-nil ((es ++ []) ++ []) ∙ append-nil (es ++ [])
+    ended_sided es (o ∷ []) once = ends_sided es (meaning o) (both o) (sided o)
+    ended_sided es (o ∷ q ∷ os) once = absurd (omega (arith, once))
 
--- A branch without a truth stays as it is.
-pub side_stays : (p : ScriptPlan) (k : Environment) (n : ℕ) (a b : DosPlan) (path : Path) (before : List Path) → Steps p (side_step p k n a b None) path before path before
-side_stays p k n a b path before s = ap (λ zs. outcomes (test_truth p.tests) before s ++ zs) (sym (map_same (side_step p k n a b None) (given (test_truth p.tests) path s) (λ o. refl)))
+    -- The paths on which the condition is true are run through the one side, the others through the
+    -- other one.
+    pub run_sides : (p : ScriptPlan) (old trues falses before failed : List Path) → AreParts p meaning old trues [] falses before failed → (then_paths ended else_paths after : List Path) → AreRun p a trues then_paths failed ended → AreRun p b falses else_paths ended after → AreRun p both old (then_paths ++ else_paths) before after
+    run_sides p old trues falses before failed h then_paths ended else_paths after k l s once =
+        let tests = test_truth p.tests in
+        let os = at_state p old s in
+        let es = at_state p before s in
+        let parts = h s once in
+        let few : length (map meaning os) ≤ 1 = omega (arith, length-map os meaning, once) in
+        let few_true : length (at_state p trues s) ≤ 1 = omega (arith, ap length parts.trues, fewer_true (map meaning os), few) in
+        let few_false : length (at_state p falses s) ≤ 1 = omega (arith, ap length parts.falses, fewer_false (map meaning os), few) in
+        let x = k s few_true in
+        let y = l s few_false in
+        record {
+          going =
+              outcomes_append tests then_paths else_paths s
+              ∙ ap (λ zs. zs ++ at_state p else_paths s) (x.going ∙ ap (λ zs. those_going (map a zs)) parts.trues)
+              ∙ ap (λ zs. those_going (map a (those_true (map meaning os))) ++ zs) (y.going ∙ ap (λ zs. those_going (map b zs)) parts.falses)
+              ∙ going_sided os once;
+          ended =
+              y.ended
+              ∙ ap (λ zs. zs ++ those_ended (map b (at_state p falses s))) (x.ended ∙ ap (λ zs. zs ++ those_ended (map a (at_state p trues s))) parts.ended ∙ ap (λ zs. (es ++ those_failed (map meaning os)) ++ those_ended (map a zs)) parts.trues)
+              ∙ ap (λ zs. ((es ++ those_failed (map meaning os)) ++ those_ended (map a (those_true (map meaning os)))) ++ those_ended (map b zs)) parts.falses
+              ∙ ended_sided es os once;
+        }
+
+answer_sided : (p : ScriptPlan) (k : Environment) (n : ℕ) (a b : DosPlan) (s : State) (r : Result Bool Arith) → IsSided (after_dos p k n a) (after_dos p k n b) (with_answer n s r) (at_record n (or_fault r >>= λ x. if x then dos_step p k a s else dos_step p k b s))
+answer_sided p k n a b s (Ok true) = refl
+answer_sided p k n a b s (Ok false) = refl
+answer_sided p k n a b s (Err e) = (_, refl, refl)
+
+after_if : (p : ScriptPlan) (k : Environment) (n : ℕ) (c : CondPlan) (a b : DosPlan) (o : Outcome) → IsSided (after_dos p k n a) (after_dos p k n b) (tried p k n c o) (after_do p k n (If c a b) o)
+after_if p k n c a b (Going s) = answer_sided p k n a b s (truth (test_truth p.tests) k c s)
+after_if p k n c a b (outcome.Ended fault) = (fault, refl, refl)
+
+pub runs_if : (p : ScriptPlan) (k : Environment) (n : ℕ) (c : CondPlan) (a b : DosPlan) (old trues falses before failed : List Path) → AreParts p (tried p k n c) old trues [] falses before failed → (then_paths ended else_paths after : List Path) → AreRun p (after_dos p k n a) trues then_paths failed ended → AreRun p (after_dos p k n b) falses else_paths ended after → AreRun p (after_do p k n (If c a b)) old (then_paths ++ else_paths) before after
+runs_if p k n c a b = run_sides (after_dos p k n a) (after_dos p k n b) (tried p k n c) (after_do p k n (If c a b)) (after_if p k n c a b) p
 
 -- ---- one record
 
 pub after_update : (p : ScriptPlan) (rec : Record) (o : Outcome) → after_dos p (environment rec []) rec.no p.update o ≡ after_record p rec o
 after_update p rec (Going s) = refl
 after_update p rec (outcome.Ended fault) = refl
-
-pub steps_record : (p : ScriptPlan) (rec : Record) (old : Path) (before : List Path) (path : Path) (after : List Path) → Steps p (after_dos p (environment rec []) rec.no p.update) old before path after → Steps p (after_record p rec) old before path after
-steps_record p rec old before path after h s = h s ∙ ap (λ zs. outcomes (test_truth p.tests) before s ++ zs) (map_alike (after_dos p (environment rec []) rec.no p.update) (after_record p rec) (given (test_truth p.tests) old s) (after_update p rec))

@@ -1,20 +1,15 @@
 -- A path on which the number of a term has to lie in the range of a cell.
-use Rattle.std.proofs.Common.{◌≡◌, ◌++◌, ℕ, ℤ, ◌≤ℤ◌, pos, Bool, true, false, List, [], ◌∷◌, Option, Some, None, map, refl, sym, ap, ◌∙◌, subst}
-use Rattle.std.specs.Prelude.{slice_get, IfSome, if◌then◌else◌, Result, Ok, Err}
+use Rattle.std.proofs.Common.{◌≡◌, ℕ, ℤ, ◌≤ℤ◌, pos, Bool, true, false, List, [], ◌∷◌, Option, Some, None, map, refl, sym, ap, ◌∙◌, subst}
+use Rattle.std.specs.Prelude.{slice_get, IfOk, IfSome, if◌then◌else◌, Result, Ok, Err}
 use Rattle.sym_base.specs.declared.values.state.Fault.{Fault}
 use Rattle.sym_base.specs.declared.values.state.FaultKind.TheVariants as cause
 use Rattle.sym_base.specs.declared.values.state.State.{State}
-use Rattle.sym_base.specs.declared.values.state.Outcome.{Outcome}
 use Rattle.sym_base.specs.declared.values.state.Outcome.TheVariants.{Going}
-use Rattle.sym_check.specs.declared.evaluate.arithmetic.Arith.{Arith}
 use Rattle.sym_check.specs.declared.plan.script.CellPlan.{CellPlan}
 use Rattle.sym_check.specs.declared.plan.script.CellPlan.TheVariants as plan
-use Rattle.sym_check.specs.Arithmetic.{and_then}
 use Rattle.sym_check.specs.Conditions.{test_truth}
-use Rattle.sym_check.specs.FixedValues.{Environment}
-use Rattle.sym_check.specs.LinePlans.{TermPlan}
 use Rattle.sym_check.specs.ScriptPlans.{ScriptPlan}
-use Rattle.sym_check.specs.Updates.{at_record, in_range, or_fault}
+use Rattle.sym_check.specs.Updates.{at_record, in_range}
 use Rattle.sym_int.specs.Lines.{form_cell, form_on, form_value, wide_value}
 use Rattle.sym_int.specs.declared.form.IntForm.{IntForm}
 use Rattle.sym_int.specs.declared.form.IntForm.TheVariants as number
@@ -26,14 +21,19 @@ use Rattle.sym_path.proofs.Changed.{faults_give}
 use Rattle.sym_path.specs.Admitting.{has_point}
 use Rattle.sym_path.specs.Changing.{GoesOn, changed, ended_by}
 use Rattle.sym_path.specs.Fitting.{NumberFits}
-use Rattle.sym_path.specs.Giving.{given, outcomes}
+use Rattle.sym_path.specs.Giving.{given}
 use Rattle.sym_path.specs.Taking.{NumberIsTakenTo}
 use Rattle.sym_path.specs.declared.path.Path.{Path}
 use Rattle.sym_explore.proofs.PathNumbers.{map_going}
-use Rattle.sym_explore.proofs.PathRanges.{map_same, stored_in, stored_out}
-use Rattle.sym_explore.specs.Ranging.{HasEnds, IsRangeOf, KnownRanges, NumberFitsOn, Ranges, WideRanges, form_stored, number_stored, wide_stored}
+use Rattle.sym_explore.proofs.PathRanges.{map_same, nothing_added, stored_in, stored_out}
+use Rattle.sym_explore.specs.Ranging.{HasEnds, IsRangeOf, KnownRanges, NumberFitsOn, ReadyRanges, WideRanges, form_stored, ready_stored, wide_stored}
 use Rattle.sym_explore.specs.Stepping.{going_on}
-use Rattle.sym_explore.specs.Terms.{IsTermOver}
+use Rattle.sym_explore.specs.Terms.{IsReadyOver}
+use Rattle.sym_explore.specs.declared.terms.Ready.{Ready}
+
+pub if_ok_as : {A E : Type 0} (r : Result A E) (P Q : A → Type 0) → ((x : A) → P x → Q x) → IfOk r P → IfOk r Q
+if_ok_as (Ok x) P Q f h = f x h
+if_ok_as (Err e) P Q f h = tt
 
 -- ---- a number that is known
 
@@ -53,13 +53,13 @@ module _ (x : WideNumber) (range : Span) (fault : Fault) (old new : Path) where
   known_ranges p before (Some f) h store s =
       let T = test_truth p.tests in
       let value : form_value f s ≡ x.value = constant_form f h.2 s ∙ h.1 (pos 0) in
-      ap (λ (os : List Outcome). outcomes T before s ++ os)
+      nothing_added p (wide_stored (wide.Const x) range fault store s) (form_stored (Some f) store s) old before new s
       (ap (λ (path : Path). map (form_stored (Some f) store s) (given T path s)) h.3
       ∙ ap (λ (y : ℤ). map (changed (store y)) (given T old s)) value
       ∙ sym (stored_in (wide.Const x) range fault store s (given T old s) h.0))
   known_ranges p before None h store s =
       let T = test_truth p.tests in
-      ap (λ (os : List Outcome). outcomes T before s ++ os)
+      nothing_added p (wide_stored (wide.Const x) range fault store s) (form_stored None store s) old before new s
       (map_same (given T new s)
       ∙ ap (λ (path : Path). given T path s) h.1
       ∙ faults_give T s old fault
@@ -84,19 +84,23 @@ same_range (Some plan.Words) range x h = absurd h
 same_range (Some (plan.Hold kinds first)) range x h = absurd h
 same_range (Some (plan.Enum of first)) range x h = absurd h
 
-pub term_ranges : (p : ScriptPlan) (k : Environment) (n : ℕ) (t : TermPlan) (c : ℕ) (wide : Wide) (range : Span) (old path : Path) (before after : List Path) (form : Option IntForm) → IsTermOver p k t old wide → IsRangeOf p c range → WideRanges p wide range (record { kind = cause.Over c; no = n }) old before path after form → Ranges p k n t c old before path after form
-term_ranges p k n t c wide range old path before after form over ends ranges store s =
+pub ready_ranges : (p : ScriptPlan) (r : Ready) (n c : ℕ) (wide : Wide) (range : Span) (old path : Path) (before after : List Path) (form : Option IntForm) → IsReadyOver p r old wide → IsRangeOf p c range → WideRanges p wide range (record { kind = cause.Over c; no = n }) old before path after form → ReadyRanges p r n c old before path after form
+ready_ranges p r n c wide range old path before after form over ends ranges store s =
     let T = test_truth p.tests in
-    ranges store s
-    ∙ ap (λ (os : List Outcome). outcomes T before s ++ os)
-    (map_going T old s (wide_stored wide range (record { kind = cause.Over c; no = n }) store s) (going_on n (number_stored p k t c store)) over.goes_on step)
+    let at = ranges store s in
+    record {
+      added = at.added;
+      others = at.others;
+      over = at.over;
+      gives = at.gives ∙ map_going T old s (wide_stored wide range (record { kind = cause.Over c; no = n }) store s) (going_on n (ready_stored p r c store)) over.goes_on step;
+    }
   where
     decided : (later : State) (x : ℤ) (a : Bool) → (if a then changed (store x) else ended_by (record { kind = cause.Over c; no = n })) (Going later) ≡ at_record n (if a then Ok (store x later) else Err (cause.Over c))
     decided later x true = refl
     decided later x false = refl
 
-    step : (later : State) → given (test_truth p.tests) old s ≡ Going later ∷ [] → wide_stored wide range (record { kind = cause.Over c; no = n }) store s (Going later) ≡ going_on n (number_stored p k t c store) (Going later)
+    step : (later : State) → given (test_truth p.tests) old s ≡ Going later ∷ [] → wide_stored wide range (record { kind = cause.Over c; no = n }) store s (Going later) ≡ going_on n (ready_stored p r c store) (Going later)
     step later g =
         decided later (wide_value wide s) (has_point range (wide_value wide s))
         ∙ ap (λ (a : Bool). at_record n (if a then Ok (store (wide_value wide s) later) else Err (cause.Over c))) (sym (same_range (slice_get p.cells c) range (wide_value wide s) ends))
-        ∙ ap (λ (r : Result ℤ Arith). at_record n (and_then (λ (x : ℤ). if in_range (slice_get p.cells c) x then Ok (store x later) else Err (cause.Over c)) (or_fault r))) (sym (over.number s later g))
+        ∙ ap (λ (x : ℤ). at_record n (if in_range (slice_get p.cells c) x then Ok (store x later) else Err (cause.Over c))) (sym (over.number s later g))

@@ -8,9 +8,7 @@ use Rattle.sym_base.specs.declared.values.state.Cell.TheVariants as cell
 use Rattle.sym_base.specs.declared.values.state.State.{State}
 use Rattle.sym_base.specs.declared.values.value.Value.{Value}
 use Rattle.sym_base.specs.Tests.{Truth}
-use Rattle.sym_base.specs.declared.values.state.Outcome.{Outcome}
 use Rattle.sym_check.specs.declared.evaluate.arithmetic.Arith.{Arith}
-use Rattle.sym_check.specs.Arithmetic.{◌>>=◌}
 use Rattle.sym_check.specs.Updates.{or_fault}
 use Rattle.sym_check.specs.declared.plan.script.CellPlan.{CellPlan}
 use Rattle.sym_check.specs.declared.plan.script.CellPlan.TheVariants as plan
@@ -45,7 +43,7 @@ use Rattle.sym_path.proofs.FollowedStates.{cells_at_get}
 use Rattle.sym_path.proofs.Lists.{zip_get}
 use Rattle.sym_explore.specs.declared.branch.Branch.{Branch}
 use Rattle.sym_explore.specs.declared.calling.Tested.TheVariants as tested
-use Rattle.sym_explore.specs.Branches.{judged, answered, tried, Splits}
+use Rattle.sym_explore.specs.Branches.{judged, answered, Splits}
 use Rattle.sym_explore.specs.Calling.{IsTested, TestSuits, WasTested, outcome_in, known_outcome, test_holds}
 use Rattle.sym_explore.specs.Knowing.{CondIsKnown}
 use Rattle.sym_explore.proofs.JudgedBranches.{Judged, branch_of, known_truth, split_truth, going_answers}
@@ -236,7 +234,7 @@ copied_suits p path c from test args suits fits h = record {
 }
 
 -- The answer for known parts.
-pub const_called : (p : ScriptPlan) (path : Path) (branches : List Branch) (c test : ℕ) (args : List Value) (x : Bool) → TestSuits p c test args → PathFits p path → IsTested p test args (form_of path.end c) (tested.Known x) → (n : ℕ) → Splits p (answered n (test_holds p c test args)) path branches path branches (Some x)
+pub const_called : (p : ScriptPlan) (path : Path) (branches : List Branch) (c test : ℕ) (args : List Value) (x : Bool) → TestSuits p c test args → PathFits p path → IsTested p test args (form_of path.end c) (tested.Known x) → (n : ℕ) → Splits p (answered n (test_holds p c test args)) path branches path branches x
 const_called p path branches c test args x suits fits h n s =
     let tests = test_truth p.tests in
     let found = const_form p test args (form_of path.end c) x h in
@@ -247,7 +245,7 @@ const_called p path branches c test args x suits fits h n s =
     ∙ ap (λ (y : Bool). Ok y) (sym found.2)))
 
 -- The answer for the parts that a cell held before the path.
-pub copy_called : (p : ScriptPlan) (old path : Path) (before after : List Branch) (c from test : ℕ) (args : List Value) (last : Bool) → TestSuits p c test args → PathFits p old → IsTested p test args (form_of old.end c) (tested.Held from) → WasTested p from test args old before path after last → (n : ℕ) → Splits p (answered n (test_holds p c test args)) old before path after (Some last)
+pub copy_called : (p : ScriptPlan) (old path : Path) (before after : List Branch) (c from test : ℕ) (args : List Value) (last : Bool) → TestSuits p c test args → PathFits p old → IsTested p test args (form_of old.end c) (tested.Held from) → WasTested p from test args old before path after last → (n : ℕ) → Splits p (answered n (test_holds p c test args)) old before path after last
 copy_called p old path before after c from test args last suits fits h split n s =
     let tests = test_truth p.tests in
     let is = copied_form p test args (form_of old.end c) from h in
@@ -275,8 +273,3 @@ called_suits p k test c es args h made = record {
 pub values_made : {A : Type 0} (r : Result A Arith) (x : A) → or_fault r ≡ Ok x → r ≡ Ok x
 values_made (Ok y) x e = let same : y ≡ x = cc in ap Ok same
 values_made (Err y) x e = absurd (cc)
-
--- The call means the test's answer for these arguments.
-pub call_means : (p : ScriptPlan) (k : Environment) (n test c : ℕ) (es : List FixedPlan) (args : List Value) (P : (Outcome → Outcome × Option Bool) → Type 0) → fixed_values k es ≡ Ok args → P (answered n (test_holds p c test args)) → P (tried p k n (Test test c es))
-call_means p k n test c es args P made h =
-    subst (λ (r : Result (List Value) Arith). P (answered n (λ (s : State). r >>= (λ values. Ok (test_truth p.tests test values (parts_at s c)))))) (sym made) h

@@ -1,14 +1,17 @@
 -- Assignments to cells of a path.
 use Rattle.std.specs.Prelude.{◌<◌, ℕ, List, [], Option, Some, None}
 use Rattle.sym_check.specs.CellKinds.{IsEnumCell}
+use Rattle.sym_check.specs.DoPlans.{DoPlan, Let, SetInt, SetEnum, CopyEnum, Keep, KeepFrom, PushNum, PushWord, If}
 use Rattle.sym_check.specs.ScriptPlans.{ScriptPlan}
 use Rattle.sym_check.specs.Validity.{label_count}
+use Rattle.sym_base.specs.declared.values.value.Value.{Value}
 use Rattle.sym_int.specs.declared.form.IntForm.{IntForm}
 use Rattle.sym_pred.specs.declared.form.HoldForm.{HoldForm}
+use Rattle.sym_pred.specs.declared.form.HoldForm.TheVariants as hold
 use Rattle.sym_path.specs.declared.form.Form.{Form}
 use Rattle.sym_path.specs.declared.form.Form.TheVariants as form
 use Rattle.sym_path.specs.declared.path.Path.{Path}
-use Rattle.sym_path.specs.Changing.{form_of}
+use Rattle.sym_path.specs.Changing.{form_of, with_form}
 
 -- The numbers, or words, that a form adds to the list of a cell; none of any other form.
 abbrev pub added_numbers : Option Form → List IntForm
@@ -44,3 +47,19 @@ pub record HasLabel (p : ScriptPlan) (c l : ℕ) : Type 0 where
   pub of : ℕ
   pub is_enum : IsEnumCell p.cells c of
   pub within : l < label_count p.enums of
+
+-- A statement that ends no path.
+abbrev pub EndsNone : DoPlan → Type 0
+EndsNone (Let n e) = ⊥
+EndsNone (SetInt c t) = ⊥
+EndsNone (SetEnum c l) = Unit {0}
+EndsNone (CopyEnum c d) = Unit {0}
+EndsNone (Keep c es) = ⊥
+EndsNone (KeepFrom c d) = Unit {0}
+EndsNone (PushNum c t) = ⊥
+EndsNone (PushWord c w) = Unit {0}
+EndsNone (If c a b) = ⊥
+
+-- The path in which a hold cell has these parts.
+abbrev pub with_parts : Path → ℕ → List Value → Path
+with_parts path c parts = with_form path c (form.Hold (hold.Const parts))

@@ -1,9 +1,9 @@
 -- A path cut where the truth of a comparison changes.
-use Rattle.std.specs.Prelude.{◌≡◌, ℕ, ℤ, ◌↔◌, Bool, List, [], ◌∷◌, ◌++◌, Option, Some, None, IfSome}
+use Rattle.std.specs.Prelude.{◌≡◌, ℕ, ℤ, ◌↔◌, Bool, List, [], ◌∷◌, ◌++◌, Option, Some, None, IfSome, Result, Ok}
 use Rattle.sym_base.specs.Comparing.{compares}
 use Rattle.sym_base.specs.States.{number_at}
-use Rattle.sym_base.specs.declared.values.record.Record.{Record}
 use Rattle.sym_base.specs.declared.values.state.State.{State}
+use Rattle.sym_check.specs.declared.evaluate.arithmetic.Arith.{Arith}
 use Rattle.sym_check.specs.Conditions.{test_truth}
 use Rattle.sym_check.specs.ScriptPlans.{ScriptPlan}
 use Rattle.sym_int.specs.Cuts.{InOrder, InPieces}
@@ -16,14 +16,15 @@ use Rattle.sym_int.specs.declared.wide.Wide.{Wide}
 use Rattle.sym_path.specs.declared.part.Part.{Part}
 use Rattle.sym_path.specs.declared.part.Part.TheVariants as part
 use Rattle.sym_path.specs.declared.path.Path.{Path}
+use Rattle.sym_path.specs.Changing.{GoesOn}
 use Rattle.sym_path.specs.Fitting.{PathFits}
 use Rattle.sym_path.specs.Giving.{given}
 use Rattle.sym_path.specs.Narrowing.{GivesWhere}
-use Rattle.sym_explore.specs.Terms.{span_in}
-use Rattle.sym_path.specs.Standing.{EndsAmong}
+use Rattle.sym_explore.specs.Terms.{ready_number, span_in}
 use Rattle.sym_explore.specs.Branches.{judged, with_truth}
 use Rattle.sym_explore.specs.declared.branch.Branch.{Branch}
 use Rattle.sym_explore.specs.declared.comparing.Bound.{Bound}
+use Rattle.sym_explore.specs.declared.terms.Ready.{Ready}
 
 -- The pieces are those of the span, each before the next.
 pub record ArePieces (span : Span) (pieces : Pieces) : Type 0 where
@@ -63,11 +64,10 @@ pub record IsPiecePushed (p : ScriptPlan) (c : ℕ) (piece : Cut) (path : Path)
     (before after : List Branch) : Type 0 where
   pub pushed : Branch
   pub is : after ≡ before ++ pushed ∷ []
-  pub truth : pushed.truth ≡ Some piece.truth
+  pub truth : pushed.truth ≡ piece.truth
   pub fits : PathFits p pushed.path
   pub gives : GivesWhere path c (part.Span piece.span) pushed.path
-  pub faults : (records : List Record) →
-      EndsAmong records path.end → EndsAmong records pushed.path.end
+  pub next : GoesOn path.end → GoesOn pushed.path.end
 
 -- The path and the branches before, and those after: the new branches and the path, with its truth,
 -- give what the path gave, with the truth of the comparison of the number over the state before it.
@@ -79,3 +79,7 @@ WasCompared p wide bound old before path after last = (s : State) →
     ≡ judged (test_truth p.tests) before s
     ++ with_truth (Some (compares bound.compare (wide_value wide s) bound.number))
     (given (test_truth p.tests) old s)
+
+-- Whether the number of the term compares so.
+abbrev pub number_compares : Ready → Bound → State → Result Bool Arith
+number_compares ready bound s = Ok (compares bound.compare (ready_number ready s) bound.number)

@@ -2,13 +2,16 @@ pub mod Assigning
 pub mod Branches
 pub mod Calling
 pub mod Comparing
-pub mod Connecting
 pub mod Counting
+pub mod Ending
+pub mod Evaluating
 pub mod Faulting
 pub mod Growing
 pub mod Knowing
 pub mod Labels
+pub mod Parting
 pub mod Ranging
 pub mod Running
 pub mod Stepping
+pub mod Storing
 pub mod Terms

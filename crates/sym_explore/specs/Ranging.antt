@@ -7,15 +7,13 @@ use Rattle.sym_base.specs.declared.values.state.State.{State}
 use Rattle.sym_base.specs.declared.values.state.Outcome.{Outcome}
 use Rattle.sym_check.specs.declared.plan.script.CellPlan.{CellPlan}
 use Rattle.sym_check.specs.declared.plan.script.CellPlan.TheVariants as plan
-use Rattle.sym_check.specs.Arithmetic.{◌>>=◌}
 use Rattle.sym_check.specs.Conditions.{test_truth}
-use Rattle.sym_check.specs.FixedValues.{Environment}
-use Rattle.sym_check.specs.LinePlans.{TermPlan}
-use Rattle.sym_check.specs.LineValues.{term_number}
 use Rattle.sym_check.specs.ScriptPlans.{ScriptPlan}
-use Rattle.sym_check.specs.Updates.{in_range, or_fault}
-use Rattle.sym_int.specs.Lines.{form_cell, form_on, form_value, wide_value}
+use Rattle.sym_check.specs.Updates.{in_range}
+use Rattle.sym_int.specs.Lines.{form_cell, form_on, form_value, wide_cell, wide_on, wide_value}
+use Rattle.sym_int.specs.Parts.{IsWithin}
 use Rattle.sym_int.specs.Points.{HasPoint}
+use Rattle.sym_int.specs.Taken.{IsCellIn, IsTaken}
 use Rattle.sym_int.specs.declared.form.IntForm.{IntForm}
 use Rattle.sym_int.specs.declared.span.Span.{Span}
 use Rattle.sym_int.specs.declared.wide.Wide.{Wide}
@@ -24,35 +22,46 @@ use Rattle.sym_path.specs.declared.path.Path.{Path}
 use Rattle.sym_path.specs.Admitting.{has_point}
 use Rattle.sym_path.specs.Changing.{GoesOn, changed, ended_by, end_by, with_fault}
 use Rattle.sym_path.specs.Fitting.{NumberFits, PathFits}
-use Rattle.sym_path.specs.Giving.{given, outcomes}
+use Rattle.sym_path.specs.Giving.{given}
 use Rattle.sym_path.specs.Narrowing.{GivesWhere}
 use Rattle.sym_path.specs.Taking.{NumberIsTakenTo}
+use Rattle.sym_explore.specs.Parting.{at_state, those_going}
 use Rattle.sym_explore.specs.Stepping.{going_on}
+use Rattle.sym_explore.specs.Terms.{ready_number}
+use Rattle.sym_explore.specs.declared.terms.Ready.{Ready}
 
--- A number is stored where it lies in the range of a cell; any other number, and arithmetic that
--- fails, ends the group.
-abbrev pub number_stored :
-    ScriptPlan → Environment → TermPlan → ℕ → (ℤ → State → State) → State → Result State FaultKind
-number_stored p k t c store s = do
-  x ← or_fault (term_number k t s)
-  if in_range (slice_get p.cells c) x then Ok (store x s) else Err (fault.Over c)
+-- The number of a ready term is stored where it lies in the range of a cell; any other ends the
+-- group.
+abbrev pub ready_stored :
+    ScriptPlan → Ready → ℕ → (ℤ → State → State) → State → Result State FaultKind
+ready_stored p r c store s =
+    if in_range (slice_get p.cells c) (ready_number r s)
+    then Ok (store (ready_number r s) s)
+    else Err (fault.Over c)
 
 -- The number of the form at a state is stored; where there is no form, nothing changes.
 abbrev pub form_stored : Option IntForm → (ℤ → State → State) → State → Outcome → Outcome
 form_stored (Some f) store s = changed (store (form_value f s))
 form_stored None store s = λ o. o
 
--- The path and the other paths before, and those after: at each state, whatever is done with the
--- number, the new paths, and the path with the number of the form, give what comes of storing the
--- number of the term where it lies in the cell's range.
-abbrev pub Ranges :
-    ScriptPlan → Environment → ℕ → TermPlan → ℕ → Path → List Path → Path → List Path →
-    Option IntForm → Type 0
-Ranges p k n t c old before path after number = (store : ℤ → State → State) (s : State) →
-    outcomes (test_truth p.tests) after s
-    ++ map (form_stored number store s) (given (test_truth p.tests) path s)
-    ≡ outcomes (test_truth p.tests) before s
-    ++ map (going_on n (number_stored p k t c store)) (given (test_truth p.tests) old s)
+-- The path and the other paths before, and those after: at a state, what was added to what the
+-- others give has ended, and together with what is kept of what the path gives it is what the step
+-- makes of what the path gave.
+pub record IsPartedAt (p : ScriptPlan) (step kept : Outcome → Outcome) (old : Path)
+    (before : List Path) (path : Path) (after : List Path) (s : State) : Type 0 where
+  pub added : List Outcome
+  pub others : at_state p after s ≡ at_state p before s ++ added
+  pub over : those_going added ≡ []
+  pub gives : added ++ map kept (given (test_truth p.tests) path s)
+      ≡ map step (given (test_truth p.tests) old s)
+
+-- Whatever is done with the number of a ready term where it is stored: the paths after give that,
+-- the path by the number of the form.
+abbrev pub ReadyRanges :
+    ScriptPlan → Ready → ℕ → ℕ → Path → List Path → Path → List Path → Option IntForm → Type 0
+ReadyRanges p r n c old before path after number = (store : ℤ → State → State) (s : State) →
+    IsPartedAt p (going_on n (ready_stored p r c store)) (form_stored number store s)
+    old before path after s
 
 -- What comes of storing a number over the state before a path, by whether it lies in a range.
 abbrev pub wide_stored : Wide → Span → Fault → (ℤ → State → State) → State → Outcome → Outcome
@@ -61,15 +70,13 @@ wide_stored wide range fault store s =
     then changed (store (wide_value wide s))
     else ended_by fault
 
--- The same as `Ranges` of a number over the state before the path.
+-- The same of a number over the state before the path.
 abbrev pub WideRanges :
     ScriptPlan → Wide → Span → Fault → Path → List Path → Path → List Path → Option IntForm → Type 0
 WideRanges p wide range fault old before path after number =
     (store : ℤ → State → State) (s : State) →
-    outcomes (test_truth p.tests) after s
-    ++ map (form_stored number store s) (given (test_truth p.tests) path s)
-    ≡ outcomes (test_truth p.tests) before s
-    ++ map (wide_stored wide range fault store s) (given (test_truth p.tests) old s)
+    IsPartedAt p (wide_stored wide range fault store s) (form_stored number store s)
+    old before path after s
 
 -- The ends of the range of a cell.
 abbrev pub HasEnds : Option CellPlan → ℤ → ℤ → Type 0
@@ -124,3 +131,12 @@ abbrev pub KnownRanges : ℤ → Span → Fault → Path → Path → Option Int
 KnownRanges x range fault old path (Some f) =
     HasPoint range x × ((y : ℤ) → form_on f y ≡ x) × (form_cell f ≡ None) × (path ≡ old)
 KnownRanges x range fault old path None = ¬ (HasPoint range x) × (path ≡ with_fault old fault)
+
+-- The cell of a number has a span on the path, at each point of which the number lies in the range;
+-- this is its form on the span.
+pub record IsWholeOn (wide : Wide) (c : ℕ) (range : Span) (path : Path) (f : IntForm) : Type 0 where
+  pub span : Span
+  pub is : slice_get path.when c ≡ Some (part.Span span)
+  pub within : IsWithin wide range span
+  pub form : IsTaken (wide_on wide) (wide_cell wide) span f
+  pub value : (s : State) → IsCellIn (wide_cell wide) span s → form_value f s ≡ wide_value wide s

@@ -1,6 +1,6 @@
 -- What a statement makes of a path: paths whose states are those of the path, with no state in two
 -- of them.
-use Rattle.std.specs.Prelude.{◌≡◌, ◌≤◌, ◌+◌, ◌*◌, ℕ, List, [], ◌∷◌, ◌++◌, map, length, Result}
+use Rattle.std.specs.Prelude.{◌≡◌, ◌≤◌, ◌+◌, ◌*◌, ℕ, List, [], ◌∷◌, map, length, Result}
 use Rattle.sym_base.specs.declared.values.record.Record.{Record}
 use Rattle.sym_base.specs.declared.values.state.FaultKind.{FaultKind}
 use Rattle.sym_base.specs.declared.values.state.State.{State}
@@ -15,7 +15,7 @@ use Rattle.sym_check.specs.Updates.{at_record, do_step, dos_step, step}
 use Rattle.sym_path.specs.declared.path.PathEnd.{PathEnd}
 use Rattle.sym_path.specs.declared.path.PathEnd.TheVariants.{Next, Ended}
 use Rattle.sym_path.specs.declared.path.Path.{Path}
-use Rattle.sym_path.specs.Giving.{given, outcomes}
+use Rattle.sym_path.specs.Giving.{given}
 
 -- What a group comes to by a part of an update at the record with this number; one that has ended
 -- stays so.
@@ -37,14 +37,6 @@ after_record p rec o = step p o rec
 abbrev pub Becomes : ScriptPlan → (Outcome → Outcome) → Path → Path → Type 0
 Becomes p f old new = (s : State) →
     given (test_truth p.tests) new s ≡ map f (given (test_truth p.tests) old s)
-
--- The path and the other paths before, and those after: at each state the new paths and the path
--- give what the step makes of what the path gave.
-abbrev pub Steps :
-    ScriptPlan → (Outcome → Outcome) → Path → List Path → Path → List Path → Type 0
-Steps p f old before path after = (s : State) →
-    outcomes (test_truth p.tests) after s ++ given (test_truth p.tests) path s
-    ≡ outcomes (test_truth p.tests) before s ++ map f (given (test_truth p.tests) old s)
 
 -- How many paths go on.
 abbrev pub one_going : PathEnd → ℕ

@@ -1,13 +1,17 @@
 -- Numbers of terms over the state before a path.
-use Rattle.std.specs.Prelude.{◌≡◌, ◌≢◌, ℕ, ℤ, pos, [], ◌∷◌, Option, Some, None, slice_get, Result, Ok, Err, IsTrue}
+use Rattle.std.specs.Prelude.{◌≡◌, ◌≢◌, ℕ, ℤ, pos, Bool, true, false, [], ◌∷◌, Option, Some, None, slice_get, Result, Ok, IsTrue}
+use Rattle.sym_base.specs.Limits.{IsNumber}
+use Rattle.sym_base.specs.States.{number_at}
 use Rattle.sym_base.specs.declared.values.state.State.{State}
 use Rattle.sym_base.specs.declared.values.state.Outcome.TheVariants.{Going}
 use Rattle.sym_check.specs.declared.evaluate.arithmetic.Arith.{Arith}
 use Rattle.sym_check.specs.declared.evaluate.pairs.Pair.{Pair}
-use Rattle.sym_check.specs.Conditions.{is_fixed_term, test_truth}
-use Rattle.sym_check.specs.FixedValues.{Environment}
-use Rattle.sym_check.specs.LinePlans.{TermPlan}
-use Rattle.sym_check.specs.LineValues.{pair_at, term_number}
+use Rattle.sym_check.specs.Arithmetic.{◌>>=◌}
+use Rattle.sym_check.specs.CellKinds.{IsIntCell}
+use Rattle.sym_check.specs.Conditions.{test_truth}
+use Rattle.sym_check.specs.FixedValues.{Environment, number}
+use Rattle.sym_check.specs.LinePlans.{TermPlan, OfNum, OfLine}
+use Rattle.sym_check.specs.LineValues.{pair, pair_at}
 use Rattle.sym_check.specs.ScriptPlans.{ScriptPlan}
 use Rattle.sym_int.specs.Lines.{form_on, form_cell, form_value, wide_on, wide_cell, wide_value}
 use Rattle.sym_int.specs.declared.form.IntForm.{IntForm}
@@ -20,6 +24,33 @@ use Rattle.sym_path.specs.declared.form.Form.TheVariants as form
 use Rattle.sym_path.specs.declared.path.Path.{Path}
 use Rattle.sym_path.specs.Changing.{GoesOn, form_of}
 use Rattle.sym_path.specs.Giving.{given}
+use Rattle.sym_explore.specs.declared.terms.Ready.{Ready}
+use Rattle.sym_explore.specs.declared.terms.Ready.TheVariants as ready
+
+-- A term with what its expressions come to that name no cell; failed arithmetic in one is that of
+-- the term.
+abbrev pub ready_of : Environment → TermPlan → Result Ready Arith
+ready_of k (OfNum n) = do
+  x ← number k n
+  Ok (ready.Number x)
+ready_of k (OfLine l) = do
+  q ← pair k l
+  Ok (ready.Line q)
+
+-- The number of a ready term at a state.
+abbrev pub ready_number : Ready → State → ℤ
+ready_number (ready.Number x) s = x
+ready_number (ready.Line q) s = pair_at q (number_at s q.cell)
+
+-- Whether it names no cell.
+abbrev pub is_fixed_ready : Ready → Bool
+is_fixed_ready (ready.Number x) = true
+is_fixed_ready (ready.Line q) = false
+
+-- Its numbers are those of a script, and its cell is an integer cell.
+abbrev pub ReadyFits : ScriptPlan → Ready → Type 0
+ReadyFits p (ready.Number x) = IsNumber x
+ReadyFits p (ready.Line q) = IsIntCell p.cells q.cell × IsNumber q.a × IsNumber q.b
 
 -- The form of an integer cell; none of any other form, and of none.
 abbrev pub int_form : Option Form → Option IntForm
@@ -57,18 +88,15 @@ abbrev pub HasSpan : Path → Option ℕ → Type 0
 HasSpan path None = Unit {0}
 HasSpan path (Some c) = (span : Span) × (span_of path c ≡ Some span)
 
--- The number of the term after the path, over the state before it, where the path goes on.
-pub record IsTermOver (p : ScriptPlan) (k : Environment) (t : TermPlan) (path : Path)
-    (wide : Wide) : Type 0 where
+-- The number of the ready term after the path, over the state before it, where the path goes on.
+pub record IsReadyOver (p : ScriptPlan) (r : Ready) (path : Path) (wide : Wide) : Type 0 where
   pub goes_on : GoesOn path.end
   pub number : (first later : State) → given (test_truth p.tests) path first ≡ Going later ∷ [] →
-      term_number k t later ≡ Ok (wide_value wide first)
+      ready_number r later ≡ wide_value wide first
   pub span : HasSpan path (wide_cell wide)
-  pub fixed : IsTrue (is_fixed_term t) → wide_cell wide ≡ None
+  pub fixed : IsTrue (is_fixed_ready r) → wide_cell wide ≡ None
 
--- The term's number on the path, if it goes on; arithmetic that fails does so at each state.
-abbrev pub IsTermForm :
-    ScriptPlan → Environment → TermPlan → Path → Result (Option Wide) Arith → Type 0
-IsTermForm p k t path (Ok (Some wide)) = IsTermOver p k t path wide
-IsTermForm p k t path (Ok None) = ¬ (GoesOn path.end)
-IsTermForm p k t path (Err e) = (s : State) → term_number k t s ≡ Err e
+-- Its number on the path, if that goes on.
+abbrev pub IsReadyForm : ScriptPlan → Ready → Path → Option Wide → Type 0
+IsReadyForm p r path (Some wide) = IsReadyOver p r path wide
+IsReadyForm p r path None = ¬ (GoesOn path.end)

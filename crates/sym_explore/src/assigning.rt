@@ -1,112 +1,39 @@
 //! Statements that change cells alone.
-ghost use Rattle.std.specs.Prelude.{◌≡◌, OnOk, map, option_copied};
+ghost use Rattle.std.specs.Prelude.{◌≡◌, ℕ, List, OnOk, map, option_copied};
+ghost use Rattle.std.specs.List.{AllZip};
+ghost use Rattle.sym_base.specs.declared.values.record.Record.{Record as OneRecord};
 ghost use Rattle.sym_base.specs.declared.values.state.Cell.TheVariants as one;
 ghost use Rattle.sym_base.specs.States.{label_at, parts_at, with_cell, with_word};
 ghost use Rattle.sym_check.specs.CellKinds.{IsWordsCell};
-ghost use Rattle.sym_check.specs.DoPlans.{do_plan, SetInt, Keep, PushNum};
+ghost use Rattle.sym_check.specs.DoPlans.{Keep, do_plan};
 ghost use Rattle.sym_check.specs.FixedPlans.{fixed_plan};
 ghost use Rattle.sym_check.specs.KnownValues.{known_values};
-ghost use Rattle.sym_check.specs.LinePlans.{term_plan};
 ghost use Rattle.sym_check.specs.ScriptPlans.{script_plan};
 ghost use Rattle.sym_check.specs.WellFormed.{AreOfOneEnum, HaveSameKinds, IsWellFormed};
 ghost use Rattle.sym_path.specs.Changing.{GoesOn, changed};
 ghost use Rattle.sym_path.specs.Fitting.{PathFits, SegmentFits};
+ghost use Rattle.sym_path.specs.declared.path.Path.{Path as OnePath};
 ghost use Rattle.sym_plain.specs.Running.{IsAssignment};
-ghost use Rattle.sym_explore.specs.Assigning.{HasLabel, added_numbers, added_words, parts_form};
+ghost use Rattle.sym_explore.specs.Assigning.{EndsNone, HasLabel, added_words, parts_form, with_parts};
 ghost use Rattle.sym_explore.specs.Counting.{do_going, do_ended};
-ghost use Rattle.sym_explore.specs.Faulting.{EndsSo, FaultCameAt, FaultsCameAt};
+ghost use Rattle.sym_explore.specs.Ending.{IsChanged, WereRun};
+ghost use Rattle.sym_explore.specs.Faulting.{EndAmong, EndsSo, HasNumber};
 ghost use Rattle.sym_explore.specs.Knowing.{DoIsKnown};
-ghost use Rattle.sym_explore.specs.Stepping.{after_do, Becomes, Steps, AreFewPaths};
+ghost use Rattle.sym_explore.specs.Parting.{AllGoOn, AreFewRun, AreRun};
+ghost use Rattle.sym_explore.specs.Stepping.{Becomes, after_do};
 
+use crate::ending::fail_all;
 use crate::labels::label_form;
-use crate::ranging::range_term;
+use crate::storing::{Place, store_all};
 use std::alloc::Global;
+use std::mem;
 use sym_base::{Fault, NoMemory, Text, Values};
-use sym_check::{Do, FixedList, Known, Plan, Term};
+use sym_check::{Do, FixedList, Known, Plan};
 use sym_enum::EnumForm;
-use sym_int::IntForm;
 use sym_path::{Form, Path};
 use sym_plain::{Stop, set_values};
 use sym_pred::HoldForm;
 use sym_vector::ListForm;
-
-/// Assigns the number of a term to an integer cell.
-fn set_number(
-    alloc: Global,
-    plan: &Plan,
-    known: &Known,
-    no: u64,
-    cell: u16,
-    term: &Term,
-    path: &mut Path,
-    out: &mut Vec<Path>,
-) -> Result<(), NoMemory>
-    requires known { IsWellFormed (script_plan plan.now) }
-    requires well { DoIsKnown (script_plan plan.now) (known_values known.now)
-        (SetInt cell (term_plan term.now)) }
-    requires goes_on { GoesOn path.old.end }
-    requires fits { PathFits (script_plan plan.now) path.old }
-    requires others { SegmentFits (script_plan plan.now) out.old.items }
-    ensures exact { let step = after_do (script_plan plan.now) (known_values known.now) no
-        (SetInt cell (term_plan term.now)) in
-        OnOk result (Steps (script_plan plan.now) step
-        path.old out.old.items path.new out.new.items) }
-    ensures fits { OnOk result (PathFits (script_plan plan.now) path.new) }
-    ensures others { OnOk result (SegmentFits (script_plan plan.now) out.new.items) }
-    ensures few { OnOk result (AreFewPaths 1 2 path.old out.old.items path.new out.new.items) }
-    ensures faults { OnOk result (FaultsCameAt no
-        path.old out.old.items path.new out.new.items) }
-{
-    if let Some(form) = range_term(alloc, plan, known, no, cell, term, path, out)? {
-        path.set_form(cell, Form::Int(form));
-    }
-    Ok(())
-}
-
-/// The numbers that a form adds to the list of a cell; none of any other form.
-fn added_numbers(alloc: Global, form: Option<Form>) -> ListForm<IntForm>
-    ensures { result ≡ added_numbers form }
-{
-    match form {
-        Some(Form::Nums(added)) => added,
-        _ => ListForm::same(alloc),
-    }
-}
-
-/// Pushes the number of a term to a `nums` cell.
-fn push_number(
-    alloc: Global,
-    plan: &Plan,
-    known: &Known,
-    no: u64,
-    cell: u16,
-    term: &Term,
-    path: &mut Path,
-    out: &mut Vec<Path>,
-) -> Result<(), NoMemory>
-    requires known { IsWellFormed (script_plan plan.now) }
-    requires well { DoIsKnown (script_plan plan.now) (known_values known.now)
-        (PushNum cell (term_plan term.now)) }
-    requires goes_on { GoesOn path.old.end }
-    requires fits { PathFits (script_plan plan.now) path.old }
-    requires others { SegmentFits (script_plan plan.now) out.old.items }
-    ensures exact { let step = after_do (script_plan plan.now) (known_values known.now) no
-        (PushNum cell (term_plan term.now)) in
-        OnOk result (Steps (script_plan plan.now) step
-        path.old out.old.items path.new out.new.items) }
-    ensures fits { OnOk result (PathFits (script_plan plan.now) path.new) }
-    ensures others { OnOk result (SegmentFits (script_plan plan.now) out.new.items) }
-    ensures few { OnOk result (AreFewPaths 1 2 path.old out.old.items path.new out.new.items) }
-    ensures faults { OnOk result (FaultsCameAt no
-        path.old out.old.items path.new out.new.items) }
-{
-    if let Some(form) = range_term(alloc, plan, known, no, cell, term, path, out)? {
-        let old = path.replace_form(cell, Form::Nums(ListForm::same(alloc)));
-        let added = added_numbers(alloc, old).push(alloc, form)?;
-        path.set_form(cell, Form::Nums(added));
-    }
-    Ok(())
-}
 
 /// The words that a form adds to the list of a cell; none of any other form.
 fn added_words(alloc: Global, form: Option<Form>) -> ListForm<Text>
@@ -175,43 +102,6 @@ fn known_parts(alloc: Global, form: Option<Form>) -> Values {
     }
 }
 
-/// Gives a hold cell's parts new values, over the memory of its known parts. Arithmetic that fails
-/// ends the path.
-fn keep(
-    alloc: Global,
-    plan: &Plan,
-    known: &Known,
-    no: u64,
-    cell: u16,
-    values: &FixedList,
-    path: &mut Path,
-) -> Result<(), NoMemory>
-    requires known { IsWellFormed (script_plan plan.now) }
-    requires well { DoIsKnown (script_plan plan.now) (known_values known.now)
-        (Keep cell (map fixed_plan values.now)) }
-    requires goes_on { GoesOn path.old.end }
-    requires fits { PathFits (script_plan plan.now) path.old }
-    ensures exact { let step = after_do (script_plan plan.now) (known_values known.now) no
-        (Keep cell (map fixed_plan values.now)) in
-        OnOk result (Becomes (script_plan plan.now) step path.old path.new) }
-    ensures fits { OnOk result (PathFits (script_plan plan.now) path.new) }
-    ensures faults { OnOk result (FaultCameAt no path.old path.new) }
-{
-    let old = path.replace_form(cell, Form::Hold(HoldForm::Copy(cell)));
-    let mut parts = known_parts(alloc, old);
-    match set_values(alloc, known, values, &mut parts) {
-        Ok(()) => {
-            path.set_form(cell, Form::Hold(HoldForm::Const(parts)));
-            Ok(())
-        }
-        Err(Stop::Fault(kind)) => {
-            path.fail(Fault { kind, no });
-            Ok(())
-        }
-        Err(Stop::NoMemory) => Err(NoMemory),
-    }
-}
-
 /// The form of the hold cell with this number; `None` where the path has ended.
 fn parts_form(path: &Path, cell: u16) -> Option<&HoldForm>
     ensures { option_copied result ≡ parts_form path.now cell }
@@ -244,50 +134,201 @@ fn keep_from(
     Ok(())
 }
 
-/// Runs a statement that changes cells alone on a path that goes on. The path becomes that part of
-/// it that goes on, and the parts that end by a number outside a cell's range are put into `out`; where no part
-/// goes on, the path is one that has ended.
-pub(crate) fn assign(
+/// Runs a statement after which the path goes on: a label, parts or a word are stored.
+fn change(
+    alloc: Global,
+    plan: &Plan,
+    known: &Known,
+    statement: &Do,
+    path: &mut Path,
+) -> Result<(), NoMemory>
+    requires known { IsWellFormed (script_plan plan.now) }
+    requires change { EndsNone (do_plan statement.now) }
+    requires well { DoIsKnown (script_plan plan.now) (known_values known.now)
+        (do_plan statement.now) }
+    requires goes_on { GoesOn path.old.end }
+    requires fits { PathFits (script_plan plan.now) path.old }
+    ensures { (n : ℕ) → OnOk result (IsChanged (script_plan plan.now)
+        (after_do (script_plan plan.now) (known_values known.now) n (do_plan statement.now))
+        path.old path.new) }
+{
+    match statement {
+        Do::SetEnum(cell, label) => set_label(plan, *cell, known.label(label), path),
+        Do::CopyEnum(cell, from) => copy_label(plan, *cell, *from, path),
+        Do::KeepFrom(cell, from) => keep_from(alloc, plan, *cell, *from, path)?,
+        Do::PushWord(cell, word) => push_word(alloc, plan, *cell, known.word(word), path)?,
+        _ => unreachable!(),
+    }
+    Ok(())
+}
+
+/// Does so on each of the paths, where they stand.
+fn change_each(
+    alloc: Global,
+    plan: &Plan,
+    known: &Known,
+    statement: &Do,
+    paths: &mut [Path],
+) -> Result<(), NoMemory>
+    requires known { IsWellFormed (script_plan plan.now) }
+    requires change { EndsNone (do_plan statement.now) }
+    requires well { DoIsKnown (script_plan plan.now) (known_values known.now)
+        (do_plan statement.now) }
+    requires going { AllGoOn paths.old }
+    requires fits { SegmentFits (script_plan plan.now) paths.old }
+    ensures { (n : ℕ) → OnOk result (AllZip (IsChanged (script_plan plan.now)
+        (after_do (script_plan plan.now) (known_values known.now) n (do_plan statement.now)))
+        paths.old paths.new) }
+{
+    'paths: for path in paths.iter_mut() {
+        change(alloc, plan, known, statement, path)?;
+    }
+    Ok(())
+}
+
+/// Puts a copy of the values into a hold cell of a path.
+fn keep_copy(alloc: Global, cell: u16, values: &Values, path: &mut Path) -> Result<(), NoMemory>
+    ensures { OnOk result (path.new ≡ with_parts path.old cell values.now) }
+{
+    let parts = values.copy(alloc)?;
+    path.set_form(cell, Form::Hold(HoldForm::Const(parts)));
+    Ok(())
+}
+
+/// Does so on each of the paths, where they stand.
+fn keep_each(alloc: Global, cell: u16, values: &Values, paths: &mut [Path]) -> Result<(), NoMemory>
+    ensures { OnOk result
+        (paths.new ≡ map (λ (path : OnePath). with_parts path cell values.now) paths.old) }
+{
+    'paths: for path in paths.iter_mut() {
+        keep_copy(alloc, cell, values, path)?;
+    }
+    Ok(())
+}
+
+/// Puts the values into a hold cell of each path. The last one takes them, and gives the memory of
+/// its old parts for them.
+fn keep_all(
+    alloc: Global,
+    cell: u16,
+    values: &mut Values,
+    paths: &mut Vec<Path>,
+) -> Result<(), NoMemory>
+    ensures { OnOk result (paths.new.items
+        ≡ map (λ (path : OnePath). with_parts path cell values.old) paths.old.items) }
+{
+    let Some(mut last) = paths.pop() else {
+        return Ok(());
+    };
+    keep_each(alloc, cell, values, paths)?;
+    let parts = mem::replace(values, Values::new(alloc));
+    let old = last.replace_form(cell, Form::Hold(HoldForm::Const(parts)));
+    *values = known_parts(alloc, old);
+    paths.push(last)?;
+    Ok(())
+}
+
+/// Gives the parts of a hold cell new values on all of the paths. They are evaluated once, over the
+/// memory of `scratch`. Arithmetic that fails ends the paths.
+fn keep_on(
+    alloc: Global,
+    plan: &Plan,
+    known: &Known,
+    no: u64,
+    cell: u16,
+    values: &FixedList,
+    scratch: &mut Values,
+    paths: &mut Vec<Path>,
+    ended: &mut Vec<Path>,
+) -> Result<(), NoMemory>
+    requires known { IsWellFormed (script_plan plan.now) }
+    requires well { DoIsKnown (script_plan plan.now) (known_values known.now)
+        (Keep cell (map fixed_plan values.now)) }
+    requires fits { SegmentFits (script_plan plan.now) paths.old.items }
+    requires going { AllGoOn paths.old.items }
+    requires ended_fit { SegmentFits (script_plan plan.now) ended.old.items }
+    ensures { let step = after_do (script_plan plan.now) (known_values known.now) no
+        (Keep cell (map fixed_plan values.now)) in
+        OnOk result (WereRun (script_plan plan.now) step no 1 0
+        paths.old.items paths.new.items ended.old.items ended.new.items) }
+{
+    match set_values(alloc, known, values, scratch) {
+        Ok(()) => keep_all(alloc, cell, scratch, paths),
+        Err(Stop::Fault(kind)) => fail_all(plan, Fault { kind, no }, paths, ended),
+        Err(Stop::NoMemory) => Err(NoMemory),
+    }
+}
+
+/// Runs an assignment on all of the paths.
+fn assign_each(
     alloc: Global,
     plan: &Plan,
     known: &Known,
     no: u64,
     statement: &Do,
-    path: &mut Path,
-    out: &mut Vec<Path>,
+    scratch: &mut Values,
+    paths: &mut Vec<Path>,
+    ended: &mut Vec<Path>,
 ) -> Result<(), NoMemory>
     requires known { IsWellFormed (script_plan plan.now) }
     requires assignment { IsAssignment (do_plan statement.now) }
     requires well { DoIsKnown (script_plan plan.now) (known_values known.now)
         (do_plan statement.now) }
-    requires goes_on { GoesOn path.old.end }
-    requires fits { PathFits (script_plan plan.now) path.old }
-    requires others { SegmentFits (script_plan plan.now) out.old.items }
-    ensures exact { let step = after_do (script_plan plan.now) (known_values known.now) no
-        (do_plan statement.now) in
-        OnOk result (Steps (script_plan plan.now) step
-        path.old out.old.items path.new out.new.items) }
-    ensures fits { OnOk result (PathFits (script_plan plan.now) path.new) }
-    ensures others { OnOk result (SegmentFits (script_plan plan.now) out.new.items) }
-    ensures few { let d = do_plan statement.now in
-        OnOk result (AreFewPaths (do_going d) (do_ended d)
-        path.old out.old.items path.new out.new.items) }
-    ensures faults { OnOk result (FaultsCameAt no
-        path.old out.old.items path.new out.new.items) }
+    requires fits { SegmentFits (script_plan plan.now) paths.old.items }
+    requires going { AllGoOn paths.old.items }
+    requires ended_fit { SegmentFits (script_plan plan.now) ended.old.items }
+    ensures { let d = do_plan statement.now in
+        let step = after_do (script_plan plan.now) (known_values known.now) no d in
+        OnOk result (WereRun (script_plan plan.now) step no (do_going d) (do_ended d)
+        paths.old.items paths.new.items ended.old.items ended.new.items) }
 {
     match statement {
         Do::SetInt(cell, term) => {
-            set_number(alloc, plan, known, no, *cell, term, path, out)?;
+            let place = Place::Cell(*cell);
+            store_all(alloc, plan, known, no, place, term, paths, ended)
         }
-        Do::SetEnum(cell, label) => set_label(plan, *cell, known.label(label), path),
-        Do::CopyEnum(cell, from) => copy_label(plan, *cell, *from, path),
-        Do::Keep(cell, values) => keep(alloc, plan, known, no, *cell, values, path)?,
-        Do::KeepFrom(cell, from) => keep_from(alloc, plan, *cell, *from, path)?,
         Do::PushNum(cell, term) => {
-            push_number(alloc, plan, known, no, *cell, term, path, out)?;
+            let place = Place::End(*cell);
+            store_all(alloc, plan, known, no, place, term, paths, ended)
         }
-        Do::PushWord(cell, word) => push_word(alloc, plan, *cell, known.word(word), path)?,
-        Do::Let(..) | Do::If(..) => unreachable!(),
+        Do::Keep(cell, values) => {
+            keep_on(alloc, plan, known, no, *cell, values, scratch, paths, ended)
+        }
+        _ => change_each(alloc, plan, known, statement, paths),
     }
+}
+
+/// An assignment, run on all of the paths: paths that go on stay in `paths`, those that end go into
+/// `ended`. What names no cell is evaluated once.
+pub(crate) fn assign_all(
+    alloc: Global,
+    plan: &Plan,
+    known: &Known,
+    no: u64,
+    statement: &Do,
+    scratch: &mut Values,
+    paths: &mut Vec<Path>,
+    ended: &mut Vec<Path>,
+) -> Result<(), NoMemory>
+    requires known { IsWellFormed (script_plan plan.now) }
+    requires assignment { IsAssignment (do_plan statement.now) }
+    requires well { DoIsKnown (script_plan plan.now) (known_values known.now)
+        (do_plan statement.now) }
+    requires fits { SegmentFits (script_plan plan.now) paths.old.items }
+    requires going { AllGoOn paths.old.items }
+    requires ended_fit { SegmentFits (script_plan plan.now) ended.old.items }
+    ensures exact { OnOk result (AreRun (script_plan plan.now)
+        (after_do (script_plan plan.now) (known_values known.now) no (do_plan statement.now))
+        paths.old.items paths.new.items ended.old.items ended.new.items) }
+    ensures fits { OnOk result (SegmentFits (script_plan plan.now) paths.new.items) }
+    ensures going { OnOk result (AllGoOn paths.new.items) }
+    ensures ended_fit { OnOk result (SegmentFits (script_plan plan.now) ended.new.items) }
+    ensures few { let d = do_plan statement.now in
+        OnOk result (AreFewRun (do_going d) (do_ended d)
+        paths.old.items paths.new.items ended.old.items ended.new.items) }
+    ensures faults { (records : List OneRecord) → HasNumber no records →
+        EndAmong records ended.old.items → OnOk result (EndAmong records ended.new.items) }
+{
+    assign_each(alloc, plan, known, no, statement, scratch, paths, ended)?;
     Ok(())
 }

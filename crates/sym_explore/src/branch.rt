@@ -1,20 +1,48 @@
-//! Paths on which a condition was tried.
-ghost use Rattle.std.specs.Prelude.{◌≡◌};
-ghost use Rattle.sym_explore.specs.Branches.{truth_on};
+//! The branches of a path: parts of its states on which a condition has one truth.
+ghost use Rattle.std.specs.Prelude.{◌≡◌, ◌∷◌, ◌++◌, [], OnOk};
+ghost use Rattle.sym_explore.specs.Branches.{paths_false, paths_true};
 
+use sym_base::NoMemory;
 use sym_path::Path;
 
-/// A path with the truth that a condition has on it. It has none where its arithmetic failed, or
-/// the path had ended before.
+/// A path with the truth that a condition has on it.
 #[derive(Drop)]
 pub struct Branch {
     pub path: Path,
-    pub truth: Option<bool>,
+    pub truth: bool,
 }
 
-/// The truth that is known on a path; `None` where the path has ended.
-pub(crate) fn decided(path: &Path, truth: bool) -> Option<bool>
-    ensures { result ≡ truth_on path.now.end truth }
+/// Puts the path of a branch after those of its truth.
+pub(crate) fn put(
+    branch: Branch,
+    trues: &mut Vec<Path>,
+    falses: &mut Vec<Path>,
+) -> Result<(), NoMemory>
+    ensures trues { OnOk result (trues.new.items ≡ trues.old.items ++ paths_true (branch ∷ [])) }
+    ensures falses { OnOk result (
+        falses.new.items ≡ falses.old.items ++ paths_false (branch ∷ [])) }
 {
-    if path.goes_on() { Some(truth) } else { None }
+    let Branch { path, truth } = branch;
+    if truth {
+        trues.push(path)?;
+    } else {
+        falses.push(path)?;
+    }
+    Ok(())
+}
+
+/// Puts the paths of branches after those of their truth, in order.
+pub(crate) fn put_all(
+    branches: Vec<Branch>,
+    trues: &mut Vec<Path>,
+    falses: &mut Vec<Path>,
+) -> Result<(), NoMemory>
+    ensures trues { OnOk result (trues.new.items ≡ trues.old.items ++ paths_true branches.items) }
+    ensures falses { OnOk result (
+        falses.new.items ≡ falses.old.items ++ paths_false branches.items) }
+{
+    'branches: for branch in branches {
+        put(branch, trues, falses)?;
+    }
+    Ok(())
 }

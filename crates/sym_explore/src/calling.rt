@@ -1,25 +1,18 @@
 //! Tests on hold cells.
-ghost use Rattle.std.specs.Prelude.{◌≡◌, ℕ, IfOk, OnOk, Some, map};
-ghost use Rattle.sym_check.specs.CondPlans.{Test};
-ghost use Rattle.sym_check.specs.FixedPlans.{fixed_plan};
-ghost use Rattle.sym_check.specs.KnownValues.{known_values};
+ghost use Rattle.std.specs.Prelude.{◌≡◌, ℕ, IfOk, OnOk};
 ghost use Rattle.sym_check.specs.ScriptPlans.{script_plan};
 ghost use Rattle.sym_check.specs.WellFormed.{IsWellFormed};
-ghost use Rattle.sym_path.specs.Changing.{form_of};
+ghost use Rattle.sym_path.specs.Changing.{GoesOn, form_of};
 ghost use Rattle.sym_path.specs.Fitting.{PathFits};
-ghost use Rattle.sym_explore.specs.Branches.{answered, tried, Splits, BranchFits, BranchesFit, AreFewBranches};
+ghost use Rattle.sym_explore.specs.Branches.{answered, Splits, BranchesGo, AreFewBranches};
 ghost use Rattle.sym_explore.specs.Calling.{IsTested, TestSuits, test_holds, WasTested, known_outcome};
-ghost use Rattle.sym_explore.specs.Faulting.{BranchFaultsCameAt};
-ghost use Rattle.sym_explore.specs.Knowing.{CondIsKnown};
 
 use crate::branch::Branch;
-use crate::knowing::arith;
 use std::alloc::Global;
-use sym_base::{Fault, NoMemory, Values};
+use sym_base::{NoMemory, Values};
 use sym_check::laws::plans::well_formed_tests_are_fixed;
-use sym_check::{FixedList, Known, Plan, answer_at};
+use sym_check::{Plan, answer_at};
 use sym_path::{Form, Part, Path};
-use sym_plain::{Stop, set_values};
 use sym_pred::{HoldForm, Literal};
 
 /// The outcome that is known of a test on the hold cell with this number.
@@ -57,15 +50,14 @@ fn split_test(
 ) -> Result<bool, NoMemory>
     requires suits { TestSuits (script_plan plan.now) cell test args.now }
     requires fits { PathFits (script_plan plan.now) path.old }
-    requires others { BranchesFit (script_plan plan.now) out.old.items }
-    ensures exact { IfOk result (λ truth. WasTested (script_plan plan.now) cell test args.now
-        path.old out.old.items path.new out.new.items truth) }
-    ensures fits { OnOk result (PathFits (script_plan plan.now) path.new) }
-    ensures others { OnOk result (BranchesFit (script_plan plan.now) out.new.items) }
-    ensures few { IfOk result (λ truth. AreFewBranches (λ x. 1)
-        out.old.items out.new.items (Some truth)) }
-    ensures faults { (n : ℕ) → OnOk result (BranchFaultsCameAt n
+    requires goes_on { GoesOn path.old.end }
+    requires others { BranchesGo (script_plan plan.now) out.old.items }
+    ensures exact { IfOk result (WasTested (script_plan plan.now) cell test args.now
         path.old out.old.items path.new out.new.items) }
+    ensures fits { OnOk result (PathFits (script_plan plan.now) path.new) }
+    ensures next { OnOk result (GoesOn path.new.end) }
+    ensures others { OnOk result (BranchesGo (script_plan plan.now) out.new.items) }
+    ensures few { IfOk result (AreFewBranches (λ x. 1) out.old.items out.new.items) }
 {
     if let Some(outcome) = known_outcome(path, cell, test, args) {
         return Ok(outcome);
@@ -74,7 +66,7 @@ fn split_test(
     copy.add_literal(plan, cell, literal(alloc, test, args, true)?)?;
     out.push(Branch {
         path: copy,
-        truth: Some(true),
+        truth: true,
     })?;
     path.add_literal(plan, cell, literal(alloc, test, args, false)?)?;
     Ok(false)
@@ -106,9 +98,10 @@ fn test_on(plan: &Plan, test: u16, cell: u16, args: &Values, path: &Path) -> Tes
     }
 }
 
-/// Tells a test's answer for the parts of a hold cell and the arguments at the path's states. The
-/// path is split where the cell's parts aren't known, nor the outcome of this test.
-fn call(
+/// Tells a test's answer for the parts of a hold cell and the arguments at the states of a path
+/// that goes on. The path is split where the cell's parts aren't known, nor the outcome of this
+/// test.
+pub(crate) fn call(
     alloc: Global,
     plan: &Plan,
     test: u16,
@@ -116,63 +109,24 @@ fn call(
     args: &Values,
     path: &mut Path,
     out: &mut Vec<Branch>,
-) -> Result<Option<bool>, NoMemory>
+) -> Result<bool, NoMemory>
     requires known { IsWellFormed (script_plan plan.now) }
     requires suits { TestSuits (script_plan plan.now) cell test args.now }
     requires fits { PathFits (script_plan plan.now) path.old }
-    requires others { BranchesFit (script_plan plan.now) out.old.items }
+    requires goes_on { GoesOn path.old.end }
+    requires others { BranchesGo (script_plan plan.now) out.old.items }
     ensures exact { (n : ℕ) →
         let meaning = answered n (test_holds (script_plan plan.now) cell test args.now) in
         IfOk result (Splits (script_plan plan.now) meaning
         path.old out.old.items path.new out.new.items) }
-    ensures fits { IfOk result (BranchFits (script_plan plan.now) path.new) }
-    ensures others { OnOk result (BranchesFit (script_plan plan.now) out.new.items) }
+    ensures fits { OnOk result (PathFits (script_plan plan.now) path.new) }
+    ensures next { OnOk result (GoesOn path.new.end) }
+    ensures others { OnOk result (BranchesGo (script_plan plan.now) out.new.items) }
     ensures few { IfOk result (AreFewBranches (λ x. 1) out.old.items out.new.items) }
-    ensures faults { (n : ℕ) → OnOk result (BranchFaultsCameAt n
-        path.old out.old.items path.new out.new.items) }
 {
     match test_on(plan, test, cell, args, path) {
-        Tested::Known(answer) => Ok(Some(answer)),
-        Tested::Held(from) => Ok(Some(split_test(alloc, plan, test, from, args, path, out)?)),
-        Tested::Ended => Ok(None),
-    }
-}
-
-/// Calls a test. Arithmetic that fails in an argument ends the path. `args` is memory for the
-/// arguments.
-pub(crate) fn call_test(
-    alloc: Global,
-    plan: &Plan,
-    known: &Known,
-    no: u64,
-    test: u16,
-    cell: u16,
-    expressions: &FixedList,
-    args: &mut Values,
-    path: &mut Path,
-    out: &mut Vec<Branch>,
-) -> Result<Option<bool>, NoMemory>
-    requires known { IsWellFormed (script_plan plan.now) }
-    requires cond { CondIsKnown (script_plan plan.now) (known_values known.now)
-        (Test test cell (map fixed_plan expressions.now)) }
-    requires fits { PathFits (script_plan plan.now) path.old }
-    requires others { BranchesFit (script_plan plan.now) out.old.items }
-    ensures exact { let c = Test test cell (map fixed_plan expressions.now) in
-        let meaning = tried (script_plan plan.now) (known_values known.now) no c in
-        IfOk result (Splits (script_plan plan.now) meaning
-        path.old out.old.items path.new out.new.items) }
-    ensures fits { IfOk result (BranchFits (script_plan plan.now) path.new) }
-    ensures others { OnOk result (BranchesFit (script_plan plan.now) out.new.items) }
-    ensures few { IfOk result (AreFewBranches (λ x. 1) out.old.items out.new.items) }
-    ensures faults { OnOk result (BranchFaultsCameAt no
-        path.old out.old.items path.new out.new.items) }
-{
-    match set_values(alloc, known, expressions, args) {
-        Ok(()) => call(alloc, plan, test, cell, args, path, out),
-        Err(Stop::Fault(kind)) => {
-            path.fail(Fault { kind, no });
-            Ok(None)
-        }
-        Err(Stop::NoMemory) => Err(NoMemory),
+        Tested::Known(answer) => Ok(answer),
+        Tested::Held(from) => split_test(alloc, plan, test, from, args, path, out),
+        Tested::Ended => unreachable!(),
     }
 }

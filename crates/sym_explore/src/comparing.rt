@@ -1,11 +1,6 @@
 //! Comparisons of numbers that may depend on a cell.
-ghost use Rattle.std.specs.Prelude.{◌≡◌, ℕ, IfOk, OnOk, IsTrue, Some, None, slice_get};
+ghost use Rattle.std.specs.Prelude.{ℕ, IfOk, OnOk, slice_get};
 ghost use Rattle.sym_base.specs.Limits.{IsNumber};
-ghost use Rattle.sym_check.specs.CondPlans.{Compared};
-ghost use Rattle.sym_check.specs.Conditions.{is_fixed_term};
-ghost use Rattle.sym_check.specs.FixedPlans.{num_plan};
-ghost use Rattle.sym_check.specs.KnownValues.{known_values};
-ghost use Rattle.sym_check.specs.LinePlans.{term_plan};
 ghost use Rattle.sym_check.specs.ScriptPlans.{script_plan};
 ghost use Rattle.sym_check.specs.WellFormed.{IsWellFormed};
 ghost use Rattle.sym_int.specs.Cuts.{IsCut, count_with, most_with};
@@ -13,19 +8,15 @@ ghost use Rattle.sym_int.specs.Lines.{wide_cell};
 ghost use Rattle.sym_path.specs.Changing.{GoesOn};
 ghost use Rattle.sym_path.specs.Fitting.{PathFits};
 ghost use Rattle.sym_path.specs.Narrowing.{NarrowsNumbers};
-ghost use Rattle.sym_explore.specs.Branches.{tried, Splits, BranchFits, BranchesFit, AreFewBranches};
-ghost use Rattle.sym_explore.specs.Comparing.{ArePiecesOf, CutsPath, IsPiecePushed, WasCompared};
-ghost use Rattle.sym_explore.specs.Counting.{term_branches};
-ghost use Rattle.sym_explore.specs.Faulting.{BranchFaultsCameAt};
-ghost use Rattle.sym_explore.specs.Knowing.{CondIsKnown};
-ghost use Rattle.sym_explore.specs.Terms.{HasSpan};
+ghost use Rattle.sym_explore.specs.Branches.{answered, Splits, BranchesGo, AreFewBranches};
+ghost use Rattle.sym_explore.specs.Comparing.{ArePiecesOf, CutsPath, IsPiecePushed, WasCompared, number_compares};
+ghost use Rattle.sym_explore.specs.Terms.{HasSpan, ReadyFits};
 
 use crate::branch::Branch;
-use crate::knowing::arith;
-use crate::terms::{span_of, term_form};
+use crate::terms::{Ready, ready_form, span_of};
 use std::alloc::Global;
 use sym_base::{Compare, NoMemory};
-use sym_check::{Known, Num, Plan, Term, number_of};
+use sym_check::Plan;
 use sym_int::{Cut, Pieces, Span, Wide, cut};
 use sym_path::Path;
 
@@ -55,7 +46,7 @@ fn push_piece(
     copy.narrow_numbers(plan, cell, &piece.span);
     out.push(Branch {
         path: copy,
-        truth: Some(piece.truth),
+        truth: piece.truth,
     })?;
     Ok(())
 }
@@ -72,17 +63,16 @@ fn cut_path(
 ) -> Result<bool, NoMemory>
     requires known { IsWellFormed (script_plan plan.now) }
     requires fits { PathFits (script_plan plan.now) path.old }
-    requires others { BranchesFit (script_plan plan.now) out.old.items }
+    requires goes_on { GoesOn path.old.end }
+    requires others { BranchesGo (script_plan plan.now) out.old.items }
     requires pieces { ArePiecesOf (slice_get path.old.when cell) pieces.now }
-    ensures exact { IfOk result (λ truth. CutsPath (script_plan plan.now) cell pieces.now
-        path.old out.old.items path.new out.new.items truth) }
-    ensures fits { OnOk result (PathFits (script_plan plan.now) path.new) }
-    ensures others { OnOk result (BranchesFit (script_plan plan.now) out.new.items) }
-    ensures next { OnOk result (GoesOn path.old.end → GoesOn path.new.end) }
-    ensures few { IfOk result (λ truth. AreFewBranches (λ x. count_with x pieces.now)
-        out.old.items out.new.items (Some truth)) }
-    ensures faults { (n : ℕ) → OnOk result (BranchFaultsCameAt n
+    ensures exact { IfOk result (CutsPath (script_plan plan.now) cell pieces.now
         path.old out.old.items path.new out.new.items) }
+    ensures fits { OnOk result (PathFits (script_plan plan.now) path.new) }
+    ensures next { OnOk result (GoesOn path.new.end) }
+    ensures others { OnOk result (BranchesGo (script_plan plan.now) out.new.items) }
+    ensures few { IfOk result (AreFewBranches (λ x. count_with x pieces.now)
+        out.old.items out.new.items) }
 {
     let Some(second) = pieces.second else {
         return Ok(pieces.first.truth);
@@ -120,16 +110,15 @@ fn compare_wide(
     requires span { HasSpan path.old (wide_cell wide.now) }
     requires number { IsNumber bound.now.number }
     requires fits { PathFits (script_plan plan.now) path.old }
-    requires others { BranchesFit (script_plan plan.now) out.old.items }
+    requires goes_on { GoesOn path.old.end }
+    requires others { BranchesGo (script_plan plan.now) out.old.items }
     ensures exact { IfOk result (WasCompared (script_plan plan.now) wide.now bound.now
         path.old out.old.items path.new out.new.items) }
     ensures fits { OnOk result (PathFits (script_plan plan.now) path.new) }
-    ensures others { OnOk result (BranchesFit (script_plan plan.now) out.new.items) }
-    ensures few { IfOk result (λ truth. AreFewBranches (most_with bound.now.compare)
-        out.old.items out.new.items (Some truth)) }
-    ensures known { wide_cell wide.now ≡ None → OnOk result (out.new.items ≡ out.old.items) }
-    ensures faults { (n : ℕ) → OnOk result (BranchFaultsCameAt n
-        path.old out.old.items path.new out.new.items) }
+    ensures next { OnOk result (GoesOn path.new.end) }
+    ensures others { OnOk result (BranchesGo (script_plan plan.now) out.new.items) }
+    ensures few { IfOk result (AreFewBranches (most_with bound.now.compare)
+        out.old.items out.new.items) }
 {
     match wide {
         Wide::Const(number) => Ok(bound.compare.holds(number.value, i128::from(bound.number))),
@@ -143,44 +132,32 @@ fn compare_wide(
     }
 }
 
-/// Compares a term with a number. Arithmetic that fails ends the path.
-pub(crate) fn compare_term(
+/// Compares the number of a term with a known one on a path that goes on.
+pub(crate) fn compare_ready(
     alloc: Global,
     plan: &Plan,
-    known: &Known,
-    no: u64,
-    compare: Compare,
-    term: &Term,
-    right: &Num,
+    ready: &Ready,
+    bound: &Bound,
     path: &mut Path,
     out: &mut Vec<Branch>,
-) -> Result<Option<bool>, NoMemory>
+) -> Result<bool, NoMemory>
     requires known { IsWellFormed (script_plan plan.now) }
-    requires cond { CondIsKnown (script_plan plan.now) (known_values known.now)
-        (Compared compare (term_plan term.now) (num_plan right.now)) }
+    requires ready { ReadyFits (script_plan plan.now) ready.now }
+    requires number { IsNumber bound.now.number }
     requires fits { PathFits (script_plan plan.now) path.old }
-    requires others { BranchesFit (script_plan plan.now) out.old.items }
-    ensures exact { let c = Compared compare (term_plan term.now) (num_plan right.now) in
-        let meaning = tried (script_plan plan.now) (known_values known.now) no c in
+    requires goes_on { GoesOn path.old.end }
+    requires others { BranchesGo (script_plan plan.now) out.old.items }
+    ensures exact { (n : ℕ) → let meaning = answered n (number_compares ready.now bound.now) in
         IfOk result (Splits (script_plan plan.now) meaning
         path.old out.old.items path.new out.new.items) }
-    ensures fits { IfOk result (BranchFits (script_plan plan.now) path.new) }
-    ensures others { OnOk result (BranchesFit (script_plan plan.now) out.new.items) }
-    ensures few { IfOk result (AreFewBranches (term_branches compare (term_plan term.now))
+    ensures fits { OnOk result (PathFits (script_plan plan.now) path.new) }
+    ensures next { OnOk result (GoesOn path.new.end) }
+    ensures others { OnOk result (BranchesGo (script_plan plan.now) out.new.items) }
+    ensures few { IfOk result (AreFewBranches (most_with bound.now.compare)
         out.old.items out.new.items) }
-    ensures fixed { IsTrue (is_fixed_term (term_plan term.now)) →
-        OnOk result (out.new.items ≡ out.old.items) }
-    ensures faults { OnOk result (BranchFaultsCameAt no
-        path.old out.old.items path.new out.new.items) }
 {
-    let (Ok(number), Ok(left)) = (number_of(known, right), term_form(plan, known, term, path))
-    else {
-        path.fail(arith(no));
-        return Ok(None);
-    };
-    let Some(wide) = left else {
-        return Ok(None);
-    };
-    let bound = Bound { compare, number };
-    Ok(Some(compare_wide(alloc, plan, &wide, &bound, path, out)?))
+    match ready_form(plan, ready, path) {
+        Some(wide) => compare_wide(alloc, plan, &wide, bound, path, out),
+        None => unreachable!(),
+    }
 }

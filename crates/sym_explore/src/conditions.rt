@@ -1,28 +1,33 @@
-//! Conditions on a path: the path is split into those of its states where the condition is true,
-//! where it is false, and where its arithmetic fails. The last branch stays in the path's place.
-ghost use Rattle.std.specs.Prelude.{◌≡◌, ◌++◌, [], List, IfOk, OnOk, IsTrue, map};
+//! Conditions on paths: the paths are parted by whether the condition is true, false, or fails.
+ghost use Rattle.std.specs.Prelude.{◌≡◌, [], List, IfOk, OnOk, IsTrue, map};
 ghost use Rattle.sym_base.specs.declared.values.record.Record.{Record as OneRecord};
-ghost use Rattle.sym_check.specs.CondPlans.{cond_plan};
+ghost use Rattle.sym_base.specs.declared.values.value.Value.{Value as OneValue};
+ghost use Rattle.sym_check.specs.CondPlans.{cond_plan, Compared, Test};
 ghost use Rattle.sym_check.specs.Conditions.{is_fixed, same_word};
+ghost use Rattle.sym_check.specs.FixedPlans.{fixed_plan, num_plan};
 ghost use Rattle.sym_check.specs.FixedValues.{word_of};
 ghost use Rattle.sym_check.specs.KnownValues.{known_values};
+ghost use Rattle.sym_check.specs.LinePlans.{term_plan};
 ghost use Rattle.sym_check.specs.ScriptPlans.{script_plan};
 ghost use Rattle.sym_check.specs.WellFormed.{IsWellFormed};
-ghost use Rattle.sym_path.specs.Fitting.{PathFits};
-ghost use Rattle.sym_explore.specs.Branches.{tried, Splits, BranchFits, BranchesFit, AreFewBranches};
-ghost use Rattle.sym_explore.specs.Connecting.{turned, turned_branch, further, further_on, AreFewFurther, AreFewOfEach, SplitsEach};
+ghost use Rattle.sym_path.specs.Fitting.{SegmentFits};
+ghost use Rattle.sym_explore.specs.Evaluating.{IsEvaluated, IsUnconnected};
+ghost use Rattle.sym_explore.specs.Branches.{tried};
 ghost use Rattle.sym_explore.specs.Counting.{branches_of};
-ghost use Rattle.sym_explore.specs.Faulting.{BranchFaultsCameAt, BranchesEndAmong, HasNumber};
+ghost use Rattle.sym_explore.specs.Faulting.{EndAmong, HasNumber};
 ghost use Rattle.sym_explore.specs.Knowing.{CondIsKnown};
+ghost use Rattle.sym_explore.specs.Parting.{AllGoOn, AreFewParts, AreOfOneTruth, AreParts};
 
-use crate::branch::{Branch, decided};
-use crate::calling::call_test;
-use crate::comparing::compare_term;
-use crate::labels::cell_is;
+use crate::comparing::Bound;
+use crate::moving::move_all;
+use crate::parting::{CellCondition, Evaluated, part_evaluated};
+use crate::terms::{Ready, ready_of};
 use std::alloc::Global;
-use sym_base::{NoMemory, Values};
-use sym_check::{Cond, Known, Plan, WordOf};
+use std::mem;
+use sym_base::{Compare, NoMemory, Values};
+use sym_check::{Cond, FixedList, Known, Num, Plan, Term, WordOf, number_of};
 use sym_path::Path;
+use sym_plain::{Stop, set_values};
 
 /// Whether two words are equal.
 fn same_words(known: &Known, left: &WordOf, right: &WordOf) -> bool
@@ -32,180 +37,149 @@ fn same_words(known: &Known, left: &WordOf, right: &WordOf) -> bool
     known.word(left) == known.word(right)
 }
 
-/// The other truth.
-fn turned(truth: Option<bool>) -> Option<bool>
-    ensures { result ≡ turned truth }
+/// Evaluates a comparison: of a term that names no cell, its truth.
+fn compared(_plan: &Plan, known: &Known, compare: Compare, term: &Term, right: &Num) -> Evaluated
+    requires cond { CondIsKnown (script_plan _plan.now) (known_values known.now)
+        (Compared compare (term_plan term.now) (num_plan right.now)) }
+    ensures { let c = Compared compare (term_plan term.now) (num_plan right.now) in
+        (args : List OneValue) →
+        IsEvaluated (script_plan _plan.now) (known_values known.now) c args result }
 {
-    match truth {
-        Some(truth) => Some(!truth),
-        None => None,
+    let (Ok(number), Ok(ready)) = (number_of(known, right), ready_of(known, term)) else {
+        return Evaluated::Failed;
+    };
+    match ready {
+        Ready::Number(left) => Evaluated::Known(compare.holds(
+            i128::from(left),
+            i128::from(number),
+        )),
+        Ready::Line(_) => Evaluated::Open(CellCondition::Compare(ready, Bound { compare, number })),
     }
 }
 
-/// Puts the branches after the others, each with the other truth.
-fn push_turned(branches: Vec<Branch>, out: &mut Vec<Branch>) -> Result<(), NoMemory>
-    ensures { OnOk result (out.new.items ≡ out.old.items ++ map turned_branch branches.items) }
+/// Evaluates the arguments of a test, over the memory of `args`.
+fn called(
+    alloc: Global,
+    _plan: &Plan,
+    known: &Known,
+    test: u16,
+    cell: u16,
+    expressions: &FixedList,
+    args: &mut Values,
+) -> Result<Evaluated, NoMemory>
+    requires cond { CondIsKnown (script_plan _plan.now) (known_values known.now)
+        (Test test cell (map fixed_plan expressions.now)) }
+    ensures { let c = Test test cell (map fixed_plan expressions.now) in
+        IfOk result (IsEvaluated (script_plan _plan.now) (known_values known.now) c args.new) }
 {
-    'branches: for branch in branches {
-        let Branch { path, truth } = branch;
-        let truth = turned(truth);
-        out.push(Branch { path, truth })?;
+    match set_values(alloc, known, expressions, args) {
+        Ok(()) => Ok(Evaluated::Open(CellCondition::Call(test, cell))),
+        Err(Stop::Fault(_)) => Ok(Evaluated::Failed),
+        Err(Stop::NoMemory) => Err(NoMemory),
     }
-    Ok(())
 }
 
-/// Tries a condition on a path. The path becomes the last of its branches, whose truth is the
-/// answer, and the others are put into `out`. The branches give what the path gave, with the truth
-/// there, and a condition that names no cell makes no other branch. `args` is memory for the
-/// arguments of tests.
-#[cycle(splitting)]
-pub(crate) fn split(
+/// Evaluates the expressions of a condition that isn't connected.
+fn evaluate(
+    alloc: Global,
+    plan: &Plan,
+    known: &Known,
+    condition: &Cond,
+    args: &mut Values,
+) -> Result<Evaluated, NoMemory>
+    requires cond { CondIsKnown (script_plan plan.now) (known_values known.now)
+        (cond_plan condition.now) }
+    requires single { IsUnconnected (cond_plan condition.now) }
+    ensures { let c = cond_plan condition.now in
+        IfOk result (IsEvaluated (script_plan plan.now) (known_values known.now) c args.new) }
+{
+    match condition {
+        Cond::Compare(compare, term, right) => { Ok(compared(plan, known, *compare, term, right)) }
+        Cond::Words(left, right) => Ok(Evaluated::Known(same_words(known, left, right))),
+        Cond::CellIs(cell, label) => Ok(Evaluated::Open(CellCondition::Label(
+            *cell,
+            known.label(label),
+        ))),
+        Cond::LabelIs(left, right) => Ok(Evaluated::Known(known.label(left) == known.label(right))),
+        Cond::Test {
+            test,
+            cell,
+            args: expressions,
+        } => called(alloc, plan, known, *test, *cell, expressions, args),
+        _ => unreachable!(),
+    }
+}
+
+/// Parts paths by a condition. Those on which it is true stay in `paths`; those on which it is
+/// false are put into `falses`, and those on which its arithmetic fails, ended, into `ended`. Each
+/// expression without cells is evaluated once. `args` is memory for the arguments of tests.
+#[cycle(parting)]
+pub(crate) fn part(
     alloc: Global,
     plan: &Plan,
     known: &Known,
     no: u64,
     condition: &Cond,
     args: &mut Values,
-    path: &mut Path,
-    out: &mut Vec<Branch>,
-) -> Result<Option<bool>, NoMemory>
-    requires known { IsWellFormed (script_plan plan.now) }
-    requires cond { CondIsKnown (script_plan plan.now) (known_values known.now)
-        (cond_plan condition.now) }
-    requires fits { PathFits (script_plan plan.now) path.old }
-    requires others { BranchesFit (script_plan plan.now) out.old.items }
-    ensures exact { let c = cond_plan condition.now in
-        let meaning = tried (script_plan plan.now) (known_values known.now) no c in
-        IfOk result (Splits (script_plan plan.now) meaning
-        path.old out.old.items path.new out.new.items) }
-    ensures fits { IfOk result (BranchFits (script_plan plan.now) path.new) }
-    ensures others { OnOk result (BranchesFit (script_plan plan.now) out.new.items) }
-    ensures few { IfOk result (AreFewBranches (branches_of (cond_plan condition.now))
-        out.old.items out.new.items) }
-    ensures fixed { IsTrue (is_fixed (cond_plan condition.now)) →
-        OnOk result (out.new.items ≡ out.old.items) }
-    ensures faults { OnOk result (BranchFaultsCameAt no
-        path.old out.old.items path.new out.new.items) }
-{
-    match condition {
-        Cond::Compare(compare, term, right) => {
-            compare_term(alloc, plan, known, no, *compare, term, right, path, out)
-        }
-        Cond::Words(left, right) => Ok(decided(path, same_words(known, left, right))),
-        Cond::CellIs(cell, label) => { cell_is(alloc, plan, *cell, known.label(label), path, out) }
-        Cond::LabelIs(left, right) => Ok(decided(path, known.label(left) == known.label(right))),
-        Cond::Test {
-            test,
-            cell,
-            args: expressions,
-        } => call_test(
-            alloc,
-            plan,
-            known,
-            no,
-            *test,
-            *cell,
-            expressions,
-            args,
-            path,
-            out,
-        ),
-        Cond::Not(condition) => {
-            let mut firsts = Vec::new(alloc);
-            let truth = split(alloc, plan, known, no, condition, args, path, &mut firsts)?;
-            push_turned(firsts, out)?;
-            Ok(turned(truth))
-        }
-        Cond::And(left, right) => {
-            let mut firsts = Vec::new(alloc);
-            let truth = split(alloc, plan, known, no, left, args, path, &mut firsts)?;
-            split_each(alloc, plan, known, no, true, right, args, firsts, out)?;
-            split_further(alloc, plan, known, no, true, right, args, truth, path, out)
-        }
-        Cond::Or(left, right) => {
-            let mut firsts = Vec::new(alloc);
-            let truth = split(alloc, plan, known, no, left, args, path, &mut firsts)?;
-            split_each(alloc, plan, known, no, false, right, args, firsts, out)?;
-            split_further(alloc, plan, known, no, false, right, args, truth, path, out)
-        }
-    }
-}
-
-/// Tries the right side of `and` or `or` on a branch of the left one that has the wanted truth. Any
-/// other branch stays as it is.
-#[cycle(splitting)]
-fn split_further(
-    alloc: Global,
-    plan: &Plan,
-    known: &Known,
-    no: u64,
-    wanted: bool,
-    right: &Cond,
-    args: &mut Values,
-    truth: Option<bool>,
-    path: &mut Path,
-    out: &mut Vec<Branch>,
-) -> Result<Option<bool>, NoMemory>
-    requires known { IsWellFormed (script_plan plan.now) }
-    requires cond { CondIsKnown (script_plan plan.now) (known_values known.now)
-        (cond_plan right.now) }
-    requires fits { BranchFits (script_plan plan.now) path.old truth }
-    requires others { BranchesFit (script_plan plan.now) out.old.items }
-    ensures exact { let meaning = further wanted (tried (script_plan plan.now)
-        (known_values known.now) no (cond_plan right.now)) truth in
-        IfOk result (Splits (script_plan plan.now) meaning
-        path.old out.old.items path.new out.new.items) }
-    ensures fits { IfOk result (BranchFits (script_plan plan.now) path.new) }
-    ensures others { OnOk result (BranchesFit (script_plan plan.now) out.new.items) }
-    ensures few { let most = branches_of (cond_plan right.now) in
-        IfOk result (AreFewFurther wanted most truth out.old.items out.new.items) }
-    ensures fixed { IsTrue (is_fixed (cond_plan right.now)) →
-        OnOk result (out.new.items ≡ out.old.items) }
-    ensures faults { OnOk result (BranchFaultsCameAt no
-        path.old out.old.items path.new out.new.items) }
-{
-    match truth {
-        Some(found) if found == wanted => { split(alloc, plan, known, no, right, args, path, out) }
-        _ => Ok(truth),
-    }
-}
-
-/// Does so on each of the branches, in order.
-#[cycle(splitting)]
-fn split_each(
-    alloc: Global,
-    plan: &Plan,
-    known: &Known,
-    no: u64,
-    wanted: bool,
-    right: &Cond,
-    args: &mut Values,
-    branches: Vec<Branch>,
-    out: &mut Vec<Branch>,
+    paths: &mut Vec<Path>,
+    falses: &mut Vec<Path>,
+    ended: &mut Vec<Path>,
 ) -> Result<(), NoMemory>
     requires known { IsWellFormed (script_plan plan.now) }
     requires cond { CondIsKnown (script_plan plan.now) (known_values known.now)
-        (cond_plan right.now) }
-    requires fits { BranchesFit (script_plan plan.now) branches.items }
-    requires others { BranchesFit (script_plan plan.now) out.old.items }
-    ensures exact { let meaning = further_on wanted (tried (script_plan plan.now)
-        (known_values known.now) no (cond_plan right.now)) in
-        OnOk result (SplitsEach (script_plan plan.now) meaning
-        branches.items out.old.items out.new.items) }
-    ensures others { OnOk result (BranchesFit (script_plan plan.now) out.new.items) }
-    ensures few { let most = branches_of (cond_plan right.now) in
-        OnOk result (AreFewOfEach wanted most branches.items out.old.items out.new.items) }
-    ensures fixed { OnOk result (branches.items ≡ [] → out.new.items ≡ out.old.items) }
+        (cond_plan condition.now) }
+    requires fits { SegmentFits (script_plan plan.now) paths.old.items }
+    requires going { AllGoOn paths.old.items }
+    requires falses_fit { SegmentFits (script_plan plan.now) falses.old.items }
+    requires falses_going { AllGoOn falses.old.items }
+    requires ended_fit { SegmentFits (script_plan plan.now) ended.old.items }
+    ensures exact { let c = cond_plan condition.now in
+        let meaning = tried (script_plan plan.now) (known_values known.now) no c in
+        OnOk result (AreParts (script_plan plan.now) meaning
+        paths.old.items paths.new.items falses.old.items falses.new.items
+        ended.old.items ended.new.items) }
+    ensures fits { OnOk result (SegmentFits (script_plan plan.now) paths.new.items) }
+    ensures going { OnOk result (AllGoOn paths.new.items) }
+    ensures falses_fit { OnOk result (SegmentFits (script_plan plan.now) falses.new.items) }
+    ensures falses_going { OnOk result (AllGoOn falses.new.items) }
+    ensures ended_fit { OnOk result (SegmentFits (script_plan plan.now) ended.new.items) }
+    ensures few { OnOk result (AreFewParts (branches_of (cond_plan condition.now))
+        paths.old.items paths.new.items falses.old.items falses.new.items
+        ended.old.items ended.new.items) }
+    ensures fixed { IsTrue (is_fixed (cond_plan condition.now)) → OnOk result (AreOfOneTruth
+        paths.old.items paths.new.items falses.old.items falses.new.items
+        ended.old.items ended.new.items) }
+    ensures none { paths.old.items ≡ [] → OnOk result (falses.new.items ≡ falses.old.items) }
     ensures faults { (records : List OneRecord) → HasNumber no records →
-        BranchesEndAmong records branches.items → BranchesEndAmong records out.old.items →
-        OnOk result (BranchesEndAmong records out.new.items) }
+        EndAmong records ended.old.items → OnOk result (EndAmong records ended.new.items) }
 {
-    'branches: for branch in branches {
-        let Branch { mut path, truth } = branch;
-        let truth = split_further(
-            alloc, plan, known, no, wanted, right, args, truth, &mut path, out,
-        )?;
-        out.push(Branch { path, truth })?;
+    if paths.is_empty() {
+        return Ok(());
     }
-    Ok(())
+    match condition {
+        Cond::Not(condition) => {
+            let mut rest = Vec::new(alloc);
+            part(
+                alloc, plan, known, no, condition, args, paths, &mut rest, ended,
+            )?;
+            mem::swap(paths, &mut rest);
+            move_all(&mut rest, falses)
+        }
+        Cond::And(left, right) => {
+            part(alloc, plan, known, no, left, args, paths, falses, ended)?;
+            part(alloc, plan, known, no, right, args, paths, falses, ended)
+        }
+        Cond::Or(left, right) => {
+            let mut rest = Vec::new(alloc);
+            part(alloc, plan, known, no, left, args, paths, &mut rest, ended)?;
+            part(
+                alloc, plan, known, no, right, args, &mut rest, falses, ended,
+            )?;
+            move_all(&mut rest, paths)
+        }
+        _ => {
+            let evaluated = evaluate(alloc, plan, known, condition, args)?;
+            part_evaluated(alloc, plan, no, &evaluated, args, paths, falses, ended)
+        }
+    }
 }

@@ -1,22 +1,21 @@
 //! Segments of one record, and segments that are taken a record further.
-ghost use Rattle.std.specs.Prelude.{◌≡◌, ◌≤◌, ◌+◌, ◌*◌, ◌++◌, ◌∷◌, [], List, IfOk, OnOk, length};
+ghost use Rattle.std.specs.Prelude.{◌≡◌, ◌≤◌, ◌*◌, ◌++◌, ◌∷◌, [], List, IfOk, length};
 ghost use Rattle.sym_base.specs.declared.values.record.Record.{Record as OneRecord};
 ghost use Rattle.sym_check.specs.CheckedScripts.{checked_plan};
 ghost use Rattle.sym_check.specs.PathBounds.{path_bound};
 ghost use Rattle.sym_check.specs.ScriptPlans.{script_plan};
 ghost use Rattle.sym_check.specs.Validity.{IsRecord};
 ghost use Rattle.sym_check.specs.WellFormed.{IsWellFormed};
-ghost use Rattle.sym_path.specs.Changing.{GoesOn};
-ghost use Rattle.sym_path.specs.Fitting.{PathFits, SegmentFits};
+ghost use Rattle.sym_path.specs.Fitting.{SegmentFits};
 ghost use Rattle.sym_path.specs.Joining.{IsSettled};
 ghost use Rattle.sym_path.specs.Standing.{StandsFor};
 ghost use Rattle.sym_explore.specs.Counting.{made_paths};
-ghost use Rattle.sym_explore.specs.Faulting.{EndAmong, FaultsCameAt, HasNumber};
+ghost use Rattle.sym_explore.specs.Faulting.{EndAmong, HasNumber};
 ghost use Rattle.sym_explore.specs.Growing.{GivesAfter, grown_paths, IsToldBy};
-ghost use Rattle.sym_explore.specs.Running.{RunsPaths};
-ghost use Rattle.sym_explore.specs.Stepping.{after_record, Steps};
 
-use crate::statements::run_all;
+use crate::ending::move_ended;
+use crate::moving::move_all;
+use crate::statements::run_block;
 use std::alloc::Global;
 use sym_base::{NoMemory, Record};
 use sym_check::{Checked, Plan};
@@ -44,62 +43,40 @@ impl Grown {
     }
 }
 
-/// Takes a path through the update of a record. The path becomes the last of those that come of it,
-/// and the others are put into `out`. A path that has ended stays as it is.
-fn explore(
-    alloc: Global,
-    plan: &Plan,
-    rec: &Record,
-    buffers: &mut Buffers,
-    path: &mut Path,
-    out: &mut Vec<Path>,
-) -> Result<(), NoMemory>
-    requires known { IsWellFormed (script_plan plan.now) }
-    requires rec { IsRecord (script_plan plan.now) rec.now }
-    requires fits { PathFits (script_plan plan.now) path.old }
-    requires others { SegmentFits (script_plan plan.now) out.old.items }
-    ensures exact { let one = after_record (script_plan plan.now) rec.now in
-        OnOk result (Steps (script_plan plan.now) one
-        path.old out.old.items path.new out.new.items) }
-    ensures fits { OnOk result (PathFits (script_plan plan.now) path.new) }
-    ensures others { OnOk result (SegmentFits (script_plan plan.now) out.new.items) }
-    ensures few { let most = made_paths (script_plan plan.now).update in
-        OnOk result (length out.new.items + 1 ≤ length out.old.items + most) }
-    ensures faults { OnOk result (FaultsCameAt rec.now.no
-        path.old out.old.items path.new out.new.items) }
-    ensures stays { ¬ (GoesOn path.old.end) →
-        OnOk result ((path.new ≡ path.old) × (out.new.items ≡ out.old.items)) }
-{
-    shorten(alloc, &mut buffers.locals, 0);
-    run_all(alloc, plan, rec, &plan.update, buffers, path, out)
-}
-
-/// Takes each of the paths through the update of a record, in order.
+/// Takes paths through the update of a record. Those that have ended stay as they are.
 fn explore_each(
     alloc: Global,
     plan: &Plan,
     rec: &Record,
+    buffers: &mut Buffers,
     paths: Vec<Path>,
 ) -> Result<Vec<Path>, NoMemory>
     requires known { IsWellFormed (script_plan plan.now) }
     requires rec { IsRecord (script_plan plan.now) rec.now }
     requires fits { SegmentFits (script_plan plan.now) paths.items }
-    ensures exact { let one = after_record (script_plan plan.now) rec.now in
-        IfOk result (λ new. RunsPaths (script_plan plan.now) one paths.items [] new.items) }
+    ensures exact { IfOk result (λ new.
+        GivesAfter (script_plan plan.now) rec.now paths.items new.items) }
     ensures fits { IfOk result (λ new. SegmentFits (script_plan plan.now) new.items) }
     ensures few { let most = made_paths (script_plan plan.now).update in
         IfOk result (λ new. length new.items ≤ length paths.items * most) }
     ensures faults { (records : List OneRecord) → HasNumber rec.now.no records →
         EndAmong records paths.items → IfOk result (λ new. EndAmong records new.items) }
 {
-    let mut buffers = Buffers::new(alloc);
-    let mut out = Vec::with_capacity(alloc, paths.len())?;
-    'paths: for each in paths {
-        let mut path = each;
-        explore(alloc, plan, rec, &mut buffers, &mut path, &mut out)?;
-        out.push(path)?;
-    }
-    Ok(out)
+    let mut going = paths;
+    let mut ended = Vec::new(alloc);
+    move_ended(&mut going, &mut ended)?;
+    shorten(alloc, &mut buffers.locals, 0);
+    run_block(
+        alloc,
+        plan,
+        rec,
+        &plan.update,
+        buffers,
+        &mut going,
+        &mut ended,
+    )?;
+    move_all(&mut going, &mut ended)?;
+    Ok(ended)
 }
 
 /// Whether a segment is within the limit.
@@ -125,10 +102,28 @@ pub fn fresh(alloc: Global, checked: &Checked, rec: &Record) -> Result<Segment, 
         IfOk result (λ segment. length segment ≤ most) }
     ensures stands { IfOk result (StandsFor (checked_plan checked.now) (rec.now ∷ [])) }
 {
+    let mut buffers = Buffers::new(alloc);
+    fresh_with(alloc, checked, rec, &mut buffers)
+}
+
+/// `fresh` with memory that is used again, whatever is in it.
+pub fn fresh_with(
+    alloc: Global,
+    checked: &Checked,
+    rec: &Record,
+    buffers: &mut Buffers,
+) -> Result<Segment, NoMemory>
+    requires { IsRecord (checked_plan checked.now) rec.now }
+    ensures settled { IfOk result IsSettled }
+    ensures fits { IfOk result (SegmentFits (checked_plan checked.now)) }
+    ensures few { let most = path_bound (checked_plan checked.now).update in
+        IfOk result (λ segment. length segment ≤ most) }
+    ensures stands { IfOk result (StandsFor (checked_plan checked.now) (rec.now ∷ [])) }
+{
     let whole = Path::all(alloc, checked)?;
     let mut paths = Vec::new(alloc);
     paths.push(whole)?;
-    let explored = explore_each(alloc, checked.plan(), rec, paths)?;
+    let explored = explore_each(alloc, checked.plan(), rec, buffers, paths)?;
     settle(alloc, explored)
 }
 
@@ -184,7 +179,34 @@ pub fn grow(
         GivesAfter (checked_plan checked.now) rec.now segment (grown_paths grown)) }
     ensures limit { IfOk result (IsToldBy limit) }
 {
-    let explored = explore_each(alloc, checked.plan(), rec, segment.into_vec())?;
+    let mut buffers = Buffers::new(alloc);
+    grow_with(alloc, checked, segment, rec, limit, &mut buffers)
+}
+
+/// `grow` with memory that is used again, whatever is in it.
+pub fn grow_with(
+    alloc: Global,
+    checked: &Checked,
+    segment: Segment,
+    rec: &Record,
+    limit: u32,
+    buffers: &mut Buffers,
+) -> Result<Grown, NoMemory>
+    requires fits { SegmentFits (checked_plan checked.now) segment }
+    requires rec { IsRecord (checked_plan checked.now) rec.now }
+    ensures settled { IfOk result (λ grown. IsSettled (grown_paths grown)) }
+    ensures fits { IfOk result (λ grown.
+        SegmentFits (checked_plan checked.now) (grown_paths grown)) }
+    ensures few { let most = path_bound (checked_plan checked.now).update in
+        IfOk result (λ grown. length (grown_paths grown) ≤ length segment * most) }
+    ensures stands { IfOk result (λ grown. (records : List OneRecord) →
+        StandsFor (checked_plan checked.now) records segment →
+        StandsFor (checked_plan checked.now) (records ++ rec.now ∷ []) (grown_paths grown)) }
+    ensures gives { IfOk result (λ grown.
+        GivesAfter (checked_plan checked.now) rec.now segment (grown_paths grown)) }
+    ensures limit { IfOk result (IsToldBy limit) }
+{
+    let explored = explore_each(alloc, checked.plan(), rec, buffers, segment.into_vec())?;
     let settled = settle(alloc, explored)?;
     Ok(told(settled, limit))
 }

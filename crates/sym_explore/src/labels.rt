@@ -1,12 +1,10 @@
 //! Whether an enum cell holds a label.
-ghost use Rattle.std.specs.Prelude.{◌≡◌, ℕ, IfOk, OnOk, Some};
+ghost use Rattle.std.specs.Prelude.{◌≡◌, ℕ, IfOk, OnOk};
 ghost use Rattle.sym_check.specs.CellKinds.{IsEnumCell};
 ghost use Rattle.sym_check.specs.ScriptPlans.{script_plan};
-ghost use Rattle.sym_check.specs.WellFormed.{IsWellFormed};
 ghost use Rattle.sym_path.specs.Changing.{GoesOn};
 ghost use Rattle.sym_path.specs.Fitting.{PathFits};
-ghost use Rattle.sym_explore.specs.Branches.{answered, Splits, BranchFits, BranchesFit, AreFewBranches};
-ghost use Rattle.sym_explore.specs.Faulting.{BranchFaultsCameAt};
+ghost use Rattle.sym_explore.specs.Branches.{answered, Splits, BranchesGo, AreFewBranches};
 ghost use Rattle.sym_explore.specs.Labels.{cell_has, label_form, set_of, WasSplit};
 
 use crate::branch::Branch;
@@ -48,15 +46,13 @@ fn split_labels(
     requires enum_cell { (of : ℕ) × IsEnumCell (script_plan plan.now).cells cell of }
     requires goes_on { GoesOn path.old.end }
     requires fits { PathFits (script_plan plan.now) path.old }
-    requires others { BranchesFit (script_plan plan.now) out.old.items }
-    ensures exact { IfOk result (λ truth. WasSplit (script_plan plan.now) cell label
-        path.old out.old.items path.new out.new.items truth) }
-    ensures fits { OnOk result (PathFits (script_plan plan.now) path.new) }
-    ensures others { OnOk result (BranchesFit (script_plan plan.now) out.new.items) }
-    ensures few { IfOk result (λ truth. AreFewBranches (λ x. 1)
-        out.old.items out.new.items (Some truth)) }
-    ensures faults { (n : ℕ) → OnOk result (BranchFaultsCameAt n
+    requires others { BranchesGo (script_plan plan.now) out.old.items }
+    ensures exact { IfOk result (WasSplit (script_plan plan.now) cell label
         path.old out.old.items path.new out.new.items) }
+    ensures fits { OnOk result (PathFits (script_plan plan.now) path.new) }
+    ensures next { OnOk result (GoesOn path.new.end) }
+    ensures others { OnOk result (BranchesGo (script_plan plan.now) out.new.items) }
+    ensures few { IfOk result (AreFewBranches (λ x. 1) out.old.items out.new.items) }
 {
     let Some(set) = set_of(path, cell) else {
         unreachable!()
@@ -72,14 +68,14 @@ fn split_labels(
     copy.narrow_labels(plan, cell, only);
     out.push(Branch {
         path: copy,
-        truth: Some(true),
+        truth: true,
     })?;
     path.narrow_labels(plan, cell, rest);
     Ok(false)
 }
 
-/// Tells whether the enum cell holds the label at the path's states. The path is split where it
-/// does in some and doesn't in others.
+/// Tells whether the enum cell holds the label at the states of a path that goes on. The path is
+/// split where it does in some and doesn't in others.
 pub(crate) fn cell_is(
     alloc: Global,
     plan: &Plan,
@@ -87,24 +83,22 @@ pub(crate) fn cell_is(
     label: u8,
     path: &mut Path,
     out: &mut Vec<Branch>,
-) -> Result<Option<bool>, NoMemory>
+) -> Result<bool, NoMemory>
     requires enum_cell { (of : ℕ) × IsEnumCell (script_plan plan.now).cells cell of }
+    requires goes_on { GoesOn path.old.end }
     requires fits { PathFits (script_plan plan.now) path.old }
-    requires others { BranchesFit (script_plan plan.now) out.old.items }
+    requires others { BranchesGo (script_plan plan.now) out.old.items }
     ensures exact { (n : ℕ) → let meaning = answered n (cell_has cell label) in
         IfOk result (Splits (script_plan plan.now) meaning
         path.old out.old.items path.new out.new.items) }
-    ensures fits { IfOk result (BranchFits (script_plan plan.now) path.new) }
-    ensures others { OnOk result (BranchesFit (script_plan plan.now) out.new.items) }
+    ensures fits { OnOk result (PathFits (script_plan plan.now) path.new) }
+    ensures next { OnOk result (GoesOn path.new.end) }
+    ensures others { OnOk result (BranchesGo (script_plan plan.now) out.new.items) }
     ensures few { IfOk result (AreFewBranches (λ x. 1) out.old.items out.new.items) }
-    ensures faults { (n : ℕ) → OnOk result (BranchFaultsCameAt n
-        path.old out.old.items path.new out.new.items) }
 {
     match label_form(path, cell) {
-        None => Ok(None),
-        Some(EnumForm::Const(own)) => Ok(Some(own == label)),
-        Some(EnumForm::Copy(from)) => {
-            Ok(Some(split_labels(alloc, plan, from, label, path, out)?))
-        }
+        None => unreachable!(),
+        Some(EnumForm::Const(own)) => Ok(own == label),
+        Some(EnumForm::Copy(from)) => split_labels(alloc, plan, from, label, path, out),
     }
 }

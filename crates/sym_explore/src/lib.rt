@@ -6,12 +6,16 @@ mod branch;
 mod calling;
 mod comparing;
 mod conditions;
+mod ending;
 mod extending;
 mod knowing;
 mod labels;
 pub mod laws;
+mod moving;
+mod parting;
 mod ranging;
 mod statements;
+mod storing;
 mod terms;
 
-pub use extending::{Grown, extend, fresh, grow};
+pub use extending::{Grown, extend, fresh, fresh_with, grow, grow_with};

@@ -1,28 +1,25 @@
 //! Numbers that have to lie in the range of a cell.
-ghost use Rattle.std.specs.Prelude.{◌≡◌, IfOk, OnOk, IfSome, Some, slice_get};
+ghost use Rattle.std.specs.Prelude.{◌≡◌, ◌+ℤ◌, ◌*ℤ◌, IfOk, OnOk, IfSome, IsTrue, Some, slice_get};
 ghost use Rattle.sym_check.specs.Fitting.{FitsFault};
-ghost use Rattle.sym_check.specs.KnownValues.{known_values};
-ghost use Rattle.sym_check.specs.LinePlans.{term_plan};
 ghost use Rattle.sym_check.specs.ScriptPlans.{script_plan};
 ghost use Rattle.sym_check.specs.WellFormed.{IsWellFormed};
 ghost use Rattle.sym_int.specs.Lines.{wide_cell};
-ghost use Rattle.sym_int.specs.Points.{AreEnds};
+ghost use Rattle.sym_int.specs.Parts.{IsWithin};
+ghost use Rattle.sym_int.specs.Points.{AreEnds, HasPoint};
 ghost use Rattle.sym_path.specs.Changing.{GoesOn};
 ghost use Rattle.sym_path.specs.Fitting.{PathFits, SegmentFits};
 ghost use Rattle.sym_path.specs.Narrowing.{GivesWhere, IsSubspan, NarrowsNumbers};
 ghost use Rattle.sym_path.specs.declared.part.Part.TheVariants as part;
 ghost use Rattle.sym_explore.specs.Faulting.{FaultsCameAt};
-ghost use Rattle.sym_explore.specs.Knowing.{TermIsKnown};
-ghost use Rattle.sym_explore.specs.Ranging.{IsFailedPushed, IsPartPushed, KnownRanges, IsRangeOf, IsRanged, NumberFitsCell, NumberFitsOn, Ranges, WideRanges};
+ghost use Rattle.sym_explore.specs.Ranging.{IsFailedPushed, IsPartPushed, KnownRanges, IsRangeOf, IsRanged, IsWholeOn, NumberFitsCell, NumberFitsOn, ReadyRanges, WideRanges};
 ghost use Rattle.sym_explore.specs.Stepping.{AreFewPaths};
-ghost use Rattle.sym_explore.specs.Terms.{HasSpan};
+ghost use Rattle.sym_explore.specs.Terms.{HasSpan, ReadyFits};
 
-use crate::knowing::arith;
-use crate::terms::{span_of, term_form};
+use crate::terms::{Ready, ready_form, span_of};
 use std::alloc::Global;
 use sym_base::{Fault, FaultKind, NoMemory};
-use sym_check::{CellPlan, Known, Plan, Term};
-use sym_int::{IntForm, Number, Span, Wide, WideNumber, fit};
+use sym_check::{CellPlan, Plan};
+use sym_int::{IntForm, Number, Span, Wide, WideLine, WideNumber, fit};
 use sym_path::Path;
 
 /// The span with these ends.
@@ -167,6 +164,45 @@ fn range_line(
     Ok(Some(inside.form))
 }
 
+/// Whether the line's number at the first point of the span is in the range.
+fn begins_in(line: &WideLine, span: &Span, range: &Span) -> bool
+    ensures { IsTrue result → HasPoint range.now (line.now.a *ℤ span.now.lo +ℤ line.now.b) }
+{
+    let number = line.at(span.lo);
+    range.lo as i128 <= number && number <= range.hi as i128
+}
+
+/// Whether the line's number at the last point of the span is in the range.
+fn ends_in(line: &WideLine, span: &Span, range: &Span) -> bool
+    ensures { IsTrue result → HasPoint range.now (line.now.a *ℤ span.now.hi +ℤ line.now.b) }
+{
+    let number = line.at(span.hi);
+    range.lo as i128 <= number && number <= range.hi as i128
+}
+
+/// Whether the line's number is in the range at each point of the span: so it is where it is in the
+/// range at both ends.
+fn is_within(line: &WideLine, span: &Span, range: &Span) -> bool
+    ensures { IsTrue result → IsWithin (Wide.Line line.now) range.now span.now }
+{
+    begins_in(line, span, range) && ends_in(line, span, range)
+}
+
+/// The form of a line on the path, where its number is in the range at all of the path's states;
+/// `None` anywhere else.
+fn whole_form(wide: &Wide, line: &WideLine, range: &Span, path: &Path) -> Option<IntForm>
+    requires { wide.now ≡ Wide.Line line.now }
+    ensures { IfSome result (IsWholeOn wide.now line.now.cell range.now path.now) }
+{
+    let Some(span) = span_of(path, line.cell) else {
+        return None;
+    };
+    if is_within(line, &span, range) {
+        return Some(wide.taken(&span));
+    }
+    None
+}
+
 /// Parts the path by whether a number over the state before it is in the range.
 fn range_wide(
     alloc: Global,
@@ -195,31 +231,32 @@ fn range_wide(
 {
     match wide {
         Wide::Const(number) => Ok(range_known(range, number, fault, path)),
-        Wide::Line(line) => range_line(alloc, plan, line.cell, wide, range, fault, path, out),
+        Wide::Line(line) => match whole_form(wide, line, range, path) {
+            Some(form) => Ok(Some(form)),
+            None => range_line(alloc, plan, line.cell, wide, range, fault, path, out),
+        },
     }
 }
 
-/// The number of a term, which has to lie in the range of the cell with this number. The path goes
-/// on where it does, and the answer is the form of the number there; where it doesn't, and where
-/// the term's arithmetic fails, the path ends.
-pub(crate) fn range_term(
+/// The number of a ready term, which has to lie in the range of the cell with this number. The path
+/// goes on where it does, and the answer is the form of the number there; where it doesn't, the
+/// path ends.
+pub(crate) fn range_ready(
     alloc: Global,
     plan: &Plan,
-    known: &Known,
     no: u64,
     cell: u16,
-    term: &Term,
+    ready: &Ready,
     path: &mut Path,
     out: &mut Vec<Path>,
 ) -> Result<Option<IntForm>, NoMemory>
     requires known { IsWellFormed (script_plan plan.now) }
-    requires term { TermIsKnown (script_plan plan.now) (known_values known.now)
-        (term_plan term.now) }
+    requires ready { ReadyFits (script_plan plan.now) ready.now }
     requires ranged { IsRanged (script_plan plan.now) cell }
     requires fits { PathFits (script_plan plan.now) path.old }
     requires others { SegmentFits (script_plan plan.now) out.old.items }
-    ensures exact { IfOk result (Ranges (script_plan plan.now) (known_values known.now) no
-        (term_plan term.now) cell path.old out.old.items path.new out.new.items) }
+    ensures exact { IfOk result (ReadyRanges (script_plan plan.now) ready.now no cell
+        path.old out.old.items path.new out.new.items) }
     ensures fits { OnOk result (PathFits (script_plan plan.now) path.new) }
     ensures others { OnOk result (SegmentFits (script_plan plan.now) out.new.items) }
     ensures number { IfOk result (λ number. IfSome number
@@ -228,16 +265,12 @@ pub(crate) fn range_term(
     ensures faults { OnOk result (FaultsCameAt no
         path.old out.old.items path.new out.new.items) }
 {
-    let Ok(number) = term_form(plan, known, term, path) else {
-        path.fail(arith(no));
-        return Ok(None);
-    };
     let range = range_of(plan, cell);
     let fault = Fault {
         kind: FaultKind::Over(cell),
         no,
     };
-    match number {
+    match ready_form(plan, ready, path) {
         None => Ok(None),
         Some(wide) => range_wide(alloc, plan, &wide, &range, fault, path, out),
     }

@@ -5,12 +5,28 @@ ghost use Rattle.sym_check.specs.KnownValues.{known_values};
 ghost use Rattle.sym_check.specs.LinePlans.{term_plan};
 ghost use Rattle.sym_check.specs.ScriptPlans.{script_plan};
 ghost use Rattle.sym_path.specs.Fitting.{PathFits};
-ghost use Rattle.sym_explore.specs.Knowing.{TermIsKnown};
-ghost use Rattle.sym_explore.specs.Terms.{IsPairOver, IsTermForm, number_form, span_of};
+ghost use Rattle.sym_explore.specs.Terms.{IsPairOver, IsReadyForm, ReadyFits, number_form, ready_of, span_of};
 
 use sym_check::{Arith, Known, Pair, Plan, Term, number_of, pair_of};
 use sym_int::{IntForm, Span, Wide, WideNumber};
 use sym_path::{Form, Part, Path};
+
+/// A term at a record: what its expressions without cells come to.
+#[derive(Clone, Copy)]
+pub enum Ready {
+    Number(i64),
+    Line(Pair),
+}
+
+/// The term with its fixed expressions evaluated; `Arith` exactly where that fails.
+pub(crate) fn ready_of(known: &Known, term: &Term) -> Result<Ready, Arith>
+    ensures { result ≡ ready_of (known_values known.now) (term_plan term.now) }
+{
+    match term {
+        Term::Fixed(number) => Ok(Ready::Number(number_of(known, number)?)),
+        Term::Line(line) => Ok(Ready::Line(pair_of(known, line)?)),
+    }
+}
 
 /// The form of the integer cell with this number; `None` where there is none, as after a fault.
 fn number_form(path: &Path, cell: u16) -> Option<IntForm>
@@ -41,35 +57,24 @@ fn scaled(form: &IntForm, pair: &Pair) -> Wide
     form.scaled(pair.a, pair.b)
 }
 
-/// The term's number over the state before the path; `None` where the path has ended, and `Arith`
-/// exactly where the term's arithmetic fails.
-pub(crate) fn term_form(
-    _plan: &Plan,
-    known: &Known,
-    term: &Term,
-    path: &Path,
-) -> Result<Option<Wide>, Arith>
-    requires known { TermIsKnown (script_plan _plan.now) (known_values known.now)
-        (term_plan term.now) }
+/// The ready term's number over the state before the path; `None` where the path has ended.
+pub(crate) fn ready_form(_plan: &Plan, ready: &Ready, path: &Path) -> Option<Wide>
+    requires ready { ReadyFits (script_plan _plan.now) ready.now }
     requires fits { PathFits (script_plan _plan.now) path.now }
-    ensures { IsTermForm (script_plan _plan.now) (known_values known.now) (term_plan term.now)
-        path.now result }
+    ensures { IsReadyForm (script_plan _plan.now) ready.now path.now result }
 {
-    match term {
-        Term::Fixed(number) => {
-            let value = i128::from(number_of(known, number)?);
+    match ready {
+        Ready::Number(number) => {
             if path.goes_on() {
-                Ok(Some(Wide::Const(WideNumber { value })))
+                let value = i128::from(*number);
+                Some(Wide::Const(WideNumber { value }))
             } else {
-                Ok(None)
+                None
             }
         }
-        Term::Line(line) => {
-            let pair = pair_of(known, line)?;
-            match number_form(path, pair.cell) {
-                Some(form) => Ok(Some(scaled(&form, &pair))),
-                None => Ok(None),
-            }
-        }
+        Ready::Line(pair) => match number_form(path, pair.cell) {
+            Some(form) => Some(scaled(&form, pair)),
+            None => None,
+        },
     }
 }

@@ -4,12 +4,12 @@ use Rattle.sym_check.specs.ScriptPlans.{script_plan}
 use Rattle.sym_pred.specs.declared.literal.Literal.{Literal}
 use Rattle.sym_pred.specs.Literals.{atom_of}
 use Rattle.sym_path.specs.declared.path.Path.{Path}
-use Rattle.sym_path.specs.Changing.{IsOpenOf, GivesWhereLiteral}
+use Rattle.sym_path.specs.declared.path.PathEnd.{PathEnd}
+use Rattle.sym_path.specs.Changing.{GoesOn, IsOpenOf, GivesWhereLiteral}
 use Rattle.sym_explore.specs.declared.branch.Branch.{Branch}
-use Rattle.sym_explore.specs.Branches.{BranchesFit, AreFewBranches}
+use Rattle.sym_explore.specs.Branches.{BranchesGo, AreFewBranches}
 use Rattle.sym_explore.specs.Calling.{known_outcome, WasTested}
-use Rattle.sym_explore.specs.Faulting.{BranchFaultsCameAt}
-use Rattle.sym_explore.proofs.JudgedBranches.{few_split, pushed_fits, pushed_faults, same_among}
+use Rattle.sym_explore.proofs.JudgedBranches.{few_one, few_split, pushed_go}
 use Rattle.sym_explore.proofs.TestsHeld.{open_outcome, known_tested, both_tested}
 use Rattle.sym_explore.proofs.calling.split_test.Goals as goal
 
@@ -43,18 +43,18 @@ returns-clause-exact c =
 
 pub returns-clause-others : goal.returns-clause-others
 returns-clause-others c =
-    subst (λ (after : List Branch). BranchesFit (script_plan c.args.plan.now) after) (sym c.in_ok-push.ensures.items)
-    (pushed_fits (script_plan c.args.plan.now) c.args.out.now.items c.add_literal.new.self true c.requires.others c.in_ok-add_literal.ensures.fits)
+    let copied = c.in_ok-add_literal.ensures.end ∙ ap (λ (x : Path). x.end) c.in_ok-copy.ensures in
+    subst (λ (after : List Branch). BranchesGo (script_plan c.args.plan.now) after) (sym c.in_ok-push.ensures.items)
+    (pushed_go (script_plan c.args.plan.now) c.args.out.now.items c.add_literal.new.self true c.requires.others c.in_ok-add_literal.ensures.fits
+    (subst (λ (end : PathEnd). GoesOn end) (sym copied) c.requires.goes_on))
+
+pub returns-clause-next : goal.returns-clause-next
+returns-clause-next c = subst (λ (end : PathEnd). GoesOn end) (sym c.in_ok-add_literal-2.ensures.end) c.requires.goes_on
 
 pub returns-clause-few : goal.returns-clause-few
 returns-clause-few c =
-    subst (λ (after : List Branch). AreFewBranches (λ x. 1) c.args.out.now.items after (Some false)) (sym c.in_ok-push.ensures.items)
+    subst (λ (after : List Branch). AreFewBranches (λ x. 1) c.args.out.now.items after false) (sym c.in_ok-push.ensures.items)
     (few_split c.args.out.now.items c.add_literal.new.self)
 
-pub returns-clause-faults : goal.returns-clause-faults
-returns-clause-faults c = λ n.
-    let copied = c.in_ok-add_literal.ensures.end ∙ ap (λ (x : Path). x.end) c.in_ok-copy.ensures in
-    subst (λ (after : List Branch). BranchFaultsCameAt n c.args.path.now c.args.out.now.items c.add_literal-2.new.self after) (sym c.in_ok-push.ensures.items)
-    (pushed_faults n c.args.path.now c.add_literal.new.self c.add_literal-2.new.self c.args.out.now.items true
-    (same_among c.args.path.now.end c.add_literal.new.self.end copied)
-    (same_among c.args.path.now.end c.add_literal-2.new.self.end c.in_ok-add_literal-2.ensures.end))
+pub returns-in-Some-clause-few : goal.returns-in-Some-clause-few
+returns-in-Some-clause-few c = few_one c.args.out.now.items c.in-Some.outcome

@@ -1,8 +1,9 @@
 use Rattle.std.proofs.Common.{◌≡◌, Some, None}
 use Rattle.sym_check.specs.ScriptPlans.{script_plan}
 use Rattle.sym_enum.specs.declared.form.EnumForm.TheVariants as label
-use Rattle.sym_explore.specs.Labels.{cell_has, label_form}
-use Rattle.sym_explore.proofs.JudgedBranches.{ended_splits, untold}
+use Rattle.sym_explore.specs.Branches.{answered, Splits}
+use Rattle.sym_explore.specs.Labels.{cell_has, label_form, WasSplit}
+use Rattle.sym_explore.proofs.ComparedPaths.{if_ok_both}
 use Rattle.sym_explore.proofs.LabelsHeld.{goes_on_with, ended_without, copied_enum, const_splits, copy_splits}
 use Rattle.sym_explore.proofs.labels.cell_is.Goals as goal
 
@@ -16,25 +17,23 @@ split_labels-requires-clause-goes_on c =
     let form : label_form c.args.path.now c.args.cell ≡ Some (label.Copy c.in-Some-Copy.from) = cc in
     goes_on_with c.args.path.now c.args.cell (label.Copy c.in-Some-Copy.from) form
 
-pub returns-in-None-clause-exact : goal.returns-in-None-clause-exact
-returns-in-None-clause-exact c =
+pub unreachable-requires : goal.unreachable-requires
+unreachable-requires c =
     let none : label_form c.args.path.now c.args.cell ≡ None = cc in
-    λ n. ended_splits (script_plan c.args.plan.now) c.args.path.now c.args.out.now.items n (cell_has c.args.cell c.args.label)
-    (ended_without (script_plan c.args.plan.now) c.args.path.now c.args.cell c.requires.enum_cell.0 c.requires.enum_cell.1 c.requires.fits none)
-
-pub returns-in-None-clause-fits : goal.returns-in-None-clause-fits
-returns-in-None-clause-fits c =
-    let none : label_form c.args.path.now c.args.cell ≡ None = cc in
-    untold (script_plan c.args.plan.now) c.args.path.now c.requires.fits
-    (ended_without (script_plan c.args.plan.now) c.args.path.now c.args.cell c.requires.enum_cell.0 c.requires.enum_cell.1 c.requires.fits none)
+    ended_without (script_plan c.args.plan.now) c.args.path.now c.args.cell c.requires.enum_cell.0 c.requires.enum_cell.1 c.requires.fits none c.requires.goes_on
 
 pub returns-in-Some-Const-clause-exact : goal.returns-in-Some-Const-clause-exact
 returns-in-Some-Const-clause-exact c =
     let form : label_form c.args.path.now c.args.cell ≡ Some (label.Const c.in-Some-Const.own) = cc in
     λ n. const_splits (script_plan c.args.plan.now) c.args.path.now c.args.out.now.items c.args.cell c.requires.enum_cell.0 c.args.label c.in-Some-Const.own c.requires.enum_cell.1 c.requires.fits form n
 
-pub returns-in_ok-split_labels-in-Some-Copy-clause-exact :
-    goal.returns-in_ok-split_labels-in-Some-Copy-clause-exact
-returns-in_ok-split_labels-in-Some-Copy-clause-exact c =
+pub returns-in-Some-Copy-clause-exact : goal.returns-in-Some-Copy-clause-exact
+returns-in-Some-Copy-clause-exact c =
     let form : label_form c.args.path.now c.args.cell ≡ Some (label.Copy c.in-Some-Copy.from) = cc in
-    λ n. copy_splits (script_plan c.args.plan.now) c.args.path.now c.split_labels.new.path c.args.out.now.items c.split_labels.new.out.items c.args.cell c.requires.enum_cell.0 c.args.label c.in-Some-Copy.from c.in_ok-split_labels-in-Some-Copy.field-0 c.requires.enum_cell.1 c.requires.fits form c.in_ok-split_labels-in-Some-Copy.ensures.exact n
+    λ n.
+    let p = script_plan c.args.plan.now in
+    if_ok_both c.split_labels.result
+    (WasSplit p c.in-Some-Copy.from c.args.label c.args.path.now c.args.out.now.items c.split_labels.new.path c.split_labels.new.out.items)
+    (Splits p (answered n (cell_has c.args.cell c.args.label)) c.args.path.now c.args.out.now.items c.split_labels.new.path c.split_labels.new.out.items)
+    (λ last split. copy_splits (script_plan c.args.plan.now) c.args.path.now c.split_labels.new.path c.args.out.now.items c.split_labels.new.out.items c.args.cell c.requires.enum_cell.0 c.args.label c.in-Some-Copy.from last c.requires.enum_cell.1 c.requires.fits form split n)
+    c.split_labels.ensures.exact

@@ -1,4 +1,4 @@
-use Rattle.std.proofs.Common.{◌≡◌, true, false, List, Some, None, sym, ◌∙◌, subst}
+use Rattle.std.proofs.Common.{◌≡◌, true, false, List, None, sym, ◌∙◌, subst}
 use Rattle.std.specs.Prelude.{slice_get}
 use Rattle.sym_check.specs.ScriptPlans.{script_plan}
 use Rattle.sym_path.specs.declared.part.Part.TheVariants as part
@@ -6,10 +6,9 @@ use Rattle.sym_path.specs.declared.path.Path.{Path}
 use Rattle.sym_path.specs.Changing.{GoesOn}
 use Rattle.sym_path.specs.Narrowing.{GivesWhere, NarrowsLabels}
 use Rattle.sym_explore.specs.declared.branch.Branch.{Branch}
-use Rattle.sym_explore.specs.Branches.{BranchesFit, AreFewBranches}
-use Rattle.sym_explore.specs.Faulting.{BranchFaultsCameAt}
+use Rattle.sym_explore.specs.Branches.{BranchesGo, AreFewBranches}
 use Rattle.sym_explore.specs.Labels.{set_of, WasSplit}
-use Rattle.sym_explore.proofs.JudgedBranches.{few_split, pushed_fits, pushed_faults, going_among}
+use Rattle.sym_explore.proofs.JudgedBranches.{few_one, few_split, pushed_go}
 use Rattle.sym_explore.proofs.LabelsHeld.{has_set, set_is, narrows, subset_only, subset_rest, split_never, split_always, split_both}
 use Rattle.sym_explore.proofs.labels.split_labels.Goals as goal
 
@@ -68,18 +67,17 @@ returns-clause-exact c =
 
 pub returns-clause-others : goal.returns-clause-others
 returns-clause-others c =
-    subst (λ (after : List Branch). BranchesFit (script_plan c.args.plan.now) after) (sym c.in_ok-push.ensures.items)
-    (pushed_fits (script_plan c.args.plan.now) c.args.out.now.items c.narrow_labels.new.self true c.requires.others c.narrow_labels.ensures.fits)
+    let goes : GoesOn c.in_ok-copy.copy.end = subst (λ (x : Path). GoesOn x.end) (sym c.in_ok-copy.ensures) c.requires.goes_on in
+    subst (λ (after : List Branch). BranchesGo (script_plan c.args.plan.now) after) (sym c.in_ok-push.ensures.items)
+    (pushed_go (script_plan c.args.plan.now) c.args.out.now.items c.narrow_labels.new.self true c.requires.others c.narrow_labels.ensures.fits (c.narrow_labels.ensures.next goes))
 
 pub returns-clause-few : goal.returns-clause-few
 returns-clause-few c =
-    subst (λ (after : List Branch). AreFewBranches (λ x. 1) c.args.out.now.items after (Some false)) (sym c.in_ok-push.ensures.items)
+    subst (λ (after : List Branch). AreFewBranches (λ x. 1) c.args.out.now.items after false) (sym c.in_ok-push.ensures.items)
     (few_split c.args.out.now.items c.narrow_labels.new.self)
 
-pub returns-clause-faults : goal.returns-clause-faults
-returns-clause-faults c = λ n.
-    let goes : GoesOn c.in_ok-copy.copy.end = subst (λ (x : Path). GoesOn x.end) (sym c.in_ok-copy.ensures) c.requires.goes_on in
-    subst (λ (after : List Branch). BranchFaultsCameAt n c.args.path.now c.args.out.now.items c.narrow_labels-2.new.self after) (sym c.in_ok-push.ensures.items)
-    (pushed_faults n c.args.path.now c.narrow_labels.new.self c.narrow_labels-2.new.self c.args.out.now.items true
-    (λ records e. going_among records c.narrow_labels.new.self.end (c.narrow_labels.ensures.next goes))
-    (λ records e. going_among records c.narrow_labels-2.new.self.end (c.narrow_labels-2.ensures.next c.requires.goes_on)))
+pub returns-then-is_empty-clause-few : goal.returns-then-is_empty-clause-few
+returns-then-is_empty-clause-few c = few_one c.args.out.now.items false
+
+pub returns-then-is_empty-2-clause-few : goal.returns-then-is_empty-2-clause-few
+returns-then-is_empty-2-clause-few c = few_one c.args.out.now.items true

@@ -1,6 +1,8 @@
-use Rattle.std.proofs.Common.{sym, subst}
+use Rattle.std.proofs.Common.{◌≡◌, Some, sym, ap, subst}
 use Rattle.sym_check.specs.ScriptPlans.{script_plan}
+use Rattle.sym_int.specs.Lines.{wide_cell}
 use Rattle.sym_int.specs.declared.wide.Wide.{Wide}
+use Rattle.sym_explore.proofs.PathRanges.{few_stay, whole_number, whole_ranges}
 use Rattle.sym_explore.proofs.TermRanges.{known_ranges, known_number}
 use Rattle.sym_explore.specs.Ranging.{WideRanges}
 use Rattle.sym_explore.proofs.ranging.range_wide.Goals as goal
@@ -13,3 +15,16 @@ returns-in-Const-clause-exact c =
 pub returns-in-Const-clause-number : goal.returns-in-Const-clause-number
 returns-in-Const-clause-number c =
     known_number c.in-Const.number c.args.range.now c.args.fault c.args.path.now c.range_known.new.path c.range_known.result c.range_known.ensures c.requires.goes_on
+
+pub returns-in-Some-clause-exact : goal.returns-in-Some-clause-exact
+returns-in-Some-clause-exact c =
+    let names : wide_cell c.args.wide.now ≡ Some c.in-Line.line.cell = ap wide_cell c.in-Line.is in
+    whole_ranges c.in-Line.line.cell c.args.path.now c.args.range.now c.args.wide.now c.in-Some.form names c.in-Some.ensures (script_plan c.args.plan.now) c.args.fault c.args.out.now.items
+
+pub returns-in-Some-clause-number : goal.returns-in-Some-clause-number
+returns-in-Some-clause-number c =
+    let names : wide_cell c.args.wide.now ≡ Some c.in-Line.line.cell = ap wide_cell c.in-Line.is in
+    whole_number c.in-Line.line.cell c.args.path.now c.args.range.now c.args.wide.now c.in-Some.form names c.in-Some.ensures c.requires.goes_on
+
+pub returns-in-Some-clause-few : goal.returns-in-Some-clause-few
+returns-in-Some-clause-few c = few_stay c.args.path.now c.args.out.now.items c.requires.goes_on

@@ -1,0 +1,251 @@
+-- Lists of paths on which an assignment was run.
+use Rattle.std.proofs.Common.{◌≡◌, ◌≤◌, ◌+◌, ◌*◌, ℕ, ℤ, List, [], ◌∷◌, ◌++◌, map, length, refl, sym, ap, ◌∙◌, subst, arith}
+use Rattle.std.proofs.lemmas.List.{append-nil, length-map, map-append}
+use Rattle.std.proofs.lemmas.List.Elements.{All-nil, All-cons, All-head, All-tail}
+use Rattle.std.proofs.lemmas.List.Sorted.{IsPermutation-refl}
+use Rattle.std.specs.Prelude.{OnOk, Result, Ok, Err}
+use Rattle.std.specs.List.{AllZip}
+use Rattle.std.specs.List.Sorted.{IsPermutation}
+use Rattle.sym_base.specs.declared.values.record.Record.{Record}
+use Rattle.sym_base.specs.declared.values.state.Fault.{Fault}
+use Rattle.sym_base.specs.declared.values.state.Cell.TheVariants as cell
+use Rattle.sym_base.specs.declared.values.state.FaultKind.{FaultKind}
+use Rattle.sym_base.specs.declared.values.state.FaultKind.TheVariants as cause
+use Rattle.sym_base.specs.declared.values.state.State.{State}
+use Rattle.sym_base.specs.declared.values.state.Outcome.{Outcome}
+use Rattle.sym_base.specs.declared.values.state.Outcome.TheVariants.{Going}
+use Rattle.sym_base.specs.declared.values.state.Outcome.TheVariants as outcome
+use Rattle.sym_base.specs.declared.values.value.Value.{Value}
+use Rattle.sym_base.specs.States.{nums_at, with_cell}
+use Rattle.sym_check.specs.declared.evaluate.arithmetic.Arith.{Arith}
+use Rattle.sym_check.specs.Arithmetic.{and_then}
+use Rattle.sym_check.specs.Conditions.{test_truth}
+use Rattle.sym_check.specs.DoPlans.{DoPlan, Let, SetInt, SetEnum, CopyEnum, Keep, KeepFrom, PushNum, PushWord, If}
+use Rattle.sym_check.specs.Fitting.{FitsFault}
+use Rattle.sym_check.specs.FixedPlans.{FixedPlan}
+use Rattle.sym_check.specs.FixedValues.{Environment, fixed_values}
+use Rattle.sym_check.specs.LinePlans.{TermPlan}
+use Rattle.sym_check.specs.ScriptPlans.{ScriptPlan}
+use Rattle.sym_check.specs.Updates.{at_record, do_step, or_fault, stored}
+use Rattle.sym_pred.specs.declared.form.HoldForm.TheVariants as hold
+use Rattle.sym_path.proofs.Changed.{faults_fit, faults_give}
+use Rattle.sym_path.proofs.Lists.{zip_all, zip_length}
+use Rattle.sym_path.specs.declared.form.Form.TheVariants as form
+use Rattle.sym_path.specs.declared.path.Path.{Path}
+use Rattle.sym_path.specs.declared.path.PathEnd.{PathEnd}
+use Rattle.sym_path.specs.declared.path.PathEnd.TheVariants.{Next, Ended}
+use Rattle.sym_path.specs.Changing.{GoesOn, end_by, ended_by, with_fault}
+use Rattle.sym_path.specs.Fitting.{PathFits, SegmentFits}
+use Rattle.sym_path.specs.Giving.{given, outcomes}
+use Rattle.sym_path.specs.Standing.{EndsAmong}
+use Rattle.sym_explore.specs.Assigning.{EndsNone, with_parts}
+use Rattle.sym_explore.specs.Counting.{do_ended, do_going}
+use Rattle.sym_explore.specs.Ending.{AreMoved, AreParted, IsChanged, WereRun}
+use Rattle.sym_explore.specs.Faulting.{EndAmong, EndsSo, HasNumber}
+use Rattle.sym_explore.specs.Knowing.{DoIsKnown, TermIsKnown}
+use Rattle.sym_explore.specs.Parting.{AllGoOn}
+use Rattle.sym_explore.specs.Stepping.{after_do}
+use Rattle.sym_explore.specs.Storing.{PlaceFits, after_store, store_do}
+use Rattle.sym_explore.specs.Terms.{ready_of}
+use Rattle.sym_explore.specs.declared.storing.Place.{Place}
+use Rattle.sym_explore.specs.declared.storing.Place.TheVariants as place
+use Rattle.sym_explore.specs.declared.terms.Ready.{Ready}
+use Rattle.sym_explore.proofs.AssignedKnown.{push_cell, push_term, set_cell, set_term}
+use Rattle.sym_explore.proofs.AssignedParts.{parts_fit_kept, parts_kept}
+use Rattle.sym_explore.proofs.AssignedPaths.{formed_end}
+use Rattle.sym_explore.proofs.PathRanges.{goes_among}
+use Rattle.sym_explore.proofs.StoredPaths.{store_is, were_run}
+use Rattle.sym_explore.proofs.TermForms.{ready_fails}
+
+-- ---- all paths, one by one
+
+still_goes : (old new : PathEnd) → EndsSo old new → GoesOn old → GoesOn new
+still_goes (Next fs) (Next gs) h g = tt
+still_goes (Next fs) (Ended b) h g = absurd h
+still_goes (Ended a) new h g = absurd g
+
+all_among : (records : List Record) (paths : List Path) → AllGoOn paths → EndAmong records paths
+all_among records [] h = All-nil (λ (q : Path). EndsAmong records q.end)
+all_among records (x ∷ paths) h =
+    All-cons (λ (q : Path). EndsAmong records q.end) x paths
+    (goes_among records x.end (All-head (λ (q : Path). GoesOn q.end) x paths h))
+    (all_among records paths (All-tail (λ (q : Path). GoesOn q.end) x paths h))
+
+-- Nothing is added to the others.
+none_added : (p : ScriptPlan) (step : Outcome → Outcome) (old new before : List Path) → ((s : State) → outcomes (test_truth p.tests) new s ≡ map step (outcomes (test_truth p.tests) old s)) → AreParted p step old new before before
+none_added p step old new before e s few = record {
+  added = [];
+  others = sym (append-nil (outcomes (test_truth p.tests) before s));
+  over = refl;
+  gives = e s;
+}
+
+-- ---- paths that all go on
+
+module _ (p : ScriptPlan) (step : Outcome → Outcome) where
+  changed_give : (old new : List Path) → AllZip (IsChanged p step) old new → (s : State) → outcomes (test_truth p.tests) new s ≡ map step (outcomes (test_truth p.tests) old s)
+  changed_give [] [] h s = refl
+  changed_give [] (y ∷ new) h s = absurd h
+  changed_give (x ∷ old) [] h s = absurd h
+  changed_give (x ∷ old) (y ∷ new) h s =
+      let T = test_truth p.tests in
+      (λ i. h.0.becomes s i ++ changed_give old new h.1 s i) ∙ sym (map-append step (given T x s) (outcomes T old s))
+
+  pub changed_run : (n : ℕ) (old new before : List Path) → AllZip (IsChanged p step) old new → SegmentFits p old → AllGoOn old → SegmentFits p before → WereRun p step n 1 0 old new before before
+  changed_run n old new before h fit goes others =
+      let on : AllGoOn new = zip_all (IsChanged p step) (λ (q : Path). GoesOn q.end) (λ (q : Path). GoesOn q.end) old new (λ x y c g. still_goes x.end y.end c.same g) h goes in
+      let fits : SegmentFits p new = zip_all (IsChanged p step) (PathFits p) (PathFits p) old new (λ x y c f. c.fits) h fit in
+      let stay : AreMoved new new before before = record {
+        moved = [];
+        is = sym (append-nil before);
+        same = subst (IsPermutation new) (sym (append-nil new)) (IsPermutation-refl new);
+        over = All-nil (λ (q : Path). ¬ (GoesOn q.end));
+      } in
+      were_run p step n 0 old new new before before before (none_added p step old new before (changed_give old new h)) fits others (sym (zip_length (IsChanged p step) old new h)) (omega arith) (λ records here ends. (all_among records new on, ends)) stay on
+
+-- ---- paths that all fail
+
+module _ (p : ScriptPlan) (fault : Fault) where
+  abbrev failing : Path → Path
+  failing path = with_fault path fault
+
+  failed_give : (old : List Path) (s : State) → outcomes (test_truth p.tests) (map failing old) s ≡ map (ended_by fault) (outcomes (test_truth p.tests) old s)
+  failed_give [] s = refl
+  failed_give (x ∷ old) s =
+      let T = test_truth p.tests in
+      (λ i. faults_give T s x fault i ++ failed_give old s i) ∙ sym (map-append (ended_by fault) (given T x s) (outcomes T old s))
+
+  failed_fit : (old : List Path) → FitsFault p fault.kind → SegmentFits p old → SegmentFits p (map failing old)
+  failed_fit [] kind h = All-nil (PathFits p)
+  failed_fit (x ∷ old) kind h = All-cons (PathFits p) (failing x) (map failing old) (faults_fit p x fault (All-head (PathFits p) x old h) kind) (failed_fit old kind (All-tail (PathFits p) x old h))
+
+  failed_among : (records : List Record) (old : List Path) → HasNumber fault.no records → AllGoOn old → EndAmong records (map failing old)
+  failed_among records [] here h = All-nil (λ (q : Path). EndsAmong records q.end)
+  failed_among records (x ∷ old) here h =
+      All-cons (λ (q : Path). EndsAmong records q.end) (failing x) (map failing old)
+      (came x.end (All-head (λ (q : Path). GoesOn q.end) x old h))
+      (failed_among records old here (All-tail (λ (q : Path). GoesOn q.end) x old h))
+    where
+      came : (end : PathEnd) → GoesOn end → EndsAmong records (end_by fault end)
+      came (Next forms) g = here
+      came (Ended f) g = absurd g
+
+  pub failed_run : (old mid new before after : List Path) → mid ≡ map failing old → FitsFault p fault.kind → SegmentFits p old → AllGoOn old → SegmentFits p before → AreMoved mid new before after → AllGoOn new → WereRun p (ended_by fault) fault.no 1 0 old new before after
+  failed_run old mid new before after is kind fit goes others moves on =
+      let moved : AreMoved (map failing old) new before after = subst (λ (ps : List Path). AreMoved ps new before after) is moves in
+      were_run p (ended_by fault) fault.no 0 old (map failing old) new before before after (none_added p (ended_by fault) old (map failing old) before (failed_give old)) (failed_fit old kind fit) others (length-map old failing) (omega arith) (λ records here ends. (failed_among records old here goes, ends)) moved on
+
+-- ---- the same step, and more paths
+
+pub run_as : (p : ScriptPlan) (f g : Outcome → Outcome) (n most_ended : ℕ) (old new before after : List Path) → ((o : Outcome) → f o ≡ g o) → WereRun p f n 1 most_ended old new before after → WereRun p g n 1 most_ended old new before after
+run_as p f g n e old new before after same h = subst (λ (step : Outcome → Outcome). WereRun p step n 1 e old new before after) (λ i o. same o i) h
+
+pub run_more : (p : ScriptPlan) (step : Outcome → Outcome) (n : ℕ) (old new before after : List Path) → WereRun p step n 1 0 old new before after → WereRun p step n 1 2 old new before after
+run_more p step n old new before after h = record {
+  exact = h.exact;
+  fits = h.fits;
+  going = h.going;
+  ended_fit = h.ended_fit;
+  few = record { going = h.few.going; all = omega (arith, h.few.all) };
+  faults = h.faults;
+}
+
+-- The counts of a statement that ends no path.
+pub run_none : (p : ScriptPlan) (step : Outcome → Outcome) (n : ℕ) (d : DoPlan) (old new before after : List Path) → EndsNone d → WereRun p step n 1 0 old new before after → WereRun p step n (do_going d) (do_ended d) old new before after
+run_none p step n (Let m e) old new before after none h = absurd none
+run_none p step n (SetInt c t) old new before after none h = absurd none
+run_none p step n (SetEnum c l) old new before after none h = h
+run_none p step n (CopyEnum c d) old new before after none h = h
+run_none p step n (Keep c es) old new before after none h = absurd none
+run_none p step n (KeepFrom c d) old new before after none h = h
+run_none p step n (PushNum c t) old new before after none h = absurd none
+run_none p step n (PushWord c w) old new before after none h = h
+run_none p step n (If c a b) old new before after none h = absurd none
+
+-- A statement that fails at each state.
+pub fails_as : (p : ScriptPlan) (k : Environment) (n : ℕ) (d : DoPlan) (kind : FaultKind) → ((s : State) → do_step p k d s ≡ Err kind) → (o : Outcome) → ended_by (record { kind = kind; no = n }) o ≡ after_do p k n d o
+fails_as p k n d kind e (Going s) = ap (at_record n) (sym (e s))
+fails_as p k n d kind e (outcome.Ended fault) = refl
+
+-- ---- parts that are kept
+
+module _ (p : ScriptPlan) (k : Environment) (n c : ℕ) (es : List FixedPlan) (parts : List Value) (known : DoIsKnown p k (Keep c es)) (is : or_fault (fixed_values k es) ≡ Ok parts) where
+  abbrev keeping : Path → Path
+  keeping path = with_parts path c parts
+
+  kept_zip : (old : List Path) → SegmentFits p old → AllZip (IsChanged p (after_do p k n (Keep c es))) old (map keeping old)
+  kept_zip [] h = tt
+  kept_zip (x ∷ old) h = (
+    record {
+      becomes = parts_kept p k n c es x parts is;
+      fits = parts_fit_kept p k n c es x parts (All-head (PathFits p) x old h) known is;
+      same = formed_end c (form.Hold (hold.Const parts)) x.end;
+    },
+    kept_zip old (All-tail (PathFits p) x old h),
+  )
+
+  pub kept_run : (old new before : List Path) → new ≡ map keeping old → SegmentFits p old → AllGoOn old → SegmentFits p before → WereRun p (after_do p k n (Keep c es)) n 1 0 old new before before
+  kept_run old new before e fit goes others =
+      changed_run p (after_do p k n (Keep c es)) n old new before
+      (subst (λ (ps : List Path). AllZip (IsChanged p (after_do p k n (Keep c es))) old ps) (sym e) (kept_zip old fit))
+      fit goes others
+
+-- ---- outcomes of calls
+
+pub on_ok : {A E P Q : Type 0} (r : Result A E) → (P → Q) → OnOk r P → OnOk r Q
+on_ok (Ok x) f h = f h
+on_ok (Err e) f h = tt
+
+pub on_ok_both : {A E P Q R : Type 0} (r : Result A E) → OnOk r P → OnOk r Q → (P → Q → R) → OnOk r R
+on_ok_both (Ok x) h k f = f h k
+on_ok_both (Err e) h k f = tt
+
+-- ---- a number that is stored
+
+module _ (p : ScriptPlan) (k : Environment) (n : ℕ) (at : Place) (t : TermPlan) where
+  pub store_term : DoIsKnown p k (store_do at t) → TermIsKnown p k t
+  store_term = go at
+    where
+      go : (at : Place) → DoIsKnown p k (store_do at t) → TermIsKnown p k t
+      go (place.Cell c) h = set_term p k c t h
+      go (place.End c) h = push_term p k c t h
+
+  pub store_place : DoIsKnown p k (store_do at t) → PlaceFits p at
+  store_place = go at
+    where
+      go : (at : Place) → DoIsKnown p k (store_do at t) → PlaceFits p at
+      go (place.Cell c) h = set_cell p k c t h
+      go (place.End c) h = push_cell p k c t h
+
+  store_fails : (x : Arith) → ready_of k t ≡ Err x → (s : State) → do_step p k (store_do at t) s ≡ Err cause.Arith
+  store_fails x e s = go at
+    where
+      go : (at : Place) → do_step p k (store_do at t) s ≡ Err cause.Arith
+      go (place.Cell c) = ap (λ (r : Result ℤ Arith). and_then (λ (y : ℤ). stored p c (cell.Int y) y s) (or_fault r)) (ready_fails k t x e s)
+      go (place.End c) = ap (λ (r : Result ℤ Arith). and_then (λ (y : ℤ). stored p c (cell.Nums (nums_at s c ++ y ∷ [])) y s) (or_fault r)) (ready_fails k t x e s)
+
+  -- Its arithmetic failed.
+  pub store_failed : (x : Arith) (fault : Fault) (old new before after : List Path) → ready_of k t ≡ Err x → fault.kind ≡ cause.Arith → fault.no ≡ n → WereRun p (ended_by fault) fault.no 1 0 old new before after → WereRun p (after_do p k n (store_do at t)) n 1 2 old new before after
+  store_failed x fault old new before after e kind number h =
+      let same : fault ≡ record { kind = cause.Arith; no = n } = λ i. record { kind = kind i; no = number i } in
+      let own : WereRun p (ended_by (record { kind = cause.Arith; no = n })) n 1 0 old new before after = subst (λ (f : Fault). WereRun p (ended_by f) f.no 1 0 old new before after) same h in
+      run_more p (after_do p k n (store_do at t)) n old new before after
+      (run_as p (ended_by (record { kind = cause.Arith; no = n })) (after_do p k n (store_do at t)) n 0 old new before after (fails_as p k n (store_do at t) cause.Arith (store_fails x e)) own)
+
+  -- It was stored, and those that ended were moved.
+  pub store_run : (r : Ready) (old mid new before between after : List Path) → ready_of k t ≡ Ok r → AreParted p (after_store p n at r) old mid before between → SegmentFits p mid → SegmentFits p between → length mid ≡ length old → length between ≤ length before + length old * 2 → ((records : List Record) → HasNumber n records → EndAmong records before → EndAmong records mid × EndAmong records between) → AreMoved mid new between after → AllGoOn new → WereRun p (after_do p k n (store_do at t)) n 1 2 old new before after
+  store_run r old mid new before between after e parted fits others same few faults moves goes =
+      run_as p (after_store p n at r) (after_do p k n (store_do at t)) n 2 old new before after (store_is p k n at t r e)
+      (were_run p (after_store p n at r) n 2 old mid new before between after parted fits others same few faults moves goes)
+
+-- ---- values that fail
+
+pub values_fail : (r : Result (List Value) Arith) (kind : FaultKind) → or_fault r ≡ Err kind → kind ≡ cause.Arith
+values_fail (Ok xs) kind e = absurd (cc)
+values_fail (Err x) kind e = let same : cause.Arith ≡ kind = cc in sym same
+
+pub values_failed : (p : ScriptPlan) (k : Environment) (n c : ℕ) (es : List FixedPlan) (kind : FaultKind) (old new before after : List Path) → or_fault (fixed_values k es) ≡ Err kind → WereRun p (ended_by (record { kind = kind; no = n })) n 1 0 old new before after → WereRun p (after_do p k n (Keep c es)) n 1 0 old new before after
+values_failed p k n c es kind old new before after e h =
+    run_as p (ended_by (record { kind = kind; no = n })) (after_do p k n (Keep c es)) n 0 old new before after
+    (fails_as p k n (Keep c es) kind (λ s. ap (λ (r : Result (List Value) FaultKind). and_then (λ (parts : List Value). Ok (with_cell s c (cell.Hold parts))) r) e))
+    h

@@ -1,0 +1,45 @@
+use Rattle.std.proofs.Common.{Option, Some, None, sym, subst}
+use Rattle.std.specs.Prelude.{IfSome}
+use Rattle.sym_check.specs.ScriptPlans.{ScriptPlan, script_plan}
+use Rattle.sym_int.specs.declared.form.IntForm.{IntForm}
+use Rattle.sym_path.specs.declared.form.Form.TheVariants as form
+use Rattle.sym_path.specs.declared.path.Path.{Path}
+use Rattle.sym_path.specs.Fitting.{PathFits}
+use Rattle.sym_explore.specs.Faulting.{EndsSo}
+use Rattle.sym_explore.specs.Ranging.{NumberFitsCell, ReadyRanges}
+use Rattle.sym_explore.specs.declared.storing.Place.TheVariants as place
+use Rattle.sym_explore.proofs.AssignedFits.{number_fits}
+use Rattle.sym_explore.proofs.AssignedKnown.{int_ranged}
+use Rattle.sym_explore.proofs.AssignedPaths.{faults_so, formed_end}
+use Rattle.sym_explore.proofs.StoredPaths.{nothing_stored, ready_set}
+use Rattle.sym_explore.proofs.storing.set_ready.Goals as goal
+
+pub range_ready-requires-clause-ranged : goal.range_ready-requires-clause-ranged
+range_ready-requires-clause-ranged c = int_ranged (script_plan c.args.plan.now) c.args.cell c.requires.cell
+
+pub returns-in-Some-clause-exact : goal.returns-in-Some-clause-exact
+returns-in-Some-clause-exact c =
+    let p : ScriptPlan = script_plan c.args.plan.now in
+    let ranges : ReadyRanges p c.args.ready.now c.args.no c.args.cell c.args.path.now c.args.out.now.items c.range_ready.new.path c.range_ready.new.out.items (Some c.in-Some.form) = subst (λ (o : Option IntForm). ReadyRanges p c.args.ready.now c.args.no c.args.cell c.args.path.now c.args.out.now.items c.range_ready.new.path c.range_ready.new.out.items o) c.in-Some.is c.in_ok-form.ensures.exact in
+    ready_set p c.args.ready.now c.args.no c.args.cell c.args.path.now c.range_ready.new.path c.set_form.new.self c.args.out.now.items c.range_ready.new.out.items c.in-Some.form c.set_form.ensures.new ranges
+
+pub returns-in-Some-clause-fits : goal.returns-in-Some-clause-fits
+returns-in-Some-clause-fits c =
+    let p : ScriptPlan = script_plan c.args.plan.now in
+    let mid : Path = c.range_ready.new.path in
+    let number : NumberFitsCell p c.args.cell mid c.in-Some.form = subst (λ (o : Option IntForm). IfSome o (NumberFitsCell p c.args.cell mid)) c.in-Some.is c.in_ok-form.ensures.number in
+    subst (λ (q : Path). PathFits p q) (sym c.set_form.ensures.new) (number_fits p mid c.args.cell c.in-Some.form c.in_ok-form.ensures.fits c.requires.cell number)
+
+pub returns-in-Some-clause-faults : goal.returns-in-Some-clause-faults
+returns-in-Some-clause-faults c =
+    let old : Path = c.args.path.now in
+    let mid : Path = c.range_ready.new.path in
+    let new : Path = c.set_form.new.self in
+    let so : EndsSo mid.end new.end = subst (λ (q : Path). EndsSo mid.end q.end) (sym c.set_form.ensures.new) (formed_end c.args.cell (form.Int c.in-Some.form) mid.end) in
+    faults_so c.args.no old mid new c.args.out.now.items c.range_ready.new.out.items so c.in_ok-form.ensures.faults
+
+pub returns-in_default-clause-exact : goal.returns-in_default-clause-exact
+returns-in_default-clause-exact c =
+    let p : ScriptPlan = script_plan c.args.plan.now in
+    let ranges : ReadyRanges p c.args.ready.now c.args.no c.args.cell c.args.path.now c.args.out.now.items c.range_ready.new.path c.range_ready.new.out.items None = subst (λ (o : Option IntForm). ReadyRanges p c.args.ready.now c.args.no c.args.cell c.args.path.now c.args.out.now.items c.range_ready.new.path c.range_ready.new.out.items o) c.in_default.is c.in_ok-form.ensures.exact in
+    nothing_stored p c.args.ready.now c.args.no (place.Cell c.args.cell) c.args.path.now c.range_ready.new.path c.args.out.now.items c.range_ready.new.out.items ranges

@@ -1,0 +1,13 @@
+-- The number is stored in the first paths, and the others are as they were.
+use Rattle.sym_check.specs.ScriptPlans.{script_plan}
+use Rattle.sym_path.specs.Fitting.{SegmentFits}
+use Rattle.sym_explore.specs.Storing.{after_store}
+use Rattle.sym_explore.proofs.InPlace.{Threaded}
+use Rattle.sym_explore.proofs.StoredPaths.{IsStored}
+use Rattle.sym_explore.proofs.storing.store_each.Given as goal
+
+abbrev pub invariant-paths : goal.invariant-paths
+invariant-paths l = record {
+  stored : Threaded (IsStored (script_plan l.plan) l.no (after_store (script_plan l.plan) l.no l.place l.ready)) l.initial.paths l.initial.out.items l.paths l.out.items l.path-index;
+  others : SegmentFits (script_plan l.plan) l.out.items;
+}

@@ -1,0 +1,58 @@
+//! Paths that end, and move out of a list of paths.
+ghost use Rattle.std.specs.Prelude.{◌≡◌, OnOk, map};
+ghost use Rattle.sym_check.specs.Fitting.{FitsFault};
+ghost use Rattle.sym_check.specs.ScriptPlans.{script_plan};
+ghost use Rattle.sym_path.specs.Changing.{ended_by, with_fault};
+ghost use Rattle.sym_path.specs.Fitting.{SegmentFits};
+ghost use Rattle.sym_path.specs.declared.path.Path.{Path as OnePath};
+ghost use Rattle.sym_explore.specs.Ending.{AreMoved, WereRun};
+ghost use Rattle.sym_explore.specs.Parting.{AllGoOn};
+
+use sym_base::{Fault, NoMemory};
+use sym_check::Plan;
+use sym_path::Path;
+
+/// Ends each of the paths by a fault.
+pub(crate) fn fail_each(paths: &mut [Path], fault: Fault)
+    ensures { paths.new ≡ map (λ (path : OnePath). with_fault path fault) paths.old }
+{
+    'paths: for path in paths.iter_mut() {
+        path.fail(fault);
+    }
+}
+
+/// Moves the paths that have ended to the end of another list. The others may change their order.
+pub(crate) fn move_ended(paths: &mut Vec<Path>, ended: &mut Vec<Path>) -> Result<(), NoMemory>
+    ensures moved { OnOk result (AreMoved paths.old.items paths.new.items
+        ended.old.items ended.new.items) }
+    ensures going { OnOk result (AllGoOn paths.new.items) }
+{
+    let mut index = 0;
+    'paths: while index < paths.len() {
+        if paths[index].goes_on() {
+            index += 1;
+        } else {
+            let path = paths.swap_remove(index);
+            ended.push(path)?;
+        }
+    }
+    Ok(())
+}
+
+/// Ends each of the paths by a fault, and moves them to the end of another list.
+pub(crate) fn fail_all(
+    _plan: &Plan,
+    fault: Fault,
+    paths: &mut Vec<Path>,
+    ended: &mut Vec<Path>,
+) -> Result<(), NoMemory>
+    requires kind { FitsFault (script_plan _plan.now) fault.kind }
+    requires fits { SegmentFits (script_plan _plan.now) paths.old.items }
+    requires going { AllGoOn paths.old.items }
+    requires ended_fit { SegmentFits (script_plan _plan.now) ended.old.items }
+    ensures { OnOk result (WereRun (script_plan _plan.now) (ended_by fault) fault.no 1 0
+        paths.old.items paths.new.items ended.old.items ended.new.items) }
+{
+    fail_each(paths, fault);
+    move_ended(paths, ended)
+}

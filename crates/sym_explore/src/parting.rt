@@ -1,0 +1,240 @@
+//! Lists of paths, parted by a condition whose expressions without cells were evaluated.
+ghost use Rattle.std.specs.Prelude.{◌≡◌, ◌∷◌, ◌++◌, ℕ, [], List, IfOk, OnOk, IsTrue, if◌then◌else◌};
+ghost use Rattle.sym_base.specs.declared.values.record.Record.{Record as OneRecord};
+ghost use Rattle.sym_check.specs.ScriptPlans.{script_plan};
+ghost use Rattle.sym_check.specs.WellFormed.{IsWellFormed};
+ghost use Rattle.sym_path.specs.Changing.{GoesOn};
+ghost use Rattle.sym_path.specs.Fitting.{PathFits, SegmentFits};
+ghost use Rattle.sym_explore.specs.Evaluating.{AddsFew, AddsParts, EvaluatedFits, CellConditionFits, tried_on_cell, evaluated_truth, is_known, cell_branches, evaluated_branches};
+ghost use Rattle.sym_explore.specs.Branches.{answered, AreFewBranches, AreGoing, BranchesGo, IsGoing, Splits};
+ghost use Rattle.sym_explore.specs.Faulting.{EndAmong, HasNumber};
+ghost use Rattle.sym_explore.specs.Parting.{AllGoOn, AreFewParts, AreOfOneTruth, AreParts};
+
+use crate::branch::{Branch, put, put_all};
+use crate::calling::call;
+use crate::comparing::{Bound, compare_ready};
+use crate::knowing::arith;
+use crate::labels::cell_is;
+use crate::moving::{fail_all, move_all};
+use crate::terms::Ready;
+use std::alloc::Global;
+use std::mem;
+use sym_base::{NoMemory, Values};
+use sym_check::Plan;
+use sym_path::Path;
+
+/// A condition on one cell, with its other expressions evaluated.
+#[derive(Clone, Copy)]
+pub enum CellCondition {
+    /// The term compares so with the number.
+    Compare(Ready, Bound),
+    /// The enum cell holds the label.
+    Label(u16, u8),
+    /// The test answers true for the parts of the hold cell, which stands after it, and arguments.
+    Call(u16, u16),
+}
+
+/// What a condition without `not`, `and` and `or` comes to, with its expressions evaluated.
+#[derive(Clone, Copy)]
+pub enum Evaluated {
+    /// One truth at every state.
+    Known(bool),
+    /// Arithmetic that fails.
+    Failed,
+    /// A truth that depends on a cell.
+    Open(CellCondition),
+}
+
+/// Where both lists are empty, they change their memory, if the next path isn't put into the first.
+fn lend(truth: bool, trues: &mut Vec<Path>, falses: &mut Vec<Path>)
+    ensures trues { trues.new.items ≡ trues.old.items }
+    ensures falses { falses.new.items ≡ falses.old.items }
+{
+    if !truth && trues.is_empty() && falses.is_empty() {
+        mem::swap(trues, falses);
+    }
+}
+
+/// Splits a path that goes on by a condition on a cell. The path becomes the last of its branches,
+/// whose truth is the answer, and the others are put into `out`.
+fn split(
+    alloc: Global,
+    plan: &Plan,
+    condition: &CellCondition,
+    args: &Values,
+    path: &mut Path,
+    out: &mut Vec<Branch>,
+) -> Result<bool, NoMemory>
+    requires known { IsWellFormed (script_plan plan.now) }
+    requires condition { CellConditionFits (script_plan plan.now) args.now condition.now }
+    requires fits { PathFits (script_plan plan.now) path.old }
+    requires goes_on { GoesOn path.old.end }
+    requires others { BranchesGo (script_plan plan.now) out.old.items }
+    ensures exact { (n : ℕ) →
+        let meaning = tried_on_cell (script_plan plan.now) args.now condition.now n in
+        IfOk result (Splits (script_plan plan.now) meaning
+        path.old out.old.items path.new out.new.items) }
+    ensures fits { OnOk result (PathFits (script_plan plan.now) path.new) }
+    ensures next { OnOk result (GoesOn path.new.end) }
+    ensures others { OnOk result (BranchesGo (script_plan plan.now) out.new.items) }
+    ensures few { IfOk result (AreFewBranches (cell_branches condition.now)
+        out.old.items out.new.items) }
+{
+    match condition {
+        CellCondition::Compare(ready, bound) => compare_ready(alloc, plan, ready, bound, path, out),
+        CellCondition::Label(cell, label) => cell_is(alloc, plan, *cell, *label, path, out),
+        CellCondition::Call(test, cell) => call(alloc, plan, *test, *cell, args, path, out),
+    }
+}
+
+/// Parts one path: its branches are put after the paths of their truth.
+fn part_path(
+    alloc: Global,
+    plan: &Plan,
+    condition: &CellCondition,
+    args: &Values,
+    path: Path,
+    trues: &mut Vec<Path>,
+    falses: &mut Vec<Path>,
+) -> Result<(), NoMemory>
+    requires known { IsWellFormed (script_plan plan.now) }
+    requires condition { CellConditionFits (script_plan plan.now) args.now condition.now }
+    requires going { IsGoing (script_plan plan.now) path }
+    requires trues { AreGoing (script_plan plan.now) trues.old.items }
+    requires falses { AreGoing (script_plan plan.now) falses.old.items }
+    ensures exact { (n : ℕ) →
+        let meaning = tried_on_cell (script_plan plan.now) args.now condition.now n in
+        OnOk result (AddsParts (script_plan plan.now) meaning (path ∷ [])
+        trues.old.items trues.new.items falses.old.items falses.new.items) }
+    ensures few { OnOk result (AddsFew (cell_branches condition.now) (path ∷ [])
+        trues.old.items trues.new.items falses.old.items falses.new.items) }
+    ensures trues { OnOk result (AreGoing (script_plan plan.now) trues.new.items) }
+    ensures falses { OnOk result (AreGoing (script_plan plan.now) falses.new.items) }
+{
+    let mut path = path;
+    let mut pieces = Vec::new(alloc);
+    let truth = split(alloc, plan, condition, args, &mut path, &mut pieces)?;
+    lend(truth, trues, falses);
+    put_all(pieces, trues, falses)?;
+    put(Branch { path, truth }, trues, falses)?;
+    Ok(())
+}
+
+/// Does so on several paths, in order.
+fn part_list(
+    alloc: Global,
+    plan: &Plan,
+    condition: &CellCondition,
+    args: &Values,
+    paths: Vec<Path>,
+    trues: &mut Vec<Path>,
+    falses: &mut Vec<Path>,
+) -> Result<(), NoMemory>
+    requires known { IsWellFormed (script_plan plan.now) }
+    requires condition { CellConditionFits (script_plan plan.now) args.now condition.now }
+    requires going { AreGoing (script_plan plan.now) paths.items }
+    requires trues { AreGoing (script_plan plan.now) trues.old.items }
+    requires falses { AreGoing (script_plan plan.now) falses.old.items }
+    ensures exact { (n : ℕ) →
+        let meaning = tried_on_cell (script_plan plan.now) args.now condition.now n in
+        OnOk result (AddsParts (script_plan plan.now) meaning paths.items
+        trues.old.items trues.new.items falses.old.items falses.new.items) }
+    ensures few { OnOk result (AddsFew (cell_branches condition.now) paths.items
+        trues.old.items trues.new.items falses.old.items falses.new.items) }
+    ensures trues { OnOk result (AreGoing (script_plan plan.now) trues.new.items) }
+    ensures falses { OnOk result (AreGoing (script_plan plan.now) falses.new.items) }
+{
+    'paths: for path in paths {
+        part_path(alloc, plan, condition, args, path, trues, falses)?;
+    }
+    Ok(())
+}
+
+/// Parts paths by a condition on a cell: those of their branches on which it is true take their place,
+/// and the others are put into `falses`. One path that isn't split takes no memory.
+fn part_each(
+    alloc: Global,
+    plan: &Plan,
+    condition: &CellCondition,
+    args: &Values,
+    paths: &mut Vec<Path>,
+    falses: &mut Vec<Path>,
+) -> Result<(), NoMemory>
+    requires known { IsWellFormed (script_plan plan.now) }
+    requires condition { CellConditionFits (script_plan plan.now) args.now condition.now }
+    requires going { AreGoing (script_plan plan.now) paths.old.items }
+    requires falses { AreGoing (script_plan plan.now) falses.old.items }
+    ensures exact { (n : ℕ) →
+        let meaning = tried_on_cell (script_plan plan.now) args.now condition.now n in
+        OnOk result (AddsParts (script_plan plan.now) meaning paths.old.items
+        [] paths.new.items falses.old.items falses.new.items) }
+    ensures few { OnOk result (AddsFew (cell_branches condition.now) paths.old.items
+        [] paths.new.items falses.old.items falses.new.items) }
+    ensures going { OnOk result (AreGoing (script_plan plan.now) paths.new.items) }
+    ensures falses { OnOk result (AreGoing (script_plan plan.now) falses.new.items) }
+{
+    if paths.len() == 1
+        && let Some(path) = paths.pop()
+    {
+        return part_path(alloc, plan, condition, args, path, paths, falses);
+    }
+    let old = mem::replace(paths, Vec::new(alloc));
+    part_list(alloc, plan, condition, args, old, paths, falses)
+}
+
+/// Parts paths by one truth.
+fn part_known(truth: bool, paths: &mut Vec<Path>, falses: &mut Vec<Path>) -> Result<(), NoMemory>
+    ensures trues { OnOk result (
+        paths.new.items ≡ (if truth then paths.old.items else [])) }
+    ensures falses { OnOk result (
+        falses.new.items ≡ falses.old.items ++ (if truth then [] else paths.old.items)) }
+{
+    if truth {
+        Ok(())
+    } else {
+        move_all(paths, falses)
+    }
+}
+
+/// Parts paths by a condition with its expressions evaluated.
+pub(crate) fn part_evaluated(
+    alloc: Global,
+    plan: &Plan,
+    no: u64,
+    evaluated: &Evaluated,
+    args: &Values,
+    paths: &mut Vec<Path>,
+    falses: &mut Vec<Path>,
+    ended: &mut Vec<Path>,
+) -> Result<(), NoMemory>
+    requires known { IsWellFormed (script_plan plan.now) }
+    requires evaluated { EvaluatedFits (script_plan plan.now) args.now evaluated.now }
+    requires fits { SegmentFits (script_plan plan.now) paths.old.items }
+    requires going { AllGoOn paths.old.items }
+    requires falses_fit { SegmentFits (script_plan plan.now) falses.old.items }
+    requires falses_going { AllGoOn falses.old.items }
+    requires ended_fit { SegmentFits (script_plan plan.now) ended.old.items }
+    ensures exact { let meaning = evaluated_truth (script_plan plan.now) args.now evaluated.now in
+        OnOk result (AreParts (script_plan plan.now) (answered no meaning)
+        paths.old.items paths.new.items falses.old.items falses.new.items
+        ended.old.items ended.new.items) }
+    ensures fits { OnOk result (SegmentFits (script_plan plan.now) paths.new.items) }
+    ensures going { OnOk result (AllGoOn paths.new.items) }
+    ensures falses_fit { OnOk result (SegmentFits (script_plan plan.now) falses.new.items) }
+    ensures falses_going { OnOk result (AllGoOn falses.new.items) }
+    ensures ended_fit { OnOk result (SegmentFits (script_plan plan.now) ended.new.items) }
+    ensures few { OnOk result (AreFewParts (evaluated_branches evaluated.now)
+        paths.old.items paths.new.items falses.old.items falses.new.items
+        ended.old.items ended.new.items) }
+    ensures fixed { IsTrue (is_known evaluated.now) → OnOk result (AreOfOneTruth
+        paths.old.items paths.new.items falses.old.items falses.new.items
+        ended.old.items ended.new.items) }
+    ensures faults { (records : List OneRecord) → HasNumber no records →
+        EndAmong records ended.old.items → OnOk result (EndAmong records ended.new.items) }
+{
+    match evaluated {
+        Evaluated::Known(truth) => part_known(*truth, paths, falses),
+        Evaluated::Failed => fail_all(alloc, arith(no), paths, ended),
+        Evaluated::Open(condition) => part_each(alloc, plan, condition, args, paths, falses),
+    }
+}
