@@ -11,4 +11,6 @@ mod plain;
 #[cfg(test)]
 mod runs;
 #[cfg(test)]
+mod scripts;
+#[cfg(test)]
 mod walk;
