@@ -199,8 +199,7 @@ fn check_copies(
     let mut groups = Groups::new(alloc);
     'moves: for (at, (x, who)) in moves.iter().enumerate() {
         let before = groups.copy(alloc)?;
-        let rec = record(alloc, at as u64 + 1, *x, who)?;
-        fold_into(alloc, checked, &mut groups, &rec)?;
+        fold_one_into(alloc, checked, &mut groups, at as u64 + 1, *x, who)?;
         check_groups(rt, &before, &moves[..at]);
     }
     Ok(())
@@ -209,6 +208,29 @@ fn check_copies(
 #[test]
 fn a_copy_of_groups_stays_as_it_is(rt: HostRuntime) -> Result<(), Fail> {
     check_copies(&rt, rt.alloc(), &sums(&rt, rt.alloc()), &MOVES)
+}
+
+// Folds each record into a copy of the groups before it, which stay.
+fn check_chain(
+    rt: &impl Abort,
+    alloc: Global,
+    checked: &Checked,
+    moves: &[(i64, &'static str)],
+) -> Result<(), Fail> {
+    let mut groups = Groups::new(alloc);
+    'moves: for (at, (x, who)) in moves.iter().enumerate() {
+        let mut copied = groups.copy(alloc)?;
+        fold_one_into(alloc, checked, &mut copied, at as u64 + 1, *x, who)?;
+        check_groups(rt, &groups, &moves[..at]);
+        check_groups(rt, &copied, &moves[..at + 1]);
+        groups = copied;
+    }
+    Ok(())
+}
+
+#[test]
+fn a_copy_of_groups_goes_on(rt: HostRuntime) -> Result<(), Fail> {
+    check_chain(&rt, rt.alloc(), &sums(&rt, rt.alloc()), &MOVES)
 }
 
 #[test]
