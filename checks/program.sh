@@ -4,7 +4,9 @@
 # - once by the launcher,
 # - once with a standard error that takes nothing: status and report stay,
 # - once for each of its allocations, with that one failing: the answer has to stay as it was, or be
-#   status 8 with its line and no report, and at least one run of each row has to end with 8.
+#   status 8 with its line and no report, and at least one run of each row has to end with 8. The
+#   rows by `row_some` have so many allocations that only the first, the last and three in between
+#   fail: 65,536 files and 65,537, the largest file, and a script that is one long `keep`.
 # Needs a C compiler as cc, and the GNU C library. The last line counts what passed and failed.
 set -u
 
@@ -106,27 +108,49 @@ row_once() {
 row() {
     row_once "$@"
     shift 3
-    fail_each "$@"
+    count_allocations "$@"
+    failing=1
+    while [ "$failing" -le "$total" ]; do
+        fail_one "$@"
+        failing=$((failing + 1))
+    done
+    note_short
 }
 
-# Runs the arguments of a row with none and then with each of their allocations failing.
-fail_each() {
+# row_some NAME STATUS TEXT ARGUMENTS..: as row_once, and again with the first allocation failing,
+# with three in between, and with the last one.
+row_some() {
+    row_once "$@"
+    shift 3
+    count_allocations "$@"
+    for failing in 1 $((total / 4)) $((total / 2)) $((total * 3 / 4)) "$total"; do
+        fail_one "$@"
+    done
+    note_short
+}
+
+# Runs the arguments of a row with no allocation failing, and counts their allocations.
+count_allocations() {
     rm -f "$work/count"
     run_short 0 "$@"
     note_answer "$name, no allocation failing"
     total=$(cat "$work/count") || total=0
-    failing=1
     short=0
-    while [ "$failing" -le "$total" ]; do
-        run_short "$failing" "$@"
-        if ran_short; then
-            short=$((short + 1))
-            note 0
-        else
-            note_answer "$name, allocation $failing of $total failing"
-        fi
-        failing=$((failing + 1))
-    done
+}
+
+# Runs the arguments of a row with the allocation `failing` of `total` failing.
+fail_one() {
+    run_short "$failing" "$@"
+    if ran_short; then
+        short=$((short + 1))
+        note 0
+    else
+        note_answer "$name, allocation $failing of $total failing"
+    fi
+}
+
+# Notes whether a failing allocation of the row gave the status of no memory.
+note_short() {
     [ "$short" -ge 1 ]
     note $? "$name: none of $total failing allocations gave status $no_memory"
 }
@@ -393,19 +417,18 @@ row "a bad record before a large file" 4 'third.csv: record 1: field x is not a 
     printf 'user\na\n'
     head -c $((67108864 - 7)) /dev/zero | tr '\0' '\n'
 } >limit.csv
-row_once "a file of 67,108,864 bytes" 0 'user | n\na | 1\n--\n' run counts.symple limit.csv
+row_some "a file of 67,108,864 bytes" 0 'user | n\na | 1\n--\n' run counts.symple limit.csv
 name=$(printf 'a b\nc \303\244')
 cp third.csv "$name"
 row "a name with a blank, a line end and a letter" 4 \
     "$name: record 1: field x is not a number" run sums.symple "$name"
 name=$(many a 5000)
 row "a long name" 5 "$name: read fault" run sums.symple "$name"
-# A run for each allocation of so many arguments would take hours.
 # shellcheck disable=SC2046 # so many arguments
-row_once "65,536 files" 0 'user | n\na | 1\nb | 1\n--\n' \
+row_some "65,536 files" 0 'user | n\na | 1\nb | 1\n--\n' \
     run counts.symple $(yes empty.csv | head -n 65535) first.csv
 # shellcheck disable=SC2046 # so many arguments
-row_once "65,537 files" 2 usage run counts.symple $(yes empty.csv | head -n 65537)
+row_some "65,537 files" 2 usage run counts.symple $(yes empty.csv | head -n 65537)
 
 # Arguments.
 row "no arguments" 2 usage
@@ -495,17 +518,23 @@ whole_script "a group that is no field" \
     'unknown name at byte 20'
 
 # A script of 65,536 bytes, which is a keep of as many values as there is room for, and a stack of
-# 1 MiB. It is no row, since a run for each allocation would take hours.
+# 1 MiB.
 {
     printf 'field x: num; state n: int [0..99] = 0; state h: hold(num = 0); update { keep h(1'
     yes ,1 | head -n 32716 | tr -d '\n'
     printf '); } report { n = n; }\n'
 } >many.symple
-expect 3 'script: wrong kind at byte 78'
-# shellcheck disable=SC2016 # the inner shell's arguments
-run sh -c 'ulimit -s 1024 && exec "$0" run many.symple first.csv' "$program"
-[ "$(wc -c <many.symple)" -eq 65536 ] && answered
-note $? "a keep of many values, with a stack of 1 MiB: status $status"
+[ "$(wc -c <many.symple)" -eq 65536 ]
+note $? "the keep of many values hasn't 65,536 bytes"
+# Limits that can be raised again aren't in POSIX, but the usual shells have them.
+# shellcheck disable=SC3045 # see above
+stack=$(ulimit -S -s)
+# shellcheck disable=SC3045 # see above
+ulimit -S -s 1024
+row_some "a keep of many values, with a stack of 1 MiB" 3 'script: wrong kind at byte 78' \
+    run many.symple first.csv
+# shellcheck disable=SC3045 # see above
+ulimit -S -s "$stack"
 
 # Reports that can't be written, or only in part.
 out=/dev/full

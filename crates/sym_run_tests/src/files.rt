@@ -3,6 +3,7 @@ ghost use Rattle.std.specs.Prelude.{◌≡◌};
 ghost use Rattle.sym_check.specs.CheckedScripts.{checked_plan};
 ghost use Rattle.sym_table.specs.Rows.{FitsHeader};
 
+use crate::scripts::checked;
 use std::alloc::Global;
 use std::process::Abort;
 use std::test::Fail;
@@ -12,7 +13,6 @@ use sym_table::{
     Bad, BadCause, Chunk, Chunks, Cutter, Decoded, HeadErr, HeadFault, Header, Places, Row, Rows,
     decode, decode_into,
 };
-use sym_uses::checking::checked_text;
 
 /// What a field reads.
 #[derive(Clone, Copy, Debug, PartialEq, Eq)]
@@ -123,11 +123,7 @@ fn script(rt: &impl Abort, alloc: Global, fields: &str) -> Result<Checked, Fail>
     let before = "enum colour { red, green }";
     let after = "state k: int [0..9] = 0; update { } report { k = k; }";
     let text = format!(in alloc; "{before} {fields} {after}")?;
-    assert!(rt; text.len() < 1_000, "{fields}");
-    match checked_text(alloc, text.as_bytes()) {
-        Ok(checked) => Ok(checked),
-        Err(_) => panic!(rt; "{fields}"),
-    }
+    Ok(checked(rt, alloc, text.as_str()))
 }
 
 // Whether the value is as wanted.
@@ -337,6 +333,31 @@ fn record(alloc: Global, no: u64, number: i64, word: &str, label: u8) -> Result<
     Ok(Record { no, fields })
 }
 
+// That the next row is this record.
+fn check_next(
+    rt: &impl Abort,
+    alloc: Global,
+    checked: &Checked,
+    cutter: &mut Cutter<'_>,
+    row: &mut Row,
+    rec: &mut Record,
+    wanted: &Record,
+) -> Result<(), Fail>
+    requires { FitsHeader (checked_plan checked.now).fields cutter.old.header }
+    ensures { cutter.new.header ≡ cutter.old.header }
+{
+    let bad = read_next(rt, alloc, checked, cutter, row, rec)?;
+    assert!(rt; bad.is_none() && *rec == *wanted, "record {}", wanted.no);
+    Ok(())
+}
+
+// That no row is left, and that it stays so.
+fn check_last(rt: &impl Abort, cutter: &mut Cutter<'_>, row: &mut Row) -> Result<(), Fail> {
+    assert!(rt; !cutter.next_row(row)? && !cutter.next_row(row)?);
+    assert_eq!(rt; cutter.next_no(), 8);
+    Ok(())
+}
+
 // Three rows after the header: two records, and a row that is none.
 fn read_three(
     rt: &impl Abort,
@@ -348,16 +369,14 @@ fn read_three(
 {
     let mut row = Row::new(alloc);
     let mut rec = record(alloc, 0, 0, "", 0)?;
-    let first = read_next(rt, alloc, checked, cutter, &mut row, &mut rec)?;
-    assert!(rt; first.is_none() && rec == record(alloc, 5, 1, "a longer word", 0)?);
-    let second = read_next(rt, alloc, checked, cutter, &mut row, &mut rec)?;
-    assert!(rt; second.is_none() && rec == record(alloc, 6, 2, "b", 1)?);
+    let first = record(alloc, 5, 1, "a longer word", 0)?;
+    check_next(rt, alloc, checked, cutter, &mut row, &mut rec, &first)?;
+    let second = record(alloc, 6, 2, "b", 1)?;
+    check_next(rt, alloc, checked, cutter, &mut row, &mut rec, &second)?;
     let third = read_next(rt, alloc, checked, cutter, &mut row, &mut rec)?;
     let cause = BadCause::Number(0);
     assert!(rt; third == Some(Bad { no: 7, cause }));
-    assert!(rt; !cutter.next_row(&mut row)? && !cutter.next_row(&mut row)?);
-    assert_eq!(rt; cutter.next_no(), 8);
-    Ok(())
+    check_last(rt, cutter, &mut row)
 }
 
 fn check_three(rt: &impl Abort, alloc: Global, file: &str) -> Result<(), Fail> {
@@ -393,6 +412,14 @@ fn chunk(alloc: Global) -> Result<Chunk, NoMemory> {
     })
 }
 
+fn check_chunk(rt: &impl Abort, alloc: Global, cut: &Chunk) -> Result<(), Fail> {
+    let mut text = Vec::new(alloc);
+    push_chunk(alloc, &mut text, cut)?;
+    assert!(rt; text.as_slice() == b"9|5|a;;".as_slice());
+    assert!(rt; cut.header == chunk(alloc)?.header);
+    Ok(())
+}
+
 #[test]
 fn chunks_are_copied(rt: HostRuntime) -> Result<(), Fail> {
     let alloc = rt.alloc();
@@ -401,24 +428,28 @@ fn chunks_are_copied(rt: HostRuntime) -> Result<(), Fail> {
     let copied = chunks.copy(alloc)?;
     assert_eq!(rt; copied.len(), 1);
     for cut in copied.as_slice() {
-        let mut text = Vec::new(alloc);
-        push_chunk(alloc, &mut text, cut)?;
-        assert!(rt; text.as_slice() == b"9|5|a;;".as_slice());
-        assert!(rt; cut.header == chunk(alloc)?.header);
+        check_chunk(&rt, alloc, cut)?;
     }
     Ok(())
 }
 
+fn check_copied(rt: &impl Abort, alloc: Global, answer: &Decoded) -> Result<(), Fail> {
+    assert!(rt; answer.copy(alloc)? == *answer);
+    Ok(())
+}
+
 #[test]
-fn answers_are_copied_and_shown(rt: HostRuntime) -> Result<(), Fail> {
+fn answers_are_copied(rt: HostRuntime) -> Result<(), Fail> {
     let alloc = rt.alloc();
     let cause = BadCause::Fields(3);
-    let bad = Decoded::Bad(Bad { no: 9, cause });
-    assert!(rt; bad.copy(alloc)? == bad);
-    let is = Decoded::Is(record(alloc, 9, 5, "a", 1)?);
-    assert!(rt; is.copy(alloc)? == is);
+    check_copied(&rt, alloc, &Decoded::Bad(Bad { no: 9, cause }))?;
+    check_copied(&rt, alloc, &Decoded::Is(record(alloc, 9, 5, "a", 1)?))
+}
+
+#[test]
+fn the_text_of_a_header_error_is_its_variant(rt: HostRuntime) -> Result<(), Fail> {
     let fault = HeadErr::Fault(HeadFault::NoField { which: 0 });
-    let text = format!(in alloc; "{fault} {}", HeadErr::NoMemory)?;
+    let text = format!(in rt.alloc(); "{fault} {}", HeadErr::NoMemory)?;
     assert_eq!(rt; text.as_str(), "Fault NoMemory");
     Ok(())
 }

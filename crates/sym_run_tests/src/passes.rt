@@ -2,6 +2,7 @@
 ghost use Rattle.std.specs.Prelude.{◌≤◌, length};
 ghost use Rattle.sym_base.specs.declared.limits.TheConstants as limit;
 
+use crate::scripts::checked;
 use std::alloc::Global;
 use std::process::Abort;
 use std::test::Fail;
@@ -10,7 +11,6 @@ use sym_check::Checked;
 use sym_engine::{PassErr, pass};
 use sym_plain::{Groups, columns};
 use sym_table::{Bad, BadCause, HeadFault};
-use sym_uses::checking::checked_text;
 
 /// What a pass comes to: for each group its key and its number, or the record of its fault.
 #[derive(Clone, Copy, Debug, PartialEq, Eq)]
@@ -93,14 +93,6 @@ const RUNS: [([&str; 3], Want); 13] = [
     ),
 ];
 
-fn script(rt: &impl Abort, alloc: Global) -> Checked {
-    assert!(rt; SCRIPT.len() < 1_000);
-    match checked_text(alloc, SCRIPT.as_bytes()) {
-        Ok(checked) => checked,
-        Err(_) => panic!(rt; "the script is accepted"),
-    }
-}
-
 // The files, in memory.
 fn store(alloc: Global, files: &[(&'static str, &'static str)]) -> Result<MemStore, NoMemory> {
     let mut store = MemStore::new(alloc);
@@ -175,7 +167,7 @@ fn check_runs(
     alloc: Global,
     runs: &[([&'static str; 3], Want)],
 ) -> Result<(), Fail> {
-    let checked = script(rt, alloc);
+    let checked = checked(rt, alloc, SCRIPT);
     let mut files = store(alloc, &FILES)?;
     for (run, want) in runs {
         let names = names(alloc, run.as_slice())?;
@@ -192,7 +184,7 @@ fn files_are_passed_in_order_up_to_their_first_problem(rt: HostRuntime) -> Resul
 
 // A pass over three files whose read of this number fails. A file takes two reads.
 fn check_read(rt: &impl Abort, alloc: Global, call: u64) -> Result<(), Fail> {
-    let checked = script(rt, alloc);
+    let checked = checked(rt, alloc, SCRIPT);
     let mut files = store(alloc, &FILES)?;
     files.fail_at(alloc, call)?;
     let names = names(alloc, ["ab", "ba", "ab"].as_slice())?;
@@ -210,4 +202,23 @@ fn a_read_may_fail_at_each_place(rt: HostRuntime) -> Result<(), Fail> {
         check_read(&rt, rt.alloc(), call)?;
     }
     Ok(())
+}
+
+fn check_shown(rt: &impl Abort, alloc: Global, why: PassErr, text: &str) -> Result<(), Fail> {
+    let shown = format!(in alloc; "{why}")?;
+    assert_eq!(rt; shown.as_str(), text);
+    Ok(())
+}
+
+#[test]
+fn the_text_of_an_error_is_its_variant(rt: HostRuntime) -> Result<(), Fail> {
+    let alloc = rt.alloc();
+    let cause = BadCause::Fields(3);
+    let bad = Bad { no: 9, cause };
+    let fault = HeadFault::Twice { which: 0 };
+    check_shown(&rt, alloc, PassErr::Read { file: 1 }, "Read")?;
+    check_shown(&rt, alloc, PassErr::TooLarge { file: 1 }, "TooLarge")?;
+    check_shown(&rt, alloc, PassErr::Head { file: 1, fault }, "Head")?;
+    check_shown(&rt, alloc, PassErr::Bad { file: 1, bad }, "Bad")?;
+    check_shown(&rt, alloc, PassErr::NoMemory, "NoMemory")
 }

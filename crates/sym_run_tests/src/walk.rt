@@ -1,11 +1,11 @@
 //! The sequential pass, record by record, against a plain walk over a list of records.
+use crate::scripts::checked;
 use std::alloc::Global;
 use std::process::Abort;
 use std::test::Fail;
 use sym_base::{Fault, FaultKind, Key, NoMemory, Outcome, Record, Text, Value, Values};
 use sym_check::Checked;
 use sym_plain::{Groups, fold, fold_into, key_of};
-use sym_uses::checking::checked_text;
 
 // A sum for each name, in a range.
 const SUMS: &str = "field x: num; field who: word; group who; state n: int [0..9] = 1; \
@@ -113,10 +113,7 @@ fn check_groups(rt: &impl Abort, groups: &Groups, moves: &[(i64, &'static str)])
 }
 
 fn sums(rt: &impl Abort, alloc: Global) -> Checked {
-    match checked_text(alloc, SUMS.as_bytes()) {
-        Ok(checked) => checked,
-        Err(_) => panic!(rt; "the script breaks no rule"),
-    }
+    checked(rt, alloc, SUMS)
 }
 
 fn record(alloc: Global, no: u64, x: i64, who: &str) -> Result<Record, NoMemory> {
@@ -124,6 +121,19 @@ fn record(alloc: Global, no: u64, x: i64, who: &str) -> Result<Record, NoMemory>
     fields.push(Value::Num(x))?;
     fields.push(Value::Word(Text::from_str(alloc, who)?))?;
     Ok(Record { no, fields })
+}
+
+// The groups after the record of this number.
+fn fold_one(
+    alloc: Global,
+    checked: &Checked,
+    groups: Groups,
+    no: u64,
+    x: i64,
+    who: &str,
+) -> Result<Groups, NoMemory> {
+    let rec = record(alloc, no, x, who)?;
+    fold(alloc, checked, groups, &rec)
 }
 
 // Folds the records one by one, and walks over those so far after each.
@@ -135,8 +145,7 @@ fn check_fold(
 ) -> Result<(), Fail> {
     let mut groups = Groups::new(alloc);
     'moves: for (at, (x, who)) in moves.iter().enumerate() {
-        let rec = record(alloc, at as u64 + 1, *x, who)?;
-        groups = fold(alloc, checked, groups, &rec)?;
+        groups = fold_one(alloc, checked, groups, at as u64 + 1, *x, who)?;
         check_groups(rt, &groups, &moves[..at + 1]);
     }
     Ok(())
@@ -145,6 +154,19 @@ fn check_fold(
 #[test]
 fn fold_is_a_plain_walk(rt: HostRuntime) -> Result<(), Fail> {
     check_fold(&rt, rt.alloc(), &sums(&rt, rt.alloc()), &MOVES)
+}
+
+// Makes the groups those after the record of this number.
+fn fold_one_into(
+    alloc: Global,
+    checked: &Checked,
+    groups: &mut Groups,
+    no: u64,
+    x: i64,
+    who: &str,
+) -> Result<(), NoMemory> {
+    let rec = record(alloc, no, x, who)?;
+    fold_into(alloc, checked, groups, &rec)
 }
 
 // The same where the groups stand.
@@ -156,8 +178,7 @@ fn check_fold_into(
 ) -> Result<(), Fail> {
     let mut groups = Groups::new(alloc);
     'moves: for (at, (x, who)) in moves.iter().enumerate() {
-        let rec = record(alloc, at as u64 + 1, *x, who)?;
-        fold_into(alloc, checked, &mut groups, &rec)?;
+        fold_one_into(alloc, checked, &mut groups, at as u64 + 1, *x, who)?;
         check_groups(rt, &groups, &moves[..at + 1]);
     }
     Ok(())
@@ -178,8 +199,7 @@ fn check_copies(
     let mut groups = Groups::new(alloc);
     'moves: for (at, (x, who)) in moves.iter().enumerate() {
         let before = groups.copy(alloc)?;
-        let rec = record(alloc, at as u64 + 1, *x, who)?;
-        fold_into(alloc, checked, &mut groups, &rec)?;
+        fold_one_into(alloc, checked, &mut groups, at as u64 + 1, *x, who)?;
         check_groups(rt, &before, &moves[..at]);
     }
     Ok(())
@@ -188,6 +208,29 @@ fn check_copies(
 #[test]
 fn a_copy_of_groups_stays_as_it_is(rt: HostRuntime) -> Result<(), Fail> {
     check_copies(&rt, rt.alloc(), &sums(&rt, rt.alloc()), &MOVES)
+}
+
+// Folds each record into a copy of the groups before it, which stay.
+fn check_chain(
+    rt: &impl Abort,
+    alloc: Global,
+    checked: &Checked,
+    moves: &[(i64, &'static str)],
+) -> Result<(), Fail> {
+    let mut groups = Groups::new(alloc);
+    'moves: for (at, (x, who)) in moves.iter().enumerate() {
+        let mut copied = groups.copy(alloc)?;
+        fold_one_into(alloc, checked, &mut copied, at as u64 + 1, *x, who)?;
+        check_groups(rt, &groups, &moves[..at]);
+        check_groups(rt, &copied, &moves[..at + 1]);
+        groups = copied;
+    }
+    Ok(())
+}
+
+#[test]
+fn a_copy_of_groups_goes_on(rt: HostRuntime) -> Result<(), Fail> {
+    check_chain(&rt, rt.alloc(), &sums(&rt, rt.alloc()), &MOVES)
 }
 
 #[test]
@@ -199,22 +242,55 @@ fn a_record_has_the_key_of_its_name(rt: HostRuntime) -> Result<(), Fail> {
     Ok(())
 }
 
+/// The number that is a key, and the record at which its group ended, in the order of putting.
+const PUT: [(i64, u64); 3] = [(7, 1), (8, 2), (7, 3)];
+
+/// The same of the groups, in their order.
+const FOUND: [(i64, u64); 2] = [(7, 3), (8, 2)];
+
+// Puts a group that ended.
+fn put_ended(alloc: Global, groups: Groups, number: i64, no: u64) -> Result<Groups, NoMemory> {
+    let kind = FaultKind::Over(0);
+    let outcome = Outcome::Ended(Fault { kind, no });
+    groups.put(alloc, Key::One(Value::Num(number)), outcome)
+}
+
+fn put_all(alloc: Global, rows: &[(i64, u64)]) -> Result<Groups, NoMemory> {
+    let mut groups = Groups::new(alloc);
+    for (number, no) in rows {
+        groups = put_ended(alloc, groups, *number, *no)?;
+    }
+    Ok(groups)
+}
+
+fn is_number_key(key: &Key, number: i64) -> bool {
+    match key {
+        Key::One(Value::Num(found)) => *found == number,
+        Key::One(Value::Word(_) | Value::Label(_)) | Key::Whole => false,
+    }
+}
+
+// That the group at a place has this key, and ended at this record.
+fn check_ended(rt: &impl Abort, groups: &Groups, place: usize, number: i64, no: u64) {
+    match groups.at(place) {
+        Some((key, outcome)) => {
+            let ended = stands(outcome, Standing::Left(no));
+            assert!(rt; is_number_key(key, number) && ended, "group {place}");
+        }
+        None => panic!(rt; "no group {place}"),
+    }
+}
+
+fn check_all_ended(rt: &impl Abort, groups: &Groups, rows: &[(i64, u64)]) {
+    assert_eq!(rt; groups.len(), rows.len());
+    for (place, (number, no)) in rows.iter().enumerate() {
+        check_ended(rt, groups, place, *number, *no);
+    }
+}
+
 #[test]
 fn an_outcome_is_put_in_the_place_of_its_keys(rt: HostRuntime) -> Result<(), Fail> {
-    let alloc = rt.alloc();
-    let mut groups = Groups::new(alloc);
-    for (number, no) in [(7, 1), (8, 2), (7, 3)] {
-        let kind = FaultKind::Arith;
-        let outcome = Outcome::Ended(Fault { kind, no });
-        groups = groups.put(alloc, Key::One(Value::Num(number)), outcome)?;
-    }
-    assert_eq!(rt; groups.len(), 2);
-    for (index, number, wanted) in [(0, 7, 3), (1, 8, 2)] {
-        let found = match groups.at(index) {
-            Some((Key::One(Value::Num(key)), Outcome::Ended(fault))) => (*key, fault.no),
-            _ => (0, 0),
-        };
-        assert_eq!(rt; found, (number, wanted));
-    }
+    let groups = put_all(rt.alloc(), &PUT)?;
+    check_all_ended(&rt, &groups, &FOUND);
     Ok(())
 }

@@ -53,7 +53,7 @@ fn ranges_have_numbers(rt: HostRuntime) -> Result<(), Fail> {
 }
 
 /// An enum cell begins with a label of its enum.
-const ENUM_CELLS: [(&str, Wanted); 14] = [
+const ENUM_CELLS: [(&str, Wanted); 15] = [
     ("state n: mode = idle;", Wanted::Paths(1)),
     ("state n: tone = high;", Wanted::Paths(1)),
     ("state n: @kind = idle;", Wanted::Name),
@@ -65,6 +65,7 @@ const ENUM_CELLS: [(&str, Wanted); 14] = [
     ("state n: @k = idle; state k: words;", Wanted::Name),
     ("state n: mode = @calm;", Wanted::Name),
     ("state n: mode = @low;", Wanted::Kind),
+    ("state n: tone = @idle;", Wanted::Kind),
     ("state n: mode = @mode;", Wanted::Kind),
     ("state n: mode = @x;", Wanted::Kind),
     ("state n: mode = @n;", Wanted::Kind),
@@ -76,7 +77,7 @@ fn enum_cells_begin_with_a_label(rt: HostRuntime) -> Result<(), Fail> {
 }
 
 /// The parts of a hold cell have kinds, and first values of them.
-const HOLD_CELLS: [(&str, Wanted); 18] = [
+const HOLD_CELLS: [(&str, Wanted); 19] = [
     ("state n: hold(num = -1);", Wanted::Paths(1)),
     (
         "state n: hold(num = 0, word = \"a\", mode = busy, tone = low);",
@@ -87,6 +88,7 @@ const HOLD_CELLS: [(&str, Wanted); 18] = [
     ("state n: hold(word = @0);", Wanted::Kind),
     ("state n: hold(word = @-1);", Wanted::Kind),
     ("state n: hold(mode = @low);", Wanted::Kind),
+    ("state n: hold(tone = @idle);", Wanted::Kind),
     ("state n: hold(mode = @0);", Wanted::Kind),
     ("state n: hold(mode = @mode);", Wanted::Kind),
     ("state n: hold(mode = @calm);", Wanted::Name),

@@ -33,7 +33,7 @@ fn enums_and_labels_have_names_of_their_own(rt: HostRuntime) -> Result<(), Fail>
 }
 
 /// A field has a name of its own, a kind, and a value of that kind where a text is empty.
-const FIELDS: [(&str, Wanted); 33] = [
+const FIELDS: [(&str, Wanted); 35] = [
     ("field x: num;", Wanted::Paths(1)),
     ("field x: num; field y: num;", Wanted::Paths(1)),
     ("field x: num; field @x: word;", Wanted::Twice),
@@ -64,6 +64,8 @@ const FIELDS: [(&str, Wanted); 33] = [
     ("field x: word else @idle;", Wanted::Kind),
     ("field x: mode else busy;", Wanted::Paths(1)),
     ("field x: mode else @low;", Wanted::Kind),
+    ("field x: tone else high;", Wanted::Paths(1)),
+    ("field x: tone else @idle;", Wanted::Kind),
     ("field x: mode else @mode;", Wanted::Kind),
     ("field x: mode else @\"idle\";", Wanted::Kind),
     ("field x: mode else @1;", Wanted::Kind),

@@ -15,7 +15,7 @@ struct Repeated {
     wanted: Wanted,
 }
 
-const REPEATED: [Repeated; 21] = [
+const REPEATED: [Repeated; 22] = [
     Repeated {
         before: "",
         unit: "if phase is idle { phase = busy; } ",
@@ -141,6 +141,16 @@ const REPEATED: [Repeated; 21] = [
         unit: " or n == 1",
         count: 127,
         after: " { } } report { one = 1; }",
+        wanted: Wanted::Branchy(1_000_000),
+    },
+    // 131,071 + 131,072 * 131,072 paths. In a product of 32 bits that is 131,071.
+    Repeated {
+        before: "if n == 0 or n == 0 or n == 0 or n == 0 or n == 0 or n == 0 or n == 0 or n == 0 \
+            or n == 0 or n == 0 or n == 0 or n == 0 or n == 0 or n == 0 or n == 0 or n == 0 \
+            or n == 0 { } else { ",
+        unit: "if n < 3 { } ",
+        count: 17,
+        after: "} } report { one = 1; }",
         wanted: Wanted::Branchy(1_000_000),
     },
     // Every other rule comes first.

@@ -3,7 +3,7 @@ use crate::rows::{UPDATE, Wanted, check_rows};
 use std::test::Fail;
 
 /// What is assigned to a cell, pushed and named by `let`.
-const ASSIGNMENTS: [(&str, Wanted); 49] = [
+const ASSIGNMENTS: [(&str, Wanted); 54] = [
     ("n = x;", Wanted::Paths(3)),
     ("n = k + 1;", Wanted::Paths(3)),
     ("n = @\"a\";", Wanted::Kind),
@@ -25,6 +25,11 @@ const ASSIGNMENTS: [(&str, Wanted); 49] = [
     ("phase = @xs;", Wanted::Kind),
     ("phase = x @+ 1;", Wanted::Kind),
     ("phase = -@earlier;", Wanted::Kind),
+    ("pitch = low;", Wanted::Paths(1)),
+    ("pitch = sound;", Wanted::Paths(1)),
+    ("pitch = @idle;", Wanted::Kind),
+    ("pitch = @what;", Wanted::Kind),
+    ("pitch = @phase;", Wanted::Kind),
     // Lists.
     ("push xs x;", Wanted::Paths(3)),
     ("push xs n + 1;", Wanted::Paths(3)),

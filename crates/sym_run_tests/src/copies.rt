@@ -1,0 +1,86 @@
+//! A copy of a checked script, against the script.
+use crate::scripts::checked;
+use std::alloc::Global;
+use std::process::Abort;
+use std::test::Fail;
+use sym_base::{NoMemory, Outcome, Record, State, Text, Value, Values};
+use sym_check::Checked;
+use sym_parse::print;
+use sym_plain::{columns, initial, step};
+
+// Each form of declaration, statement, condition and column.
+const SCRIPT: &str = "enum mode { idle, busy } enum tone { low, high } \
+    field x from \"X\": num; field y: num else 7; field who: word; \
+    field nick: word else \"none\"; field what: mode; field sound: tone else high; group who; \
+    state n: int [-99..99] = 1; state phase: mode = idle; state earlier: mode = busy; \
+    state pitch: tone = low; state h: hold(num = 1, word = \"a\", mode = idle); \
+    state g: hold(num = -1, word = \"\", mode = busy); state xs: nums [-99..99]; \
+    state ws: words; test far(a: num, b: word, c: mode, t: num, w: word, m: mode) = \
+    a - -t * 2 > 3 and not (b == w) or c is m; \
+    update { let z = -x * 2 + y / 3 - x % 2; let name = who; let text = \"t\"; \
+    let label = what; let quiet = low; n = -(2 * n) + z; \
+    if n == 1 or n < x and not n >= 3 { phase = busy; } \
+    else if far(h, x, who, what) { phase = what; } else { earlier = phase; } \
+    if what is label and who == text or x != y { pitch = quiet; } \
+    if phase is label { pitch = high; keep h(z, name, label); } else { keep g from h; } \
+    if n <= 5 { } push xs n + 1; push xs x; push ws name; push ws \"p\"; } \
+    report { one = 1; text = \"b\"; n = n; phase = phase; earlier = earlier; pitch = pitch; \
+    xs = xs; ws = ws; a = part(h, 1); b = part(h, 2); c = part(g, 3); count = count(ws); \
+    sum = sum(xs); least = min(xs); most = max(xs); oldest = first(ws); newest = last(xs); \
+    calculated = -n * 2 + 9 / 4 - 9 % 4; }";
+
+fn record(alloc: Global, x: i64) -> Result<Record, NoMemory> {
+    let mut fields = Values::new(alloc);
+    fields.push(Value::Num(x))?;
+    fields.push(Value::Num(7))?;
+    fields.push(Value::Word(Text::from_str(alloc, "ann")?))?;
+    fields.push(Value::Word(Text::from_str(alloc, "none")?))?;
+    fields.push(Value::Label(1))?;
+    fields.push(Value::Label(0))?;
+    Ok(Record { no: 1, fields })
+}
+
+// The state after a record of this number.
+fn state_after(rt: &impl Abort, alloc: Global, checked: &Checked, x: i64) -> Result<State, Fail> {
+    let rec = record(alloc, x)?;
+    match step(alloc, checked, initial(alloc, checked)?, &rec)? {
+        Outcome::Going(state) => Ok(state),
+        Outcome::Ended(_) => panic!(rt; "each number stays in its range"),
+    }
+}
+
+// Compares the states after a record, and their columns.
+fn check_record(
+    rt: &impl Abort,
+    alloc: Global,
+    checked: &Checked,
+    copied: &Checked,
+    x: i64,
+) -> Result<(), Fail> {
+    let state = state_after(rt, alloc, checked, x)?;
+    let other = state_after(rt, alloc, copied, x)?;
+    assert!(rt; other == state, "{x}");
+    let shown = columns(alloc, checked, &state)?;
+    assert!(rt; columns(alloc, copied, &other)? == shown, "{x}");
+    Ok(())
+}
+
+#[test]
+fn a_copied_script_is_printed_and_bounded_as_the_script(rt: HostRuntime) -> Result<(), Fail> {
+    let checked = checked(&rt, rt.alloc(), SCRIPT);
+    let copied = checked.copy(rt.alloc())?;
+    assert_eq!(rt; copied.path_bound(), checked.path_bound());
+    let text = print(rt.alloc(), checked.script())?;
+    assert_eq!(rt; print(rt.alloc(), copied.script())?, text);
+    Ok(())
+}
+
+#[test]
+fn a_copied_script_runs_as_the_script(rt: HostRuntime) -> Result<(), Fail> {
+    let checked = checked(&rt, rt.alloc(), SCRIPT);
+    let copied = checked.copy(rt.alloc())?;
+    for x in [-3, -1, 2] {
+        check_record(&rt, rt.alloc(), &checked, &copied, x)?;
+    }
+    Ok(())
+}
