@@ -1,6 +1,6 @@
 # Writes a script of one kind with at most `size` bytes, which is within the limits of the language
-# and breaks no rule: parentheses, operands, statements, names, locals, texts or comments. What is left
-# of the size is a comment.
+# and breaks no rule: parentheses, operands, statements, names, locals, labels, texts or comments.
+# What is left of the size is a comment.
 function repeated(piece, times,    all) {
     all = ""
     while (times-- > 0)
@@ -18,6 +18,17 @@ function sum_of_locals(    all, number) {
     all = ""
     for (number = 0; number < 255; number++)
         all = all " + " local(number % 32)
+    return all
+}
+
+# 16 enums of 32 labels each, the most that a script may have.
+function enums(    all, number) {
+    all = ""
+    for (number = 0; number < 512; number++) {
+        if (number % 32 == 0)
+            all = all "enum e" (10 + number / 32) " { "
+        all = all "k" number (number % 32 < 31 ? ", " : " }\n")
+    }
     return all
 }
 
@@ -43,6 +54,8 @@ function statement() {
         return long_cell " = " long_cell " + " long_field " - " long_field ";"
     if (kind == "locals")
         return "n = n" sum_of_locals() ";"
+    if (kind == "labels")
+        return "n = n" repeated(" + x", 255) ";"
     if (kind == "texts")
         return "if w == \"" repeated("text \\\" ", 32) "\" { n = 0; }"
     return "# " repeated("any bytes ", 12)
@@ -54,7 +67,7 @@ BEGIN {
     long_hold = repeated("h", 64)
     long_list = repeated("l", 64)
     long_local = repeated("v", 64)
-    begin = "field x: num;\nfield w: word;\nfield " long_field ": num;\nstate n: int [0..9] = 0;\n" \
+    begin = (kind == "labels" ? enums() : "") "field x: num;\nfield w: word;\nfield " long_field ": num;\nstate n: int [0..9] = 0;\n" \
         "state " long_cell ": int [0..9] = 0;\nstate " long_hold ": hold(num = 0);\n" \
         "state " long_list ": nums [0..9];\nupdate {\n" prelude()
     end = "}\nreport { n = n; }\n"
