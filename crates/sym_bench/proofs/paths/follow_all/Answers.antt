@@ -5,13 +5,12 @@ use Rattle.std.proofs.lemmas.List.Elements.{All-push}
 use Rattle.sym_check.specs.CheckedScripts.{checked_plan}
 use Rattle.sym_path.specs.declared.path.Path.{Path}
 use Rattle.sym_path.specs.Fitting.{PathFits, SegmentFits}
-use Rattle.sym_explore.proofs.Connected.{item_of}
 use Rattle.sym_bench.proofs.paths.follow_all.Goals as goal
 
 pub followed_by-requires-clause-first : goal.followed_by-requires-clause-first
 followed_by-requires-clause-first c =
     let turn = YieldsList-turn (YieldsList-from_vec {s = c.into_iter-path-iterator.result} c.args.paths.items (search rules) (search rules)) c.paths.yielded c.paths.path-iterator c.paths.yielded_by c.next.result c.next.new.self c.in-Some.path c.in-Some.is c.next.ensures.steps in
-    item_of (PathFits (checked_plan c.args.checked.now)) c.args.paths.items (length c.paths.yielded) c.in-Some.path c.requires.first turn
+    subst (PathFits (checked_plan c.args.checked.now)) (sym turn.1) (c.requires.first (length c.paths.yielded) c.in-Some.path turn.0)
 
 pub paths-preserved : goal.paths-preserved
 paths-preserved c =
