@@ -2,7 +2,6 @@
 ghost use Rattle.std.specs.Prelude.{◌≡◌, ◌==◌, ◌<◌, ◌↔◌, ◌++◌, ◌⊎◌, Any, Bool, not, List, IfOk, OnOk, IfSome, IfNone, IsSome, IsNone, IsTrue, MatchOption, None, length, slice_get, slice_index_or, option_copied};
 ghost use Rattle.sym_pred.specs.declared.literal.Literal.{Literal as OneLiteral};
 ghost use Rattle.sym_pred.specs.Facts.{Atom};
-ghost use Rattle.std.specs.List.{remove as without_item};
 ghost use Rattle.std.specs.FinMap.{empty, get, insert, remove, len as count_of};
 ghost use Rattle.sym_pred.specs.Literals.{literals, atom_of};
 ghost use Rattle.sym_base.specs.Tests.{Truth};
@@ -149,21 +148,6 @@ fn push_copies(alloc: Global, all: &mut Vec<Literal>, literals: &[Literal]) -> R
         all.push(literal.copy(alloc)?)?;
     }
     Ok(())
-}
-
-/// Copies of the literals but the one at this place.
-fn copies_without(
-    alloc: Global,
-    literals: &[Literal],
-    index: usize,
-) -> Result<Vec<Literal>, NoMemory>
-    requires { index < length literals.now }
-    ensures { IfOk result (λ items. items.items ≡ without_item literals.now index) }
-{
-    let mut items = Vec::with_capacity(alloc, literals.len() - 1)?;
-    push_copies(alloc, &mut items, &literals[..index])?;
-    push_copies(alloc, &mut items, &literals[index + 1..])?;
-    Ok(items)
 }
 
 /// How two lists of literals differ.
@@ -416,23 +400,41 @@ impl Facts {
             (truth : Truth) (parts : List OneValue) → Admits truth facts parts ↔
             (Admits truth self.now parts ⊎ Admits truth other.now parts))) }
     {
+        if !self.unites(other) {
+            return Ok(None);
+        }
+        Ok(self.copy(alloc)?.united_with(other))
+    }
+
+    /// `unite` of facts that are given away: the literal that differs is taken out of their list.
+    /// It takes no memory.
+    pub fn united_with(self, other: &Facts) -> Option<Facts>
+        ensures none { IsSome result ↔ Unite self other.now }
+        ensures literals { IfSome result (λ facts.
+            (atom : Atom) (outcome : Bool) → Stands facts atom outcome ↔
+            (Stands self atom outcome × Stands other.now atom outcome)) }
+        ensures admits { IfSome result (λ facts.
+            (truth : Truth) (parts : List OneValue) → Admits truth facts parts ↔
+            (Admits truth self parts ⊎ Admits truth other.now parts)) }
+    {
         match compare(self.literals.as_slice(), other.literals.as_slice()) {
-            Difference::Nothing => Ok(Some(self.copy(alloc)?)),
-            Difference::One(index) => Ok(Some(self.without(alloc, index)?)),
-            Difference::Many => Ok(None),
+            Difference::Nothing => Some(self),
+            Difference::One(index) => Some(self.without(index)),
+            Difference::Many => None,
         }
     }
 
-    /// The facts without the literal at this place.
-    fn without(&self, alloc: Global, index: usize) -> Result<Facts, NoMemory>
-        requires { index < length (literals self.now) }
-        ensures { IfOk result (λ facts. (d : OneLiteral) →
-            facts ≡ remove self.now (atom_of (slice_index_or (literals self.now) index d))) }
+    /// The facts without the literal at this place. It takes no memory.
+    fn without(self, index: usize) -> Facts
+        requires { index < length (literals self) }
+        ensures { (d : OneLiteral) →
+            result ≡ remove self (atom_of (slice_index_or (literals self) index d)) }
     {
-        let items = copies_without(alloc, self.literals.as_slice(), index)?;
-        Ok(Facts {
+        let mut items = self.literals.into_vec();
+        items.remove(index);
+        Facts {
             literals: Sequence::of(items),
-        })
+        }
     }
 
     /// Equal facts of their own.

@@ -118,6 +118,9 @@ fn expect_union(
     let union = left.unite(alloc, &right)?;
     let same = is_known(alloc, union, wanted)?;
     assert!(rt; same);
+    let moved = left.united_with(&right);
+    let same = is_known(alloc, moved, wanted)?;
+    assert!(rt; same);
     Ok(())
 }
 
@@ -130,6 +133,13 @@ fn facts_unite_where_one_outcome_differs(rt: HostRuntime) -> Result<(), Fail> {
         &[(0, 5, true), (1, 2, false)],
         &[(0, 5, false), (1, 2, false)],
         Some(&[(1, 2, false)]),
+    )?;
+    expect_union(
+        &rt,
+        alloc,
+        &[(0, 5, true), (1, 2, false)],
+        &[(0, 5, true), (1, 2, true)],
+        Some(&[(0, 5, true)]),
     )?;
     expect_union(
         &rt,

@@ -1,41 +1,17 @@
-use Rattle.std.proofs.Common.{◌<◌, length, get_or, refl, sym, ap, subst, ◌∙◌, inr}
-use Rattle.std.specs.FinMap.{remove}
-use Rattle.sym_pred.specs.declared.facts.Difference.TheVariants.{One, Many}
-use Rattle.sym_pred.specs.Facts.{Atom}
-use Rattle.sym_pred.specs.Literals.{atom_of}
-use Rattle.sym_pred.specs.Differences.{IsDifference}
-use Rattle.sym_pred.proofs.FactsLemmas.{literals_of_view}
-use Rattle.sym_pred.proofs.MeaningLemmas.{Stands-union, Admits-union}
-use Rattle.sym_pred.proofs.DifferenceLemmas.{some_literal, DifferInOne-One, DifferInOne-One-atom, not_Unite-Many}
+use Rattle.std.proofs.Common.{◌↔◌, ◌⊎◌, Bool, List, subst}
+use Rattle.std.specs.Prelude.{IfSome}
+use Rattle.sym_base.specs.Tests.{Truth}
+use Rattle.sym_base.specs.declared.values.value.Value.{Value}
+use Rattle.sym_pred.specs.Facts.{Atom, FactMap}
+use Rattle.sym_pred.specs.Meaning.{Stands, Admits}
 use Rattle.sym_pred.proofs.facts.Facts.unite.Goals as goal
 
-pub without-requires : goal.without-requires
-without-requires c =
-    let differ : IsDifference c.self.inside.literals c.other.inside.literals (One c.in-One.index) = subst (λ xs. IsDifference xs c.other.inside.literals (One c.in-One.index)) c.as_slice.ensures (subst (λ ys. IsDifference c.as_slice.result.now ys (One c.in-One.index)) c.as_slice-2.ensures c.in-One.ensures) in
-    subst (λ xs. c.in-One.index < length xs) (sym (literals_of_view _ _ c.self.invariant c.self.view_is)) differ.0
+pub returns-clause-literals : goal.returns-clause-literals
+returns-clause-literals c =
+    subst (λ (own : FactMap). IfSome c.united_with.result (λ facts. (atom : Atom) → (outcome : Bool) → Stands facts atom outcome ↔ (Stands own atom outcome × Stands c.args.other.now atom outcome)))
+    c.in_ok-copy.ensures c.united_with.ensures.literals
 
-pub returns-in_ok-without-in-One-clause-none : goal.returns-in_ok-without-in-One-clause-none
-returns-in_ok-without-in-One-clause-none c =
-    let differ : IsDifference c.self.inside.literals c.other.inside.literals (One c.in-One.index) = subst (λ xs. IsDifference xs c.other.inside.literals (One c.in-One.index)) c.as_slice.ensures (subst (λ ys. IsDifference c.as_slice.result.now ys (One c.in-One.index)) c.as_slice-2.ensures c.in-One.ensures) in
-    (λ _. inr (DifferInOne-One c.args.self.now c.args.other.now _ _ c.self.invariant c.other.invariant c.self.view_is c.other.view_is c.in-One.index some_literal differ.0 (differ.1 some_literal)), λ _. refl)
-
-pub returns-in_ok-without-in-One-clause-literals : goal.returns-in_ok-without-in-One-clause-literals
-returns-in_ok-without-in-One-clause-literals c =
-    let differ : IsDifference c.self.inside.literals c.other.inside.literals (One c.in-One.index) = subst (λ xs. IsDifference xs c.other.inside.literals (One c.in-One.index)) c.as_slice.ensures (subst (λ ys. IsDifference c.as_slice.result.now ys (One c.in-One.index)) c.as_slice-2.ensures c.in-One.ensures) in
-    Stands-union c.args.self.now c.args.other.now _
-    (DifferInOne-One c.args.self.now c.args.other.now _ _ c.self.invariant c.other.invariant c.self.view_is c.other.view_is c.in-One.index some_literal differ.0 (differ.1 some_literal))
-    (c.in_ok-without-in-One.ensures some_literal ∙ ap (λ xs. remove c.args.self.now (atom_of (get_or xs c.in-One.index some_literal))) (literals_of_view _ _ c.self.invariant c.self.view_is)
-    ∙ ap (λ (a : Atom). remove c.args.self.now a) (sym (DifferInOne-One-atom c.args.self.now c.args.other.now _ _ c.self.invariant c.other.invariant c.self.view_is c.other.view_is c.in-One.index some_literal differ.0 (differ.1 some_literal))))
-
-pub returns-in_ok-without-in-One-clause-admits : goal.returns-in_ok-without-in-One-clause-admits
-returns-in_ok-without-in-One-clause-admits c =
-    let differ : IsDifference c.self.inside.literals c.other.inside.literals (One c.in-One.index) = subst (λ xs. IsDifference xs c.other.inside.literals (One c.in-One.index)) c.as_slice.ensures (subst (λ ys. IsDifference c.as_slice.result.now ys (One c.in-One.index)) c.as_slice-2.ensures c.in-One.ensures) in
-    Admits-union c.args.self.now c.args.other.now _
-    (DifferInOne-One c.args.self.now c.args.other.now _ _ c.self.invariant c.other.invariant c.self.view_is c.other.view_is c.in-One.index some_literal differ.0 (differ.1 some_literal))
-    (c.in_ok-without-in-One.ensures some_literal ∙ ap (λ xs. remove c.args.self.now (atom_of (get_or xs c.in-One.index some_literal))) (literals_of_view _ _ c.self.invariant c.self.view_is)
-    ∙ ap (λ (a : Atom). remove c.args.self.now a) (sym (DifferInOne-One-atom c.args.self.now c.args.other.now _ _ c.self.invariant c.other.invariant c.self.view_is c.other.view_is c.in-One.index some_literal differ.0 (differ.1 some_literal))))
-
-pub returns-in-Many-clause-none : goal.returns-in-Many-clause-none
-returns-in-Many-clause-none c =
-    let many : IsDifference c.self.inside.literals c.other.inside.literals Many = subst (λ xs. IsDifference xs c.other.inside.literals Many) c.as_slice.ensures (subst (λ ys. IsDifference c.as_slice.result.now ys Many) c.as_slice-2.ensures c.in-Many.ensures) in
-    (λ e. cc, λ u. absurd (not_Unite-Many c.args.self.now c.args.other.now _ _ c.self.invariant c.other.invariant c.self.view_is c.other.view_is many u))
+pub returns-clause-admits : goal.returns-clause-admits
+returns-clause-admits c =
+    subst (λ (own : FactMap). IfSome c.united_with.result (λ facts. (truth : Truth) → (parts : List Value) → Admits truth facts parts ↔ (Admits truth own parts ⊎ Admits truth c.args.other.now parts)))
+    c.in_ok-copy.ensures c.united_with.ensures.admits
