@@ -102,6 +102,11 @@ set_same [] k v x e = absurd (cc)
 set_same (y ∷ xs) zero v x e = refl
 set_same (y ∷ xs) (suc k) v x e = set_same xs k v x e
 
+pub set_past : {A : Type 0} (xs : List A) (k : ℕ) (v : A) → slice_get xs k ≡ None → slice_set xs k v ≡ xs
+set_past [] k v e = refl
+set_past (x ∷ xs) zero v e = absurd (cc)
+set_past (x ∷ xs) (suc k) v e = ap (λ ys. x ∷ ys) (set_past xs k v e)
+
 pub set_other : {A : Type 0} (xs : List A) (k i : ℕ) (v : A) → i ≢ k → slice_get (slice_set xs k v) i ≡ slice_get xs i
 set_other [] k i v e = refl
 set_other (x ∷ xs) zero zero v e = absurd (e refl)

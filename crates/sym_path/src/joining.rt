@@ -269,60 +269,45 @@ fn united_span(left: &Span, right: &Span) -> Span
     }
 }
 
-fn united_facts(alloc: Global, left: &Facts, right: &Facts) -> Result<Facts, NoMemory>
-    requires { Unite left.now right.now }
-    ensures { IfOk result (AreUnitedFacts left.now right.now) }
+/// The facts of two that unite. It takes no memory.
+fn united_facts(left: Facts, right: &Facts) -> Facts
+    requires { Unite left right.now }
+    ensures { AreUnitedFacts left right.now result }
 {
-    match left.unite(alloc, right)? {
-        Some(facts) => Ok(facts),
+    match left.united_with(right) {
+        Some(facts) => facts,
         None => unreachable!(),
     }
 }
 
-/// The union of two parts that unite.
-fn united_part(alloc: Global, first: &Part, second: &Part) -> Result<Part, NoMemory>
-    requires { PartsUnite first.now second.now }
-    ensures { IfOk result (IsUnitedPart first.now second.now) }
+/// The union of two parts that unite. It takes no memory.
+fn united_part(first: Part, second: &Part) -> Part
+    requires { PartsUnite first second.now }
+    ensures { IsUnitedPart first second.now result }
 {
     match (first, second) {
-        (Part::Set(left), Part::Set(right)) => Ok(Part::Set(left.unite(right))),
-        (Part::Span(left), Part::Span(right)) => Ok(Part::Span(united_span(left, right))),
-        (Part::Facts(left), Part::Facts(right)) => {
-            Ok(Part::Facts(united_facts(alloc, left, right)?))
-        }
-        (Part::Free, Part::Free) => Ok(Part::Free),
+        (Part::Set(left), Part::Set(right)) => Part::Set(left.unite(right)),
+        (Part::Span(left), Part::Span(right)) => Part::Span(united_span(&left, right)),
+        (Part::Facts(left), Part::Facts(right)) => Part::Facts(united_facts(left, right)),
+        (Part::Free, Part::Free) => Part::Free,
         _ => unreachable!(),
     }
 }
 
-/// The cell in which two constraints that unite differ, with the union of its parts; `None` where
-/// they are equal.
-fn united_cell(alloc: Global, v: &[Part], w: &[Part]) -> Result<Option<(usize, Part)>, NoMemory>
-    requires { ConstraintsUnite v.now w.now }
-    ensures { IfOk result (λ found. MatchOption found (v.now ≡ w.now)
-        (λ x. IsUnitedInOne v.now w.now (slice_set v.now x.0 x.1))) }
-{
-    let cell = difference(v, w, 0);
-    if cell == v.len() {
-        return Ok(None);
-    }
-    let part = united_part(alloc, &v[cell], &w[cell])?;
-    Ok(Some((cell, part)))
-}
-
-/// The union of a constraint and another one, with which it unites. It takes memory only for facts
-/// that differ.
-fn united(alloc: Global, v: Constraint, w: &Constraint) -> Result<Constraint, NoMemory>
+/// The union of a constraint and another one, with which it unites. The part in which they differ
+/// is taken out, united and put back, which takes no memory.
+fn united(v: Constraint, w: &[Part]) -> Constraint
     requires { ConstraintsUnite v w.now }
-    ensures { IfOk result (AreUnited v w.now) }
+    ensures { AreUnited v w.now result }
 {
     let mut when = v;
-    match united_cell(alloc, when.as_slice(), w.as_slice())? {
-        None => Ok(when),
-        Some((cell, part)) => {
-            when.set(cell, part);
-            Ok(when)
+    let cell = difference(when.as_slice(), w, 0);
+    match when.replace(cell, Part::Free) {
+        Some(part) => {
+            when.set(cell, united_part(part, &w[cell]));
+            when
         }
+        None => when,
     }
 }
 
@@ -344,28 +329,27 @@ pub fn join_paths(alloc: Global, p: &Path, q: &Path) -> Result<Path, NoMemory>
     requires { Joinable p.now q.now }
     ensures { IfOk result (IsJoin p.now q.now) }
 {
-    let when = united(alloc, p.when.copy(alloc)?, &q.when)?;
+    let when = united(p.when.copy(alloc)?, q.when.as_slice());
     let end = joined_end(alloc, p, q)?;
     Ok(Path { when, end })
 }
 
 impl Path {
-    /// `join_paths` of paths that are given away: what they have is moved. After an `Err` both are
-    /// dropped.
-    pub fn join(self, alloc: Global, other: Path) -> Result<Path, NoMemory>
+    /// `join_paths` of paths that are given away: what they have is moved. It takes no memory.
+    pub fn join(self, other: Path) -> Path
         requires { Joinable self other }
-        ensures { IfOk result (IsJoin self other) }
+        ensures { IsJoin self other result }
     {
         let first = end_is_taken(&other.when, &self.end, &other.end);
         let Path { when, end } = self;
-        let when = united(alloc, when, &other.when)?;
+        let when = united(when, other.when.as_slice());
         if first {
-            Ok(Path { when, end })
+            Path { when, end }
         } else {
-            Ok(Path {
+            Path {
                 when,
                 end: other.end,
-            })
+            }
         }
     }
 }

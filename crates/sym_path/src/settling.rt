@@ -25,12 +25,7 @@ fn partner(paths: &[Path], index: usize) -> Option<usize>
 
 /// Joins two of the paths. The joined path stands before the place of the second one, and the
 /// others keep their order. After an `Err` the two are dropped.
-fn join_pair(
-    alloc: Global,
-    paths: &mut Vec<Path>,
-    first: usize,
-    second: usize,
-) -> Result<(), NoMemory>
+fn join_pair(paths: &mut Vec<Path>, first: usize, second: usize) -> Result<(), NoMemory>
     requires earlier { first < second }
     requires within { second < length paths.old.items }
     requires joinable { CanJoin paths.old.items first second }
@@ -38,15 +33,13 @@ fn join_pair(
 {
     let q = paths.remove(second);
     let p = paths.remove(first);
-    let joined = p.join(alloc, q)?;
-    paths.insert(second - 1, joined)?;
+    paths.insert(second - 1, p.join(q))?;
     Ok(())
 }
 
 /// A segment that admits and gives what the paths do wherever at most one of them admits the
-/// state, and of which no two paths can be joined. Paths are moved, and it takes memory only for
-/// those that are joined.
-pub fn settle(alloc: Global, paths: Vec<Path>) -> Result<Segment, NoMemory>
+/// state, and of which no two paths can be joined. Paths are moved, and nothing is copied.
+pub fn settle(_alloc: Global, paths: Vec<Path>) -> Result<Segment, NoMemory>
     ensures { IfOk result (IsSettling paths.items) }
 {
     let mut paths = paths;
@@ -54,7 +47,7 @@ pub fn settle(alloc: Global, paths: Vec<Path>) -> Result<Segment, NoMemory>
     'paths: while settled < paths.len() {
         match partner(&paths, settled) {
             Some(index) => {
-                join_pair(alloc, &mut paths, index, settled)?;
+                join_pair(&mut paths, index, settled)?;
                 settled -= 1;
             }
             None => settled += 1,

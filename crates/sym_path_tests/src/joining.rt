@@ -103,7 +103,7 @@ fn numbers_join_where_spans_touch_and_forms_agree(rt: HostRuntime) -> Result<(),
         }
         let path = number_path(alloc, wanted.ok_or("joined")?)?.ok_or("wanted")?;
         assert!(rt; join_paths(alloc, &p, &q)? == path);
-        assert!(rt; q.join(alloc, p)? == path);
+        assert!(rt; q.join(p) == path);
     }
     Ok(())
 }
@@ -122,7 +122,7 @@ fn labels_join_where_forms_agree(rt: HostRuntime) -> Result<(), Fail> {
     assert!(rt; joinable(&other, &second) && !joinable(&first, &second));
     let same = label_path(alloc, both, EnumForm::Const(1))?;
     if joinable(&other, &second) {
-        assert!(rt; other.join(alloc, second)? == same);
+        assert!(rt; other.join(second) == same);
     }
     Ok(())
 }

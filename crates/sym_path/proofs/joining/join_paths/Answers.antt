@@ -5,4 +5,8 @@ use Rattle.sym_path.proofs.JoiningJoined.{joined_by}
 use Rattle.sym_path.proofs.joining.join_paths.Goals as goal
 
 pub returns : goal.returns
-returns c = joined_by c.args.p.now c.args.q.now (record { when = c.in_ok-when.when; end = c.in_ok-end.end }) (subst (λ (v : List Part). AreUnited v c.args.q.now.when c.in_ok-when.when) c.in_ok-copy.ensures c.in_ok-when.ensures) c.in_ok-end.ensures
+returns c =
+    let own : List Part = c.in_ok-copy.field-0 in
+    let when : List Part = c.united-when.result in
+    let united : AreUnited own c.args.q.now.when when = subst (λ (w : List Part). AreUnited own w when) c.as_slice.ensures c.united-when.ensures in
+    joined_by c.args.p.now c.args.q.now (record { when = when; end = c.in_ok-end.end }) (subst (λ (v : List Part). AreUnited v c.args.q.now.when when) c.in_ok-copy.ensures united) c.in_ok-end.ensures

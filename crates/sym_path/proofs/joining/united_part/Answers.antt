@@ -9,8 +9,8 @@ returns-in-Set-Set c = union_of _ _ _ _ _ c.in-Set-Set.is-0 c.in-Set-Set.is-1 (j
 pub returns-in-Span-Span : goal.returns-in-Span-Span
 returns-in-Span-Span c = union_of _ _ _ _ _ c.in-Span-Span.is-0 c.in-Span-Span.is-1 (joins.spans c.in-Span-Span.left c.in-Span-Span.right c.united_span.result c.united_span.ensures)
 
-pub returns-in_ok-united_facts-in-Facts-Facts : goal.returns-in_ok-united_facts-in-Facts-Facts
-returns-in_ok-united_facts-in-Facts-Facts c = union_of _ _ _ _ _ c.in-Facts-Facts.is-0 c.in-Facts-Facts.is-1 (joins.facts_of c.in-Facts-Facts.left c.in-Facts-Facts.right c.in_ok-united_facts-in-Facts-Facts.field-0 c.in_ok-united_facts-in-Facts-Facts.ensures)
+pub returns-in-Facts-Facts : goal.returns-in-Facts-Facts
+returns-in-Facts-Facts c = union_of _ _ _ _ _ c.in-Facts-Facts.is-0 c.in-Facts-Facts.is-1 (joins.facts_of c.in-Facts-Facts.left c.in-Facts-Facts.right c.united_facts.result c.united_facts.ensures)
 
 pub returns-in-Free-Free : goal.returns-in-Free-Free
 returns-in-Free-Free c = union_of _ _ _ _ _ c.in-Free-Free.is-0 c.in-Free-Free.is-1 joins.free
