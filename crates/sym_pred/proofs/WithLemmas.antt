@@ -9,7 +9,7 @@ use Rattle.sym_base.specs.declared.values.value.Value.{Value}
 use Rattle.sym_base.specs.Tests.{Truth}
 use Rattle.sym_pred.specs.Answers.{Says, IsWith, AreWith, AreAgainst}
 use Rattle.std.specs.FinMap.{get, insert}
-use Rattle.std.specs.Prelude.{Option, Some, None, IsNone, IfSome, IfNone}
+use Rattle.std.specs.Prelude.{Option, Some, None, Result, Ok, Err, OnErr, IsNone, IfSome, IfNone}
 use Rattle.std.specs.Option.{MatchOption}
 use Rattle.sym_pred.proofs.CallersLemmas.{literal_stands, stands_at}
 use Rattle.sym_pred.proofs.DifferenceLemmas.{some_literal}
@@ -21,6 +21,11 @@ use Rattle.std.proofs.lemmas.Option.{same_Some}
 pub not_not : (a : Bool) → not (not a) ≡ a
 not_not true = refl
 not_not false = refl
+
+-- What holds is so of each result.
+pub err_holds : {A E P : Type 0} → (result : Result A E) → P → OnErr result P
+err_holds (Ok value) holds = tt
+err_holds (Err error) holds = holds
 
 -- The facts with one literal.
 pub inserted_with : (facts more : FactMap) (x : Literal) → get facts (atom_of x) ≡ None → more ≡ insert facts (atom_of x) x.outcome → IsWith facts x more
@@ -105,6 +110,16 @@ module _ (start facts : FactMap) (xs : List Literal) (i : ℕ) (so_far : AreWith
       | inr said ↦ inr (said.0, said.1, said.3, said.4, said.5)
     ],
   )
+
+  -- A literal that is new to the facts is new to the first ones.
+  pub with_new : get facts (atom_of x) ≡ None → Any (λ (literal : Literal). get start (atom_of literal) ≡ None) xs
+  with_new none = (i, x, within, sym is, known (get start (atom_of x)) refl)
+    where
+      known : (found : Option Bool) → get start (atom_of x) ≡ found → get start (atom_of x) ≡ None
+      known None at = at
+      known (Some outcome) at =
+          let both : Some outcome ≡ None = sym ((so_far (atom_of x) outcome).1 (inl at)) ∙ none in
+          cc
 
 pub with_whole : (start facts : FactMap) (xs : List Literal) (i : ℕ) → AreWithFirst start xs i facts → length xs ≤ i → AreWith start xs facts
 with_whole start facts xs i so_far past atom outcome = (

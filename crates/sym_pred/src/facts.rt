@@ -1,5 +1,5 @@
 //! What is known of the tests on one hold cell.
-ghost use Rattle.std.specs.Prelude.{◌≡◌, ◌==◌, ◌<◌, ◌↔◌, ◌++◌, ◌⊎◌, Any, Bool, not, List, IfOk, OnOk, IfSome, IfNone, IsSome, IsNone, IsTrue, MatchOption, None, length, slice_get, slice_index_or, option_copied};
+ghost use Rattle.std.specs.Prelude.{◌≡◌, ◌==◌, ◌<◌, ◌↔◌, ◌++◌, ◌⊎◌, Any, Bool, not, List, IfOk, OnOk, IfSome, IfNone, IsSome, IsNone, IsTrue, MatchOption, None, OnErr, length, slice_get, slice_index_or, option_copied};
 ghost use Rattle.sym_pred.specs.declared.literal.Literal.{Literal as OneLiteral};
 ghost use Rattle.sym_pred.specs.Facts.{Atom};
 ghost use Rattle.std.specs.FinMap.{empty, get, insert, remove, len as count_of};
@@ -354,6 +354,10 @@ impl Facts {
         ensures nothing { IfOk result (λ met. IfNone met
             ((truth : Truth) (parts : List OneValue) →
             Admits truth self parts → ¬ (Admits truth other.now parts))) }
+
+        // `NoMemory` is returned only where a literal of the other is new.
+        ensures memory { OnErr result
+            (Any (λ literal. get self (atom_of literal) ≡ None) (literals other.now)) }
     {
         with_all(alloc, self, other.literals.as_slice())
     }
@@ -361,9 +365,10 @@ impl Facts {
     /// The facts with a copy of the literal; `None` where it stands with the other outcome. After
     /// an `Err` they are dropped.
     fn with_copy(self, alloc: Global, literal: &Literal) -> Result<Option<Facts>, NoMemory>
-        ensures { IfOk result (λ found. MatchOption found
+        ensures found { IfOk result (λ found. MatchOption found
             (Stands self (atom_of literal.now) (not literal.now.outcome))
             (IsWith self literal.now)) }
+        ensures memory { OnErr result (get self (atom_of literal.now) ≡ None) }
     {
         match self.says(literal.test, &literal.args) {
             Some(outcome) => {
@@ -463,8 +468,10 @@ fn is_in_order(literals: &[Literal]) -> bool
 /// The facts with copies of the literals; `None` where one of these stands with the other outcome
 /// in the facts, or is among the literals with it.
 fn with_all(alloc: Global, facts: Facts, literals: &[Literal]) -> Result<Option<Facts>, NoMemory>
-    ensures { IfOk result (λ found.
+    ensures found { IfOk result (λ found.
         MatchOption found (AreAgainst facts literals.now) (AreWith facts literals.now)) }
+    ensures memory { OnErr result
+        (Any (λ literal. get facts (atom_of literal) ≡ None) literals.now) }
 {
     let mut facts = facts;
     'literals: for literal in literals {

@@ -102,6 +102,13 @@ fn facts_meet_unless_a_literal_clashes(rt: HostRuntime) -> Result<(), Fail> {
         Some(&[(0, 5, true), (0, 6, false)]),
     )?;
     expect_met(&rt, alloc, &[(0, 5, true)], &[(0, 5, false)], None)?;
+    expect_met(
+        &rt,
+        alloc,
+        &[(0, 5, true), (0, 6, false)],
+        &[(0, 6, false)],
+        Some(&[(0, 5, true), (0, 6, false)]),
+    )?;
     Ok(())
 }
 
