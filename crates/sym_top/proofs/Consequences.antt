@@ -5,7 +5,7 @@ use Rattle.sym_check.specs.declared.elaborate.error.CheckErr.TheVariants as chec
 use Rattle.sym_check.specs.declared.elaborate.error.CheckErr.{CheckErr}
 use Rattle.sym_engine.specs.declared.error.PassErr.{PassErr}
 use Rattle.sym_engine.specs.declared.error.PassErr.TheVariants as pass_error
-use Rattle.sym_engine.specs.Passing.{May, MayAll}
+use Rattle.sym_engine.specs.Passing.{Holds, May, MayAll}
 use Rattle.sym_lex.specs.declared.error.LexFault.{LexFault}
 use Rattle.sym_lex.specs.declared.error.LexFault.TheVariants as lex_fault
 use Rattle.sym_parse.specs.declared.error.ParseErr.{ParseErr}
@@ -25,7 +25,7 @@ use Rattle.sym_top.specs.EndReading.{run_end}
 use Rattle.sym_top.specs.Loading.{Ready, Stops, failure_line}
 use Rattle.sym_top.specs.Messages.{line_of}
 use Rattle.sym_top.specs.Programs.{IsNoProgram, too_large, unread, broken, headers_in}
-use Rattle.sym_top.specs.Promises.{Call, Files, MayHold, TellsAll, Told, IsStop, at_end, script_unread, file_unread, no_memory, IsUntouched, WriteFails, failed, short, IsCause, stopped, cut, Refuses, Wrote, Answers, Unless, IsReported, IsRefused, MustReport}
+use Rattle.sym_top.specs.Promises.{Call, MayHold, TellsAll, Told, IsStop, at_end, script_unread, file_unread, no_memory, IsUntouched, WriteFails, failed, short, IsCause, stopped, cut, Refuses, Wrote, Answers, Unless, IsReported, IsRefused, MustReport}
 use Rattle.sym_top.specs.Refusals.{status_of_refusal, parse_refusal, check_refusal, pass_refusal}
 use Rattle.sym_top.specs.Telling.{Sunk, Has, Tells}
 use Rattle.sym_top.proofs.EndsFound.{found, one_end}
@@ -129,7 +129,7 @@ may-told : (o : Option (List ℕ)) (a b : List ℕ) → May o a → o ≡ Some b
 may-told None a b may e = cc
 may-told (Some x) a b may e = let same : x ≡ b = cc in may ∙ same
 
-files-told : (holds : Files) (names files told : List (List ℕ)) → MayAll holds names files →
+files-told : (holds : Holds) (names files told : List (List ℕ)) → MayAll holds names files →
     map holds names ≡ map Some told → files ≡ told
 files-told holds [] [] [] may e = refl
 files-told holds [] [] (b ∷ bs) may e = cc
@@ -143,7 +143,7 @@ files-told holds (name ∷ names) (a ∷ ones) (b ∷ bs) may e =
     let others : ones ≡ bs = files-told holds names ones bs may.1 rest in
     cc
 
-held-told : (holds : Files) (o : Option Run) (held told : Held) → MayHold holds o held → TellsAll holds o told → held ≡ told
+held-told : (holds : Holds) (o : Option Run) (held told : Held) → MayHold holds o held → TellsAll holds o told → held ≡ told
 held-told holds None held told may e = may ∙ sym e
 held-told holds (Some run) held told may e =
     let script : held.script ≡ told.script = may-told (holds run.script) held.script told.script may.0 e.0 in

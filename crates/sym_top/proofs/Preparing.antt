@@ -19,7 +19,7 @@ use Rattle.sym_check.specs.declared.elaborate.error.CheckErr.{CheckErr}
 use Rattle.sym_check.specs.declared.elaborate.error.CheckErr.TheVariants as check_error
 use Rattle.sym_engine.specs.declared.error.PassErr.{PassErr}
 use Rattle.sym_engine.specs.declared.error.PassErr.TheVariants as pass_error
-use Rattle.sym_engine.specs.Passing.{May, MayAll, PassedAll, StopsPass}
+use Rattle.sym_engine.specs.Passing.{Holds, Counts, May, MayAll, PassedAll, StopsPass}
 use Rattle.sym_report.specs.ReportRows.{heads_of, row_of, some_faulty}
 use Rattle.sym_report.specs.Tables.{table_text}
 use Rattle.sym_top.specs.declared.refusal.Place.TheVariants as place
@@ -33,7 +33,7 @@ use Rattle.sym_top.specs.Loading.{MayRefuse, Loads, Unloads, refused, unread, no
 use Rattle.sym_top.specs.Messages.{line_of}
 use Rattle.sym_top.specs.Programs.{Program, IsProgram, IsNoProgram, checked_program, program_headers, script_max}
 use Rattle.sym_top.specs.Programs as programs
-use Rattle.sym_top.specs.Promises.{Call, Files, MayHold, IsStop, WriteFails, no_files}
+use Rattle.sym_top.specs.Promises.{Call, MayHold, IsStop, WriteFails, no_files}
 use Rattle.sym_top.specs.Promises as promise
 use Rattle.sym_top.specs.Refusals.{parse_refusal, check_refusal, read_refusal, pass_refusal, write_refusal}
 use Rattle.sym_top.specs.Telling.{Sunk, HasPrefix, Failed, Short}
@@ -102,7 +102,7 @@ unloads-by told before after text (Err why) may (inr is) = refused text why may 
 
 -- ---- the files
 
-pub reports-by : (program : Program) (holds : Files) (names : List (List ℕ)) (groups : List (Key × Outcome)) (made : Report) →
+pub reports-by : (program : Program) (holds : Holds) (names : List (List ℕ)) (groups : List (Key × Outcome)) (made : Report) →
     PassedAll program.plan file_max_default holds names groups →
     made.text.items ≡ table_text (heads_of program.tree program.plan) (map (row_of program.tree program.plan) groups) →
     made.status ≡ (if some_faulty (map (row_of program.tree program.plan) groups) then status.Faulted else status.Done) →
@@ -127,14 +127,14 @@ pub some-bytes : (told : Option (List ℕ)) → (bytes : List ℕ) × May told b
 some-bytes None = ([], tt)
 some-bytes (Some bytes) = (bytes, refl)
 
-pub some-files : (holds : Files) (names : List (List ℕ)) → (files : List (List ℕ)) × MayAll holds names files
+pub some-files : (holds : Holds) (names : List (List ℕ)) → (files : List (List ℕ)) × MayAll holds names files
 some-files holds [] = ([], tt)
 some-files holds (name ∷ names) =
     let first = some-bytes (holds name) in
     let rest = some-files holds names in
     (first.0 ∷ rest.0, (first.1, rest.1))
 
-may-by : (holds : Files) (o : Option Run) (run : Run) (held : Held) → o ≡ Some run →
+may-by : (holds : Holds) (o : Option Run) (run : Run) (held : Held) → o ≡ Some run →
     May (holds run.script) held.script → MayAll holds run.files held.files → MayHold holds o held
 may-by holds o run held asked script files = subst (λ o. MayHold holds o held) (sym asked) (script, files)
 
@@ -201,11 +201,7 @@ pub fails-by : (out : Sunk) (text : List ℕ) (why : SinkErr) → HasPrefix out 
 fails-by out text sink_error.Failed prefix bad full = promise.failed prefix (bad refl)
 fails-by out text sink_error.NoMemory prefix bad full = promise.short prefix (full refl)
 
--- A count that rose later rose.
-rose-later : (first mid last : ℕ) → first ≤ mid → Rose mid last → Rose first last
-rose-later first mid last h r = omega arith
-
-module _ (call : Call) (run : Run) (checked : Checked) (middle : List ℕ → ℕ) (asked : options call.words ≡ Some run)
+module _ (call : Call) (run : Run) (checked : Checked) (middle : Counts) (asked : options call.words ≡ Some run)
     (lower : (name : List ℕ) → call.before name ≤ middle name) (loads : Loads (call.holds run.script) (checked_program checked)) where
   known : (why : Refusal) (files : List (List ℕ)) → MayAll call.holds run.files files →
       IsStop call (record { script = loads.text; files = files }) why → Stops call (record { why = why; checked = Some checked })
@@ -224,7 +220,7 @@ module _ (call : Call) (run : Run) (checked : Checked) (middle : List ℕ → �
   error-stops (pass_error.Read file) s =
       known (refusal.Read (place.File file)) s.files s.may
       (promise.file_unread run (checked_program checked) s.records file s.name asked loads.is_program s.fine s.named
-      (rose-later (call.before s.name) (middle s.name) (call.after s.name) (lower s.name) s.rose))
+      (omega (arith, lower s.name, s.rose)))
   error-stops (pass_error.TooLarge file) s =
       known (refusal.TooLarge (place.File file)) s.files s.may
       (promise.at_end (refusal.TooLarge (place.File file))

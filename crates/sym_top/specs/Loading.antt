@@ -6,7 +6,7 @@ use Rattle.sym_check.specs.CheckedScripts.{checked_plan}
 use Rattle.sym_check.specs.declared.checking.accepted.Checked.{Checked}
 use Rattle.sym_engine.specs.declared.error.PassErr.{PassErr}
 use Rattle.sym_engine.specs.FirstProblems.{AllFine}
-use Rattle.sym_engine.specs.Passing.{May, MayAll, StopsPass}
+use Rattle.sym_engine.specs.Passing.{Holds, Counts, May, MayAll, StopsPass}
 use Rattle.sym_top.specs.declared.refusal.Place.TheVariants as place
 use Rattle.sym_top.specs.declared.refusal.Refusal.{Refusal}
 use Rattle.sym_top.specs.declared.refusal.Refusal.TheVariants as refusal
@@ -16,7 +16,7 @@ use Rattle.sym_top.specs.Commands.{options}
 use Rattle.sym_top.specs.Ends.{Held, IsTextOf, file_max_default, report_of, status_of}
 use Rattle.sym_top.specs.Messages.{headers_of, line_of}
 use Rattle.sym_top.specs.Programs.{Program, IsProgram, IsNoProgram, headers_in}
-use Rattle.sym_top.specs.Promises.{Call, Files, MayHold, IsStop, HasReport}
+use Rattle.sym_top.specs.Promises.{Call, MayHold, IsStop, HasReport}
 use Rattle.sym_top.specs.Refusals.{pass_refusal}
 
 -- A text of at most the most bytes is refused for its own sake, or memory ran out.
@@ -45,7 +45,7 @@ listed None = []
 listed (Some x) = x ∷ []
 
 -- The report is that of the records of files which the names may hold.
-pub record Reports (program : Program) (holds : Files) (names : List (List ℕ)) (report : Report) :
+pub record Reports (program : Program) (holds : Holds) (names : List (List ℕ)) (report : Report) :
     Type 0 where
   pub files : List (List ℕ)
   pub may : MayAll holds names files
@@ -55,8 +55,8 @@ pub record Reports (program : Program) (holds : Files) (names : List (List ℕ))
   pub text_is : IsTextOf (report_of program records) report.text.items
 
 -- Why there is no report: the pass over the files was stopped, or memory ran out.
-pub data StopsFiles (program : Program) (holds : Files) (names : List (List ℕ))
-    (before after : List ℕ → ℕ) : Refusal → Type 0 where
+pub data StopsFiles (program : Program) (holds : Holds) (names : List (List ℕ))
+    (before after : Counts) : Refusal → Type 0 where
   stops : (why : PassErr)
       → StopsPass program.plan file_max_default holds names before after why
       → StopsFiles program holds names before after (pass_refusal why)

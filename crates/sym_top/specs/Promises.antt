@@ -4,7 +4,7 @@ use Rattle.std.specs.Prelude.{◌≡◌, ℕ, List, [], take, map, Option, None,
 use Rattle.sym_base.specs.Counts.{Rose}
 use Rattle.sym_base.specs.declared.values.record.Record.{Record}
 use Rattle.sym_engine.specs.FirstProblems.{AllFine}
-use Rattle.sym_engine.specs.Passing.{May, MayAll}
+use Rattle.sym_engine.specs.Passing.{Holds, Counts, May, MayAll}
 use Rattle.sym_report.specs.declared.rows.Heads.{Heads}
 use Rattle.sym_report.specs.declared.rows.Row.{Row}
 use Rattle.sym_top.specs.declared.refusal.Place.TheVariants as place
@@ -19,20 +19,16 @@ use Rattle.sym_top.specs.Programs.{Program, IsProgram, headers_in}
 use Rattle.sym_top.specs.Refusals.{status_of_refusal}
 use Rattle.sym_top.specs.Telling.{Sunk, Has, HasPrefix, Failed, Short, Tells}
 
--- What stands in a store under each name, as far as the store tells it.
-abbrev pub Files : Type 0
-Files = List ℕ → Option (List ℕ)
-
 -- A call: its arguments, what the store tells, and how many reads of each name have failed before
 -- and after it.
 pub record Call : Type 0 where
   pub words : List (List ℕ)
-  pub holds : Files
-  pub before : List ℕ → ℕ
-  pub after : List ℕ → ℕ
+  pub holds : Holds
+  pub before : Counts
+  pub after : Counts
 
 -- The same of a store of any type, by what the type says of its values.
-abbrev pub called : {S : Type 0} → (S → Files) → (S → List ℕ → ℕ) → List (List ℕ) → S → S → Call
+abbrev pub called : {S : Type 0} → (S → Holds) → (S → Counts) → List (List ℕ) → S → S → Call
 called holds faults words before after = record {
   words = words;
   holds = holds before;
@@ -46,13 +42,13 @@ no_files = record { script = []; files = [] }
 
 -- The named files may hold these bytes. A name that stands twice may hold other bytes where the
 -- store doesn't tell.
-abbrev pub MayHold : Files → Option Run → Held → Type 0
+abbrev pub MayHold : Holds → Option Run → Held → Type 0
 MayHold holds None held = held ≡ no_files
 MayHold holds (Some run) held =
     May (holds run.script) held.script × MayAll holds run.files held.files
 
 -- The store tells that the named files hold just these bytes.
-abbrev pub TellsAll : Files → Option Run → Held → Type 0
+abbrev pub TellsAll : Holds → Option Run → Held → Type 0
 TellsAll holds None held = held ≡ no_files
 TellsAll holds (Some run) held =
     (holds run.script ≡ Some held.script) × (map holds run.files ≡ map Some held.files)
