@@ -6,15 +6,14 @@ use Rattle.sym_check.specs.CondPlans.{CondPlan, And, Or}
 use Rattle.sym_int.specs.Cuts.{count_truth}
 use Rattle.sym_path.specs.declared.path.Path.{Path}
 use Rattle.sym_explore.specs.declared.branch.Branch.{Branch}
-use Rattle.sym_explore.specs.Evaluating.{AddsFew}
-use Rattle.sym_explore.specs.Branches.{AreFewBranches, branches_with, paths_false, paths_true}
+use Rattle.sym_explore.specs.Branches.{branches_with, paths_false, paths_true}
 use Rattle.sym_explore.specs.Counting.{branches_of}
 use Rattle.sym_explore.specs.Parting.{AreFewParts}
 use Rattle.sym_explore.proofs.CountedPaths.{conditions_branch}
 
--- ---- one path is evaluated
+-- ---- branches by their truth
 
-count_true : (bs : List Branch) → length (paths_true bs) ≡ branches_with true bs
+pub count_true : (bs : List Branch) → length (paths_true bs) ≡ branches_with true bs
 count_true [] = refl
 count_true (b ∷ bs) = go b.truth (count_true bs)
   where
@@ -22,54 +21,13 @@ count_true (b ∷ bs) = go b.truth (count_true bs)
     go true h = omega (arith, h)
     go false h = omega (arith, h)
 
-count_false : (bs : List Branch) → length (paths_false bs) ≡ branches_with false bs
+pub count_false : (bs : List Branch) → length (paths_false bs) ≡ branches_with false bs
 count_false [] = refl
 count_false (b ∷ bs) = go b.truth (count_false bs)
   where
     go : (x : Bool) → length (paths_false bs) ≡ branches_with false bs → length (if x then paths_false bs else b.path ∷ paths_false bs) ≡ count_truth false x + branches_with false bs
     go true h = omega (arith, h)
     go false h = omega (arith, h)
-
-both_lengths : (before first last after : List Path) → after ≡ (before ++ first) ++ last → length after ≡ length before + length first + length last
-both_lengths before first last after e =
-    let a = ap (λ (ps : List Path). length ps) e in
-    let b = length-append (before ++ first) last in
-    let c = length-append before first in
-    omega arith
-
-pub split_few : (most : Bool → ℕ) (old : Path) (none pieces : List Branch) (last : Branch) → none ≡ [] → AreFewBranches most none pieces last.truth → (trues_before trues falses_before falses : List Path) → trues ≡ (trues_before ++ paths_true pieces) ++ paths_true (last ∷ []) → falses ≡ (falses_before ++ paths_false pieces) ++ paths_false (last ∷ []) → AddsFew most (old ∷ []) trues_before trues falses_before falses
-split_few most old none pieces last empty few trues_before trues falses_before falses e f = record {
-  trues =
-      let a = both_lengths trues_before (paths_true pieces) (paths_true (last ∷ [])) trues e in
-      let b = count_true pieces in
-      let c = count_true (last ∷ []) in
-      let d = few.each true in
-      let g = ap (branches_with true) empty in
-      omega arith;
-  falses =
-      let a = both_lengths falses_before (paths_false pieces) (paths_false (last ∷ [])) falses f in
-      let b = count_false pieces in
-      let c = count_false (last ∷ []) in
-      let d = few.each false in
-      let g = ap (branches_with false) empty in
-      omega arith;
-}
-
-pub adds_few_more : (most : Bool → ℕ) (done : List Path) (one : Path) (trues_before trues_middle trues falses_before falses_middle falses : List Path) → AddsFew most done trues_before trues_middle falses_before falses_middle → AddsFew most (one ∷ []) trues_middle trues falses_middle falses → AddsFew most (done ++ one ∷ []) trues_before trues falses_before falses
-adds_few_more most done one trues_before trues_middle trues falses_before falses_middle falses h g =
-    let a : length (done ++ one ∷ []) ≡ length done + 1 = length-append done (one ∷ []) in
-    record {
-      trues =
-          let b = h.trues in
-          let c = g.trues in
-          let d = ap (λ (m : ℕ). m * most true) a in
-          omega arith;
-      falses =
-          let b = h.falses in
-          let c = g.falses in
-          let d = ap (λ (m : ℕ). m * most false) a in
-          omega arith;
-    }
 
 -- ---- connected conditions
 

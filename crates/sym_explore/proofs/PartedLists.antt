@@ -1,8 +1,8 @@
 -- Paths that a condition parts: what the lists of them give at a state.
-use Rattle.std.proofs.Common.{◌≡◌, ◌<◌, ℕ, Bool, true, false, List, [], ◌∷◌, ◌++◌, Option, Some, None, Ok, Err, map, length, get_or, refl, sym, ap, ◌∙◌, subst, append_assoc}
+use Rattle.std.proofs.Common.{◌≡◌, ◌≤◌, ℕ, Bool, true, false, List, [], ◌∷◌, ◌++◌, Option, Some, None, Ok, Err, map, length, refl, sym, ap, ◌∙◌, subst, append_assoc}
 use Rattle.std.proofs.lemmas.List.{append-nil, map-append}
 use Rattle.std.proofs.lemmas.List.Elements.{All-append, All-cons, All-head, All-map, All-nil, All-tail, All-weaker}
-use Rattle.std.specs.List.{All, Any}
+use Rattle.std.specs.List.{Any}
 use Rattle.std.specs.Prelude.{if◌then◌else◌}
 use Rattle.sym_base.specs.declared.values.record.Record.{Record}
 use Rattle.sym_base.specs.declared.values.state.Fault.{Fault}
@@ -10,7 +10,6 @@ use Rattle.sym_base.specs.declared.values.state.FaultKind.TheVariants as kind
 use Rattle.sym_base.specs.declared.values.state.State.{State}
 use Rattle.sym_base.specs.declared.values.state.Outcome.{Outcome}
 use Rattle.sym_base.specs.declared.values.state.Outcome.TheVariants.{Going, Ended}
-use Rattle.sym_base.specs.Tests.{Truth}
 use Rattle.sym_check.specs.declared.evaluate.arithmetic.Arith.{Arith}
 use Rattle.sym_check.specs.Conditions.{test_truth}
 use Rattle.sym_check.specs.ScriptPlans.{ScriptPlan}
@@ -25,8 +24,7 @@ use Rattle.sym_path.specs.declared.path.Path.{Path}
 use Rattle.sym_path.specs.declared.path.PathEnd.{PathEnd}
 use Rattle.sym_path.specs.declared.path.PathEnd.TheVariants as path
 use Rattle.sym_explore.specs.declared.branch.Branch.{Branch}
-use Rattle.sym_explore.specs.Evaluating.{AddsParts}
-use Rattle.sym_explore.specs.Branches.{answered, AreGoing, BranchesGo, IsGoing, judged, paths_false, paths_true, Splits, with_answer, with_truth}
+use Rattle.sym_explore.specs.Branches.{answered, AreGoing, BranchesGo, IsGoing, judged, paths_false, paths_true, with_answer, with_truth}
 use Rattle.sym_explore.specs.Faulting.{EndAmong, HasNumber}
 use Rattle.sym_explore.specs.Parting.{AllGoOn, AreParts, at_state, those_failed, those_false, those_true}
 
@@ -132,50 +130,8 @@ paths_false_push (x ∷ bs) b = go x.truth (paths_false_push bs b)
     go true h = h
     go false h = ap (λ (ps : List Path). x.path ∷ ps) h
 
--- ---- one path is evaluated
-
-module _ (p : ScriptPlan) (meaning : Outcome → Outcome × Option Bool) (old : Path) (pieces : List Branch) (last : Branch) (split : Splits p meaning old [] last.path pieces last.truth) (s : State) where
-  abbrev tests : Truth
-  tests = test_truth p.tests
-
-  whole : judged tests pieces s ++ judged tests (last ∷ []) s ≡ map meaning (at_state p (old ∷ []) s)
-  whole =
-      ap (λ (js : Judged). judged tests pieces s ++ js) (append-nil (with_truth (Some last.truth) (given tests last.path s)))
-      ∙ split s
-      ∙ ap (map meaning) (sym (append-nil (given tests old s)))
-
-  pub split_true : (before after : List Path) → after ≡ (before ++ paths_true pieces) ++ paths_true (last ∷ []) → at_state p after s ≡ at_state p before s ++ those_true (map meaning (at_state p (old ∷ []) s))
-  split_true before after e =
-      ap (λ (ps : List Path). at_state p ps s) (e ∙ append_assoc before (paths_true pieces) (paths_true (last ∷ [])))
-      ∙ at_append p before (paths_true pieces ++ paths_true (last ∷ [])) s
-      ∙ ap (λ (os : List Outcome). at_state p before s ++ os)
-      (at_append p (paths_true pieces) (paths_true (last ∷ [])) s
-      ∙ ap (λ (os : List Outcome). os ++ at_state p (paths_true (last ∷ [])) s) (judged_true p pieces s)
-      ∙ ap (λ (os : List Outcome). those_true (judged tests pieces s) ++ os) (judged_true p (last ∷ []) s)
-      ∙ sym (true_append (judged tests pieces s) (judged tests (last ∷ []) s))
-      ∙ ap those_true whole)
-
-  pub split_false : (before after : List Path) → after ≡ (before ++ paths_false pieces) ++ paths_false (last ∷ []) → at_state p after s ≡ at_state p before s ++ those_false (map meaning (at_state p (old ∷ []) s))
-  split_false before after e =
-      ap (λ (ps : List Path). at_state p ps s) (e ∙ append_assoc before (paths_false pieces) (paths_false (last ∷ [])))
-      ∙ at_append p before (paths_false pieces ++ paths_false (last ∷ [])) s
-      ∙ ap (λ (os : List Outcome). at_state p before s ++ os)
-      (at_append p (paths_false pieces) (paths_false (last ∷ [])) s
-      ∙ ap (λ (os : List Outcome). os ++ at_state p (paths_false (last ∷ [])) s) (judged_false p pieces s)
-      ∙ ap (λ (os : List Outcome). those_false (judged tests pieces s) ++ os) (judged_false p (last ∷ []) s)
-      ∙ sym (false_append (judged tests pieces s) (judged tests (last ∷ []) s))
-      ∙ ap those_false whole)
-
-pub split_adds : (p : ScriptPlan) (meaning : Outcome → Outcome × Option Bool) (old : Path) (none pieces : List Branch) (last : Branch) → none ≡ [] → Splits p meaning old none last.path pieces last.truth → (before new falses_before falses_after : List Path) → new ≡ (before ++ paths_true pieces) ++ paths_true (last ∷ []) → falses_after ≡ (falses_before ++ paths_false pieces) ++ paths_false (last ∷ []) → AddsParts p meaning (old ∷ []) before new falses_before falses_after
-split_adds p meaning old none pieces last empty split before new falses_before falses_after e f s =
-    let start : Splits p meaning old [] last.path pieces last.truth = subst (λ (bs : List Branch). Splits p meaning old bs last.path pieces last.truth) empty split in
-    record {
-      trues = split_true p meaning old pieces last start s before new e;
-      falses = split_false p meaning old pieces last start s falses_before falses_after f;
-    }
-
 -- Each of the paths fits the script and goes on.
-go_true : (p : ScriptPlan) (bs : List Branch) → BranchesGo p bs → AreGoing p (paths_true bs)
+pub go_true : (p : ScriptPlan) (bs : List Branch) → BranchesGo p bs → AreGoing p (paths_true bs)
 go_true p [] h = All-nil (IsGoing p)
 go_true p (b ∷ bs) h = go b.truth (go_true p bs (All-tail (λ (x : Branch). IsGoing p x.path) b bs h))
   where
@@ -183,7 +139,7 @@ go_true p (b ∷ bs) h = go b.truth (go_true p bs (All-tail (λ (x : Branch). Is
     go true rest = All-cons (IsGoing p) b.path (paths_true bs) (All-head (λ (x : Branch). IsGoing p x.path) b bs h) rest
     go false rest = rest
 
-go_false : (p : ScriptPlan) (bs : List Branch) → BranchesGo p bs → AreGoing p (paths_false bs)
+pub go_false : (p : ScriptPlan) (bs : List Branch) → BranchesGo p bs → AreGoing p (paths_false bs)
 go_false p [] h = All-nil (IsGoing p)
 go_false p (b ∷ bs) h = go b.truth (go_false p bs (All-tail (λ (x : Branch). IsGoing p x.path) b bs h))
   where
@@ -191,59 +147,10 @@ go_false p (b ∷ bs) h = go b.truth (go_false p bs (All-tail (λ (x : Branch). 
     go true rest = rest
     go false rest = All-cons (IsGoing p) b.path (paths_false bs) (All-head (λ (x : Branch). IsGoing p x.path) b bs h) rest
 
-one_goes : (p : ScriptPlan) (last : Branch) → PathFits p last.path → GoesOn last.path.end → BranchesGo p (last ∷ [])
-one_goes p last fits goes =
-    let P : Branch → Type 0 = λ (x : Branch). IsGoing p x.path in
-    All-cons P last [] (record { fits = fits; goes_on = goes }) (All-nil P)
-
-pub split_go_true : (p : ScriptPlan) (pieces : List Branch) (last : Branch) (before after : List Path) → AreGoing p before → BranchesGo p pieces → PathFits p last.path → GoesOn last.path.end → after ≡ (before ++ paths_true pieces) ++ paths_true (last ∷ []) → AreGoing p after
-split_go_true p pieces last before after h g fits goes e =
-    subst (AreGoing p) (sym e)
-    (All-append (IsGoing p) (before ++ paths_true pieces) (paths_true (last ∷ [])) (All-append (IsGoing p) before (paths_true pieces) h (go_true p pieces g)) (go_true p (last ∷ []) (one_goes p last fits goes)))
-
-pub split_go_false : (p : ScriptPlan) (pieces : List Branch) (last : Branch) (before after : List Path) → AreGoing p before → BranchesGo p pieces → PathFits p last.path → GoesOn last.path.end → after ≡ (before ++ paths_false pieces) ++ paths_false (last ∷ []) → AreGoing p after
-split_go_false p pieces last before after h g fits goes e =
-    subst (AreGoing p) (sym e)
-    (All-append (IsGoing p) (before ++ paths_false pieces) (paths_false (last ∷ [])) (All-append (IsGoing p) before (paths_false pieces) h (go_false p pieces g)) (go_false p (last ∷ []) (one_goes p last fits goes)))
-
--- One item of a list.
-pub item_of : {A : Type 0} (P : A → Type 0) (xs : List A) (n : ℕ) (x : A) → All P xs → (n < length xs) × (x ≡ get_or xs n x) → P x
-item_of P xs n x h t = subst P (sym t.1) (h n x t.0)
-
 -- One item more of a list that is put after another one.
 pub put_more : {A B : Type 0} (f : List A → List B) (done : List A) (one : A) (before middle after : List B) → f (done ++ one ∷ []) ≡ f done ++ f (one ∷ []) → middle ≡ before ++ f done → after ≡ middle ++ f (one ∷ []) → after ≡ before ++ f (done ++ one ∷ [])
 put_more f done one before middle after push h g =
     g ∙ ap (λ xs. xs ++ f (one ∷ [])) h ∙ append_assoc before (f done) (f (one ∷ [])) ∙ ap (λ xs. before ++ xs) (sym push)
-
--- ---- one path more
-
-module _ (p : ScriptPlan) (meaning : Outcome → Outcome × Option Bool) (done : List Path) (one : Path) (s : State) where
-  more : map meaning (at_state p done s) ++ map meaning (at_state p (one ∷ []) s) ≡ map meaning (at_state p (done ++ one ∷ []) s)
-  more =
-      sym (map-append meaning (at_state p done s) (at_state p (one ∷ []) s))
-      ∙ ap (map meaning) (sym (at_append p done (one ∷ []) s))
-
-  pub more_true : (before middle after : List Outcome) → middle ≡ before ++ those_true (map meaning (at_state p done s)) → after ≡ middle ++ those_true (map meaning (at_state p (one ∷ []) s)) → after ≡ before ++ those_true (map meaning (at_state p (done ++ one ∷ []) s))
-  more_true before middle after h g =
-      let first = map meaning (at_state p done s) in
-      let next = map meaning (at_state p (one ∷ []) s) in
-      g ∙ ap (λ (os : List Outcome). os ++ those_true next) h
-      ∙ append_assoc before (those_true first) (those_true next)
-      ∙ ap (λ (os : List Outcome). before ++ os) (sym (true_append first next) ∙ ap those_true more)
-
-  pub more_false : (before middle after : List Outcome) → middle ≡ before ++ those_false (map meaning (at_state p done s)) → after ≡ middle ++ those_false (map meaning (at_state p (one ∷ []) s)) → after ≡ before ++ those_false (map meaning (at_state p (done ++ one ∷ []) s))
-  more_false before middle after h g =
-      let first = map meaning (at_state p done s) in
-      let next = map meaning (at_state p (one ∷ []) s) in
-      g ∙ ap (λ (os : List Outcome). os ++ those_false next) h
-      ∙ append_assoc before (those_false first) (those_false next)
-      ∙ ap (λ (os : List Outcome). before ++ os) (sym (false_append first next) ∙ ap those_false more)
-
-pub adds_more : (p : ScriptPlan) (meaning : Outcome → Outcome × Option Bool) (done : List Path) (one : Path) (trues_before trues_middle trues falses_before falses_middle falses : List Path) → AddsParts p meaning done trues_before trues_middle falses_before falses_middle → AddsParts p meaning (one ∷ []) trues_middle trues falses_middle falses → AddsParts p meaning (done ++ one ∷ []) trues_before trues falses_before falses
-adds_more p meaning done one trues_before trues_middle trues falses_before falses_middle falses h g s = record {
-  trues = more_true p meaning done one s (at_state p trues_before s) (at_state p trues_middle s) (at_state p trues s) (h s).trues (g s).trues;
-  falses = more_false p meaning done one s (at_state p falses_before s) (at_state p falses_middle s) (at_state p falses s) (h s).falses (g s).falses;
-}
 
 -- ---- paths that go on
 
@@ -271,7 +178,7 @@ at_goes p (x ∷ paths) s h =
     (given_goes x.end s (admits (test_truth p.tests) x.when s.cells) (All-head P x paths h))
     (at_goes p paths s (All-tail P x paths h))
 
-none_failed : (n : ℕ) (f : State → Bool) (os : List Outcome) → AreGoingOn os → those_failed (map (answered n (λ s. Ok (f s))) os) ≡ []
+pub none_failed : (n : ℕ) (f : State → Bool) (os : List Outcome) → AreGoingOn os → those_failed (map (answered n (λ s. Ok (f s))) os) ≡ []
 none_failed n f [] h = refl
 none_failed n f (Going s ∷ os) h = go (f s) (none_failed n f os h)
   where
@@ -281,15 +188,25 @@ none_failed n f (Going s ∷ os) h = go (f s) (none_failed n f os h)
 none_failed n f (Ended fault ∷ os) h = absurd h
 
 -- Paths of which none fails.
-pub open_parts : (p : ScriptPlan) (n : ℕ) (f : State → Bool) (old trues falses_before falses ended_before ended : List Path) → AllGoOn old → ended ≡ ended_before → AddsParts p (answered n (λ s. Ok (f s))) old [] trues falses_before falses → AreParts p (answered n (λ s. Ok (f s))) old trues falses_before falses ended_before ended
+pub open_parts : (p : ScriptPlan) (n : ℕ) (f : State → Bool) (old trues falses_before falses ended_before ended : List Path) → AllGoOn old → ended ≡ ended_before → ((s : State) → length (at_state p old s) ≤ 1 → (at_state p trues s ≡ those_true (map (answered n (λ s. Ok (f s))) (at_state p old s))) × (at_state p falses s ≡ at_state p falses_before s ++ those_false (map (answered n (λ s. Ok (f s))) (at_state p old s)))) → AreParts p (answered n (λ s. Ok (f s))) old trues falses_before falses ended_before ended
 open_parts p n f old trues falses_before falses ended_before ended going same h s less = record {
-  trues = (h s).trues;
-  falses = (h s).falses;
+  trues = (h s less).0;
+  falses = (h s less).1;
   ended =
       ap (λ (ps : List Path). at_state p ps s) same
       ∙ sym (append-nil (at_state p ended_before s))
       ∙ ap (λ (os : List Outcome). at_state p ended_before s ++ os) (sym (none_failed n f (at_state p old s) (at_goes p old s going)));
 }
+
+-- Other paths that have ended stay as they are.
+pub with_ended : (p : ScriptPlan) (meaning : Outcome → Outcome × Option Bool) (old trues falses_before falses ended : List Path) → AreParts p meaning old trues falses_before falses [] [] → AreParts p meaning old trues falses_before falses ended ended
+with_ended p meaning old trues falses_before falses ended h s less =
+    let parts = h s less in
+    record {
+      trues = parts.trues;
+      falses = parts.falses;
+      ended = sym (append-nil (at_state p ended s)) ∙ ap (λ (os : List Outcome). at_state p ended s ++ os) parts.ended;
+    }
 
 -- ---- one truth for all of them
 
@@ -301,13 +218,12 @@ told_known n x (Ended fault ∷ os) h = absurd h
 pub known_parts : (p : ScriptPlan) (n : ℕ) (x : Bool) (old trues falses_before falses ended_before ended : List Path) → AllGoOn old → trues ≡ (if x then old else []) → falses ≡ falses_before ++ (if x then [] else old) → ended ≡ ended_before → AreParts p (answered n (λ s. Ok x)) old trues falses_before falses ended_before ended
 known_parts p n x old trues falses_before falses ended_before ended going e f same =
     open_parts p n (λ s. x) old trues falses_before falses ended_before ended going same
-    (λ s. record {
-      trues = ap (λ (ps : List Path). at_state p ps s) e ∙ all_true x s;
-      falses =
-          ap (λ (ps : List Path). at_state p ps s) f
+    (λ s less. (
+      ap (λ (ps : List Path). at_state p ps s) e ∙ all_true x s,
+      ap (λ (ps : List Path). at_state p ps s) f
           ∙ at_append p falses_before (if x then [] else old) s
-          ∙ ap (λ (os : List Outcome). at_state p falses_before s ++ os) (all_false x s);
-    })
+          ∙ ap (λ (os : List Outcome). at_state p falses_before s ++ os) (all_false x s),
+    ))
   where
     told : (y : Bool) (s : State) → with_truth (Some y) (at_state p old s) ≡ map (answered n (λ t. Ok y)) (at_state p old s)
     told y s = sym (told_known n y (at_state p old s) (at_goes p old s going))

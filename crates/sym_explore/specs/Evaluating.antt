@@ -1,5 +1,6 @@
 -- Conditions whose expressions without cells were evaluated, and the paths that they part.
-use Rattle.std.specs.Prelude.{◌≡◌, ◌≤◌, ◌==◌, ◌+◌, ◌*◌, ℕ, Bool, true, false, List, ◌++◌, map, length, Option, Result, Ok, Err, IsTrue}
+use Rattle.std.specs.Prelude.{◌≡◌, ◌≤◌, ◌==◌, ◌+◌, ◌*◌, ℕ, Bool, true, false, List, ◌++◌, map, length, Option, Some, Result, Ok, Err, IsTrue}
+use Rattle.std.specs.List.Sorted.{IsPermutation}
 use Rattle.sym_base.specs.Comparing.{compares}
 use Rattle.sym_base.specs.Limits.{IsNumber}
 use Rattle.sym_base.specs.States.{label_at, parts_at}
@@ -14,11 +15,12 @@ use Rattle.sym_check.specs.ScriptPlans.{ScriptPlan}
 use Rattle.sym_check.specs.declared.evaluate.arithmetic.Arith.{Arith}
 use Rattle.sym_int.specs.Cuts.{most_with}
 use Rattle.sym_path.specs.declared.path.Path.{Path}
-use Rattle.sym_explore.specs.Branches.{answered}
+use Rattle.sym_explore.specs.Branches.{answered, branches_with, judged, with_truth}
 use Rattle.sym_explore.specs.Calling.{TestSuits}
 use Rattle.sym_explore.specs.Counting.{branches_of}
-use Rattle.sym_explore.specs.Parting.{at_state, those_true, those_false}
+use Rattle.sym_explore.specs.Parting.{at_state}
 use Rattle.sym_explore.specs.Terms.{ReadyFits, ready_number}
+use Rattle.sym_explore.specs.declared.branch.Branch.{Branch}
 use Rattle.sym_explore.specs.declared.parting.CellCondition.{CellCondition}
 use Rattle.sym_explore.specs.declared.parting.CellCondition.TheVariants.{Compare, Label, Call}
 use Rattle.sym_explore.specs.declared.parting.Evaluated.{Evaluated}
@@ -47,24 +49,23 @@ cell_branches (Call test c) x = 1
 abbrev pub tried_on_cell : ScriptPlan → List Value → CellCondition → ℕ → Outcome → Outcome × Option Bool
 tried_on_cell p args q n = answered n (λ s. Ok (holds_at p args q s))
 
--- What the old paths give was added to the two lists, by the truth that it has.
-pub record AddsPartsAt (p : ScriptPlan) (meaning : Outcome → Outcome × Option Bool)
-    (old before new falses_before falses_after : List Path) (s : State) : Type 0 where
-  pub trues : at_state p new s
-      ≡ at_state p before s ++ those_true (map meaning (at_state p old s))
-  pub falses : at_state p falses_after s
-      ≡ at_state p falses_before s ++ those_false (map meaning (at_state p old s))
-
-abbrev pub AddsParts : ScriptPlan → (Outcome → Outcome × Option Bool) →
-    List Path → List Path → List Path → List Path → List Path → Type 0
-AddsParts p meaning old before new falses_before falses_after =
-    (s : State) → AddsPartsAt p meaning old before new falses_before falses_after s
+-- The paths and the branches that were there before, and those after: at each state the new branches
+-- and the paths, each with its truth, give what the meaning makes of what the old paths gave, in
+-- some order.
+abbrev pub SplitsEach : ScriptPlan → (Outcome → Outcome × Option Bool) →
+    List Path → List Branch → List Path → List Path → List Branch → Type 0
+SplitsEach p meaning old before trues falses after = (s : State) → IsPermutation
+    (judged (test_truth p.tests) before s ++ map meaning (at_state p old s))
+    (with_truth (Some true) (at_state p trues s)
+    ++ (with_truth (Some false) (at_state p falses s) ++ judged (test_truth p.tests) after s))
 
 -- At most so many with each truth for each of the old paths.
-pub record AddsFew (most : Bool → ℕ) (old before new falses_before falses_after : List Path) :
-    Type 0 where
-  pub trues : length new ≤ length before + length old * most true
-  pub falses : length falses_after ≤ length falses_before + length old * most false
+pub record AreFewSplit (most : Bool → ℕ) (old : List Path) (before : List Branch)
+    (with_true with_false : List Path) (after : List Branch) : Type 0 where
+  pub trues : length with_true + branches_with true after
+      ≤ branches_with true before + length old * most true
+  pub falses : length with_false + branches_with false after
+      ≤ branches_with false before + length old * most false
 
 -- ---- conditions that aren't connected
 

@@ -1,13 +1,17 @@
 //! Paths that end, and move out of a list of paths.
-ghost use Rattle.std.specs.Prelude.{◌≡◌, OnOk, map};
+ghost use Rattle.std.specs.Prelude.{◌≡◌, ◌≤◌, [], IfOk, OnOk, drop, length, map, take};
+ghost use Rattle.std.specs.List.{All};
+ghost use Rattle.std.specs.List.Sorted.{IsPermutation};
 ghost use Rattle.sym_check.specs.Fitting.{FitsFault};
 ghost use Rattle.sym_check.specs.ScriptPlans.{script_plan};
-ghost use Rattle.sym_path.specs.Changing.{ended_by, with_fault};
+ghost use Rattle.sym_path.specs.Changing.{GoesOn, ended_by, with_fault};
 ghost use Rattle.sym_path.specs.Fitting.{SegmentFits};
 ghost use Rattle.sym_path.specs.declared.path.Path.{Path as OnePath};
 ghost use Rattle.sym_explore.specs.Ending.{AreMoved, WereRun};
 ghost use Rattle.sym_explore.specs.Parting.{AllGoOn};
 
+use crate::moving::move_from;
+use std::alloc::Global;
 use sym_base::{Fault, NoMemory};
 use sym_check::Plan;
 use sym_path::Path;
@@ -37,6 +41,37 @@ pub(crate) fn move_ended(paths: &mut Vec<Path>, ended: &mut Vec<Path>) -> Result
         }
     }
     Ok(())
+}
+
+/// Puts those of the paths that have ended first. The answer is their number.
+fn put_ended_first(paths: &mut Vec<Path>) -> usize
+    ensures within { result ≤ length paths.new.items }
+    ensures same { IsPermutation paths.old.items paths.new.items }
+    ensures ended { All (λ (path : OnePath). ¬ (GoesOn path.end)) (take result paths.new.items) }
+    ensures going { AllGoOn (drop result paths.new.items) }
+{
+    let mut count = 0;
+    let mut index = 0;
+    'paths: while index < paths.len() {
+        if !paths[index].goes_on() {
+            paths.swap(count, index);
+            count += 1;
+        }
+        index += 1;
+    }
+    count
+}
+
+/// Takes those that go on out of a list of paths. It takes no memory where none or all have ended.
+pub(crate) fn take_going(alloc: Global, paths: &mut Vec<Path>) -> Result<Vec<Path>, NoMemory>
+    ensures moved { IfOk result (λ going. AreMoved paths.old.items going.items
+        [] paths.new.items) }
+    ensures going { IfOk result (λ going. AllGoOn going.items) }
+{
+    let ended = put_ended_first(paths);
+    let mut going = Vec::new(alloc);
+    move_from(paths, ended, &mut going)?;
+    Ok(going)
 }
 
 /// Ends each of the paths by a fault, and moves them to the end of another list.

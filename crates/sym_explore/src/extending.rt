@@ -13,7 +13,7 @@ ghost use Rattle.sym_explore.specs.Counting.{made_paths};
 ghost use Rattle.sym_explore.specs.Faulting.{EndAmong, HasNumber};
 ghost use Rattle.sym_explore.specs.Growing.{GivesAfter, grown_paths, IsToldBy};
 
-use crate::ending::move_ended;
+use crate::ending::take_going;
 use crate::moving::move_all;
 use crate::statements::run_block;
 use std::alloc::Global;
@@ -62,9 +62,8 @@ fn explore_each(
     ensures faults { (records : List OneRecord) → HasNumber rec.now.no records →
         EndAmong records paths.items → IfOk result (λ new. EndAmong records new.items) }
 {
-    let mut going = paths;
-    let mut ended = Vec::new(alloc);
-    move_ended(&mut going, &mut ended)?;
+    let mut ended = paths;
+    let mut going = take_going(alloc, &mut ended)?;
     shorten(alloc, &mut buffers.locals, 0);
     run_block(
         alloc,

@@ -1,24 +1,23 @@
 //! Lists of paths, parted by a condition whose expressions without cells were evaluated.
-ghost use Rattle.std.specs.Prelude.{◌≡◌, ◌∷◌, ◌++◌, ℕ, [], List, IfOk, OnOk, IsTrue, if◌then◌else◌};
+ghost use Rattle.std.specs.Prelude.{◌≡◌, ◌≤◌, ◌++◌, ℕ, [], List, IfOk, OnOk, IsTrue, drop, if◌then◌else◌, length, take};
 ghost use Rattle.sym_base.specs.declared.values.record.Record.{Record as OneRecord};
 ghost use Rattle.sym_check.specs.ScriptPlans.{script_plan};
 ghost use Rattle.sym_check.specs.WellFormed.{IsWellFormed};
 ghost use Rattle.sym_path.specs.Changing.{GoesOn};
 ghost use Rattle.sym_path.specs.Fitting.{PathFits, SegmentFits};
-ghost use Rattle.sym_explore.specs.Evaluating.{AddsFew, AddsParts, EvaluatedFits, CellConditionFits, tried_on_cell, evaluated_truth, is_known, cell_branches, evaluated_branches};
-ghost use Rattle.sym_explore.specs.Branches.{answered, AreFewBranches, AreGoing, BranchesGo, IsGoing, Splits};
+ghost use Rattle.sym_explore.specs.Evaluating.{AreFewSplit, CellConditionFits, EvaluatedFits, SplitsEach, tried_on_cell, evaluated_truth, is_known, cell_branches, evaluated_branches};
+ghost use Rattle.sym_explore.specs.Branches.{answered, AreFewBranches, AreGoing, BranchesGo, Splits};
 ghost use Rattle.sym_explore.specs.Faulting.{EndAmong, HasNumber};
 ghost use Rattle.sym_explore.specs.Parting.{AllGoOn, AreFewParts, AreOfOneTruth, AreParts};
 
-use crate::branch::{Branch, put, put_all};
+use crate::branch::{Branch, put_all};
 use crate::calling::call;
 use crate::comparing::{Bound, compare_ready};
 use crate::knowing::arith;
 use crate::labels::cell_is;
-use crate::moving::{fail_all, move_all};
+use crate::moving::{fail_all, move_all, move_from};
 use crate::terms::Ready;
 use std::alloc::Global;
-use std::mem;
 use sym_base::{NoMemory, Values};
 use sym_check::Plan;
 use sym_path::Path;
@@ -43,16 +42,6 @@ pub enum Evaluated {
     Failed,
     /// A truth that depends on a cell.
     Open(CellCondition),
-}
-
-/// Where both lists are empty, they change their memory, if the next path isn't put into the first.
-fn lend(truth: bool, trues: &mut Vec<Path>, falses: &mut Vec<Path>)
-    ensures trues { trues.new.items ≡ trues.old.items }
-    ensures falses { falses.new.items ≡ falses.old.items }
-{
-    if !truth && trues.is_empty() && falses.is_empty() {
-        mem::swap(trues, falses);
-    }
 }
 
 /// Splits a path that goes on by a condition on a cell. The path becomes the last of its branches,
@@ -87,71 +76,47 @@ fn split(
     }
 }
 
-/// Parts one path: its branches are put after the paths of their truth.
-fn part_path(
+/// Splits paths where they lie. Those on which the condition is true become the first ones, and
+/// their number is the answer. The pieces that a split adds are put into `pieces`.
+fn split_each(
     alloc: Global,
     plan: &Plan,
     condition: &CellCondition,
     args: &Values,
-    path: Path,
-    trues: &mut Vec<Path>,
-    falses: &mut Vec<Path>,
-) -> Result<(), NoMemory>
+    paths: &mut Vec<Path>,
+    pieces: &mut Vec<Branch>,
+) -> Result<usize, NoMemory>
     requires known { IsWellFormed (script_plan plan.now) }
     requires condition { CellConditionFits (script_plan plan.now) args.now condition.now }
-    requires going { IsGoing (script_plan plan.now) path }
-    requires trues { AreGoing (script_plan plan.now) trues.old.items }
-    requires falses { AreGoing (script_plan plan.now) falses.old.items }
+    requires going { AreGoing (script_plan plan.now) paths.old.items }
+    requires pieces { BranchesGo (script_plan plan.now) pieces.old.items }
+    ensures within { IfOk result (λ count. count ≤ length paths.new.items) }
     ensures exact { (n : ℕ) →
         let meaning = tried_on_cell (script_plan plan.now) args.now condition.now n in
-        OnOk result (AddsParts (script_plan plan.now) meaning (path ∷ [])
-        trues.old.items trues.new.items falses.old.items falses.new.items) }
-    ensures few { OnOk result (AddsFew (cell_branches condition.now) (path ∷ [])
-        trues.old.items trues.new.items falses.old.items falses.new.items) }
-    ensures trues { OnOk result (AreGoing (script_plan plan.now) trues.new.items) }
-    ensures falses { OnOk result (AreGoing (script_plan plan.now) falses.new.items) }
+        IfOk result (λ count. SplitsEach (script_plan plan.now) meaning
+        paths.old.items pieces.old.items
+        (take count paths.new.items) (drop count paths.new.items) pieces.new.items) }
+    ensures few { IfOk result (λ count. AreFewSplit (cell_branches condition.now)
+        paths.old.items pieces.old.items
+        (take count paths.new.items) (drop count paths.new.items) pieces.new.items) }
+    ensures going { OnOk result (AreGoing (script_plan plan.now) paths.new.items) }
+    ensures pieces { OnOk result (BranchesGo (script_plan plan.now) pieces.new.items) }
 {
-    let mut path = path;
-    let mut pieces = Vec::new(alloc);
-    let truth = split(alloc, plan, condition, args, &mut path, &mut pieces)?;
-    lend(truth, trues, falses);
-    put_all(pieces, trues, falses)?;
-    put(Branch { path, truth }, trues, falses)?;
-    Ok(())
-}
-
-/// Does so on several paths, in order.
-fn part_list(
-    alloc: Global,
-    plan: &Plan,
-    condition: &CellCondition,
-    args: &Values,
-    paths: Vec<Path>,
-    trues: &mut Vec<Path>,
-    falses: &mut Vec<Path>,
-) -> Result<(), NoMemory>
-    requires known { IsWellFormed (script_plan plan.now) }
-    requires condition { CellConditionFits (script_plan plan.now) args.now condition.now }
-    requires going { AreGoing (script_plan plan.now) paths.items }
-    requires trues { AreGoing (script_plan plan.now) trues.old.items }
-    requires falses { AreGoing (script_plan plan.now) falses.old.items }
-    ensures exact { (n : ℕ) →
-        let meaning = tried_on_cell (script_plan plan.now) args.now condition.now n in
-        OnOk result (AddsParts (script_plan plan.now) meaning paths.items
-        trues.old.items trues.new.items falses.old.items falses.new.items) }
-    ensures few { OnOk result (AddsFew (cell_branches condition.now) paths.items
-        trues.old.items trues.new.items falses.old.items falses.new.items) }
-    ensures trues { OnOk result (AreGoing (script_plan plan.now) trues.new.items) }
-    ensures falses { OnOk result (AreGoing (script_plan plan.now) falses.new.items) }
-{
-    'paths: for path in paths {
-        part_path(alloc, plan, condition, args, path, trues, falses)?;
+    let mut count = 0;
+    let mut index = 0;
+    'paths: while index < paths.len() {
+        if split(alloc, plan, condition, args, &mut paths[index], pieces)? {
+            paths.swap(count, index);
+            count += 1;
+        }
+        index += 1;
     }
-    Ok(())
+    Ok(count)
 }
 
-/// Parts paths by a condition on a cell: those of their branches on which it is true take their place,
-/// and the others are put into `falses`. One path that isn't split takes no memory.
+/// Parts paths by a condition on a cell: their branches on which it is true take their place, and
+/// the others are put into `falses`. Where `falses` is empty, paths that aren't split and on which
+/// it has one truth take no memory.
 fn part_each(
     alloc: Global,
     plan: &Plan,
@@ -166,20 +131,17 @@ fn part_each(
     requires falses { AreGoing (script_plan plan.now) falses.old.items }
     ensures exact { (n : ℕ) →
         let meaning = tried_on_cell (script_plan plan.now) args.now condition.now n in
-        OnOk result (AddsParts (script_plan plan.now) meaning paths.old.items
-        [] paths.new.items falses.old.items falses.new.items) }
-    ensures few { OnOk result (AddsFew (cell_branches condition.now) paths.old.items
-        [] paths.new.items falses.old.items falses.new.items) }
+        OnOk result (AreParts (script_plan plan.now) meaning
+        paths.old.items paths.new.items falses.old.items falses.new.items [] []) }
+    ensures few { OnOk result (AreFewParts (cell_branches condition.now)
+        paths.old.items paths.new.items falses.old.items falses.new.items [] []) }
     ensures going { OnOk result (AreGoing (script_plan plan.now) paths.new.items) }
     ensures falses { OnOk result (AreGoing (script_plan plan.now) falses.new.items) }
 {
-    if paths.len() == 1
-        && let Some(path) = paths.pop()
-    {
-        return part_path(alloc, plan, condition, args, path, paths, falses);
-    }
-    let old = mem::replace(paths, Vec::new(alloc));
-    part_list(alloc, plan, condition, args, old, paths, falses)
+    let mut pieces = Vec::new(alloc);
+    let count = split_each(alloc, plan, condition, args, paths, &mut pieces)?;
+    move_from(paths, count, falses)?;
+    put_all(pieces, paths, falses)
 }
 
 /// Parts paths by one truth.

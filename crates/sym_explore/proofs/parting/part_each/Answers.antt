@@ -1,22 +1,65 @@
-use Rattle.std.proofs.Common.{◌≡◌, ◌∷◌, [], List, rules, sym, subst}
-use Rattle.std.specs.Prelude.{OnOk}
+use Rattle.std.proofs.Common.{◌≡◌, ◌++◌, [], List, drop, take, ap, ◌∙◌}
 use Rattle.sym_check.specs.ScriptPlans.{script_plan}
 use Rattle.sym_path.specs.declared.path.Path.{Path}
-use Rattle.sym_explore.specs.Evaluating.{AddsParts, tried_on_cell}
+use Rattle.sym_explore.specs.Branches.{AreGoing, paths_false, paths_true}
+use Rattle.sym_explore.specs.Evaluating.{cell_branches, holds_at, tried_on_cell}
+use Rattle.sym_explore.specs.Parting.{AreFewParts, AreParts}
+use Rattle.sym_explore.proofs.ComparedPaths.{on_ok, on_ok_both}
+use Rattle.sym_explore.proofs.PartedInPlace.{falses_go, few_parts, goes_on_all, split_parts, trues_go}
 use Rattle.sym_explore.proofs.parting.part_each.Goals as goal
 
 pub returns-clause-exact : goal.returns-clause-exact
 returns-clause-exact c = λ n.
     let p = script_plan c.args.plan.now in
-    let one : c.args.paths.now.items ≡ c.in-Some.path ∷ [] = search rules in
-    let none : c.pop.new.self.items ≡ [] = search rules in
-    subst (λ (old : List Path). OnOk c.part_path.result (AddsParts p (tried_on_cell p c.args.args.now c.args.condition.now n) old [] c.part_path.new.trues.items c.args.falses.now.items c.part_path.new.falses.items)) (sym one)
-    (subst (λ (before : List Path). OnOk c.part_path.result (AddsParts p (tried_on_cell p c.args.args.now c.args.condition.now n) (c.in-Some.path ∷ []) before c.part_path.new.trues.items c.args.falses.now.items c.part_path.new.falses.items)) none (c.part_path.ensures.exact n))
+    let q = c.args.condition.now in
+    let old : List Path = c.args.paths.now.items in
+    let count = c.in_ok-count.count in
+    let paths : List Path = c.split_each.new.paths.items in
+    let pieces = c.split_each.new.pieces.items in
+    let new : List Path = c.put_all.new.trues.items in
+    let before : List Path = c.args.falses.now.items in
+    let after : List Path = c.put_all.new.falses.items in
+    on_ok_both c.put_all.result (new ≡ c.move_from.new.paths.items ++ paths_true pieces) (after ≡ c.move_from.new.to.items ++ paths_false pieces) (AreParts p (tried_on_cell p c.args.args.now q n) old new before after [] [])
+    (λ t f. split_parts p n (holds_at p c.args.args.now q) old (take count paths) (drop count paths) c.new-pieces.result.items pieces c.new-pieces.ensures.items (c.in_ok-count.ensures.exact n) new before after
+    (t ∙ ap (λ (ps : List Path). ps ++ paths_true pieces) c.in_ok-move_from.ensures.paths)
+    (f ∙ ap (λ (ps : List Path). ps ++ paths_false pieces) c.in_ok-move_from.ensures.to)
+    (goes_on_all p old c.requires.going))
+    c.put_all.ensures.trues c.put_all.ensures.falses
 
-pub returns-2-clause-exact : goal.returns-2-clause-exact
-returns-2-clause-exact c = λ n.
+pub returns-clause-few : goal.returns-clause-few
+returns-clause-few c =
+    let q = c.args.condition.now in
+    let old : List Path = c.args.paths.now.items in
+    let count = c.in_ok-count.count in
+    let paths : List Path = c.split_each.new.paths.items in
+    let pieces = c.split_each.new.pieces.items in
+    let new : List Path = c.put_all.new.trues.items in
+    let before : List Path = c.args.falses.now.items in
+    let after : List Path = c.put_all.new.falses.items in
+    on_ok_both c.put_all.result (new ≡ c.move_from.new.paths.items ++ paths_true pieces) (after ≡ c.move_from.new.to.items ++ paths_false pieces) (AreFewParts (cell_branches q) old new before after [] [])
+    (λ t f. few_parts (cell_branches q) old (take count paths) (drop count paths) c.new-pieces.result.items pieces c.new-pieces.ensures.items c.in_ok-count.ensures.few new before after
+    (t ∙ ap (λ (ps : List Path). ps ++ paths_true pieces) c.in_ok-move_from.ensures.paths)
+    (f ∙ ap (λ (ps : List Path). ps ++ paths_false pieces) c.in_ok-move_from.ensures.to))
+    c.put_all.ensures.trues c.put_all.ensures.falses
+
+pub returns-clause-going : goal.returns-clause-going
+returns-clause-going c =
     let p = script_plan c.args.plan.now in
-    let all : c.replace-old.result.items ≡ c.args.paths.now.items = search rules in
-    let none : c.replace-old.new.dest.items ≡ [] = search rules in
-    subst (λ (old : List Path). OnOk c.part_list.result (AddsParts p (tried_on_cell p c.args.args.now c.args.condition.now n) old [] c.part_list.new.trues.items c.args.falses.now.items c.part_list.new.falses.items)) all
-    (subst (λ (before : List Path). OnOk c.part_list.result (AddsParts p (tried_on_cell p c.args.args.now c.args.condition.now n) c.replace-old.result.items before c.part_list.new.trues.items c.args.falses.now.items c.part_list.new.falses.items)) none (c.part_list.ensures.exact n))
+    let count = c.in_ok-count.count in
+    let paths : List Path = c.split_each.new.paths.items in
+    let pieces = c.split_each.new.pieces.items in
+    let new : List Path = c.put_all.new.trues.items in
+    on_ok c.put_all.result (new ≡ c.move_from.new.paths.items ++ paths_true pieces) (AreGoing p new)
+    (λ t. trues_go p count paths pieces c.in_ok-count.ensures.going c.in_ok-count.ensures.pieces new (t ∙ ap (λ (ps : List Path). ps ++ paths_true pieces) c.in_ok-move_from.ensures.paths))
+    c.put_all.ensures.trues
+
+pub returns-clause-falses : goal.returns-clause-falses
+returns-clause-falses c =
+    let p = script_plan c.args.plan.now in
+    let count = c.in_ok-count.count in
+    let paths : List Path = c.split_each.new.paths.items in
+    let pieces = c.split_each.new.pieces.items in
+    let after : List Path = c.put_all.new.falses.items in
+    on_ok c.put_all.result (after ≡ c.move_from.new.to.items ++ paths_false pieces) (AreGoing p after)
+    (λ f. falses_go p count paths pieces c.in_ok-count.ensures.going c.in_ok-count.ensures.pieces c.args.falses.now.items after c.requires.falses (f ∙ ap (λ (ps : List Path). ps ++ paths_false pieces) c.in_ok-move_from.ensures.to))
+    c.put_all.ensures.falses

@@ -5,13 +5,13 @@ use Rattle.sym_check.specs.ScriptPlans.{script_plan}
 use Rattle.sym_path.specs.Changing.{with_fault}
 use Rattle.sym_path.specs.Fitting.{SegmentFits}
 use Rattle.sym_path.specs.declared.path.Path.{Path}
-use Rattle.sym_explore.specs.Evaluating.{AddsParts, holds_at, tried_on_cell, evaluated_truth}
+use Rattle.sym_explore.specs.Evaluating.{holds_at, tried_on_cell, evaluated_truth}
 use Rattle.sym_explore.specs.Branches.{answered}
 use Rattle.sym_explore.specs.Faulting.{EndAmong}
 use Rattle.sym_explore.specs.Parting.{AreParts}
 use Rattle.sym_explore.specs.declared.parting.Evaluated.{Evaluated}
-use Rattle.sym_explore.proofs.ComparedPaths.{on_ok_both}
-use Rattle.sym_explore.proofs.PartedLists.{failed_came, failed_fit, failed_parts, known_parts, open_parts}
+use Rattle.sym_explore.proofs.ComparedPaths.{on_ok, on_ok_both}
+use Rattle.sym_explore.proofs.PartedLists.{failed_came, failed_fit, failed_parts, known_parts, with_ended}
 use Rattle.sym_explore.proofs.parting.part_evaluated.Goals as goal
 
 pub returns-in-Known-clause-exact : goal.returns-in-Known-clause-exact
@@ -73,8 +73,7 @@ returns-in-Open-clause-exact c =
     let after = c.part_each.new.falses.items in
     let ended = c.args.ended.now.items in
     let q = c.in-Open.condition in
-    let part : OnOk c.part_each.result (AddsParts p (tried_on_cell p c.args.args.now q c.args.no) old [] new before after) = c.part_each.ensures.exact c.args.no in
     subst (λ (evaluated : Evaluated). OnOk c.part_each.result (AreParts p (answered c.args.no (evaluated_truth p c.args.args.now evaluated)) old new before after ended ended)) (sym c.in-Open.is)
-    (on_ok_both c.part_each.result (AddsParts p (tried_on_cell p c.args.args.now q c.args.no) old [] new before after) (AddsParts p (tried_on_cell p c.args.args.now q c.args.no) old [] new before after) (AreParts p (answered c.args.no (λ s. Ok (holds_at p c.args.args.now q s))) old new before after ended ended)
-    (λ e f. open_parts p c.args.no (holds_at p c.args.args.now q) old new before after ended ended c.requires.going refl e)
-    part part)
+    (on_ok c.part_each.result (AreParts p (tried_on_cell p c.args.args.now q c.args.no) old new before after [] []) (AreParts p (answered c.args.no (λ s. Ok (holds_at p c.args.args.now q s))) old new before after ended ended)
+    (with_ended p (tried_on_cell p c.args.args.now q c.args.no) old new before after ended)
+    (c.part_each.ensures.exact c.args.no))
