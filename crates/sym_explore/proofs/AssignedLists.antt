@@ -4,7 +4,7 @@ use Rattle.std.proofs.lemmas.List.{append-nil, length-map, map-append}
 use Rattle.std.proofs.lemmas.List.Elements.{All-nil, All-cons, All-head, All-tail}
 use Rattle.std.proofs.lemmas.List.Sorted.{IsPermutation-refl}
 use Rattle.std.specs.Prelude.{OnOk, Result, Ok, Err}
-use Rattle.std.specs.List.{AllZip}
+use Rattle.std.specs.List.{All, AllZip}
 use Rattle.std.specs.List.Sorted.{IsPermutation}
 use Rattle.sym_base.specs.declared.values.record.Record.{Record}
 use Rattle.sym_base.specs.declared.values.state.Fault.{Fault}
@@ -130,9 +130,23 @@ module _ (p : ScriptPlan) (fault : Fault) where
       came (Next forms) g = here
       came (Ended f) g = absurd g
 
-  pub failed_run : (old mid new before after : List Path) → mid ≡ map failing old → FitsFault p fault.kind → SegmentFits p old → AllGoOn old → SegmentFits p before → AreMoved mid new before after → AllGoOn new → WereRun p (ended_by fault) fault.no 1 0 old new before after
-  failed_run old mid new before after is kind fit goes others moves on =
-      let moved : AreMoved (map failing old) new before after = subst (λ (ps : List Path). AreMoved ps new before after) is moves in
+  failed_over : (old : List Path) → All (λ (q : Path). ¬ (GoesOn q.end)) (map failing old)
+  failed_over [] = All-nil (λ (q : Path). ¬ (GoesOn q.end))
+  failed_over (x ∷ old) = All-cons (λ (q : Path). ¬ (GoesOn q.end)) (failing x) (map failing old) (over x.end) (failed_over old)
+    where
+      over : (end : PathEnd) → ¬ (GoesOn (end_by fault end))
+      over (Next forms) = λ g. g
+      over (Ended f) = λ g. g
+
+  pub failed_run : (old new before after : List Path) → new ≡ [] → after ≡ before ++ map failing old → FitsFault p fault.kind → SegmentFits p old → AllGoOn old → SegmentFits p before → WereRun p (ended_by fault) fault.no 1 0 old new before after
+  failed_run old new before after none is kind fit goes others =
+      let moved : AreMoved (map failing old) new before after = record {
+        moved = map failing old;
+        is = is;
+        same = subst (λ (ps : List Path). IsPermutation (map failing old) (ps ++ map failing old)) (sym none) (IsPermutation-refl (map failing old));
+        over = failed_over old;
+      } in
+      let on : AllGoOn new = subst AllGoOn (sym none) (All-nil (λ (q : Path). GoesOn q.end)) in
       were_run p (ended_by fault) fault.no 0 old (map failing old) new before before after (none_added p (ended_by fault) old (map failing old) before (failed_give old)) (failed_fit old kind fit) others (length-map old failing) (omega arith) (λ records here ends. (failed_among records old here goes, ends)) moved on
 
 -- ---- the same step, and more paths

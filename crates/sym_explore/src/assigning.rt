@@ -254,7 +254,7 @@ fn keep_on(
 {
     match set_values(alloc, known, values, scratch) {
         Ok(()) => keep_all(alloc, cell, scratch, paths),
-        Err(Stop::Fault(kind)) => fail_all(plan, Fault { kind, no }, paths, ended),
+        Err(Stop::Fault(kind)) => fail_all(Fault { kind, no }, paths, ended),
         Err(Stop::NoMemory) => Err(NoMemory),
     }
 }

@@ -1,24 +1,21 @@
 //! Paths that end, and move out of a list of paths.
-ghost use Rattle.std.specs.Prelude.{◌≡◌, ◌≤◌, [], IfOk, OnOk, drop, length, map, take};
+ghost use Rattle.std.specs.Prelude.{◌≡◌, ◌≤◌, ◌++◌, [], IfOk, OnOk, drop, length, take};
 ghost use Rattle.std.specs.List.{All};
 ghost use Rattle.std.specs.List.Sorted.{IsPermutation};
-ghost use Rattle.sym_check.specs.Fitting.{FitsFault};
-ghost use Rattle.sym_check.specs.ScriptPlans.{script_plan};
-ghost use Rattle.sym_path.specs.Changing.{GoesOn, ended_by, with_fault};
-ghost use Rattle.sym_path.specs.Fitting.{SegmentFits};
+ghost use Rattle.sym_path.specs.Changing.{GoesOn};
 ghost use Rattle.sym_path.specs.declared.path.Path.{Path as OnePath};
-ghost use Rattle.sym_explore.specs.Ending.{AreMoved, WereRun};
+ghost use Rattle.sym_explore.specs.Ending.{AreMoved};
 ghost use Rattle.sym_explore.specs.Parting.{AllGoOn};
+ghost use Rattle.sym_explore.specs.Running.{failed_paths};
 
-use crate::moving::move_from;
+use crate::moving::{move_all, move_from};
 use std::alloc::Global;
 use sym_base::{Fault, NoMemory};
-use sym_check::Plan;
 use sym_path::Path;
 
 /// Ends each of the paths by a fault.
-pub(crate) fn fail_each(paths: &mut [Path], fault: Fault)
-    ensures { paths.new ≡ map (λ (path : OnePath). with_fault path fault) paths.old }
+fn fail_each(paths: &mut [Path], fault: Fault)
+    ensures { paths.new ≡ failed_paths fault paths.old }
 {
     'paths: for path in paths.iter_mut() {
         path.fail(fault);
@@ -74,20 +71,16 @@ pub(crate) fn take_going(alloc: Global, paths: &mut Vec<Path>) -> Result<Vec<Pat
     Ok(going)
 }
 
-/// Ends each of the paths by a fault, and moves them to the end of another list.
+/// Ends all of the paths by the fault, and puts them after those that have ended.
 pub(crate) fn fail_all(
-    _plan: &Plan,
     fault: Fault,
     paths: &mut Vec<Path>,
     ended: &mut Vec<Path>,
 ) -> Result<(), NoMemory>
-    requires kind { FitsFault (script_plan _plan.now) fault.kind }
-    requires fits { SegmentFits (script_plan _plan.now) paths.old.items }
-    requires going { AllGoOn paths.old.items }
-    requires ended_fit { SegmentFits (script_plan _plan.now) ended.old.items }
-    ensures { OnOk result (WereRun (script_plan _plan.now) (ended_by fault) fault.no 1 0
-        paths.old.items paths.new.items ended.old.items ended.new.items) }
+    ensures paths { OnOk result (paths.new.items ≡ []) }
+    ensures ended { OnOk result
+        (ended.new.items ≡ ended.old.items ++ failed_paths fault paths.old.items) }
 {
     fail_each(paths, fault);
-    move_ended(paths, ended)
+    move_all(paths, ended)
 }

@@ -1,10 +1,8 @@
 //! Paths that move from one list into another.
 ghost use Rattle.std.specs.Prelude.{◌≡◌, ◌≤◌, ◌++◌, [], OnOk, drop, length, take};
-ghost use Rattle.sym_explore.specs.Running.{failed_paths};
 
-use std::alloc::Global;
 use std::mem;
-use sym_base::{Fault, NoMemory};
+use sym_base::NoMemory;
 use sym_path::Path;
 
 /// Puts all of the paths after the others. It takes no memory where there are no others.
@@ -39,24 +37,4 @@ pub(crate) fn move_from(
     } else {
         Ok(())
     }
-}
-
-/// Ends all of the paths by the fault, and puts them after those that have ended.
-pub(crate) fn fail_all(
-    alloc: Global,
-    fault: Fault,
-    paths: &mut Vec<Path>,
-    ended: &mut Vec<Path>,
-) -> Result<(), NoMemory>
-    ensures paths { OnOk result (paths.new.items ≡ []) }
-    ensures ended { OnOk result
-        (ended.new.items ≡ ended.old.items ++ failed_paths fault paths.old.items) }
-{
-    let all = mem::replace(paths, Vec::new(alloc));
-    'paths: for each in all {
-        let mut path = each;
-        path.fail(fault);
-        ended.push(path)?;
-    }
-    Ok(())
 }

@@ -13,9 +13,10 @@ ghost use Rattle.sym_explore.specs.Parting.{AllGoOn, AreFewParts, AreOfOneTruth,
 use crate::branch::{Branch, put_all};
 use crate::calling::call;
 use crate::comparing::{Bound, compare_ready};
+use crate::ending::fail_all;
 use crate::knowing::arith;
 use crate::labels::cell_is;
-use crate::moving::{fail_all, move_all, move_from};
+use crate::moving::{move_all, move_from};
 use crate::terms::Ready;
 use std::alloc::Global;
 use sym_base::{NoMemory, Values};
@@ -196,7 +197,7 @@ pub(crate) fn part_evaluated(
 {
     match evaluated {
         Evaluated::Known(truth) => part_known(*truth, paths, falses),
-        Evaluated::Failed => fail_all(alloc, arith(no), paths, ended),
+        Evaluated::Failed => fail_all(arith(no), paths, ended),
         Evaluated::Open(condition) => part_each(alloc, plan, condition, args, paths, falses),
     }
 }

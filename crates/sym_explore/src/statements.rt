@@ -18,8 +18,9 @@ ghost use Rattle.sym_explore.specs.Stepping.{after_do, after_dos};
 
 use crate::assigning::assign_all;
 use crate::conditions::part;
+use crate::ending::fail_all;
 use crate::knowing::known_in;
-use crate::moving::{fail_all, move_all};
+use crate::moving::move_all;
 use std::alloc::Global;
 use sym_base::{Fault, NoMemory, Record};
 use sym_check::{Cond, Do, Dos, Fixed, Plan};
@@ -62,7 +63,7 @@ fn name(
         Ok(value) => name_local(&mut buffers.locals, local, value),
         Err(Stop::Fault(kind)) => {
             let fault = Fault { kind, no: rec.no };
-            fail_all(alloc, fault, paths, ended)
+            fail_all(fault, paths, ended)
         }
         Err(Stop::NoMemory) => Err(NoMemory),
     }

@@ -196,7 +196,7 @@ pub(crate) fn store_all(
         paths.old.items paths.new.items ended.old.items ended.new.items) }
 {
     let Ok(ready) = ready_of(known, term) else {
-        return fail_all(plan, arith(no), paths, ended);
+        return fail_all(arith(no), paths, ended);
     };
     store_each(alloc, plan, no, place, &ready, paths, ended)?;
     move_ended(paths, ended)

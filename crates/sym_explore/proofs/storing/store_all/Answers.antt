@@ -1,5 +1,6 @@
 use Rattle.std.proofs.Common.{◌≡◌, ◌≤◌, ◌+◌, ◌*◌, ◌∙◌, List, length, ap, sym, subst, arith}
 use Rattle.std.specs.Prelude.{Ok, OnOk}
+use Rattle.sym_check.specs.Fitting.{FitsFault}
 use Rattle.sym_check.specs.FixedValues.{Environment}
 use Rattle.sym_check.specs.KnownValues.{known_values}
 use Rattle.sym_check.specs.LinePlans.{TermPlan, term_plan}
@@ -9,7 +10,7 @@ use Rattle.sym_path.specs.declared.path.Path.{Path}
 use Rattle.sym_explore.specs.Ending.{AreMoved, AreParted}
 use Rattle.sym_explore.specs.Storing.{after_store}
 use Rattle.sym_explore.specs.Terms.{ready_of}
-use Rattle.sym_explore.proofs.AssignedLists.{on_ok, on_ok_both, store_failed, store_run, store_term}
+use Rattle.sym_explore.proofs.AssignedLists.{failed_run, on_ok_both, store_failed, store_run, store_term}
 use Rattle.sym_explore.proofs.TermForms.{ready_fits}
 use Rattle.sym_explore.proofs.storing.store_all.Goals as goal
 
@@ -18,9 +19,9 @@ returns-in_default c =
     let p : ScriptPlan = script_plan c.args.plan.now in
     let k : Environment = known_values c.args.known.now in
     let t : TermPlan = term_plan c.args.term.now in
-    on_ok c.fail_all.result
-    (store_failed p k c.args.no c.args.place t c.in_default.field-0 c.arith.result c.args.paths.now.items c.fail_all.new.paths.items c.args.ended.now.items c.fail_all.new.ended.items (sym c.ready_of.ensures ∙ c.in_default.is) c.arith.ensures.kind c.arith.ensures.no)
-    c.fail_all.ensures
+    on_ok_both c.fail_all.result c.fail_all.ensures.paths c.fail_all.ensures.ended
+    (λ e f. store_failed p k c.args.no c.args.place t c.in_default.field-0 c.arith.result c.args.paths.now.items c.fail_all.new.paths.items c.args.ended.now.items c.fail_all.new.ended.items (sym c.ready_of.ensures ∙ c.in_default.is) c.arith.ensures.kind c.arith.ensures.no
+    (failed_run p c.arith.result c.args.paths.now.items c.fail_all.new.paths.items c.args.ended.now.items c.fail_all.new.ended.items e f (subst (FitsFault p) (sym c.arith.ensures.kind) tt) c.requires.fits c.requires.going c.requires.ended_fit))
 
 pub store_each-requires-clause-ready : goal.store_each-requires-clause-ready
 store_each-requires-clause-ready c =
