@@ -8,13 +8,13 @@ use crate::setting::{checked, path_of, state_by};
 use std::alloc::Global;
 use std::process::Abort;
 use std::test::Fail;
-use sym_base::{Cell, NoMemory, Outcome, Record, State, Value, Values};
+use sym_base::{Cell, NoMemory, Outcome, Record, State, Text, Value, Values};
 use sym_check::Checked;
 use sym_enum::EnumForm;
-use sym_explore::{Grown, extend, fresh, grow};
+use sym_explore::{Grown, extend, fresh, fresh_with, grow, grow_with};
 use sym_int::{IntForm, Number};
 use sym_path::{Form, Path, PathEnd, Segment};
-use sym_plain::step;
+use sym_plain::{Buffers, step};
 use sym_pred::HoldForm;
 use sym_table::{Cutter, Decoded, Row, decode};
 use sym_vector::ListForm;
@@ -91,6 +91,24 @@ fn fits(checked: &Checked, segment: &Segment) -> bool
     segment.paths().iter().all(|path| path.fits(checked))
 }
 
+/// The segment of one record; the same over memory that other records and scripts have used.
+fn first(
+    rt: &impl Abort,
+    alloc: Global,
+    checked: &Checked,
+    rec: &Record,
+    used: &mut Buffers,
+) -> Result<Segment, NoMemory>
+    requires { IsRecord (checked_plan checked.now) rec.now }
+{
+    let segment = fresh(alloc, checked, rec)?;
+    assert!(rt;
+        fresh_with(alloc, checked, rec, used)? == segment,
+        "the same over used memory"
+    );
+    Ok(segment)
+}
+
 /// The segment of one record more; `None` where it would have too many paths.
 fn longer(
     rt: &impl Abort,
@@ -99,12 +117,15 @@ fn longer(
     segment: &Segment,
     rec: &Record,
     limit: u32,
+    used: &mut Buffers,
 ) -> Result<Option<Segment>, NoMemory>
     requires { IsRecord (checked_plan checked.now) rec.now }
 {
     assert!(rt; fits(checked, segment), "the segment fits");
     let grown = extend(alloc, checked, segment, rec, limit)?;
     assert!(rt; grow(alloc, checked, segment.copy(alloc)?, rec, limit)? == grown);
+    let again = grow_with(alloc, checked, segment.copy(alloc)?, rec, limit, used)?;
+    assert!(rt; again == grown, "the same over used memory");
     match grown {
         Grown::Fits(found) => Ok(Some(found)),
         Grown::Over(_found) => Ok(None),
@@ -120,11 +141,12 @@ fn add(
     segments: &mut Vec<Segment>,
     rec: &Record,
     limit: u32,
+    used: &mut Buffers,
 ) -> Result<(), NoMemory>
     requires { IsRecord (checked_plan checked.now) rec.now }
 {
     let found = match segments.last() {
-        Some(last) => longer(rt, alloc, checked, last, rec, limit)?,
+        Some(last) => longer(rt, alloc, checked, last, rec, limit, used)?,
         None => None,
     };
     match found {
@@ -132,7 +154,7 @@ fn add(
             let _last = segments.pop();
             segments.push(segment)?;
         }
-        None => segments.push(fresh(alloc, checked, rec)?)?,
+        None => segments.push(first(rt, alloc, checked, rec, used)?)?,
     }
     Ok(())
 }
@@ -150,6 +172,7 @@ fn explored(
     alloc: Global,
     checked: &Checked,
     case: &Case,
+    used: &mut Buffers,
 ) -> Result<Exploration, Fail> {
     let mut records = Vec::new(alloc);
     let mut segments = Vec::new(alloc);
@@ -157,7 +180,7 @@ fn explored(
     'lines: for line in case.lines.split_whitespace() {
         no = after(rt, no);
         let rec = record(rt, alloc, checked, case.header, line, no)?;
-        add(rt, alloc, checked, &mut segments, &rec, case.limit)?;
+        add(rt, alloc, checked, &mut segments, &rec, case.limit, used)?;
         records.push(rec)?;
     }
     Ok(Exploration { records, segments })
@@ -379,20 +402,33 @@ fn check_records(
     alloc: Global,
     case: &Case,
     checked: &Checked,
+    used: &mut Buffers,
 ) -> Result<(), Fail> {
-    let explored = explored(rt, alloc, checked, case)?;
+    let explored = explored(rt, alloc, checked, case, used)?;
     check_explored(rt, alloc, case, checked, &explored)
 }
 
-fn check_case(rt: &impl Abort, alloc: Global, case: &Case) -> Result<(), Fail> {
+fn check_case(rt: &impl Abort, alloc: Global, case: &Case, used: &mut Buffers) -> Result<(), Fail> {
     let checked = checked(rt, alloc, case.script);
-    check_records(rt, alloc, case, &checked)
+    check_records(rt, alloc, case, &checked, used)
 }
 
-/// Compares the segments of each script with the steps, and the numbers of what there is.
+/// Memory with values in it that no script has put there.
+fn used_buffers(alloc: Global) -> Result<Buffers, NoMemory> {
+    let mut used = Buffers::new(alloc);
+    used.locals
+        .push(Value::Word(Text::from_str(alloc, "old")?))?;
+    used.locals.push(Value::Num(7))?;
+    used.args.push(Value::Label(3))?;
+    Ok(used)
+}
+
+/// Compares the segments of each script with the steps, and the numbers of what there is. One after
+/// the other uses the same memory.
 pub(crate) fn check_cases(rt: &impl Abort, alloc: Global, cases: &[Case]) -> Result<(), Fail> {
+    let mut used = used_buffers(alloc)?;
     'cases: for case in cases {
-        check_case(rt, alloc, case)?;
+        check_case(rt, alloc, case, &mut used)?;
     }
     Ok(())
 }
