@@ -1,10 +1,10 @@
 -- Paths that get a number, where they stand.
-use Rattle.std.proofs.Common.{◌≡◌, ◌≤◌, ◌+◌, ◌*◌, ℕ, ℤ, List, [], ◌∷◌, ◌++◌, Some, None, map, length, refl, sym, ap, ◌∙◌, subst, append_assoc, arith}
+use Rattle.std.proofs.Common.{◌≡◌, ◌≤◌, ◌+◌, ◌*◌, ℕ, ℤ, Bool, List, [], ◌∷◌, ◌++◌, Some, None, map, length, refl, sym, ap, ◌∙◌, subst, append_assoc, arith}
 use Rattle.std.proofs.Math.Nat.{mul-add}
 use Rattle.std.proofs.lemmas.List.{append-nil, length-append}
 use Rattle.std.proofs.lemmas.List.Sorted.{length_permutation}
 use Rattle.std.proofs.lemmas.List.Elements.{All-nil, All-cons}
-use Rattle.std.specs.Prelude.{Result, Ok}
+use Rattle.std.specs.Prelude.{IsTrue, Result, Ok}
 use Rattle.sym_base.specs.declared.values.record.Record.{Record}
 use Rattle.sym_base.specs.declared.values.state.Cell.TheVariants as cell
 use Rattle.sym_base.specs.declared.values.state.State.{State}
@@ -161,3 +161,18 @@ module _ (p : ScriptPlan) (step : Outcome → Outcome) (n ended : ℕ) (old mid 
 
       times : length old * (1 + ended) ≡ length old * 1 + length old * ended
       times = mul-add (length old) 1 ended
+
+-- ---- whether all of them go on
+
+-- The answer after a path is true only where that before it is, and the path goes on.
+abbrev pub TellsGoing : Path → Bool → Path → Bool → Type 0
+TellsGoing old before new after = IsTrue after → IsTrue before × GoesOn new.end
+
+pub all_going : (old : List Path) (before : Bool) (new : List Path) (after : Bool) → AllThreaded TellsGoing old before new after → IsTrue after → IsTrue before × AllGoOn new
+all_going [] before [] after h t = (subst (λ (x : Bool). IsTrue x) h t, All-nil (λ (path : Path). GoesOn path.end))
+all_going [] before (y ∷ new) after h t = absurd h
+all_going (x ∷ old) before [] after h t = absurd h
+all_going (x ∷ old) before (y ∷ new) after h t =
+    let rest = all_going old h.0 new after h.2 t in
+    let one = h.1 rest.0 in
+    (one.0, All-cons (λ (path : Path). GoesOn path.end) y new one.1 rest.1)

@@ -1,5 +1,5 @@
 -- Assignments to cells of a path.
-use Rattle.std.specs.Prelude.{◌<◌, ℕ, List, [], Option, Some, None}
+use Rattle.std.specs.Prelude.{◌<◌, ℕ, List, [], ◌∷◌, ◌++◌, Option, Some, None}
 use Rattle.sym_check.specs.CellKinds.{IsEnumCell}
 use Rattle.sym_check.specs.DoPlans.{DoPlan, Let, SetInt, SetEnum, CopyEnum, Keep, KeepFrom, PushNum, PushWord, If}
 use Rattle.sym_check.specs.ScriptPlans.{ScriptPlan}
@@ -29,6 +29,13 @@ added_words (Some (form.Int f)) = []
 added_words (Some (form.Hold f)) = []
 added_words (Some (form.Nums added)) = []
 added_words (Some (form.Words added)) = added
+
+-- The form with one more of them; of any other form it is the only one.
+abbrev pub one_number_more : Option Form → IntForm → Form
+one_number_more old f = form.Nums (added_numbers old ++ f ∷ [])
+
+abbrev pub one_word_more : Option Form → List ℕ → Form
+one_word_more old w = form.Words (added_words old ++ w ∷ [])
 
 -- The form of a hold cell; none of any other form, and of none.
 abbrev pub hold_form : Option Form → Option HoldForm

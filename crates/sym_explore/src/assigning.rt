@@ -14,7 +14,7 @@ ghost use Rattle.sym_path.specs.Changing.{GoesOn, changed};
 ghost use Rattle.sym_path.specs.Fitting.{PathFits, SegmentFits};
 ghost use Rattle.sym_path.specs.declared.path.Path.{Path as OnePath};
 ghost use Rattle.sym_plain.specs.Running.{IsAssignment};
-ghost use Rattle.sym_explore.specs.Assigning.{EndsNone, HasLabel, added_words, parts_form, with_parts};
+ghost use Rattle.sym_explore.specs.Assigning.{EndsNone, HasLabel, parts_form, with_parts};
 ghost use Rattle.sym_explore.specs.Counting.{do_going, do_ended};
 ghost use Rattle.sym_explore.specs.Ending.{IsChanged, WereRun};
 ghost use Rattle.sym_explore.specs.Faulting.{EndAmong, EndsSo, HasNumber};
@@ -23,6 +23,7 @@ ghost use Rattle.sym_explore.specs.Parting.{AllGoOn, AreFewRun, AreRun};
 ghost use Rattle.sym_explore.specs.Stepping.{Becomes, after_do};
 
 use crate::ending::fail_all;
+use crate::forms::{add_word, put_label};
 use crate::labels::label_form;
 use crate::storing::{Place, store_all};
 use std::alloc::Global;
@@ -33,17 +34,6 @@ use sym_enum::EnumForm;
 use sym_path::{Form, Path};
 use sym_plain::{Stop, set_values};
 use sym_pred::HoldForm;
-use sym_vector::ListForm;
-
-/// The words that a form adds to the list of a cell; none of any other form.
-fn added_words(alloc: Global, form: Option<Form>) -> ListForm<Text>
-    ensures { result ≡ added_words form }
-{
-    match form {
-        Some(Form::Words(added)) => added,
-        _ => ListForm::same(alloc),
-    }
-}
 
 /// Pushes a word to a `words` cell.
 fn push_word(
@@ -62,9 +52,7 @@ fn push_word(
     ensures fits { OnOk result (PathFits (script_plan _plan.now) path.new) }
     ensures same { OnOk result (EndsSo path.old.end path.new.end) }
 {
-    let old = path.replace_form(cell, Form::Words(ListForm::same(alloc)));
-    let added = added_words(alloc, old).push(alloc, Text::from_str(alloc, word)?)?;
-    path.set_form(cell, Form::Words(added));
+    add_word(alloc, path, cell, Text::from_str(alloc, word)?)?;
     Ok(())
 }
 
@@ -77,7 +65,7 @@ fn set_label(_plan: &Plan, cell: u16, label: u8, path: &mut Path)
     ensures fits { PathFits (script_plan _plan.now) path.new }
     ensures same { EndsSo path.old.end path.new.end }
 {
-    path.set_form(cell, Form::Enum(EnumForm::Const(label)));
+    put_label(path, cell, EnumForm::Const(label));
 }
 
 /// Assigns the label of one enum cell to another.
@@ -90,7 +78,7 @@ fn copy_label(_plan: &Plan, cell: u16, from: u16, path: &mut Path)
     ensures same { EndsSo path.old.end path.new.end }
 {
     if let Some(form) = label_form(path, from) {
-        path.set_form(cell, Form::Enum(form));
+        put_label(path, cell, form);
     }
 }
 

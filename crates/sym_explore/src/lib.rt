@@ -8,6 +8,7 @@ mod comparing;
 mod conditions;
 mod ending;
 mod extending;
+mod forms;
 mod knowing;
 mod labels;
 pub mod laws;

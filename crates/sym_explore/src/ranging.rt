@@ -123,6 +123,7 @@ fn narrow_within(plan: &Plan, cell: u16, own: &Span, span: &Span, path: &mut Pat
 
 /// Parts the path by whether a number over the span of the cell is in the range. Where it isn't the
 /// path ends; where it is in some of the states the path goes on with these.
+#[inline(never)]
 fn range_line(
     alloc: Global,
     plan: &Plan,
@@ -204,6 +205,7 @@ fn whole_form(wide: &Wide, line: &WideLine, range: &Span, path: &Path) -> Option
 }
 
 /// Parts the path by whether a number over the state before it is in the range.
+#[inline(always)]
 fn range_wide(
     alloc: Global,
     plan: &Plan,
@@ -241,6 +243,7 @@ fn range_wide(
 /// The number of a ready term, which has to lie in the range of the cell with this number. The path
 /// goes on where it does, and the answer is the form of the number there; where it doesn't, the
 /// path ends.
+#[inline(always)]
 pub(crate) fn range_ready(
     alloc: Global,
     plan: &Plan,

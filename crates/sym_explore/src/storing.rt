@@ -1,13 +1,13 @@
 //! Numbers that are stored in the cells of paths.
-ghost use Rattle.std.specs.Prelude.{◌≡◌, ◌≤◌, ◌+◌, ◌*◌, List, OnOk, length};
+ghost use Rattle.std.specs.Prelude.{◌≤◌, ◌+◌, ◌*◌, List, IfOk, OnOk, IsTrue, length};
 ghost use Rattle.sym_base.specs.declared.values.record.Record.{Record as OneRecord};
 ghost use Rattle.sym_check.specs.CellKinds.{IsIntCell, IsNumsCell};
 ghost use Rattle.sym_check.specs.KnownValues.{known_values};
 ghost use Rattle.sym_check.specs.LinePlans.{term_plan};
 ghost use Rattle.sym_check.specs.ScriptPlans.{script_plan};
 ghost use Rattle.sym_check.specs.WellFormed.{IsWellFormed};
+ghost use Rattle.sym_path.specs.Changing.{GoesOn};
 ghost use Rattle.sym_path.specs.Fitting.{PathFits, SegmentFits};
-ghost use Rattle.sym_explore.specs.Assigning.{added_numbers};
 ghost use Rattle.sym_explore.specs.Ending.{AreParted, WereRun};
 ghost use Rattle.sym_explore.specs.Faulting.{EndAmong, FaultsCameAt, HasNumber};
 ghost use Rattle.sym_explore.specs.Knowing.{DoIsKnown};
@@ -17,15 +17,14 @@ ghost use Rattle.sym_explore.specs.Storing.{IsParted, PlaceFits, after_store, st
 ghost use Rattle.sym_explore.specs.Terms.{ReadyFits};
 
 use crate::ending::{fail_all, move_ended};
+use crate::forms::{add_number, put_number};
 use crate::knowing::arith;
 use crate::ranging::range_ready;
 use crate::terms::{Ready, ready_of};
 use std::alloc::Global;
 use sym_base::NoMemory;
 use sym_check::{Known, Plan, Term};
-use sym_int::IntForm;
-use sym_path::{Form, Path};
-use sym_vector::ListForm;
+use sym_path::Path;
 
 /// Where a number is stored.
 #[derive(Clone, Copy)]
@@ -61,19 +60,9 @@ fn set_ready(
         path.old out.old.items path.new out.new.items) }
 {
     if let Some(form) = range_ready(alloc, plan, no, cell, ready, path, out)? {
-        path.set_form(cell, Form::Int(form));
+        put_number(path, cell, form);
     }
     Ok(())
-}
-
-/// The numbers that a form adds to the list of a cell; none of any other form.
-fn added_numbers(alloc: Global, form: Option<Form>) -> ListForm<IntForm>
-    ensures { result ≡ added_numbers form }
-{
-    match form {
-        Some(Form::Nums(added)) => added,
-        _ => ListForm::same(alloc),
-    }
 }
 
 /// Pushes the number of a ready term to the list of a cell.
@@ -101,9 +90,7 @@ fn push_ready(
         path.old out.old.items path.new out.new.items) }
 {
     if let Some(form) = range_ready(alloc, plan, no, cell, ready, path, out)? {
-        let old = path.replace_form(cell, Form::Nums(ListForm::same(alloc)));
-        let added = added_numbers(alloc, old).push(alloc, form)?;
-        path.set_form(cell, Form::Nums(added));
+        add_number(alloc, path, cell, form)?;
     }
     Ok(())
 }
@@ -139,7 +126,15 @@ fn store(
     }
 }
 
-/// Does so on each of the paths, where they stand.
+/// Whether the path goes on, and those before it did.
+#[inline(always)]
+fn still_going(before: bool, path: &Path) -> bool
+    ensures { IsTrue result → IsTrue before × GoesOn path.now.end }
+{
+    before && path.goes_on()
+}
+
+/// Does so on each of the paths, where they stand. Where the answer is true, all of them go on.
 pub(crate) fn store_each(
     alloc: Global,
     plan: &Plan,
@@ -148,7 +143,7 @@ pub(crate) fn store_each(
     ready: &Ready,
     paths: &mut [Path],
     out: &mut Vec<Path>,
-) -> Result<(), NoMemory>
+) -> Result<bool, NoMemory>
     requires known { IsWellFormed (script_plan plan.now) }
     requires ready { ReadyFits (script_plan plan.now) ready.now }
     requires place { PlaceFits (script_plan plan.now) place }
@@ -159,6 +154,7 @@ pub(crate) fn store_each(
         (after_store (script_plan plan.now) no place ready.now)
         paths.old paths.new out.old.items out.new.items) }
     ensures fits { OnOk result (SegmentFits (script_plan plan.now) paths.new) }
+    ensures next { IfOk result (λ all. IsTrue all → AllGoOn paths.new) }
     ensures others { OnOk result (SegmentFits (script_plan plan.now) out.new.items) }
     ensures few { OnOk result
         (length out.new.items ≤ length out.old.items + length paths.old * 2) }
@@ -166,10 +162,12 @@ pub(crate) fn store_each(
         EndAmong records out.old.items →
         OnOk result (EndAmong records paths.new × EndAmong records out.new.items) }
 {
+    let mut all_go_on = true;
     'paths: for path in paths.iter_mut() {
         store(alloc, plan, no, place, ready, path, out)?;
+        all_go_on = still_going(all_go_on, path);
     }
-    Ok(())
+    Ok(all_go_on)
 }
 
 /// Stores the number of a term at a place of all of the paths: those that go on stay in `paths`,
@@ -198,6 +196,8 @@ pub(crate) fn store_all(
     let Ok(ready) = ready_of(known, term) else {
         return fail_all(arith(no), paths, ended);
     };
-    store_each(alloc, plan, no, place, &ready, paths, ended)?;
+    if store_each(alloc, plan, no, place, &ready, paths, ended)? {
+        return Ok(());
+    }
     move_ended(paths, ended)
 }

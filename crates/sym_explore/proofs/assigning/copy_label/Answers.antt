@@ -19,14 +19,14 @@ returns-in-Some-clause-exact c = λ s.
     let truth = test_truth p.tests in
     let path : Path = c.args.path.now in
     let at : form_of path.end c.args.from ≡ Some (form.Enum c.in-Some.form) = label_form_is path c.args.from c.in-Some.form (sym c.in-Some.ensures) in
-    ap (λ (q : Path). given truth q s) c.set_form.ensures.new ∙ label_copied truth p path s c.args.cell c.args.from c.in-Some.form c.requires.fits c.requires.cells at
+    ap (λ (q : Path). given truth q s) c.put_label.ensures ∙ label_copied truth p path s c.args.cell c.args.from c.in-Some.form c.requires.fits c.requires.cells at
 
 pub returns-in-Some-clause-fits : goal.returns-in-Some-clause-fits
 returns-in-Some-clause-fits c =
     let p = script_plan c.args._plan.now in
     let path : Path = c.args.path.now in
     let at : form_of path.end c.args.from ≡ Some (form.Enum c.in-Some.form) = label_form_is path c.args.from c.in-Some.form (sym c.in-Some.ensures) in
-    subst (λ (q : Path). PathFits p q) (sym c.set_form.ensures.new) (label_copy_fits p path c.args.cell c.args.from c.in-Some.form c.requires.fits c.requires.cells at)
+    subst (λ (q : Path). PathFits p q) (sym c.put_label.ensures) (label_copy_fits p path c.args.cell c.args.from c.in-Some.form c.requires.fits c.requires.cells at)
 
 pub returns-in_default-clause-exact : goal.returns-in_default-clause-exact
 returns-in_default-clause-exact c =

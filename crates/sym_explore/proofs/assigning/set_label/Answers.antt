@@ -13,9 +13,9 @@ use Rattle.sym_explore.proofs.assigning.set_label.Goals as goal
 pub returns-clause-exact : goal.returns-clause-exact
 returns-clause-exact c = λ s.
     let truth = test_truth (script_plan c.args._plan.now).tests in
-    ap (λ (q : Path). given truth q s) c.set_form.ensures.new ∙ forms_give truth s c.args.path.now c.args.cell (form.Enum (label.Const c.args.label))
+    ap (λ (q : Path). given truth q s) c.put_label.ensures ∙ forms_give truth s c.args.path.now c.args.cell (form.Enum (label.Const c.args.label))
 
 pub returns-clause-fits : goal.returns-clause-fits
 returns-clause-fits c =
     let p = script_plan c.args._plan.now in
-    subst (λ (q : Path). PathFits p q) (sym c.set_form.ensures.new) (label_set p c.args.path.now c.args.cell c.args.label c.requires.fits c.requires.cell)
+    subst (λ (q : Path). PathFits p q) (sym c.put_label.ensures) (label_set p c.args.path.now c.args.cell c.args.label c.requires.fits c.requires.cell)

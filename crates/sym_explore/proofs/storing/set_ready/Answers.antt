@@ -21,21 +21,21 @@ pub returns-in-Some-clause-exact : goal.returns-in-Some-clause-exact
 returns-in-Some-clause-exact c =
     let p : ScriptPlan = script_plan c.args.plan.now in
     let ranges : ReadyRanges p c.args.ready.now c.args.no c.args.cell c.args.path.now c.args.out.now.items c.range_ready.new.path c.range_ready.new.out.items (Some c.in-Some.form) = subst (λ (o : Option IntForm). ReadyRanges p c.args.ready.now c.args.no c.args.cell c.args.path.now c.args.out.now.items c.range_ready.new.path c.range_ready.new.out.items o) c.in-Some.is c.in_ok-form.ensures.exact in
-    ready_set p c.args.ready.now c.args.no c.args.cell c.args.path.now c.range_ready.new.path c.set_form.new.self c.args.out.now.items c.range_ready.new.out.items c.in-Some.form c.set_form.ensures.new ranges
+    ready_set p c.args.ready.now c.args.no c.args.cell c.args.path.now c.range_ready.new.path c.put_number.new.path c.args.out.now.items c.range_ready.new.out.items c.in-Some.form c.put_number.ensures ranges
 
 pub returns-in-Some-clause-fits : goal.returns-in-Some-clause-fits
 returns-in-Some-clause-fits c =
     let p : ScriptPlan = script_plan c.args.plan.now in
     let mid : Path = c.range_ready.new.path in
     let number : NumberFitsCell p c.args.cell mid c.in-Some.form = subst (λ (o : Option IntForm). IfSome o (NumberFitsCell p c.args.cell mid)) c.in-Some.is c.in_ok-form.ensures.number in
-    subst (λ (q : Path). PathFits p q) (sym c.set_form.ensures.new) (number_fits p mid c.args.cell c.in-Some.form c.in_ok-form.ensures.fits c.requires.cell number)
+    subst (λ (q : Path). PathFits p q) (sym c.put_number.ensures) (number_fits p mid c.args.cell c.in-Some.form c.in_ok-form.ensures.fits c.requires.cell number)
 
 pub returns-in-Some-clause-faults : goal.returns-in-Some-clause-faults
 returns-in-Some-clause-faults c =
     let old : Path = c.args.path.now in
     let mid : Path = c.range_ready.new.path in
-    let new : Path = c.set_form.new.self in
-    let so : EndsSo mid.end new.end = subst (λ (q : Path). EndsSo mid.end q.end) (sym c.set_form.ensures.new) (formed_end c.args.cell (form.Int c.in-Some.form) mid.end) in
+    let new : Path = c.put_number.new.path in
+    let so : EndsSo mid.end new.end = subst (λ (q : Path). EndsSo mid.end q.end) (sym c.put_number.ensures) (formed_end c.args.cell (form.Int c.in-Some.form) mid.end) in
     faults_so c.args.no old mid new c.args.out.now.items c.range_ready.new.out.items so c.in_ok-form.ensures.faults
 
 pub returns-in_default-clause-exact : goal.returns-in_default-clause-exact

@@ -1,11 +1,11 @@
-use Rattle.std.proofs.Common.{◌<◌, length, get_or, sym, subst, arith}
+use Rattle.std.proofs.Common.{◌<◌, true, length, get_or, sym, subst, arith}
 use Rattle.sym_check.specs.ScriptPlans.{script_plan}
 use Rattle.sym_path.specs.Changing.{GoesOn}
 use Rattle.sym_path.specs.Fitting.{PathFits}
 use Rattle.sym_path.specs.declared.path.Path.{Path}
 use Rattle.sym_explore.specs.Storing.{after_store}
 use Rattle.sym_explore.proofs.InPlace.{threaded_here, threaded_length, threaded_next, threaded_whole}
-use Rattle.sym_explore.proofs.StoredPaths.{IsStored, stored_exact, stored_faults, stored_few, stored_fit}
+use Rattle.sym_explore.proofs.StoredPaths.{IsStored, TellsGoing, all_going, stored_exact, stored_faults, stored_few, stored_fit}
 use Rattle.sym_explore.proofs.storing.store_each.Goals as goal
 
 pub store-requires-clause-fits : goal.store-requires-clause-fits
@@ -33,6 +33,7 @@ paths-preserved c =
     record {
       stored = threaded_next R _ _ _ _ c.paths.path-index c.path-item.result c.store.new.path c.store.new.out.items below one c.paths.invariant.stored;
       others = c.in_ok-store.ensures.others;
+      going = threaded_next TellsGoing _ _ _ _ c.paths.path-index c.path-item.result c.store.new.path _ below c.still_going-all_go_on.ensures c.paths.invariant.going;
     }
 
 pub returns-clause-exact : goal.returns-clause-exact
@@ -44,6 +45,9 @@ pub returns-clause-fits : goal.returns-clause-fits
 returns-clause-fits c =
     let p = script_plan c.args.plan.now in
     stored_fit p c.args.no (after_store p c.args.no c.args.place c.args.ready.now) c.args.paths.now c.args.out.now.items c.paths.paths c.paths.out.items (threaded_whole (IsStored p c.args.no (after_store p c.args.no c.args.place c.args.ready.now)) _ _ _ _ c.paths.path-index c.paths-test.false c.paths.invariant.stored)
+
+pub returns-clause-next : goal.returns-clause-next
+returns-clause-next c = λ t. (all_going _ true c.paths.paths c.paths.all_go_on (threaded_whole TellsGoing _ _ _ _ c.paths.path-index c.paths-test.false c.paths.invariant.going) t).1
 
 pub returns-clause-few : goal.returns-clause-few
 returns-clause-few c =
