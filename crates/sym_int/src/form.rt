@@ -1,7 +1,8 @@
 //! What an integer cell holds, as a form over an unknown state: a constant, or a line over the
 //! number that a cell held.
-ghost use Rattle.std.specs.Prelude.{◌≡◌, ◌≢◌, ◌≤◌, ◌+◌, ◌*◌, ◌^◌, pos, unsigned_abs};
+ghost use Rattle.std.specs.Prelude.{◌≡◌, ◌≢◌, ◌≤◌, pos, unsigned_abs};
 ghost use Rattle.sym_base.specs.Limits.{IsNumber};
+ghost use Rattle.sym_int.specs.Bounds.{slope_max, offset_max};
 
 use crate::wide::{Wide, WideLine, WideNumber};
 use sym_base::{NUM_MAX, State};
@@ -27,8 +28,8 @@ pub struct Line {
     pub a: i128,
     pub b: i128,
     pub ghost rises_or_falls: { a ≢ pos 0 },
-    pub ghost a_in: { unsigned_abs a ≤ 2 * 10 ^ 12 },
-    pub ghost b_in: { unsigned_abs b ≤ 2 * 10 ^ 24 + 10 ^ 12 },
+    pub ghost a_in: { unsigned_abs a ≤ slope_max },
+    pub ghost b_in: { unsigned_abs b ≤ offset_max },
 }
 
 /// What an integer cell holds after some records, over the state before them.
@@ -130,8 +131,8 @@ impl IntForm {
     /// `a * self + b`, for the slope and the offset of a line.
     fn composed(&self, a: i128, b: i128) -> Wide
         requires rises_or_falls { a ≢ pos 0 }
-        requires a_in { unsigned_abs a ≤ 2 * 10 ^ 12 }
-        requires b_in { unsigned_abs b ≤ 2 * 10 ^ 24 + 10 ^ 12 }
+        requires a_in { unsigned_abs a ≤ slope_max }
+        requires b_in { unsigned_abs b ≤ offset_max }
         ensures points { (x : ℤ) → wide_on result x ≡ a *ℤ form_on self.now x +ℤ b }
         ensures value { (state : OneState) →
             wide_value result state ≡ a *ℤ form_value self.now state +ℤ b }

@@ -1,6 +1,7 @@
 //! Forms over products, which can be larger than the numbers of a script, and the same forms on a
 //! span on which they aren't.
-ghost use Rattle.std.specs.Prelude.{◌≢◌, ◌≤◌, ◌*◌, ◌^◌, pos, unsigned_abs};
+ghost use Rattle.std.specs.Prelude.{◌≢◌, ◌≤◌, pos, unsigned_abs};
+ghost use Rattle.sym_int.specs.Bounds.{wide_slope_max, wide_max};
 
 use crate::form::{IntForm, Line, Number};
 use crate::span::Span;
@@ -9,7 +10,7 @@ use crate::span::Span;
 #[derive(Clone, Copy, PartialEq, Eq)]
 pub struct WideNumber {
     pub value: i128,
-    pub ghost value_in: { unsigned_abs value ≤ 5 * 10 ^ 36 },
+    pub ghost value_in: { unsigned_abs value ≤ wide_max },
 }
 
 /// `a * x + b` for the number x of the cell with this number. `a` isn't 0 and is at most
@@ -20,8 +21,8 @@ pub struct WideLine {
     pub a: i128,
     pub b: i128,
     pub ghost rises_or_falls: { a ≢ pos 0 },
-    pub ghost a_in: { unsigned_abs a ≤ 4 * 10 ^ 24 },
-    pub ghost b_in: { unsigned_abs b ≤ 5 * 10 ^ 36 },
+    pub ghost a_in: { unsigned_abs a ≤ wide_slope_max },
+    pub ghost b_in: { unsigned_abs b ≤ wide_max },
 }
 
 /// A form before it is known to stay among the numbers of a script.

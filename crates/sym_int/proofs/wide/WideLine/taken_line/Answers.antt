@@ -1,25 +1,26 @@
-use Rattle.std.proofs.Common.{arith, refl, lit<, ◌^◌, ◌*◌, ℤ, ◌∙◌}
+use Rattle.std.proofs.Common.{arith, refl, lit<, ℤ, ◌∙◌}
 use Rattle.std.proofs.lemmas.Int.{ints}
-use Rattle.sym_base.specs.Limits.{IsNumber}
+use Rattle.sym_base.specs.Limits.{num_max, IsNumber}
 use Rattle.sym_int.proofs.Products.{shown, shown_64}
 use Rattle.sym_int.proofs.Taken.{slope_of_two, offset_of_two, same_on_one}
+use Rattle.sym_int.specs.Bounds.{wide_slope_max, wide_max}
 use Rattle.sym_int.proofs.wide.WideLine.taken_line.Goals as goal
 
 pub overflow_cast-result : goal.overflow_cast-result
 overflow_cast-result c =
-    let e = rw (shown_64 c.args.span.now.lo (10 ^ 12) c.args.span.now.lo_in (lit< tt)) at c.at-value.ensures in
+    let e = rw (shown_64 c.args.span.now.lo num_max c.args.span.now.lo_in (lit< tt)) at c.at-value.ensures in
     let n : IsNumber c.at-value.result = rw e (c.requires c.args.span.now.lo (omega (arith, ints), omega (arith, ints))) in
     omega (arith, ints)
 
 pub invariant_of-result-2 : goal.invariant_of-result-2
 invariant_of-result-2 c =
-    let e = rw (shown_64 c.args.span.now.lo (10 ^ 12) c.args.span.now.lo_in (lit< tt)) at c.at-value.ensures in
+    let e = rw (shown_64 c.args.span.now.lo num_max c.args.span.now.lo_in (lit< tt)) at c.at-value.ensures in
     let n : IsNumber c.at-value.result = rw e (c.requires c.args.span.now.lo (omega (arith, ints), omega (arith, ints))) in
     record { value_in = omega (arith, ints) }
 
 pub returns : goal.returns
 returns c =
-    let e = rw (shown_64 c.args.span.now.lo (10 ^ 12) c.args.span.now.lo_in (lit< tt)) at c.at-value.ensures in
+    let e = rw (shown_64 c.args.span.now.lo num_max c.args.span.now.lo_in (lit< tt)) at c.at-value.ensures in
     let n : IsNumber c.at-value.result = rw e (c.requires c.args.span.now.lo (omega (arith, ints), omega (arith, ints))) in
     record {
       same = λ x h. omega (arith, ints) ∙ (e ∙ same_on_one c.args.self.now.a c.args.self.now.b c.args.span.now.lo c.args.span.now.hi x (omega (arith, ints)) h);
@@ -32,8 +33,8 @@ pub invariant_of-result : goal.invariant_of-result
 invariant_of-result c =
     let a : ℤ = c.args.self.now.a in
     let b : ℤ = c.args.self.now.b in
-    let shown_a = shown a (4 * 10 ^ 24) c.args.self.now.a_in (lit< tt) in
-    let shown_b = shown b (5 * 10 ^ 36) c.args.self.now.b_in (lit< tt) in
+    let shown_a = shown a wide_slope_max c.args.self.now.a_in (lit< tt) in
+    let shown_b = shown b wide_max c.args.self.now.b_in (lit< tt) in
     record {
       rises_or_falls = rw shown_a c.args.self.now.rises_or_falls;
       a_in = rw shown_a (slope_of_two a b c.args.span.now.lo c.args.span.now.hi (omega (arith, ints)) c.requires);
@@ -45,7 +46,7 @@ returns-then-span c =
     let a : ℤ = c.args.self.now.a in
     let b : ℤ = c.args.self.now.b in
     record {
-      same = λ x h. rw (shown a (4 * 10 ^ 24) c.args.self.now.a_in (lit< tt), shown b (5 * 10 ^ 36) c.args.self.now.b_in (lit< tt)) refl;
+      same = λ x h. rw (shown a wide_slope_max c.args.self.now.a_in (lit< tt), shown b wide_max c.args.self.now.b_in (lit< tt)) refl;
       in_range = c.requires;
       one = λ p. absurd (omega (arith, ints));
       more = λ p. refl;
