@@ -1,6 +1,6 @@
 -- The forms that a path's forms become after those of another one: they fit, are taken, and give
 -- what they gave at the state that the others give.
-use Rattle.std.proofs.Common.{◌≡◌, ◌<◌, ℕ, suc, ℤ, ◌+ℤ◌, ◌*ℤ◌, ◌<ℤ◌, ◌≤ℤ◌, List, [], ◌∷◌, ◌++◌, Option, Some, None, length, map, take, drop, refl, sym, ap, ◌∙◌, subst, append_assoc, arith}
+use Rattle.std.proofs.Common.{◌≡◌, ◌<◌, ℕ, suc, ℤ, ◌+ℤ◌, ◌*ℤ◌, ◌<ℤ◌, ◌≤ℤ◌, List, [], ◌∷◌, ◌++◌, Option, Some, None, length, map, drop, refl, sym, ap, ◌∙◌, subst, append_assoc, arith}
 use Rattle.std.proofs.lemmas.Int.{ints, by_lt_z}
 use Rattle.std.proofs.lemmas.List.Elements.{All-append}
 use Rattle.std.proofs.lemmas.Option.{slice_get_within}
@@ -44,8 +44,8 @@ use Rattle.sym_path.specs.Taking.{NumberIsTakenTo, IsTakenOn}
 use Rattle.sym_path.proofs.Fitted.{number_between, number_held}
 use Rattle.sym_path.proofs.FollowedStates.{cells_at_get, cells_at-length}
 use Rattle.sym_path.proofs.FollowingFits.{line_span, one_point, constant_in}
-use Rattle.sym_path.proofs.JoiningGives.{constant_is}
 use Rattle.sym_path.proofs.Lists.{zip_at, zip_from, zip_get, zip_get_right, zip_length, get_within, all_from, all_at, take_and_drop, map_both}
+use Rattle.sym_path.proofs.Narrowed.{constant_value}
 use Rattle.sym_path.proofs.NarrowedFits.{label_taken, number_taken}
 
 number_says : (y : ℤ) (r : IntForm) (x : ℤ) → IsConstant y r → form_on r x ≡ y
@@ -107,7 +107,7 @@ module _ (truth : Truth) (p : ScriptPlan) (lefts : List Part) (mids : List Form)
     over_constant n inner r at constant point h = record {
       fits = constant_in lo hi (form_on (number.Line line) n) lefts r h (range n point);
       taken = number_taken lefts r (λ d x q o. let none : form_cell r ≡ None = no_cell (form_on (number.Line line) n) r h in let w : None ≡ Some d = sym none ∙ q in cc);
-      value = λ s a. constant_is (form_on (number.Line line) n) r s h ∙ ap (λ (z : ℤ). line.a *ℤ z +ℤ line.b) (sym (number_given s line.cell inner a at ∙ constant_is n inner s constant));
+      value = λ s a. constant_value (form_on (number.Line line) n) r s h ∙ ap (λ (z : ℤ). line.a *ℤ z +ℤ line.b) (sym (number_given s line.cell inner a at ∙ constant_value n inner s constant));
     }
 
     -- A line over a line.

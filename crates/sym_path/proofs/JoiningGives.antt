@@ -14,7 +14,6 @@ use Rattle.sym_base.specs.Tests.{Truth}
 use Rattle.sym_enum.specs.Labels.{label_value}
 use Rattle.sym_enum.specs.declared.form.EnumForm.{EnumForm}
 use Rattle.sym_enum.specs.declared.form.EnumForm.TheVariants as label
-use Rattle.sym_int.specs.Elements.{IsConstant}
 use Rattle.sym_int.specs.Lines.{form_on, form_cell, form_value}
 use Rattle.sym_int.specs.declared.form.IntForm.{IntForm}
 use Rattle.sym_int.specs.declared.form.IntForm.TheVariants as number
@@ -30,13 +29,10 @@ use Rattle.sym_path.specs.Joins.{EndIsTakenTo}
 use Rattle.sym_path.specs.Taking.{HasOneLabel, HasOneNumber, copied_cell, LabelIsTakenTo, NumberIsTakenTo, IsTakenTo, AreTakenTo}
 use Rattle.sym_path.proofs.Fitted.{number_held}
 use Rattle.sym_path.proofs.Lists.{zip_get}
+use Rattle.sym_path.proofs.Narrowed.{constant_value}
 
 cases_z : (x y : ℤ) → (x ≡ y) ⊎ (x ≢ y)
 cases_z x y = by_lt_z x y (λ p. inr (λ e. omega (arith, ints))) (λ p. by_lt_z y x (λ q. inr (λ e. omega (arith, ints))) (λ q. inl (omega (arith, ints))))
-
-pub constant_is : (y : ℤ) (g : IntForm) (s : State) → IsConstant y g → form_value g s ≡ y
-constant_is y (number.Const n) s h = h
-constant_is y (number.Line m) s h = absurd h
 
 module _ (truth : Truth) (when : List Part) (s : State) (admitted : Admits truth when s) where
   -- The state holds the only label, or number, of a cell.
@@ -69,7 +65,7 @@ module _ (truth : Truth) (when : List Part) (s : State) (admitted : Admits truth
   number_same : (f g : IntForm) → NumberIsTakenTo when f g → form_value g s ≡ form_value f s
   number_same f g h = elim (cases_z (form_value g s) (form_value f s)) [
     | inl e ↦ e
-    | inr ne ↦ ap (λ k. form_value k s) (h.more (λ c x q o. ne (constant_is (form_on f x) g s (h.one c x q o) ∙ ap (λ (t : ℤ). form_on f t) (sym (number_there c x o)) ∙ sym (named f c q))))
+    | inr ne ↦ ap (λ k. form_value k s) (h.more (λ c x q o. ne (constant_value (form_on f x) g s (h.one c x q o) ∙ ap (λ (t : ℤ). form_on f t) (sym (number_there c x o)) ∙ sym (named f c q))))
   ]
     where
       named : (f : IntForm) (c : ℕ) → form_cell f ≡ Some c → form_value f s ≡ form_on f (number_at s c)
