@@ -11,6 +11,7 @@ use Rattle.sym_base.specs.declared.values.state.Outcome.TheVariants.{Going}
 use Rattle.sym_check.specs.Groups.{is_key, key_of, records_of, distinct, keys, pass}
 use Rattle.sym_check.specs.ScriptPlans.{ScriptPlan}
 use Rattle.sym_check.specs.Updates.{initial, step, after}
+use Rattle.sym_check.proofs.PlanLaws.{after_more}
 use Rattle.sym_plain.specs.Pairs.{has_key, put, standing, stepped, after_record}
 use Rattle.sym_plain.proofs.Pairs.{key-Decides, same_key, keys_equiv}
 
@@ -136,10 +137,6 @@ module _ (p : ScriptPlan) (rec : Record) where
       ∙ sym (map-append (λ k. (k, next key f k)) ks (key ∷ []))
 
 -- ---- records
-after_more : (p : ScriptPlan) (records : List Record) (rec : Record) (o : Outcome) → after p (records ++ rec ∷ []) o ≡ step p (after p records o) rec
-after_more p [] rec o = refl
-after_more p (first ∷ records) rec o = after_more p records rec (step p o first)
-
 -- How the group of a key stands after its records.
 abbrev outcome_after : ScriptPlan → List Record → Key → Outcome
 outcome_after p records k = after p (records_of p k records) (Going (initial p))
