@@ -16,6 +16,9 @@ pub const FILE_MAX: u64 = 268_435_456;
 /// The most bytes of a file of records where a run doesn't name another limit, 64 MiB.
 pub const FILE_MAX_DEFAULT: u64 = 67_108_864;
 
+/// The most bytes that one read asks for, 64 KiB.
+pub const READ_PIECE: usize = 65_536;
+
 /// The most files of records in one run.
 pub const FILES_MAX: usize = 65_536;
 
@@ -66,6 +69,3 @@ pub const CHUNKS_MAX: u32 = 64;
 
 /// The most workers of a round.
 pub const WORKERS_MAX: u32 = 64;
-
-/// The largest limit on the paths of a segment.
-pub const LIMIT_MAX: u32 = 256;

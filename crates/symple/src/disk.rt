@@ -8,10 +8,7 @@ use std::io::{ErrorKind, Read, Seek, SeekFrom};
 use std::marker::Model;
 use std::rt::Files;
 use std::{fs, io};
-use sym_base::{FILE_MAX, Failed, NoMemory, Store};
-
-// The most bytes that one read moves.
-const PIECE: usize = 65_536;
+use sym_base::{FILE_MAX, Failed, NoMemory, READ_PIECE, Store};
 
 // The most bytes of a file's name. Linux opens no file whose path is longer.
 const NAME_MAX: usize = 4_096;
@@ -31,20 +28,20 @@ pub struct DiskStore<'a, R: Files> {
     file: Option<R::File>,
     name: Vec<u8>,
     next: u64,
-    // PIECE bytes, through which every read goes
+    // READ_PIECE bytes, through which every read goes
     piece: Vec<u8>,
     faults: u64,
 }
 
 impl<'a, R: Files> Model for DiskStore<'a, R> {
     ghost use Rattle.std.specs.Prelude.{◌≡◌, ℕ, length};
-    ghost use Rattle.symple.specs.declared.disk.TheConstants as piece_size;
+    ghost use Rattle.sym_base.specs.declared.limits.TheConstants as limit;
 
     ghost Value = { ℕ };
 
     ghost view = { λ s. s.faults };
 
-    ghost invariant = { λ s. length s.piece.items ≡ piece_size.PIECE };
+    ghost invariant = { λ s. length s.piece.items ≡ limit.READ_PIECE };
 }
 
 impl<'a, R: Files> DiskStore<'a, R> {
@@ -54,7 +51,7 @@ impl<'a, R: Files> DiskStore<'a, R> {
         ensures { IfOk result (λ store. store ≡ 0) }
     {
         let mut piece = Vec::new(alloc);
-        piece.resize(PIECE, 0)?;
+        piece.resize(READ_PIECE, 0)?;
         Ok(DiskStore {
             runtime,
             file: None,

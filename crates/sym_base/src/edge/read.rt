@@ -4,7 +4,7 @@ ghost use Rattle.sym_base.specs.Counts.{Rose};
 ghost use Rattle.sym_base.specs.declared.edge.read.ReadErr.TheVariants as read_error;
 
 use crate::edge::store::{Failed, Store};
-use crate::limits::FILE_MAX;
+use crate::limits::{FILE_MAX, READ_PIECE};
 use crate::values::memory::NoMemory;
 use std::alloc::{AllocError, Global};
 
@@ -26,9 +26,6 @@ impl From<AllocError> for ReadErr {
         ReadErr::NoMemory
     }
 }
-
-// The most bytes that one read asks for.
-const PIECE: usize = 65_536;
 
 /// All bytes of the file of this name, of which there are at most `max`. A read that gives no
 /// bytes ends the file. The store holds what it held before.
@@ -55,7 +52,7 @@ pub fn read_all<F: Store>(
     let mut bytes = Vec::new(alloc);
     'pieces: loop {
         let start = bytes.len();
-        bytes.resize(start + PIECE, 0)?;
+        bytes.resize(start + READ_PIECE, 0)?;
         let count = match store.read_at(name, start as u64, &mut bytes[start..]) {
             Ok(count) => count,
             Err(Failed) => return Err(ReadErr::Failed),
