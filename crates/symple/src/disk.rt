@@ -11,7 +11,7 @@ use std::{fs, io};
 use sym_base::{FILE_MAX, Failed, NoMemory, READ_PIECE, Store};
 
 // The most bytes of a file's name. Linux opens no file whose path is longer.
-const NAME_MAX: usize = 4_096;
+const FILE_NAME_MAX: usize = 4_096;
 
 // How often a read that a signal interrupts is tried.
 const TRIES: u32 = 1_000;
@@ -55,7 +55,7 @@ impl<'a, R: Files> DiskStore<'a, R> {
         Ok(DiskStore {
             runtime,
             file: None,
-            name: Vec::with_capacity(alloc, NAME_MAX)?,
+            name: Vec::with_capacity(alloc, FILE_NAME_MAX)?,
             next: 0,
             piece,
             faults: 0,
@@ -66,7 +66,7 @@ impl<'a, R: Files> DiskStore<'a, R> {
     fn open(&mut self, name: &str) -> io::Result<()>
         ensures { self.new ≡ self.old }
     {
-        if name.len() > NAME_MAX {
+        if name.len() > FILE_NAME_MAX {
             return Err(io::Error::from(ErrorKind::InvalidInput));
         }
         self.file = None;
