@@ -1,5 +1,5 @@
 -- Values and records that are of a script's kinds, and states that are valid.
-use Rattle.std.specs.Prelude.{ℕ, ℤ, ◌<◌, ◌≤ℤ◌, List, length, map, Option, Some, None, slice_get, IfSome}
+use Rattle.std.specs.Prelude.{ℕ, ℤ, ◌<◌, ◌≤ℤ◌, List, [], length, map, Option, Some, None, slice_get, IfSome}
 use Rattle.std.specs.List.{All, AllZip}
 use Rattle.sym_base.specs.declared.values.value.Value.{Value}
 use Rattle.sym_base.specs.declared.values.value.Value.TheVariants as value
@@ -19,6 +19,14 @@ use Rattle.sym_check.specs.declared.plan.script.FieldPlan.{FieldPlan}
 use Rattle.sym_check.specs.declared.plan.script.CellPlan.{CellPlan}
 use Rattle.sym_check.specs.declared.plan.script.CellPlan.TheVariants as plan
 use Rattle.sym_check.specs.ScriptPlans.{ScriptPlan}
+
+abbrev pub labels_of : Option EnumPlan → List (List ℕ)
+labels_of None = []
+labels_of (Some enum) = enum.labels
+
+-- The names of an enum's labels, by its number.
+abbrev pub enum_labels : List EnumPlan → ℕ → List (List ℕ)
+enum_labels enums enum = labels_of (slice_get enums enum)
 
 abbrev pub labels_in : Option EnumPlan → ℕ
 labels_in None = 0

@@ -23,6 +23,7 @@ pub use plan::expression::{
 pub use plan::script::{
     CellPlan, CellPlans, ColumnPlan, ColumnPlans, EnumPlan, EnumPlans, FieldPlan, FieldPlans,
     KindPlan, KindPlans, Plan, TestPlan, TestPlans, copy_column_plans, copy_test_plans,
+    enum_labels,
 };
 pub use plan::show::{Show, ShowFn};
 pub use plan::statement::{Do, Dos};

@@ -23,6 +23,7 @@ use Rattle.sym_check.specs.declared.plan.show.ShowFn.TheVariants as show_fn
 use Rattle.sym_check.specs.ShowPlans.{ShowPlan}
 use Rattle.sym_check.specs.ShowPlans as show
 use Rattle.sym_check.specs.ScriptPlans.{ScriptPlan, ColumnOf}
+use Rattle.sym_check.specs.Validity.{enum_labels}
 
 -- Whether 128 bits hold x.
 abbrev pub is_wide : ℤ → Bool
@@ -72,10 +73,6 @@ operated o (Bad e) right = Bad e
 abbrev pub negated : Column → Column
 negated operand = on_number (λ x. wide (neg_ℤ x)) operand
 
-abbrev pub label_texts : Option EnumPlan → List (List ℕ)
-label_texts None = []
-label_texts (Some enum) = enum.labels
-
 -- The names of an enum cell's labels; none of any other cell.
 abbrev pub cell_labels : List EnumPlan → Option CellPlan → List (List ℕ)
 cell_labels enums None = []
@@ -83,14 +80,14 @@ cell_labels enums (Some (plan.Int lo hi first)) = []
 cell_labels enums (Some (plan.Nums lo hi)) = []
 cell_labels enums (Some plan.Words) = []
 cell_labels enums (Some (plan.Hold kinds first)) = []
-cell_labels enums (Some (plan.Enum enum first)) = label_texts (slice_get enums enum)
+cell_labels enums (Some (plan.Enum enum first)) = enum_labels enums enum
 
 -- The names of the labels of a kind; none of any other kind.
 abbrev pub kind_labels : List EnumPlan → Option KindPlan → List (List ℕ)
 kind_labels enums None = []
 kind_labels enums (Some kind.Num) = []
 kind_labels enums (Some kind.Word) = []
-kind_labels enums (Some (kind.Label enum)) = label_texts (slice_get enums enum)
+kind_labels enums (Some (kind.Label enum)) = enum_labels enums enum
 
 -- The kind of a hold cell's part.
 abbrev pub part_kind : Option CellPlan → ℕ → Option KindPlan

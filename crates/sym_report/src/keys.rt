@@ -1,12 +1,12 @@
 //! What a row shows of its group's key.
-ghost use Rattle.std.specs.Prelude.{◌≡◌, [], Some, IfOk, option_copied, slice_index_or};
+ghost use Rattle.std.specs.Prelude.{◌≡◌, [], Some, IfOk, slice_index_or};
 ghost use Rattle.sym_check.specs.ScriptPlans.{script_plan};
-ghost use Rattle.sym_plain.specs.Shown.{label_texts, kind_labels, value_column};
+ghost use Rattle.sym_plain.specs.Shown.{kind_labels, value_column};
 ghost use Rattle.sym_report.specs.ReportRows.{key_kind, key_columns};
 
 use std::alloc::Global;
 use sym_base::{Column, Columns, Key, NoMemory, Text, Value};
-use sym_check::{EnumPlan, KindPlan, Plan};
+use sym_check::{KindPlan, Plan, enum_labels};
 
 // The kind of the field that the group line names.
 fn key_kind(plan: &Plan) -> Option<KindPlan>
@@ -21,21 +21,12 @@ fn key_kind(plan: &Plan) -> Option<KindPlan>
     }
 }
 
-fn label_texts(of: Option<&EnumPlan>) -> &[Text]
-    ensures { result.now ≡ label_texts (option_copied of.entry) }
-{
-    match of {
-        Some(of) => of.labels.as_slice(),
-        None => &[],
-    }
-}
-
 // The names of the labels of a kind; none of any other kind.
 fn kind_labels(plan: &Plan, kind: Option<KindPlan>) -> &[Text]
     ensures { result.now ≡ kind_labels (script_plan plan.now).enums kind }
 {
     match kind {
-        Some(KindPlan::Label(of)) => label_texts(plan.enums.get(usize::from(of))),
+        Some(KindPlan::Label(of)) => enum_labels(plan.enums.as_slice(), of),
         _ => &[],
     }
 }

@@ -7,14 +7,14 @@ use Rattle.sym_base.specs.declared.values.value.Value.{Value}
 use Rattle.sym_check.specs.declared.plan.script.EnumPlan.{EnumPlan}
 use Rattle.sym_check.specs.declared.plan.script.FieldPlan.{FieldPlan}
 use Rattle.sym_check.specs.ScriptPlans.{ScriptPlan}
-use Rattle.sym_check.specs.Validity.{AreOfKinds, IsOfKind, IsRecord, label_count, labels_in}
+use Rattle.sym_check.specs.Validity.{AreOfKinds, IsOfKind, IsRecord, enum_labels, label_count, labels_in, labels_of}
 use Rattle.sym_check.specs.WellFormed.{IsField, IsWellFormed}
 use Rattle.sym_table.specs.declared.bad.Bad.{Bad}
 use Rattle.sym_table.specs.declared.bad.BadCause.{BadCause}
 use Rattle.sym_table.specs.declared.bad.Decoded.TheVariants as decoded
 use Rattle.sym_table.specs.declared.header.Header.{Header}
 use Rattle.sym_table.specs.Decoding.{Fills, numbered}
-use Rattle.sym_table.specs.Fields.{IsValue, enum_labels, labels_of}
+use Rattle.sym_table.specs.Fields.{IsValue}
 use Rattle.sym_table.specs.Fields as fields
 use Rattle.sym_table.specs.Rows.{AreValues, column, read_row}
 use Rattle.sym_table.specs.Rows as rows

@@ -1,6 +1,6 @@
 -- What a field of a record reads its text as: a value of the field's kind, or the rule that the
 -- text breaks.
-use Rattle.std.specs.Prelude.{◌≡◌, ◌≢◌, ◌⊎◌, ℕ, ℤ, List, [], ◌∷◌, Option, Some, None, Result, Ok, Err, slice_get, option_map, IsUtf8, if◌then◌else◌}
+use Rattle.std.specs.Prelude.{◌≡◌, ◌≢◌, ◌⊎◌, ℕ, ℤ, List, [], ◌∷◌, Option, Some, None, Result, Ok, Err, option_map, IsUtf8, if◌then◌else◌}
 use Rattle.std.specs.Option.{ok_or}
 use Rattle.std.specs.Str.{is_utf8}
 use Rattle.sym_base.specs.declared.values.value.Value.{Value}
@@ -9,6 +9,7 @@ use Rattle.sym_check.specs.declared.plan.script.EnumPlan.{EnumPlan}
 use Rattle.sym_check.specs.declared.plan.script.KindPlan.{KindPlan}
 use Rattle.sym_check.specs.declared.plan.script.KindPlan.TheVariants as kind
 use Rattle.sym_check.specs.declared.plan.script.FieldPlan.{FieldPlan}
+use Rattle.sym_check.specs.Validity.{enum_labels}
 use Rattle.sym_table.specs.declared.bad.BadCause.{BadCause}
 use Rattle.sym_table.specs.declared.bad.BadCause.TheVariants as cause
 use Rattle.sym_table.specs.Texts.{without_blanks, SaysNumber, number_in, SaysLabel, label_in}
@@ -18,14 +19,6 @@ abbrev pub text_of : KindPlan → List ℕ → List ℕ
 text_of kind.Num bytes = without_blanks bytes
 text_of kind.Word bytes = bytes
 text_of (kind.Label enum) bytes = without_blanks bytes
-
-abbrev pub labels_of : Option EnumPlan → List (List ℕ)
-labels_of None = []
-labels_of (Some enum) = enum.labels
-
--- The names of an enum's labels, by its number.
-abbrev pub enum_labels : List EnumPlan → ℕ → List (List ℕ)
-enum_labels enums enum = labels_of (slice_get enums enum)
 
 -- The text is UTF-8, and not one that stands for the value after `else`.
 pub record IsRead (field : FieldPlan) (bytes : List ℕ) : Type 0 where

@@ -1,6 +1,7 @@
 //! The plan of a whole script. Contracts see it as the plain data of `specs/ScriptPlans.antt`.
 ghost use Rattle.std.specs.Prelude.{◌≡◌, IfOk, map};
 ghost use Rattle.sym_check.specs.ScriptPlans.{test_plan, column_plan, script_plan};
+ghost use Rattle.sym_check.specs.Validity.{enum_labels};
 
 use crate::plan::condition::Cond;
 use crate::plan::show::Show;
@@ -87,6 +88,16 @@ pub struct Plan {
     pub tests: TestPlans,
     pub update: Dos,
     pub columns: ColumnPlans,
+}
+
+/// The names of the labels of the enum with this number; none where there is no such enum.
+pub fn enum_labels(enums: &[EnumPlan], of: u16) -> &[Text]
+    ensures { result.now ≡ enum_labels enums.now of }
+{
+    match enums.get(usize::from(of)) {
+        Some(found) => found.labels.as_slice(),
+        None => &[],
+    }
 }
 
 impl EnumPlan {

@@ -3,28 +3,19 @@ ghost use Rattle.std.specs.Prelude.{◌≡◌, ◌-◌, [], IfOk, option_copied,
 ghost use Rattle.sym_base.specs.States.{parts_at};
 ghost use Rattle.sym_check.specs.ScriptPlans.{script_plan};
 ghost use Rattle.sym_check.specs.ShowPlans.{show_plan};
-ghost use Rattle.sym_plain.specs.Shown.{label_texts, cell_labels, kind_labels, part_kind, label_column, value_column, cell_column, call_column, shown, columns};
+ghost use Rattle.sym_plain.specs.Shown.{cell_labels, kind_labels, part_kind, label_column, value_column, cell_column, call_column, shown, columns};
 
 use crate::report::arithmetic::{negated, operated};
 use crate::report::lists::{of_nums, of_words};
 use std::alloc::Global;
 use sym_base::{Cell, Column, Columns, NoMemory, State, Text, Value};
-use sym_check::{CellPlan, EnumPlan, KindPlan, Plan, Show, ShowFn};
-
-fn label_texts(of: Option<&EnumPlan>) -> &[Text]
-    ensures { result.now ≡ label_texts (option_copied of.entry) }
-{
-    match of {
-        Some(of) => of.labels.as_slice(),
-        None => &[],
-    }
-}
+use sym_check::{CellPlan, KindPlan, Plan, Show, ShowFn, enum_labels};
 
 fn cell_labels<'a>(plan: &'a Plan, cell: Option<&CellPlan>) -> &'a [Text]
     ensures { result.now ≡ cell_labels (script_plan plan.now).enums (option_copied cell.entry) }
 {
     match cell {
-        Some(CellPlan::Enum { of, .. }) => label_texts(plan.enums.get(usize::from(*of))),
+        Some(CellPlan::Enum { of, .. }) => enum_labels(plan.enums.as_slice(), *of),
         _ => &[],
     }
 }
@@ -33,7 +24,7 @@ fn kind_labels<'a>(plan: &'a Plan, kind: Option<&KindPlan>) -> &'a [Text]
     ensures { result.now ≡ kind_labels (script_plan plan.now).enums (option_copied kind.entry) }
 {
     match kind {
-        Some(KindPlan::Label(of)) => label_texts(plan.enums.get(usize::from(*of))),
+        Some(KindPlan::Label(of)) => enum_labels(plan.enums.as_slice(), *of),
         _ => &[],
     }
 }

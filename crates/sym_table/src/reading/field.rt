@@ -3,7 +3,7 @@ ghost use Rattle.std.specs.Prelude.{◌≡◌, IfSome, OnOk, option_copied, opti
 ghost use Rattle.std.specs.List.{All};
 ghost use Rattle.sym_check.specs.WellFormed.{IsEnum};
 ghost use Rattle.sym_table.specs.Decoding.{Leaves};
-ghost use Rattle.sym_table.specs.Fields.{SaysOf, text_of, enum_labels, default_for, value_in, read_field};
+ghost use Rattle.sym_table.specs.Fields.{SaysOf, text_of, default_for, value_in, read_field};
 
 use crate::bad::BadCause;
 use crate::reading::blanks::without_blanks;
@@ -13,7 +13,7 @@ use crate::reading::stop::Stop;
 use std::alloc::Global;
 use std::str;
 use sym_base::{NoMemory, Text, Value};
-use sym_check::{EnumPlan, FieldPlan, KindPlan};
+use sym_check::{EnumPlan, FieldPlan, KindPlan, enum_labels};
 
 // Makes the value this word, over the memory that it has.
 #[inline(always)]
@@ -72,15 +72,6 @@ fn default_for<'a>(field: &'a FieldPlan, bytes: &[u8]) -> Option<&'a Value>
     }
 }
 
-fn labels_of(enums: &[EnumPlan], of: u16) -> &[Text]
-    ensures { result.now ≡ enum_labels enums.now of }
-{
-    match enums.get(usize::from(of)) {
-        Some(found) => found.labels.as_slice(),
-        None => &[],
-    }
-}
-
 // Makes the value the one that the text says.
 fn set_said(
     alloc: Global,
@@ -100,7 +91,7 @@ fn set_said(
         },
         KindPlan::Word => set_word(alloc, value, text)?,
         KindPlan::Label(of) => {
-            match label_in(labels_of(enums, of), without_blanks(text.as_bytes())) {
+            match label_in(enum_labels(enums, of), without_blanks(text.as_bytes())) {
                 Some(label) => *value = Value::Label(label),
                 None => return Err(Stop::Cause(BadCause::Label(which))),
             }
