@@ -16,7 +16,7 @@ use crate::form::{Form, Forms};
 use crate::joining::are_taken;
 use crate::part::{Constraint, Part};
 use crate::path::{Path, PathEnd};
-use crate::suiting::{all_suit, are_of_kinds, labels_of, same_kinds};
+use crate::suiting::{all_suit, are_of_kinds, label_count, same_kinds};
 use sym_base::FaultKind;
 use sym_check::{CellPlan, Checked, KindPlan, Plan};
 use sym_enum::{EnumForm, LabelSet};
@@ -54,7 +54,7 @@ fn part_fits(plan: &Plan, cell: &CellPlan, part: &Part) -> bool
 {
     match (cell, part) {
         (CellPlan::Enum { of, .. }, Part::Set(set)) => {
-            labels_fit(labels_of(plan.enums.as_slice(), *of), set)
+            labels_fit(label_count(plan.enums.as_slice(), *of), set)
         }
         (CellPlan::Int { lo, hi, .. }, Part::Span(span)) => {
             span_fits(&Span { lo: *lo, hi: *hi }, span)
@@ -137,7 +137,7 @@ fn label_form_fits(plan: &Plan, of: u16, form: &EnumForm) -> bool
     ensures { IsTrue result ↔ FitsLabelForm (script_plan plan.now) of form.now }
 {
     match form {
-        EnumForm::Const(label) => usize::from(*label) < labels_of(plan.enums.as_slice(), of),
+        EnumForm::Const(label) => usize::from(*label) < label_count(plan.enums.as_slice(), of),
         EnumForm::Copy(cell) => is_enum_cell(plan, *cell, of),
     }
 }

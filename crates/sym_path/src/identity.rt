@@ -10,7 +10,7 @@ ghost use Rattle.sym_path.specs.Identity.{IsOwnLabel, IsOwnNumber, IsWholeEnum, 
 use crate::form::Form;
 use crate::part::Part;
 use crate::path::{Path, PathEnd};
-use crate::suiting::labels_of;
+use crate::suiting::label_count;
 use std::alloc::Global;
 use sym_base::{NoMemory, Sequence};
 use sym_check::{CellPlan, Checked, Plan};
@@ -46,7 +46,7 @@ fn whole_enum(plan: &Plan, cell: u16, of: u16) -> (Part, Form)
     requires some { 0 < label_count (script_plan plan.now).enums of }
     ensures { IsWholeEnum (label_count (script_plan plan.now).enums of) cell result.0 result.1 }
 {
-    let set = LabelSet::full(labels_of(plan.enums.as_slice(), of) as u8);
+    let set = LabelSet::full(label_count(plan.enums.as_slice(), of) as u8);
     (Part::Set(set), Form::Enum(own_label(cell, &set)))
 }
 

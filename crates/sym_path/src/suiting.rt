@@ -12,7 +12,7 @@ use sym_check::{EnumPlan, KindPlan, Plan};
 use sym_pred::{Facts, Literal};
 
 /// How many labels an enum has; none where there is no such enum.
-pub(crate) fn labels_of(enums: &[EnumPlan], of: u16) -> usize
+pub(crate) fn label_count(enums: &[EnumPlan], of: u16) -> usize
     ensures { result ≡ label_count enums.now of }
 {
     match enums.get(usize::from(of)) {
@@ -28,7 +28,7 @@ fn is_of_kind(enums: &[EnumPlan], kind: &KindPlan, value: &Value) -> bool
     match (kind, value) {
         (KindPlan::Num, Value::Num(x)) => -NUM_MAX <= *x && *x <= NUM_MAX,
         (KindPlan::Word, Value::Word(_)) => true,
-        (KindPlan::Label(of), Value::Label(label)) => usize::from(*label) < labels_of(enums, *of),
+        (KindPlan::Label(of), Value::Label(label)) => usize::from(*label) < label_count(enums, *of),
         _ => false,
     }
 }
