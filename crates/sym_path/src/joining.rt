@@ -1,11 +1,11 @@
 //! Which paths can be joined, and the paths that they become.
-ghost use Rattle.std.specs.Prelude.{◌≡◌, ◌≤◌, ◌↔◌, ℕ, ℤ, IfOk, IsTrue, MatchOption, length, slice_set};
+ghost use Rattle.std.specs.Prelude.{◌≡◌, ◌≤◌, ◌↔◌, ℕ, ℤ, IfOk, IsTrue, MatchOption, length};
 ghost use Rattle.std.specs.List.{AllZip};
 ghost use Rattle.sym_int.specs.Points.{IsUnion};
 ghost use Rattle.sym_int.specs.declared.span.Span.{Span as OneSpan};
 ghost use Rattle.sym_pred.specs.Meaning.{Unite};
 ghost use Rattle.sym_path.specs.Joining.{PartsUnite, ConstraintsUnite, EndsAgree, Joinable};
-ghost use Rattle.sym_path.specs.Joins.{AddedIsTaken, AreUnited, AreUnitedFacts, EndIsTakenTo, IsDifference, IsJoin, IsJoinedEnd, IsUnitedInOne, IsUnitedPart};
+ghost use Rattle.sym_path.specs.Joins.{AddedIsTaken, AreUnited, AreUnitedFacts, EndIsTakenTo, IsDifference, IsJoin, IsJoinedEnd, IsUnitedPart};
 ghost use Rattle.sym_path.specs.Taking.{HasOneLabel, HasOneNumber, LabelIsTakenTo, NumberIsTakenTo, IsTakenTo, AreTakenTo};
 
 use crate::form::Form;
