@@ -220,7 +220,7 @@ fn keep_all(
 /// memory of `scratch`. Arithmetic that fails ends the paths.
 fn keep_on(
     alloc: Global,
-    plan: &Plan,
+    _plan: &Plan,
     known: &Known,
     no: u64,
     cell: u16,
@@ -229,15 +229,15 @@ fn keep_on(
     paths: &mut Vec<Path>,
     ended: &mut Vec<Path>,
 ) -> Result<(), NoMemory>
-    requires known { IsWellFormed (script_plan plan.now) }
-    requires well { DoIsKnown (script_plan plan.now) (known_values known.now)
+    requires known { IsWellFormed (script_plan _plan.now) }
+    requires well { DoIsKnown (script_plan _plan.now) (known_values known.now)
         (Keep cell (map fixed_plan values.now)) }
-    requires fits { SegmentFits (script_plan plan.now) paths.old.items }
+    requires fits { SegmentFits (script_plan _plan.now) paths.old.items }
     requires going { AllGoOn paths.old.items }
-    requires ended_fit { SegmentFits (script_plan plan.now) ended.old.items }
-    ensures { let step = after_do (script_plan plan.now) (known_values known.now) no
+    requires ended_fit { SegmentFits (script_plan _plan.now) ended.old.items }
+    ensures { let step = after_do (script_plan _plan.now) (known_values known.now) no
         (Keep cell (map fixed_plan values.now)) in
-        OnOk result (WereRun (script_plan plan.now) step no 1 0
+        OnOk result (WereRun (script_plan _plan.now) step no 1 0
         paths.old.items paths.new.items ended.old.items ended.new.items) }
 {
     match set_values(alloc, known, values, scratch) {

@@ -15,7 +15,7 @@ use Rattle.sym_explore.proofs.assigning.keep_on.Goals as goal
 
 pub returns-in-Ok : goal.returns-in-Ok
 returns-in-Ok c =
-    let p : ScriptPlan = script_plan c.args.plan.now in
+    let p : ScriptPlan = script_plan c.args._plan.now in
     let k : Environment = known_values c.args.known.now in
     let es : List FixedPlan = map fixed_plan c.args.values.now in
     on_ok c.keep_all.result
@@ -24,7 +24,7 @@ returns-in-Ok c =
 
 pub returns-in-Err-Fault : goal.returns-in-Err-Fault
 returns-in-Err-Fault c =
-    let p : ScriptPlan = script_plan c.args.plan.now in
+    let p : ScriptPlan = script_plan c.args._plan.now in
     let k : Environment = known_values c.args.known.now in
     let es : List FixedPlan = map fixed_plan c.args.values.now in
     let kind = c.in-Err-Fault.kind in
