@@ -20,6 +20,7 @@ pub mod PlanLaws
 mod CheckedExamples
 mod Fits
 mod ScopeLaws
+mod ScopePlaces
 mod Done
 mod SameKinds
 mod OperandOutcomes

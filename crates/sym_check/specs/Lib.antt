@@ -18,6 +18,7 @@ pub mod WellFormed
 pub mod PathBounds
 pub mod KnownValues
 pub mod Scopes
+pub mod Places
 pub mod Typing
 pub mod Breaks
 pub mod Elaborate

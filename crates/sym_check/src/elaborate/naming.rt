@@ -35,8 +35,7 @@ pub(crate) fn declare(
     ensures { OnOk result (scope.new ≡ scope.old ++ entry name.now meaning ∷ []) }
 {
     let name = name.text.copy(alloc)?;
-    scope.push(Entry { name, meaning })?;
-    Ok(())
+    scope.push(alloc, Entry { name, meaning })
 }
 
 // Why a name that nothing declared earlier has can't be used in the declaration of `own`.

@@ -1,10 +1,15 @@
 //! What names stand for, and the scopes in which they do.
-ghost use Rattle.std.specs.Prelude.{◌≡◌, ◌++◌, ◌∷◌, [], IfOk, OnOk, OnErr, option_copied, take};
-ghost use Rattle.sym_check.specs.Scopes.{find, shows, visible};
+ghost use Rattle.std.specs.Prelude.{◌≡◌, ◌-◌, ◌++◌, ◌∷◌, [], IfOk, OnOk, OnErr, length, option_copied, take};
+ghost use Rattle.std.specs.String.{string_bytes};
+ghost use Rattle.sym_check.specs.Places.{ArePlaces};
+ghost use Rattle.sym_check.specs.Scopes.{Scope as Names, find, shows, visible};
+ghost use Rattle.sym_check.specs.declared.elaborate.scope.Entry.{Entry as OneEntry};
 
 use crate::plan::script::{KindPlan, KindPlans};
 use std::alloc::Global;
-use sym_base::{NoMemory, Plain, Sequence, Text};
+use std::collections::BTreeMap;
+use std::marker::Model;
+use sym_base::{NoMemory, Text};
 
 /// What has a value that no cell takes part in, by its number, counted from 0.
 #[derive(Clone, Copy, PartialEq, Eq)]
@@ -41,8 +46,28 @@ pub struct Entry {
     pub meaning: Meaning,
 }
 
-/// Where names are looked up.
-pub type Scope = Sequence<Entry>;
+/// The place of the first entry of each name, counted from 0.
+type Places = BTreeMap<String, usize>;
+
+/// Where names are looked up: the entries in their order, and their places by name. A contract sees
+/// the entries.
+#[derive(Drop)]
+pub struct Scope {
+    entries: Vec<Entry>,
+    places: Places,
+}
+
+impl Model for Scope {
+    ghost use Rattle.std.specs.Prelude.{List};
+    ghost use Rattle.sym_check.specs.Places.{ArePlaces};
+    ghost use Rattle.sym_check.specs.declared.elaborate.scope.Entry.{Entry as OneEntry};
+
+    ghost Value = { List OneEntry };
+
+    ghost view = { λ s. s.entries.items };
+
+    ghost invariant = { λ s. ArePlaces s.places s.entries.items };
+}
 
 /// The parts of a script that see some of its names, and the names that the update doesn't see.
 #[derive(Clone, Copy, PartialEq, Eq)]
@@ -84,9 +109,88 @@ impl Entry {
     }
 }
 
-impl Plain for Entry {
-    fn copied(&self, alloc: Global) -> Result<Entry, NoMemory> {
-        self.copy(alloc)
+// Adds the place of an entry of this name, unless an earlier one has the name. After an `Err` the
+// places are as before.
+fn add(places: &mut Places, name: String, place: usize) -> Result<(), NoMemory>
+    ensures ok { OnOk result ((s : Names) (e : OneEntry) → length s ≡ place →
+        e.name ≡ string_bytes name → ArePlaces places.old s → ArePlaces places.new (s ++ e ∷ [])) }
+    ensures err { OnErr result (places.new.entries ≡ places.old.entries) }
+{
+    if places.contains_key(name.as_str()) {
+        return Ok(());
+    }
+    let _older = places.insert(name, place)?;
+    Ok(())
+}
+
+// Takes the place of the last entry, which has this name, away. An earlier one of the name stays.
+fn forget(places: &mut Places, name: &str, place: usize)
+    ensures { (s : Names) (e : OneEntry) → length s ≡ place → e.name ≡ name.now →
+        ArePlaces places.old (s ++ e ∷ []) → ArePlaces places.new s }
+{
+    if places.get(name) == Some(&place) {
+        let _place = places.remove(name);
+    }
+}
+
+impl Scope {
+    /// The scope of no names. It takes no memory until a name is added.
+    pub(crate) fn new(alloc: Global) -> Scope
+        ensures { result ≡ [] }
+    {
+        Scope {
+            entries: Vec::new(alloc),
+            places: BTreeMap::new(alloc),
+        }
+    }
+
+    /// The number of entries.
+    pub(crate) fn len(&self) -> usize
+        ensures { result ≡ length self.now }
+    {
+        self.entries.len()
+    }
+
+    /// Adds an entry as the last one.
+    pub(crate) fn push(&mut self, alloc: Global, entry: Entry) -> Result<(), NoMemory>
+        ensures { OnOk result (self.new ≡ self.old ++ entry ∷ []) }
+    {
+        let name = String::from_str(alloc, entry.name.as_str())?;
+        let Scope { entries, places } = self;
+        entries.reserve(1)?;
+        add(places, name, entries.len())?;
+        entries.push_reserved(entry);
+        Ok(())
+    }
+
+    // Takes the last entry away.
+    fn pop(&mut self)
+        ensures { self.new ≡ take (length self.old - 1) self.old }
+    {
+        let Scope { entries, places } = self;
+        let Some(entry) = entries.pop() else {
+            return;
+        };
+        forget(places, entry.name.as_str(), entries.len());
+    }
+
+    /// Takes the entries away that came after the first so many.
+    pub(crate) fn truncate(&mut self, count: usize)
+        ensures { self.new ≡ take count self.old }
+    {
+        'entries: while self.len() > count {
+            self.pop();
+        }
+    }
+
+    /// Adds the entries of another scope behind these.
+    pub(crate) fn append(&mut self, alloc: Global, other: Scope) -> Result<(), NoMemory>
+        ensures { OnOk result (self.new ≡ self.old ++ other) }
+    {
+        'entries: for entry in other.entries {
+            self.push(alloc, entry)?;
+        }
+        Ok(())
     }
 }
 
@@ -94,12 +198,9 @@ impl Plain for Entry {
 pub(crate) fn found<'a>(scope: &'a Scope, name: &str) -> Option<&'a Meaning>
     ensures { option_copied result ≡ find scope.now name.now }
 {
-    'entries: for entry in scope.as_slice() {
-        if entry.name.as_str() == name {
-            return Some(&entry.meaning);
-        }
-    }
-    None
+    let place = scope.places.get(name)?;
+    let entry = scope.entries.as_slice().get(*place)?;
+    Some(&entry.meaning)
 }
 
 impl View {
@@ -131,11 +232,11 @@ impl View {
 pub(crate) fn seen(alloc: Global, view: View, scope: &Scope) -> Result<Scope, NoMemory>
     ensures { IfOk result (λ s. s ≡ visible view scope.now) }
 {
-    let mut entries = Vec::new(alloc);
-    'entries: for entry in scope.as_slice() {
+    let mut names = Scope::new(alloc);
+    'entries: for entry in scope.entries.as_slice() {
         if view.shows(&entry.meaning) {
-            entries.push(entry.copy(alloc)?)?;
+            names.push(alloc, entry.copy(alloc)?)?;
         }
     }
-    Ok(Sequence::of(entries))
+    Ok(names)
 }

@@ -19,8 +19,7 @@ use crate::plan::expression::{Fixed, Term};
 use crate::plan::script::KindPlan;
 use crate::plan::statement::{Do, Dos};
 use std::alloc::Global;
-use std::mem;
-use sym_base::{Expr, Exprs, Name, NoMemory, Sequence, Stmt, Stmts};
+use sym_base::{Expr, Exprs, Name, NoMemory, Stmt, Stmts};
 
 /// A value that a local may have, and its kind.
 #[derive(Drop)]
@@ -109,15 +108,6 @@ fn keep_from(scope: &Scope, name: &Name, source: &Name) -> Result<Do, CheckErr>
     kept_from(source.at, cell, from)
 }
 
-/// Takes the names away that came after the first so many.
-fn leave(alloc: Global, scope: &mut Scope, count: usize)
-    ensures { scope.new ≡ take count scope.old }
-{
-    let mut entries = mem::replace(scope, Sequence::new(alloc)).into_vec();
-    entries.truncate(count);
-    *scope = Sequence::of(entries);
-}
-
 fn followed(alloc: Global, first: Do, rest: Dos) -> Result<Dos, NoMemory>
     ensures { IfOk result (λ ds. dos_plan ds ≡ Then (do_plan first) (dos_plan rest)) }
 {
@@ -177,7 +167,7 @@ pub(crate) fn block(
             let count = scope.len();
             let first = statement(alloc, hidden, scope, next, first)?;
             let rest = block(alloc, hidden, scope, next, rest)?;
-            leave(alloc, scope, count);
+            scope.truncate(count);
             Ok(followed(alloc, first, rest)?)
         }
     }

@@ -22,7 +22,7 @@ use crate::elaborate::scope::{Meaning, Scope, Variable, View, seen};
 use crate::plan::condition::Cond;
 use crate::plan::script::{KindPlan, KindPlans, TestPlan, TestPlans};
 use std::alloc::Global;
-use sym_base::{Expr, Name, NoMemory, Param, Params, Sequence, TestDecl, TestDecls, Texts};
+use sym_base::{Expr, Name, NoMemory, Param, Params, TestDecl, TestDecls, Texts};
 
 // Whether none of the names is this one; it is `Twice` where one is.
 fn unnamed(names: &Texts, name: &Name) -> Result<(), CheckErr>
@@ -83,10 +83,9 @@ fn param_decls(
 fn in_body(alloc: Global, scope: &Scope, params: Scope) -> Result<Scope, NoMemory>
     ensures { IfOk result (λ s. s ≡ in_tests scope.now ++ params) }
 {
-    let mut entries = seen(alloc, View::Tests, scope)?.into_vec();
-    let mut params = params.into_vec();
-    entries.append(&mut params)?;
-    Ok(Sequence::of(entries))
+    let mut names = seen(alloc, View::Tests, scope)?;
+    names.append(alloc, params)?;
+    Ok(names)
 }
 
 // The condition of a test's body.

@@ -4,4 +4,4 @@ use Rattle.sym_check.specs.Scopes.{visible}
 use Rattle.sym_check.proofs.elaborate.scope.seen.Given as goal
 
 abbrev pub invariant-entries : goal.invariant-entries
-invariant-entries l = l.entries.items ≡ visible l.view (take l.entry-index l.entry-items)
+invariant-entries l = l.names ≡ visible l.view (take l.entry-index l.entry-items)
