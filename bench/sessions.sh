@@ -1,9 +1,9 @@
 #!/bin/sh
 # Measures symple over two logs of 4,000,000 records, of 10 and of 98,304 users: the sessions of
 # each user, against gawk, mawk, miller, Python with its csv, and a program written by hand in Rust.
-# All have to write the same report, and each runs three times, in turn; miller, which takes 8 to 11
-# times as long as symple, runs once, and is stopped after two minutes. Prints the least wall time
-# and the most memory of each, and their ratios to symple's, as a table.
+# All have to write the same report, and each runs three times, in turn; miller, the slowest, is
+# stopped where it takes two minutes. Prints the least wall time and the most memory of each, and
+# their ratios to symple's, as a table.
 # Needs rustc, gawk, mawk, miller, python3, GNU date, time and timeout (Debian's packages rustc,
 # gawk, mawk, miller, python3, time and coreutils).
 # Usage: bench/sessions.sh [RECORDS]
@@ -12,8 +12,7 @@ set -eu
 records=${1:-4000000}
 most_bytes=67108864
 turns=3
-programs="symple rust mawk gawk python"
-slow=miller
+programs="symple rust mawk gawk python miller"
 patience=120
 here=$(CDPATH='' cd -P "$(dirname "$0")" && pwd)
 root=$(dirname "$here")
@@ -34,8 +33,8 @@ work=$(mktemp -d)
 trap 'rm -rf "$work"' EXIT
 trap 'exit 1' HUP INT TERM
 
-# run PROGRAM USERS: one of the programs over one of the logs. Its status is 124 where the slow one
-# was stopped.
+# run PROGRAM USERS: one of the programs over one of the logs. Its status is 124 where miller was
+# stopped.
 run() {
     log=$work/$2.csv
     case $1 in
@@ -90,12 +89,8 @@ while [ "$turn" -le "$turns" ]; do
     turn=$((turn + 1))
 done
 
-for users in 10 98304; do
-    measure "$slow" $users
-done
-
 # shellcheck disable=SC2016 # what is quoted is awk's
-mawk -v programs="$programs $slow" -v patience=$patience '
+mawk -v programs="$programs" -v patience=$patience '
     { at = $1 " " $2 }
     !(at in wall) || $3 < wall[at] { wall[at] = $3 }
     $4 > memory[at] { memory[at] = $4 }
