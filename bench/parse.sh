@@ -48,7 +48,7 @@ start_awk=$(read_by_awk "$work/none")
 printf '%-12s %12s %13s %6s %13s %6s\n' "instructions" "8,192 bytes" "65,536 bytes" "ratio" \
     "awk, 65,536" "ratio"
 failed=0
-for kind in parentheses operands statements names locals labels texts comments; do
+for kind in parentheses operands statements names locals labels tests texts comments; do
     for size in 8192 65536; do
         "$awk" -v kind=$kind -v size=$size -f "$here/scripts.awk" >"$work/$size"
         [ "$(wc -c <"$work/$size")" -le $size ] || stop "a script of kind $kind is too large"

@@ -1,5 +1,6 @@
 # Writes a script of one kind with at most `size` bytes, which is within the limits of the language
-# and breaks no rule: parentheses, operands, statements, names, locals, labels, texts or comments.
+# and breaks no rule: parentheses, operands, statements, names, locals, labels, tests, texts or
+# comments.
 # What is left of the size is a comment.
 function repeated(piece, times,    all) {
     all = ""
@@ -32,6 +33,15 @@ function enums(    all, number) {
     return all
 }
 
+# 32 tests of the hold cell, with 8 parameters each, the most that a script may have.
+function tests(    all, number) {
+    all = ""
+    for (number = 10; number < 42; number++)
+        all = all "test t" number "(h: num, a: num, b: num, c: num, d: num, e: num, f: num, g: num)" \
+            " = a > h;\n"
+    return all
+}
+
 # What stands before the statements of the kind.
 function prelude(    all, number) {
     all = ""
@@ -54,7 +64,7 @@ function statement() {
         return long_cell " = " long_cell " + " long_field " - " long_field ";"
     if (kind == "locals")
         return "n = n" sum_of_locals() ";"
-    if (kind == "labels")
+    if (kind == "labels" || kind == "tests")
         return "n = n" repeated(" + x", 255) ";"
     if (kind == "texts")
         return "if w == \"" repeated("text \\\" ", 32) "\" { n = 0; }"
@@ -67,9 +77,11 @@ BEGIN {
     long_hold = repeated("h", 64)
     long_list = repeated("l", 64)
     long_local = repeated("v", 64)
-    begin = (kind == "labels" ? enums() : "") "field x: num;\nfield w: word;\nfield " long_field ": num;\nstate n: int [0..9] = 0;\n" \
+    begin = (kind == "labels" || kind == "tests" ? enums() : "") \
+        "field x: num;\nfield w: word;\nfield " long_field ": num;\nstate n: int [0..9] = 0;\n" \
         "state " long_cell ": int [0..9] = 0;\nstate " long_hold ": hold(num = 0);\n" \
-        "state " long_list ": nums [0..9];\nupdate {\n" prelude()
+        "state " long_list ": nums [0..9];\n" (kind == "tests" ? tests() : "") \
+        "update {\n" prelude()
     end = "}\nreport { n = n; }\n"
     printf "%s", begin
     left = size - length(begin) - length(end)
