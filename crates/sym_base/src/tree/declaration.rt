@@ -10,14 +10,23 @@ use crate::values::text::Text;
 use std::alloc::Global;
 
 /// An enum and its labels, which are numbered from 0 in this order.
-#[derive(PartialEq, Eq, Drop)]
+#[derive(PartialEq, Eq)]
 pub struct EnumDecl {
     pub name: Name,
     pub labels: Names,
 }
 
+impl Drop for EnumDecl {
+    fn drop(self) {
+        let EnumDecl {
+            name: _name,
+            labels: _labels,
+        } = self;
+    }
+}
+
 /// The kind of a value, as it is written.
-#[derive(PartialEq, Eq, Drop)]
+#[derive(PartialEq, Eq)]
 pub enum KindRef {
     Num,
     Word,
@@ -25,8 +34,18 @@ pub enum KindRef {
     Named(Name),
 }
 
+impl Drop for KindRef {
+    fn drop(self) {
+        match self {
+            KindRef::Num => {}
+            KindRef::Word => {}
+            KindRef::Named(_held) => {}
+        }
+    }
+}
+
 /// A value, as it is written.
-#[derive(PartialEq, Eq, Drop)]
+#[derive(PartialEq, Eq)]
 pub enum Literal {
     Num { value: i64, at: u32 },
     Text { text: Text, at: u32 },
@@ -34,8 +53,18 @@ pub enum Literal {
     Named(Name),
 }
 
+impl Drop for Literal {
+    fn drop(self) {
+        match self {
+            Literal::Num { value: _, at: _ } => {}
+            Literal::Text { text: _text, at: _ } => {}
+            Literal::Named(_held) => {}
+        }
+    }
+}
+
 /// A field of the records.
-#[derive(PartialEq, Eq, Drop)]
+#[derive(PartialEq, Eq)]
 pub struct FieldDecl {
     pub name: Name,
     /// The text of its column in a file's header, where that isn't the name.
@@ -45,15 +74,35 @@ pub struct FieldDecl {
     pub default: Option<Literal>,
 }
 
+impl Drop for FieldDecl {
+    fn drop(self) {
+        let FieldDecl {
+            name: _name,
+            header: _header,
+            kind: _kind,
+            default: _default,
+        } = self;
+    }
+}
+
 /// A part of a hold cell: its kind and its first value.
-#[derive(PartialEq, Eq, Drop)]
+#[derive(PartialEq, Eq)]
 pub struct Part {
     pub kind: KindRef,
     pub first: Literal,
 }
 
+impl Drop for Part {
+    fn drop(self) {
+        let Part {
+            kind: _kind,
+            first: _first,
+        } = self;
+    }
+}
+
 /// What a cell holds, and what it holds at first. Ranges have both ends in them.
-#[derive(PartialEq, Eq, Drop)]
+#[derive(PartialEq, Eq)]
 pub enum CellDecl {
     Int { lo: i64, hi: i64, first: i64 },
     Nums { lo: i64, hi: i64 },
@@ -62,33 +111,87 @@ pub enum CellDecl {
     Enum { of: Name, first: Name },
 }
 
+impl Drop for CellDecl {
+    fn drop(self) {
+        match self {
+            CellDecl::Int {
+                lo: _,
+                hi: _,
+                first: _,
+            } => {}
+            CellDecl::Nums { lo: _, hi: _ } => {}
+            CellDecl::Words => {}
+            CellDecl::Hold(_held) => {}
+            CellDecl::Enum {
+                of: _of,
+                first: _first,
+            } => {}
+        }
+    }
+}
+
 /// A cell of the state.
-#[derive(PartialEq, Eq, Drop)]
+#[derive(PartialEq, Eq)]
 pub struct StateDecl {
     pub name: Name,
     pub cell: CellDecl,
 }
 
+impl Drop for StateDecl {
+    fn drop(self) {
+        let StateDecl {
+            name: _name,
+            cell: _cell,
+        } = self;
+    }
+}
+
 /// A parameter of a test.
-#[derive(PartialEq, Eq, Drop)]
+#[derive(PartialEq, Eq)]
 pub struct Param {
     pub name: Name,
     pub kind: KindRef,
 }
 
+impl Drop for Param {
+    fn drop(self) {
+        let Param {
+            name: _name,
+            kind: _kind,
+        } = self;
+    }
+}
+
 /// A test on the parts of a hold cell and further arguments.
-#[derive(Drop)]
 pub struct TestDecl {
     pub name: Name,
     pub params: Params,
     pub body: Expr,
 }
 
+impl Drop for TestDecl {
+    fn drop(self) {
+        let TestDecl {
+            name: _name,
+            params: _params,
+            body: _body,
+        } = self;
+    }
+}
+
 /// A column of the report.
-#[derive(Drop)]
 pub struct ColumnDecl {
     pub name: Name,
     pub value: Expr,
+}
+
+impl Drop for ColumnDecl {
+    fn drop(self) {
+        let ColumnDecl {
+            name: _name,
+            value: _value,
+        } = self;
+    }
 }
 
 /// The enums, in order of declaration.

@@ -7,10 +7,16 @@ use crate::values::text::Text;
 use std::alloc::Global;
 
 /// A name and the place of its first byte.
-#[derive(PartialEq, Eq, Drop)]
+#[derive(PartialEq, Eq)]
 pub struct Name {
     pub text: Text,
     pub at: u32,
+}
+
+impl Drop for Name {
+    fn drop(self) {
+        let Name { text: _text, at: _ } = self;
+    }
 }
 
 /// A list of names.

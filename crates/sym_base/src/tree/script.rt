@@ -9,7 +9,6 @@ use crate::values::memory::NoMemory;
 use std::alloc::Global;
 
 /// A script: its declarations in order, its update and its report.
-#[derive(Drop)]
 pub struct Script {
     pub enums: EnumDecls,
     pub fields: FieldDecls,
@@ -19,6 +18,20 @@ pub struct Script {
     pub tests: TestDecls,
     pub update: Stmts,
     pub columns: ColumnDecls,
+}
+
+impl Drop for Script {
+    fn drop(self) {
+        let Script {
+            enums: _enums,
+            fields: _fields,
+            group: _group,
+            states: _states,
+            tests: _tests,
+            update: _update,
+            columns: _columns,
+        } = self;
+    }
 }
 
 fn copy_group(alloc: Global, group: &Option<Name>) -> Result<Option<Name>, NoMemory>

@@ -7,10 +7,19 @@ use std::alloc::Global;
 
 /// A record: its number, counted from 1 over all files, and one value for each field of the
 /// script, in order of declaration.
-#[derive(PartialEq, Eq, Drop)]
+#[derive(PartialEq, Eq)]
 pub struct Record {
     pub no: u64,
     pub fields: Values,
+}
+
+impl Drop for Record {
+    fn drop(self) {
+        let Record {
+            no: _,
+            fields: _fields,
+        } = self;
+    }
 }
 
 impl Record {

@@ -17,7 +17,7 @@ pub enum ReportFault {
 }
 
 /// The value of one column of a report row.
-#[derive(PartialEq, Eq, Drop)]
+#[derive(PartialEq, Eq)]
 pub enum Column {
     Num(i128),
     Word(Text),
@@ -26,6 +26,19 @@ pub enum Column {
     /// An element of an empty list.
     Nothing,
     Bad(ReportFault),
+}
+
+impl Drop for Column {
+    fn drop(self) {
+        match self {
+            Column::Num(_) => {}
+            Column::Word(_held) => {}
+            Column::Nums(_held) => {}
+            Column::Words(_held) => {}
+            Column::Nothing => {}
+            Column::Bad(_) => {}
+        }
+    }
 }
 
 /// A list of columns.

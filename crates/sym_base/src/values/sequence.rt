@@ -17,9 +17,14 @@ pub trait Plain: Sized + Drop {
 }
 
 /// A list over a vector. A contract sees the list of its items.
-#[derive(Drop)]
 pub struct Sequence<T> {
     items: Vec<T>,
+}
+
+impl<T: Drop> Drop for Sequence<T> {
+    fn drop(self) {
+        let Sequence { items: _items } = self;
+    }
 }
 
 impl<T> Model for Sequence<T> {
@@ -51,7 +56,8 @@ impl<T> Sequence<T> {
     pub fn into_vec(self) -> Vec<T>
         ensures { result.items ≡ self }
     {
-        self.items
+        let Sequence { items } = self;
+        items
     }
 
     /// The number of items.

@@ -16,9 +16,15 @@ use std::hash::{Hash, Hasher};
 use std::marker::Model;
 
 /// UTF-8 text. A contract sees its bytes, and texts stand in the order of their bytes.
-#[derive(Debug, Drop)]
+#[derive(Debug)]
 pub struct Text {
     inner: String,
+}
+
+impl Drop for Text {
+    fn drop(self) {
+        let Text { inner: _inner } = self;
+    }
 }
 
 /// A list of texts: names, labels or headings.
@@ -56,7 +62,8 @@ impl Text {
     pub fn into_string(self) -> String
         ensures { string_bytes result ≡ self }
     {
-        self.inner
+        let Text { inner } = self;
+        inner
     }
 
     /// Makes this a copy of these bytes, over the memory that the text has. After an `Err` the text
