@@ -1,12 +1,15 @@
 -- The order and the equality of values: total, and telling apart all that differs.
-use Rattle.std.proofs.Common.{◌≡◌, List, refl, ap, rules}
-use Rattle.std.specs.declared.cmp.Ordering.TheVariants.{Less, Equal}
+use Rattle.std.proofs.Common.{◌≡◌, ◌∙◌, ◌↔◌, List, refl, ap, sym, rules}
+use Rattle.std.specs.declared.cmp.Ordering.{Ordering}
+use Rattle.std.specs.declared.cmp.Ordering.TheVariants.{Less, Equal, Greater}
 use Rattle.std.specs.Ordering.{ordering_reverse}
 use Rattle.std.specs.Bool.{Decides}
 use Rattle.std.specs.Cmp.{IsTotalOrder, nat_cmp_total, int_cmp_total}
 use Rattle.std.specs.Cmp.Lexicographic.{lists_total, nat_list_cmp_total, pointwise, pointwise_decides}
 use Rattle.std.specs.FinMap.{IsAntisymmetric, nat_cmp-IsAntisymmetric, int_cmp-IsAntisymmetric, slice_cmp-IsAntisymmetric}
 use Rattle.sym_base.specs.contracts.values.value.ValuePartialEq.TheImpl as equality
+use Rattle.sym_base.specs.contracts.values.value.KeyPartialEq.TheImpl as key_equality
+use Rattle.sym_base.specs.declared.values.value.Key.{Key}
 use Rattle.sym_base.specs.declared.values.value.Value.{Value}
 use Rattle.sym_base.specs.declared.values.value.Value.TheVariants.{Num, Word, Label}
 use Rattle.sym_base.specs.Order.{value_cmp, values_cmp}
@@ -69,6 +72,18 @@ value_cmp-IsAntisymmetric (Word s) (Label m) e = cc
 value_cmp-IsAntisymmetric (Label l) (Num y) e = cc
 value_cmp-IsAntisymmetric (Label l) (Word t) e = cc
 
+-- An order that is its own reverse is a tie.
+own_reverse : (o : Ordering) → o ≡ ordering_reverse o → o ≡ Equal
+own_reverse Less e = cc
+own_reverse Equal e = refl
+own_reverse Greater e = cc
+
+pub value_cmp-ties : (x y : Value) → (value_cmp x y ≡ Equal) ↔ (x ≡ y)
+value_cmp-ties x y = (
+  value_cmp-IsAntisymmetric x y,
+  λ e. ap (λ (z : Value). value_cmp x z) (sym e) ∙ own_reverse (value_cmp x x) (antisymm x x),
+)
+
 pub values_cmp-IsAntisymmetric : IsAntisymmetric values_cmp
 values_cmp-IsAntisymmetric = slice_cmp-IsAntisymmetric value_cmp-IsAntisymmetric
 
@@ -78,3 +93,6 @@ value_eq-Decides x y = search rules
 
 pub values_eq-Decides : (xs ys : List Value) → Decides (pointwise (equality.ghosts).eq xs ys) (xs ≡ ys)
 values_eq-Decides = pointwise_decides value_eq-Decides
+
+pub key_eq-Decides : (k l : Key) → Decides ((key_equality.ghosts).eq k l) (k ≡ l)
+key_eq-Decides k l = search rules

@@ -3,6 +3,7 @@
 #![tactic(auto)]
 
 mod edge;
+pub mod laws;
 mod limits;
 mod tree;
 mod values;

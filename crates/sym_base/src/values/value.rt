@@ -1,5 +1,5 @@
 //! Numbers, words and labels, which are what records and states hold.
-ghost use Rattle.std.specs.Prelude.{◌≡◌, IfOk};
+ghost use Rattle.std.specs.Prelude.{◌≡◌, ◌⊎◌, [], IfOk, OnOk, OnErr};
 
 use crate::values::memory::NoMemory;
 use crate::values::sequence::{Plain, Sequence};
@@ -8,7 +8,7 @@ use std::alloc::Global;
 
 /// A value of a field, of a part of a hold cell, or of an argument of a test. Values stand in
 /// the order numbers by size, words by bytes, labels by number.
-#[derive(Debug, PartialEq, Eq, PartialOrd, Ord, Hash, Drop)]
+#[derive(Debug, PartialEq, Eq, PartialOrd, Ord, Hash)]
 pub enum Value {
     /// A whole number in `-NUM_MAX` to `NUM_MAX`.
     Num(i64),
@@ -18,6 +18,16 @@ pub enum Value {
     Label(u8),
 }
 
+impl Drop for Value {
+    fn drop(self) {
+        match self {
+            Value::Num(_) => {}
+            Value::Word(_held) => {}
+            Value::Label(_) => {}
+        }
+    }
+}
+
 /// A list of values.
 pub type Values = Sequence<Value>;
 
@@ -25,12 +35,21 @@ pub type Values = Sequence<Value>;
 pub type Nums = Sequence<i64>;
 
 /// What tells one group of records from another.
-#[derive(PartialEq, Eq, Hash, Drop)]
+#[derive(PartialEq, Eq, Hash)]
 pub enum Key {
     /// All records are of one group.
     Whole,
     /// The records whose group field has this value.
     One(Value),
+}
+
+impl Drop for Key {
+    fn drop(self) {
+        match self {
+            Key::Whole => {}
+            Key::One(_held) => {}
+        }
+    }
 }
 
 impl Value {
@@ -54,6 +73,40 @@ impl Value {
         match self {
             Value::Num(held) => *held = number,
             Value::Word(_) | Value::Label(_) => *self = Value::Num(number),
+        }
+    }
+
+    /// Makes this a word with these bytes, over the memory that it has. After an `Err` it is as
+    /// before or an empty word.
+    pub fn set_word(&mut self, alloc: Global, word: &str) -> Result<(), NoMemory>
+        ensures ok { OnOk result (self.new ≡ Value.Word word.now) }
+        ensures err { OnErr result ((self.new ≡ self.old) ⊎ (self.new ≡ Value.Word [])) }
+    {
+        match self {
+            Value::Word(held) => held.set(word),
+            Value::Num(_) | Value::Label(_) => {
+                *self = Value::Word(Text::from_str(alloc, word)?);
+                Ok(())
+            }
+        }
+    }
+
+    /// Makes this equal to `other`, over the memory that it has. After an `Err` it is as before or
+    /// an empty word.
+    pub fn copy_from(&mut self, alloc: Global, other: &Value) -> Result<(), NoMemory>
+        ensures ok { OnOk result (self.new ≡ other.now) }
+        ensures err { OnErr result ((self.new ≡ self.old) ⊎ (self.new ≡ Value.Word [])) }
+    {
+        match other {
+            Value::Num(number) => {
+                self.set_num(*number);
+                Ok(())
+            }
+            Value::Word(word) => self.set_word(alloc, word.as_str()),
+            Value::Label(label) => {
+                *self = Value::Label(*label);
+                Ok(())
+            }
         }
     }
 }

@@ -1,5 +1,5 @@
 //! The truth of conditions at a state.
-ghost use Rattle.std.specs.Prelude.{◌≡◌, ◌≤◌, ◌+◌, ◌++◌, ◌∷◌, [], IsTrue, IfOk, OnOk, length, map, take, Ok};
+ghost use Rattle.std.specs.Prelude.{◌≡◌, ◌≤◌, ◌+◌, ◌++◌, ◌∷◌, [], IsTrue, OnOk, length, map, take, Ok};
 ghost use Rattle.std.specs.List.{list_all};
 ghost use Rattle.sym_check.specs.CondPlans.{cond_plan};
 ghost use Rattle.sym_check.specs.Conditions.{has_fixed_body, test_truth, truth};
@@ -26,19 +26,6 @@ pub fn fixed_value(alloc: Global, known: &Known, expression: &Fixed) -> Result<V
     match value_of(alloc, known, expression)? {
         FixedValue::Is(value) => Ok(value),
         FixedValue::Arith => Err(Stop::Fault(FaultKind::Arith)),
-    }
-}
-
-// The word is written over the text of an old value.
-fn text_over(alloc: Global, old: Option<Value>, word: &str) -> Result<Text, NoMemory>
-    ensures { IfOk result (λ t. t ≡ word.now) }
-{
-    match old {
-        Some(Value::Word(mut text)) => {
-            text.set(word)?;
-            Ok(text)
-        }
-        _ => Text::from_str(alloc, word),
     }
 }
 
@@ -83,9 +70,11 @@ pub(crate) fn put_word(
         OnOk result (take (index + 1) values.new ≡ before ++ Value.Word word.now ∷ []) }
     ensures length { OnOk result (index + 1 ≤ length values.new) }
 {
-    let old = values.replace(index, Value::Num(0));
-    let word = text_over(alloc, old, word)?;
-    put_at(values, index, Value::Word(word))
+    match values.get_mut(index) {
+        Some(value) => value.set_word(alloc, word)?,
+        None => values.push(Value::Word(Text::from_str(alloc, word)?))?,
+    }
+    Ok(())
 }
 
 // Puts the value of an expression at this place; those before it stay.
