@@ -1,7 +1,4 @@
 //! With ample memory each type of plain values gives its copy.
-ghost use Rattle.std.specs.Prelude.{IfOk, IsTrue};
-ghost use Rattle.sym_base.specs.States.{has_nums, has_words};
-
 use crate::*;
 use std::alloc::{AllocError, Global};
 use std::process::Abort;
@@ -41,10 +38,7 @@ fn nums(alloc: Global) -> Result<Nums, NoMemory> {
 }
 
 // A state with a cell of each kind.
-fn state(alloc: Global) -> Result<State, NoMemory>
-    ensures nums { IfOk result (λ s. IsTrue (has_nums s 3)) }
-    ensures words { IfOk result (λ s. IsTrue (has_words s 4)) }
-{
+fn state(alloc: Global) -> Result<State, NoMemory> {
     let mut cells = Cells::new(alloc);
     cells.push(Cell::Enum(2))?;
     cells.push(Cell::Int(-4))?;
@@ -287,24 +281,7 @@ fn numbers_compare(rt: HostRuntime) -> Result<(), Fail> {
 }
 
 #[test]
-fn lists_of_a_state_are_seen_where_they_lie(rt: HostRuntime) -> Result<(), Fail> {
-    let state = state(rt.alloc())?;
-    assert!(rt; state.nums_at(3) == [-1, NUM_MAX].as_slice() && state.words_at(4).len() == 2);
-    assert!(rt; state.nums_at(4).is_empty() && state.words_at(5).is_empty());
-    let state = state.with_cell(4, Cell::Enum(1));
-    assert!(rt; state.label_at(4) == 1 && state.words_at(4).is_empty());
-    Ok(())
-}
-
-#[test]
-fn lists_of_a_state_grow(rt: HostRuntime) -> Result<(), Fail> {
-    let mut more_nums = state(rt.alloc())?;
-    more_nums.push_num(3, 8)?;
-    assert!(rt; more_nums.nums_at(3) == [-1, NUM_MAX, 8].as_slice());
-    assert!(rt; more_nums.words_at(4).len() == 2 && more_nums.number_at(1) == -4);
-    let mut more_words = state(rt.alloc())?;
-    more_words.push_word(4, word(rt.alloc())?)?;
-    assert!(rt; more_words.words_at(4).len() == 3 && more_words.nums_at(3).len() == 2);
+fn a_value_of_a_list_is_replaced(rt: HostRuntime) -> Result<(), Fail> {
     let mut values = values(rt.alloc())?;
     assert!(rt; values.replace(0, Value::Num(6)) == Some(Value::Num(-5)));
     assert!(rt; values.replace(3, Value::Num(6)) == None && values.len() == 3);

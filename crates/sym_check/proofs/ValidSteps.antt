@@ -17,7 +17,7 @@ use Rattle.sym_base.specs.declared.values.state.FaultKind.TheVariants as fault
 use Rattle.sym_base.specs.declared.values.state.Outcome.{Outcome}
 use Rattle.sym_base.specs.declared.values.state.Outcome.TheVariants.{Going, Ended}
 use Rattle.sym_base.specs.Limits.{num_max, IsNumber}
-use Rattle.sym_base.specs.States.{label_at, label_in, parts_at, parts_in, nums_at, nums_in, words_at, with_cell}
+use Rattle.sym_base.specs.States.{label_at, cell_label, parts_at, cell_parts, nums_at, cell_nums, words_at, with_cell}
 use Rattle.sym_check.specs.declared.evaluate.arithmetic.Arith.{Arith}
 use Rattle.sym_check.specs.declared.plan.expression.ArithOp.{ArithOp}
 use Rattle.sym_check.specs.declared.plan.expression.ArithOp.TheVariants as op
@@ -205,7 +205,7 @@ stored_valid p P s c content x step = go (in_range (slice_get p.cells c) x) refl
 label_held : (p : ScriptPlan) (s : State) (c enum : ℕ) → IsValid p s → kinds_of.IsEnumCell p.cells c enum → label_at s c < label_count p.enums enum
 label_held p s c enum h w = go (zip_get (IsValidCell p.enums) p.cells s.cells c (plan.Enum enum w.first) h w.is)
   where
-    found : (content : Cell) → IsValidCell p.enums (plan.Enum enum w.first) content → slice_get s.cells c ≡ Some content → label_in (slice_get s.cells c) < label_count p.enums enum
+    found : (content : Cell) → IsValidCell p.enums (plan.Enum enum w.first) content → slice_get s.cells c ≡ Some content → cell_label (slice_get s.cells c) < label_count p.enums enum
     found _ (valid.enum of first l t) e = rw e t
 
     go : (content : Cell) × (slice_get s.cells c ≡ Some content) × IsValidCell p.enums (plan.Enum enum w.first) content → label_at s c < label_count p.enums enum
@@ -214,7 +214,7 @@ label_held p s c enum h w = go (zip_get (IsValidCell p.enums) p.cells s.cells c 
 parts_held : (p : ScriptPlan) (s : State) (c : ℕ) (kinds : List KindPlan) → IsValid p s → kinds_of.IsHoldCell p.cells c kinds → AreOfKinds p.enums kinds (parts_at s c)
 parts_held p s c kinds h w = go (zip_get (IsValidCell p.enums) p.cells s.cells c (plan.Hold kinds w.first) h w.is)
   where
-    found : (content : Cell) → IsValidCell p.enums (plan.Hold kinds w.first) content → slice_get s.cells c ≡ Some content → AreOfKinds p.enums kinds (parts_in (slice_get s.cells c))
+    found : (content : Cell) → IsValidCell p.enums (plan.Hold kinds w.first) content → slice_get s.cells c ≡ Some content → AreOfKinds p.enums kinds (cell_parts (slice_get s.cells c))
     found _ (valid.hold ks first parts t) e = rw e t
 
     go : (content : Cell) × (slice_get s.cells c ≡ Some content) × IsValidCell p.enums (plan.Hold kinds w.first) content → AreOfKinds p.enums kinds (parts_at s c)
@@ -227,7 +227,7 @@ all_more lo hi x xs h t = All-append (InRange lo hi) xs (x ∷ []) h (All-cons (
 nums_held : (p : ScriptPlan) (s : State) (c : ℕ) (x : ℤ) → IsValid p s → (w : kinds_of.IsNumsCell p.cells c) → InRange w.lo w.hi x → IsValidCell p.enums (plan.Nums w.lo w.hi) (cell.Nums (nums_at s c ++ x ∷ []))
 nums_held p s c x h w t = go (zip_get (IsValidCell p.enums) p.cells s.cells c (plan.Nums w.lo w.hi) h w.is)
   where
-    found : (content : Cell) → IsValidCell p.enums (plan.Nums w.lo w.hi) content → slice_get s.cells c ≡ Some content → All (InRange w.lo w.hi) (nums_in (slice_get s.cells c))
+    found : (content : Cell) → IsValidCell p.enums (plan.Nums w.lo w.hi) content → slice_get s.cells c ≡ Some content → All (InRange w.lo w.hi) (cell_nums (slice_get s.cells c))
     found _ (valid.nums lo hi xs t) e = rw e t
 
     go : (content : Cell) × (slice_get s.cells c ≡ Some content) × IsValidCell p.enums (plan.Nums w.lo w.hi) content → IsValidCell p.enums (plan.Nums w.lo w.hi) (cell.Nums (nums_at s c ++ x ∷ []))

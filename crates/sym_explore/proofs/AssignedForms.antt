@@ -7,7 +7,7 @@ use Rattle.sym_base.specs.declared.values.state.Cell.TheVariants as cell
 use Rattle.sym_base.specs.declared.values.state.State.{State}
 use Rattle.sym_base.specs.declared.values.state.Outcome.{Outcome}
 use Rattle.sym_base.specs.declared.values.state.Outcome.TheVariants.{Going}
-use Rattle.sym_base.specs.States.{label_at, label_in, nums_at, nums_in, parts_at, parts_in, with_cell, with_word, words_in}
+use Rattle.sym_base.specs.States.{label_at, cell_label, nums_at, cell_nums, parts_at, cell_parts, with_cell, with_word, cell_words}
 use Rattle.sym_base.specs.Tests.{Truth}
 use Rattle.sym_check.specs.declared.plan.script.CellPlan.{CellPlan}
 use Rattle.sym_check.specs.declared.plan.script.CellPlan.TheVariants as plan
@@ -106,7 +106,7 @@ label_copied truth p path s c d f fits cells at = form_gives truth path s c (for
     same forms is admitted =
         let at_f : slice_get forms d ≡ Some (form.Enum f) = sym (form_is path forms d is) ∙ at in
         let (x, at_x, now) = held truth p path s fits forms is admitted d (plan.Enum cells.enum cells.from.first) (form.Enum f) cells.from.is at_f in
-        ap (λ (o : Option Cell). with_cell (state_at forms s) c (cell.Enum (label_in o))) (sym now)
+        ap (λ (o : Option Cell). with_cell (state_at forms s) c (cell.Enum (cell_label o))) (sym now)
 
 pub parts_copied : (truth : Truth) (p : ScriptPlan) (path : Path) (s : State) (c d : ℕ) (f : HoldForm) → PathFits p path → HaveSameKinds p.cells c d → form_of path.end d ≡ Some (form.Hold f) → given truth (with_form path c (form.Hold f)) s ≡ map (changed (λ t. with_cell t c (cell.Hold (parts_at t d)))) (given truth path s)
 parts_copied truth p path s c d f fits cells at = form_gives truth path s c (form.Hold f) (λ t. with_cell t c (cell.Hold (parts_at t d))) same
@@ -115,7 +115,7 @@ parts_copied truth p path s c d f fits cells at = form_gives truth path s c (for
     same forms is admitted =
         let at_f : slice_get forms d ≡ Some (form.Hold f) = sym (form_is path forms d is) ∙ at in
         let (x, at_x, now) = held truth p path s fits forms is admitted d (plan.Hold cells.parts cells.from.first) (form.Hold f) cells.from.is at_f in
-        ap (λ (o : Option Cell). with_cell (state_at forms s) c (cell.Hold (parts_in o))) (sym now)
+        ap (λ (o : Option Cell). with_cell (state_at forms s) c (cell.Hold (cell_parts o))) (sym now)
 
 -- ---- pushes
 
@@ -140,10 +140,10 @@ word_pushed truth p path s c w fits words = form_gives truth path s c more (λ t
         let (added, at) = words_form p path forms c fits is words in
         let (x, at_x, now) = held truth p path s fits forms is admitted c plan.Words (form.Words added) words.is at in
         let old : added_words (form_of path.end c) ≡ added = ap added_words (form_is path forms c is ∙ at) in
-        let left : words_after (added_words (form_of path.end c) ++ w ∷ []) (cell_or (slice_get s.cells c)) ≡ words_in (Some x) ++ (added ++ w ∷ []) =
+        let left : words_after (added_words (form_of path.end c) ++ w ∷ []) (cell_or (slice_get s.cells c)) ≡ cell_words (Some x) ++ (added ++ w ∷ []) =
         (λ i. words_after (old i ++ w ∷ []) (cell_or (at_x i))) in
-        let right : words_in (slice_get (cells_at forms s s.cells) c) ++ w ∷ [] ≡ (words_in (Some x) ++ added) ++ w ∷ [] = ap (λ (o : Option Cell). words_in o ++ w ∷ []) now in
-        let both : words_after (added_words (form_of path.end c) ++ w ∷ []) (cell_or (slice_get s.cells c)) ≡ words_in (slice_get (cells_at forms s s.cells) c) ++ w ∷ [] = left ∙ sym (append_assoc (words_in (Some x)) added (w ∷ [])) ∙ sym right in
+        let right : cell_words (slice_get (cells_at forms s s.cells) c) ++ w ∷ [] ≡ (cell_words (Some x) ++ added) ++ w ∷ [] = ap (λ (o : Option Cell). cell_words o ++ w ∷ []) now in
+        let both : words_after (added_words (form_of path.end c) ++ w ∷ []) (cell_or (slice_get s.cells c)) ≡ cell_words (slice_get (cells_at forms s s.cells) c) ++ w ∷ [] = left ∙ sym (append_assoc (cell_words (Some x)) added (w ∷ [])) ∙ sym right in
         ap (λ (ts : List (List ℕ)). with_cell (state_at forms s) c (cell.Words ts)) both
 
 pub nums_form : (p : ScriptPlan) (path : Path) (forms : List Form) (c : ℕ) → PathFits p path → path.end ≡ Next forms → IsNumsCell p.cells c → (added : List IntForm) × (slice_get forms c ≡ Some (form.Nums added))
@@ -167,10 +167,10 @@ number_pushed truth p path s c f fits nums = form_gives truth path s c more (λ 
         let (added, at) = nums_form p path forms c fits is nums in
         let (x, at_x, now) = held truth p path s fits forms is admitted c (plan.Nums nums.lo nums.hi) (form.Nums added) nums.is at in
         let old : added_numbers (form_of path.end c) ≡ added = ap added_numbers (form_is path forms c is ∙ at) in
-        let left : nums_after (added_numbers (form_of path.end c) ++ f ∷ []) s (cell_or (slice_get s.cells c)) ≡ nums_in (Some x) ++ map (λ g. form_value g s) (added ++ f ∷ []) =
+        let left : nums_after (added_numbers (form_of path.end c) ++ f ∷ []) s (cell_or (slice_get s.cells c)) ≡ cell_nums (Some x) ++ map (λ g. form_value g s) (added ++ f ∷ []) =
         (λ i. nums_after (old i ++ f ∷ []) s (cell_or (at_x i))) in
         let mapped : map (λ g. form_value g s) (added ++ f ∷ []) ≡ map (λ g. form_value g s) added ++ form_value f s ∷ [] = map-append (λ g. form_value g s) added (f ∷ []) in
-        let right : nums_in (slice_get (cells_at forms s s.cells) c) ++ form_value f s ∷ [] ≡ (nums_in (Some x) ++ map (λ g. form_value g s) added) ++ form_value f s ∷ [] = ap (λ (o : Option Cell). nums_in o ++ form_value f s ∷ []) now in
-        let both : nums_after (added_numbers (form_of path.end c) ++ f ∷ []) s (cell_or (slice_get s.cells c)) ≡ nums_in (slice_get (cells_at forms s s.cells) c) ++ form_value f s ∷ [] =
-        left ∙ ap (λ (xs : List ℤ). nums_in (Some x) ++ xs) mapped ∙ sym (append_assoc (nums_in (Some x)) (map (λ g. form_value g s) added) (form_value f s ∷ [])) ∙ sym right in
+        let right : cell_nums (slice_get (cells_at forms s s.cells) c) ++ form_value f s ∷ [] ≡ (cell_nums (Some x) ++ map (λ g. form_value g s) added) ++ form_value f s ∷ [] = ap (λ (o : Option Cell). cell_nums o ++ form_value f s ∷ []) now in
+        let both : nums_after (added_numbers (form_of path.end c) ++ f ∷ []) s (cell_or (slice_get s.cells c)) ≡ cell_nums (slice_get (cells_at forms s s.cells) c) ++ form_value f s ∷ [] =
+        left ∙ ap (λ (xs : List ℤ). cell_nums (Some x) ++ xs) mapped ∙ sym (append_assoc (cell_nums (Some x)) (map (λ g. form_value g s) added) (form_value f s ∷ [])) ∙ sym right in
         ap (λ (xs : List ℤ). with_cell (state_at forms s) c (cell.Nums xs)) both

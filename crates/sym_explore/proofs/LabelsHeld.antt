@@ -2,7 +2,7 @@
 use Rattle.std.proofs.Common.{◌≡◌, ◌≢◌, ◌↔◌, ℕ, Bool, true, false, not, ◌==◌, inl, inr, List, [], ◌∷◌, ◌++◌, Option, Some, None, Ok, refl, sym, ap, ◌∙◌, subst}
 use Rattle.std.proofs.lemmas.Bool.{cases_eq, eq-eqb, ne_eqb, false_from_ne_true}
 use Rattle.std.specs.Prelude.{slice_get, IsTrue}
-use Rattle.sym_base.specs.States.{label_at, label_in}
+use Rattle.sym_base.specs.States.{label_at, cell_label}
 use Rattle.sym_base.specs.declared.values.state.Cell.{Cell}
 use Rattle.sym_base.specs.declared.values.state.Cell.TheVariants as cell
 use Rattle.sym_base.specs.declared.values.state.State.{State}
@@ -139,7 +139,7 @@ label_held tests when s c set is admitted =
   where
     go : (x : Cell) → slice_get s.cells c ≡ Some x → PartAdmits tests (part.Set set) x → LabelHeld set s c
     go (cell.Enum l) e h =
-        let at : label_at s c ≡ l = ap label_in e in
+        let at : label_at s c ≡ l = ap cell_label e in
         record { holds = e ∙ ap (λ (k : ℕ). Some (cell.Enum k)) (sym at); has = ap (has_label set) at ∙ h }
     go (cell.Int x) e h = absurd h
     go (cell.Hold ps) e h = absurd h
@@ -158,7 +158,7 @@ label_after p tests path s c of f h fits same admitted forms end =
     let held = label_held tests path.when s c set.0 set.1 admitted in
     let is : slice_get forms c ≡ Some (form.Enum f) =
     ap (λ (x : List Form). slice_get x c) (sym lists) ∙ found.is ∙ ap (λ (x : EnumForm). Some (form.Enum x)) one in
-    ap label_in (cells_at_get forms s s.cells c (form.Enum f) (cell.Enum (label_at s c)) is held.holds)
+    ap cell_label (cells_at_get forms s s.cells c (form.Enum f) (cell.Enum (label_at s c)) is held.holds)
 
 -- ---- a set that is split by a label
 

@@ -4,7 +4,7 @@ use Rattle.std.proofs.lemmas.Bool.Decides.{Decides-int_eq}
 use Rattle.std.specs.Prelude.{slice_get, if◌then◌else◌, IsTrue, Result, Ok, Err}
 use Rattle.std.specs.List.{AllZip}
 use Rattle.std.specs.Ordering.{int_eq}
-use Rattle.sym_base.specs.States.{number_at, number_in}
+use Rattle.sym_base.specs.States.{number_at, cell_number}
 use Rattle.sym_base.specs.Tests.{Truth}
 use Rattle.sym_base.specs.declared.values.state.State.{State}
 use Rattle.sym_base.specs.declared.values.state.Outcome.TheVariants.{Going}
@@ -125,7 +125,7 @@ number_after truth p when forms c f first later parts cell at a is =
     let need = zip_get (PartFits p) p.cells when c (plan.Int cell.lo cell.hi cell.first) parts cell.is in
     let held = zip_get (PartAdmits truth) when first.cells c need.0 a need.1 in
     let there : slice_get (cells_at forms first first.cells) c ≡ Some (cell_at (form.Int f) first held.0) = cells_at_get forms first first.cells c (form.Int f) held.0 at held.1 in
-    ap (λ (s : State). number_at s c) is ∙ ap number_in there
+    ap (λ (s : State). number_at s c) is ∙ ap cell_number there
 
 -- ---- the ready term
 

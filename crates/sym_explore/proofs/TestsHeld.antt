@@ -2,7 +2,7 @@
 use Rattle.std.proofs.Common.{◌≡◌, ℕ, Bool, true, false, not, List, [], ◌∷◌, ◌++◌, Option, Some, None, Result, Ok, Err, refl, sym, ap, ◌∙◌, subst}
 use Rattle.std.specs.Prelude.{slice_get, if◌then◌else◌}
 use Rattle.std.specs.FinMap.{get}
-use Rattle.sym_base.specs.States.{parts_at, parts_in}
+use Rattle.sym_base.specs.States.{parts_at, cell_parts}
 use Rattle.sym_base.specs.declared.values.state.Cell.{Cell}
 use Rattle.sym_base.specs.declared.values.state.Cell.TheVariants as cell
 use Rattle.sym_base.specs.declared.values.state.State.{State}
@@ -135,7 +135,7 @@ parts_held tests when s c known is admitted =
     go (cell.Enum l) e h = absurd h
     go (cell.Int x) e h = absurd h
     go (cell.Hold ps) e h =
-        let at : parts_at s c ≡ ps = ap parts_in e in
+        let at : parts_at s c ≡ ps = ap cell_parts e in
         record {
           holds = e ∙ ap (λ (x : List Value). Some (cell.Hold x)) (sym at);
           tell = subst (λ (x : List Value). facts.Admits tests known x) (sym at) h;
@@ -149,7 +149,7 @@ parts_after p tests path s c kinds f h fits same admitted forms end =
     let found = hold_part p path c kinds h fits in
     let held = parts_held tests path.when s c found.0 found.1 admitted in
     let is : slice_get forms c ≡ Some (form.Hold f) = sym (ap (λ (x : PathEnd). form_of x c) end) ∙ same in
-    ap parts_in (cells_at_get forms s s.cells c (form.Hold f) (cell.Hold (parts_at s c)) is held.holds)
+    ap cell_parts (cells_at_get forms s s.cells c (form.Hold f) (cell.Hold (parts_at s c)) is held.holds)
 
 -- ---- a path split by the outcome of a test
 

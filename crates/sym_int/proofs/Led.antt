@@ -1,7 +1,7 @@
 -- A form on its cell's span, and the numbers of the state that a context makes.
 use Rattle.std.proofs.Common.{◌≡◌, ℕ, zero, suc, ℤ, pos, ◌+ℤ◌, ◌*ℤ◌, ◌≤ℤ◌, ◌⊎◌, inl, inr, Option, Some, None, List, [], ◌∷◌, slice_get, refl, sym, ap, subst, ◌∙◌, arith}
 use Rattle.std.proofs.lemmas.Int.{ints, by_lt_z}
-use Rattle.sym_base.specs.States.{HoldsInt, number_at, number_in}
+use Rattle.sym_base.specs.States.{HoldsInt, number_at, cell_number}
 use Rattle.sym_base.specs.declared.values.state.Cell.{Cell}
 use Rattle.sym_base.specs.declared.values.state.Cell.TheVariants.{Enum, Int, Hold, Nums, Words}
 use Rattle.sym_base.specs.declared.values.state.State.{State}
@@ -38,7 +38,7 @@ zero_value : (form : IntForm) (state : State) → IsZero form → pos 0 ≡ form
 zero_value (form.Const number) state z = sym z
 zero_value (form.Line line) state z = absurd z
 
-led_number_of : (cell : Cell) (x : ℤ) → ((y : ℤ) × (Some cell ≡ Some (Int y))) ⊎ (pos 0 ≡ x) → number_in (Some (led_cell x cell)) ≡ x
+led_number_of : (cell : Cell) (x : ℤ) → ((y : ℤ) × (Some cell ≡ Some (Int y))) ⊎ (pos 0 ≡ x) → cell_number (Some (led_cell x cell)) ≡ x
 led_number_of (Int old) x h = refl
 led_number_of (Enum label) x h = elim h [ inl p ↦ cc | inr z ↦ z ]
 led_number_of (Hold parts) x h = elim h [ inl p ↦ cc | inr z ↦ z ]
@@ -46,7 +46,7 @@ led_number_of (Nums numbers) x h = elim h [ inl p ↦ cc | inr z ↦ z ]
 led_number_of (Words words) x h = elim h [ inl p ↦ cc | inr z ↦ z ]
 
 -- The number that a cell holds there is its form's.
-pub led_number : (state : State) (forms : List IntForm) (cells : List Cell) (k : ℕ) (form : IntForm) → slice_get forms k ≡ Some form → ((y : ℤ) × (slice_get cells k ≡ Some (Int y))) ⊎ (pos 0 ≡ form_value form state) → number_in (slice_get (led_cells state forms cells) k) ≡ form_value form state
+pub led_number : (state : State) (forms : List IntForm) (cells : List Cell) (k : ℕ) (form : IntForm) → slice_get forms k ≡ Some form → ((y : ℤ) × (slice_get cells k ≡ Some (Int y))) ⊎ (pos 0 ≡ form_value form state) → cell_number (slice_get (led_cells state forms cells) k) ≡ form_value form state
 led_number state [] cells k form e h = cc
 led_number state (own ∷ forms) [] k form e h = elim h [ inl p ↦ cc | inr z ↦ z ]
 led_number state (own ∷ forms) (cell ∷ cells) zero form e h =
@@ -55,5 +55,5 @@ led_number state (own ∷ forms) (cell ∷ cells) zero form e h =
     led_number_of cell (form_value own state) (elim h [ inl p ↦ inl p | inr z ↦ inr (z ∙ sym value) ]) ∙ value
 led_number state (own ∷ forms) (cell ∷ cells) (suc k) form e h = led_number state forms cells k form e h
 
-pub number_there : (state : State) (forms : List IntForm) (k : ℕ) (form : IntForm) → slice_get forms k ≡ Some form → ((y : ℤ) × HoldsInt state k y) ⊎ IsZero form → number_in (slice_get (led_cells state forms state.cells) k) ≡ form_value form state
+pub number_there : (state : State) (forms : List IntForm) (k : ℕ) (form : IntForm) → slice_get forms k ≡ Some form → ((y : ℤ) × HoldsInt state k y) ⊎ IsZero form → cell_number (slice_get (led_cells state forms state.cells) k) ≡ form_value form state
 number_there state forms k form e h = led_number state forms state.cells k form e (elim h [ inl p ↦ inl (p.0, p.1.held) | inr z ↦ inr (zero_value form state z) ])

@@ -10,7 +10,7 @@ use Rattle.sym_base.specs.declared.values.value.Value.{Value}
 use Rattle.sym_base.specs.declared.values.state.Cell.{Cell}
 use Rattle.sym_base.specs.declared.values.state.Cell.TheVariants as cell
 use Rattle.sym_base.specs.declared.values.state.Outcome.{Outcome}
-use Rattle.sym_base.specs.States.{parts_in, parts_at}
+use Rattle.sym_base.specs.States.{cell_parts, parts_at}
 use Rattle.sym_base.specs.Tests.{Truth}
 use Rattle.sym_check.specs.declared.plan.script.CellPlan.{CellPlan}
 use Rattle.sym_check.specs.declared.plan.script.CellPlan.TheVariants as plan
@@ -43,7 +43,7 @@ abbrev pub AdmitsMore : FactMap → Literal → FactMap → Type 0
 AdmitsMore old literal new = (truth : Truth) (parts : List Value) →
     facts.Admits truth new parts ↔ (facts.Admits truth old parts × (truth literal.test literal.args parts ≡ literal.outcome))
 
-cell_with_more : (truth : Truth) (old new : FactMap) (literal : Literal) → AdmitsMore old literal new → (o : Option Cell) → cell_admitted truth (part.Facts new) o ≡ (cell_admitted truth (part.Facts old) o && gives_outcome truth (parts_in o) literal)
+cell_with_more : (truth : Truth) (old new : FactMap) (literal : Literal) → AdmitsMore old literal new → (o : Option Cell) → cell_admitted truth (part.Facts new) o ≡ (cell_admitted truth (part.Facts old) o && gives_outcome truth (cell_parts o) literal)
 cell_with_more truth old new literal more None = refl
 cell_with_more truth old new literal more (Some (cell.Enum l)) = refl
 cell_with_more truth old new literal more (Some (cell.Int x)) = refl

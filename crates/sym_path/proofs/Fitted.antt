@@ -5,7 +5,7 @@ use Rattle.std.proofs.lemmas.List.Elements.{All-append, All-map}
 use Rattle.std.specs.Prelude.{slice_get}
 use Rattle.std.specs.List.{All, AllZip}
 use Rattle.sym_base.specs.Limits.{IsNumber}
-use Rattle.sym_base.specs.States.{number_at, number_in, label_at, label_in, parts_at, parts_in}
+use Rattle.sym_base.specs.States.{number_at, cell_number, label_at, cell_label, parts_at, cell_parts}
 use Rattle.sym_base.specs.declared.values.value.Value.{Value}
 use Rattle.sym_base.specs.declared.values.state.Cell.{Cell}
 use Rattle.sym_base.specs.declared.values.state.Cell.TheVariants as cell
@@ -14,7 +14,7 @@ use Rattle.sym_check.specs.declared.plan.script.KindPlan.{KindPlan}
 use Rattle.sym_check.specs.declared.plan.script.CellPlan.{CellPlan}
 use Rattle.sym_check.specs.declared.plan.script.CellPlan.TheVariants as plan
 use Rattle.sym_check.specs.ScriptPlans.{ScriptPlan}
-use Rattle.sym_base.specs.States.{nums_in, words_in}
+use Rattle.sym_base.specs.States.{cell_nums, cell_words}
 use Rattle.sym_check.specs.Validity.{label_count, AreOfKinds, InRange, IsValidCell, IsValid, IsValidOutcome}
 use Rattle.sym_check.specs.Validity as valid
 use Rattle.sym_check.specs.WellFormed.{IsCell, IsWellFormed}
@@ -45,7 +45,7 @@ number_held truth when s c span h e = go (zip_get (PartAdmits truth) when s.cell
   where
     go : (x : Cell) × (slice_get s.cells c ≡ Some x) × PartAdmits truth (part.Span span) x → (slice_get s.cells c ≡ Some (cell.Int (number_at s c))) × HasPoint span (number_at s c)
     go (cell.Enum l, is, a) = absurd a
-    go (cell.Int x, is, a) = let same : number_at s c ≡ x = ap number_in is in (is ∙ ap (λ (v : ℤ). Some (cell.Int v)) (sym same), rw same a)
+    go (cell.Int x, is, a) = let same : number_at s c ≡ x = ap cell_number is in (is ∙ ap (λ (v : ℤ). Some (cell.Int v)) (sym same), rw same a)
     go (cell.Hold ps, is, a) = absurd a
     go (cell.Nums xs, is, a) = absurd a
     go (cell.Words ts, is, a) = absurd a
@@ -77,7 +77,7 @@ module _ (truth : Truth) (p : ScriptPlan) (when : List Part) (s : State) (admitt
     copied_is : (c enum first : ℕ) → slice_get p.cells c ≡ Some (plan.Enum enum first) → label_at s c < label_count p.enums enum
     copied_is c enum first e = go (zip_get (IsValidCell p.enums) p.cells s.cells c (plan.Enum enum first) is_valid e)
       where
-        held : (x : Cell) → IsValidCell p.enums (plan.Enum enum first) x → label_in (Some x) < label_count p.enums enum
+        held : (x : Cell) → IsValidCell p.enums (plan.Enum enum first) x → cell_label (Some x) < label_count p.enums enum
         held _ (valid.enum _ _ l h) = h
 
         go : (x : Cell) × (slice_get s.cells c ≡ Some x) × IsValidCell p.enums (plan.Enum enum first) x → label_at s c < label_count p.enums enum
@@ -86,13 +86,13 @@ module _ (truth : Truth) (p : ScriptPlan) (when : List Part) (s : State) (admitt
     copied_parts_are : (c : ℕ) (kinds : List KindPlan) (first : List Value) → slice_get p.cells c ≡ Some (plan.Hold kinds first) → AreOfKinds p.enums kinds (parts_at s c)
     copied_parts_are c kinds first e = go (zip_get (IsValidCell p.enums) p.cells s.cells c (plan.Hold kinds first) is_valid e)
       where
-        held : (x : Cell) → IsValidCell p.enums (plan.Hold kinds first) x → AreOfKinds p.enums kinds (parts_in (Some x))
+        held : (x : Cell) → IsValidCell p.enums (plan.Hold kinds first) x → AreOfKinds p.enums kinds (cell_parts (Some x))
         held _ (valid.hold _ _ parts h) = h
 
         go : (x : Cell) × (slice_get s.cells c ≡ Some x) × IsValidCell p.enums (plan.Hold kinds first) x → AreOfKinds p.enums kinds (parts_at s c)
         go (x, is, v) = rw is (held x v)
 
-    nums_are : (lo hi : ℤ) (old : Cell) → IsValidCell p.enums (plan.Nums lo hi) old → All (InRange lo hi) (nums_in (Some old))
+    nums_are : (lo hi : ℤ) (old : Cell) → IsValidCell p.enums (plan.Nums lo hi) old → All (InRange lo hi) (cell_nums (Some old))
     nums_are _ _ _ (valid.nums lo hi xs h) = h
 
     map_all : {A B : Type 0} (f : A → B) (P : B → Type 0) (xs : List A) → All (λ x. P (f x)) xs → All P (map f xs)
@@ -107,9 +107,9 @@ module _ (truth : Truth) (p : ScriptPlan) (when : List Part) (s : State) (admitt
     cell_valid _ _ old (fitting.copied_parts kinds first c h) v = valid.hold kinds first (parts_at s c) (copied_parts_are c kinds h.first h.is)
     cell_valid _ _ old (fitting.of_numbers lo hi added h) v =
         valid.nums lo hi (nums_after added s old)
-        (All-append (InRange lo hi) (nums_in (Some old)) (map (λ f. form_value f s) added) (nums_are lo hi old v)
+        (All-append (InRange lo hi) (cell_nums (Some old)) (map (λ f. form_value f s) added) (nums_are lo hi old v)
         (map_all (λ f. form_value f s) (InRange lo hi) added (all_from (λ f. InRange lo hi (form_value f s)) added (λ i f e. number_in_range lo hi f (all_at (NumberFits lo hi when) added i f h e)))))
-    cell_valid _ _ old (fitting.of_words added) v = valid.words (words_in (Some old) ++ added)
+    cell_valid _ _ old (fitting.of_words added) v = valid.words (cell_words (Some old) ++ added)
 
     cells_valid : (cells : List CellPlan) (forms : List Form) (olds : List Cell) → AllZip (FormFits p when) cells forms → AllZip (IsValidCell p.enums) cells olds → AllZip (IsValidCell p.enums) cells (cells_at forms s olds)
     cells_valid [] [] olds h v = tt

@@ -4,7 +4,7 @@ use Rattle.std.proofs.Common.{◌≡◌, ◌<◌, ℕ, zero, suc, ℤ, List, [],
 use Rattle.std.proofs.lemmas.Option.{slice_get_within}
 use Rattle.std.specs.Prelude.{slice_get, IsTrue}
 use Rattle.std.specs.List.{All, AllZip}
-use Rattle.sym_base.specs.States.{number_at, number_in, label_at, label_in, parts_at, parts_in}
+use Rattle.sym_base.specs.States.{number_at, cell_number, label_at, cell_label, parts_at, cell_parts}
 use Rattle.sym_base.specs.Tests.{Truth}
 use Rattle.sym_base.specs.declared.values.value.Value.{Value}
 use Rattle.sym_base.specs.declared.values.state.Cell.{Cell}
@@ -96,7 +96,7 @@ module _ (truth : Truth) (p : ScriptPlan) (when : List Part) (forms : List Form)
     label_meets c old need e m = go (found c (part.Set old) e)
       where
         go : (new : Part) × (x : Cell) × (slice_get lefts c ≡ Some new) × (slice_get s.cells c ≡ Some x) × PartLeft forms needs c (part.Set old) new × PartAdmits truth new x → IsTrue (has_label need (label_at s c))
-        go (part.Set new, cell.Enum l, at, g, h, b) = let same : label_at s c ≡ l = ap label_in g in rw same (((h.1 l).0 b).1 need m)
+        go (part.Set new, cell.Enum l, at, g, h, b) = let same : label_at s c ≡ l = ap cell_label g in rw same (((h.1 l).0 b).1 need m)
         go (part.Set new, cell.Int x, at, g, h, b) = absurd b
         go (part.Set new, cell.Hold ps, at, g, h, b) = absurd b
         go (part.Set new, cell.Nums xs, at, g, h, b) = absurd b
@@ -110,7 +110,7 @@ module _ (truth : Truth) (p : ScriptPlan) (when : List Part) (forms : List Form)
       where
         go : (new : Part) × (x : Cell) × (slice_get lefts line.cell ≡ Some new) × (slice_get s.cells line.cell ≡ Some x) × PartLeft forms needs line.cell (part.Span old) new × PartAdmits truth new x → HasPoint need (form_value (number.Line line) s)
         go (part.Span new, cell.Int x, at, g, h, b) =
-            let same : number_at s line.cell ≡ x = ap number_in g in
+            let same : number_at s line.cell ≡ x = ap cell_number g in
             subst (λ (y : ℤ). HasPoint need (form_on (number.Line line) y)) (sym same) (((h x).0 b).1 (number.Line line) need refl m)
         go (part.Span new, cell.Enum l, at, g, h, b) = absurd b
         go (part.Span new, cell.Hold ps, at, g, h, b) = absurd b
@@ -125,7 +125,7 @@ module _ (truth : Truth) (p : ScriptPlan) (when : List Part) (forms : List Form)
       where
         go : (new : Part) × (x : Cell) × (slice_get lefts c ≡ Some new) × (slice_get s.cells c ≡ Some x) × PartLeft forms needs c (part.Facts old) new × PartAdmits truth new x → facts.Admits truth need (parts_at s c)
         go (part.Facts new, cell.Hold ps, at, g, h, b) =
-            let same : parts_at s c ≡ ps = ap parts_in g in
+            let same : parts_at s c ≡ ps = ap cell_parts g in
             subst (λ (qs : List Value). facts.Admits truth need qs) (sym same) (λ atom o st. b atom o ((h atom o).1 (inr (record { need = need; meets = m; stands = st }))))
         go (part.Facts new, cell.Enum l, at, g, h, b) = absurd b
         go (part.Facts new, cell.Int x, at, g, h, b) = absurd b
@@ -207,7 +207,7 @@ module _ (truth : Truth) (p : ScriptPlan) (when : List Part) (forms : List Form)
     still_admitted c (part.Set old) (part.Set new) (cell.Enum l) g h b = (h.1 l).1 (
       b,
       λ need m.
-          let same : label_at s c ≡ l = ap label_in g in
+          let same : label_at s c ≡ l = ap cell_label g in
           subst (λ (i : ℕ). IsTrue (has_label need i)) same (given_at (form.Enum (label.Copy c)) (part.Set need) m).1,
     )
     still_admitted c (part.Set old) (part.Set new) (cell.Int x) g h b = b
@@ -221,7 +221,7 @@ module _ (truth : Truth) (p : ScriptPlan) (when : List Part) (forms : List Form)
         over (number.Const n) need q m = absurd (let z : None ≡ Some c = q in cc)
         over (number.Line line) need q m =
             let at : line.cell ≡ c = cc in
-            let same : number_at s line.cell ≡ x = ap (λ k. number_at s k) at ∙ ap number_in g in
+            let same : number_at s line.cell ≡ x = ap (λ k. number_at s k) at ∙ ap cell_number g in
             subst (λ (y : ℤ). HasPoint need (form_on (number.Line line) y)) same (given_at (form.Int (number.Line line)) (part.Span need) m).1
     still_admitted c (part.Span old) (part.Span new) (cell.Hold ps) g h b = b
     still_admitted c (part.Span old) (part.Span new) (cell.Nums xs) g h b = b
@@ -231,7 +231,7 @@ module _ (truth : Truth) (p : ScriptPlan) (when : List Part) (forms : List Form)
     still_admitted c (part.Facts old) (part.Facts new) (cell.Hold ps) g h b = λ atom o st. elim ((h atom o).0 st) [
       | inl k ↦ b atom o k
       | inr n ↦
-          let same : parts_at s c ≡ ps = ap parts_in g in
+          let same : parts_at s c ≡ ps = ap cell_parts g in
           let there : facts.Admits truth n.need (parts_at s c) = (given_at (form.Hold (hold.Copy c)) (part.Facts n.need) n.meets).1 in
           (subst (λ (qs : List Value). facts.Admits truth n.need qs) same there) atom o n.stands
     ]

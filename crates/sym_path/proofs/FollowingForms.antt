@@ -7,7 +7,7 @@ use Rattle.std.proofs.lemmas.Option.{slice_get_within}
 use Rattle.std.specs.Prelude.{slice_get}
 use Rattle.std.specs.List.{All, AllZip}
 use Rattle.sym_base.specs.Limits.{IsNumber}
-use Rattle.sym_base.specs.States.{number_at, number_in, label_at, label_in, parts_at, parts_in, nums_in, words_in}
+use Rattle.sym_base.specs.States.{number_at, cell_number, label_at, cell_label, parts_at, cell_parts, cell_nums, cell_words}
 use Rattle.sym_base.specs.Tests.{Truth}
 use Rattle.sym_base.specs.declared.values.value.Value.{Value}
 use Rattle.sym_base.specs.declared.values.state.Cell.{Cell}
@@ -97,7 +97,7 @@ module _ (truth : Truth) (p : ScriptPlan) (lefts : List Part) (mids : List Form)
   span_at c span e = let (s, at, same) = zip_get IsSpanOf lefts context.spans c (part.Span span) ctx.ranges e in at ∙ ap Some same
 
   number_given : (s : State) (c : ℕ) (inner : IntForm) → Admits truth lefts s → slice_get mids c ≡ Some (form.Int inner) → number_at (state_at mids s) c ≡ form_value inner s
-  number_given s c inner a e = let (x, at, there) = given_there s c (form.Int inner) a e in ap number_in there
+  number_given s c inner a e = let (x, at, there) = given_there s c (form.Int inner) a e in ap cell_number there
 
   -- ---- number forms
 
@@ -247,12 +247,12 @@ module _ (truth : Truth) (p : ScriptPlan) (lefts : List Part) (mids : List Form)
   parts_form kinds first other _ (fitting.copied_parts _ _ c h) = fitting.copied_parts kinds first c h
 
   label_value_given : (of other d : ℕ) (r : Form) (s : State) (x : Cell) → FormFits p lefts (plan.Enum of other) r → Admits truth lefts s → slice_get mids d ≡ Some r → cell_at r s x ≡ cell.Enum (label_at (state_at mids s) d)
-  label_value_given of other d _ s x (fitting.of_label _ _ l h) a e = let (old, at, there) = given_there s d (form.Enum (label.Const l)) a e in ap cell.Enum (sym (ap label_in there))
-  label_value_given of other d _ s x (fitting.copied_label _ _ c h) a e = let (old, at, there) = given_there s d (form.Enum (label.Copy c)) a e in ap cell.Enum (sym (ap label_in there))
+  label_value_given of other d _ s x (fitting.of_label _ _ l h) a e = let (old, at, there) = given_there s d (form.Enum (label.Const l)) a e in ap cell.Enum (sym (ap cell_label there))
+  label_value_given of other d _ s x (fitting.copied_label _ _ c h) a e = let (old, at, there) = given_there s d (form.Enum (label.Copy c)) a e in ap cell.Enum (sym (ap cell_label there))
 
   parts_value_given : (kinds : List KindPlan) (other : List Value) (d : ℕ) (r : Form) (s : State) (x : Cell) → FormFits p lefts (plan.Hold kinds other) r → Admits truth lefts s → slice_get mids d ≡ Some r → cell_at r s x ≡ cell.Hold (parts_at (state_at mids s) d)
-  parts_value_given kinds other d _ s x (fitting.of_parts _ _ ps h) a e = let (old, at, there) = given_there s d (form.Hold (hold.Const ps)) a e in ap cell.Hold (sym (ap parts_in there))
-  parts_value_given kinds other d _ s x (fitting.copied_parts _ _ c h) a e = let (old, at, there) = given_there s d (form.Hold (hold.Copy c)) a e in ap cell.Hold (sym (ap parts_in there))
+  parts_value_given kinds other d _ s x (fitting.of_parts _ _ ps h) a e = let (old, at, there) = given_there s d (form.Hold (hold.Const ps)) a e in ap cell.Hold (sym (ap cell_parts there))
+  parts_value_given kinds other d _ s x (fitting.copied_parts _ _ c h) a e = let (old, at, there) = given_there s d (form.Hold (hold.Copy c)) a e in ap cell.Hold (sym (ap cell_parts there))
 
   -- ---- lists of numbers
 
@@ -283,8 +283,8 @@ module _ (truth : Truth) (p : ScriptPlan) (lefts : List Part) (mids : List Form)
         let same : y ≡ cell_at (form.Nums first) s x = cc in
         let split : map (λ r. form_value r s) new ≡ map (λ r. form_value r s) first ++ map (λ r. form_value r s) rest = ap (λ (fs : List IntForm). map (λ r. form_value r s) fs) (sym whole) ∙ map_both (λ r. form_value r s) first rest in
         let given : map (λ r. form_value r s) rest ≡ map (λ f. form_value f (state_at mids s)) added = numbers_given lo hi s added rest a goes in
-        let all : nums_in (Some x) ++ map (λ r. form_value r s) new ≡ (nums_in (Some x) ++ map (λ r. form_value r s) first) ++ map (λ f. form_value f (state_at mids s)) added =
-        ap (λ (zs : List ℤ). nums_in (Some x) ++ zs) (split ∙ ap (λ (zs : List ℤ). map (λ r. form_value r s) first ++ zs) given) ∙ sym (append_assoc (nums_in (Some x)) (map (λ r. form_value r s) first) (map (λ f. form_value f (state_at mids s)) added)) in
+        let all : cell_nums (Some x) ++ map (λ r. form_value r s) new ≡ (cell_nums (Some x) ++ map (λ r. form_value r s) first) ++ map (λ f. form_value f (state_at mids s)) added =
+        ap (λ (zs : List ℤ). cell_nums (Some x) ++ zs) (split ∙ ap (λ (zs : List ℤ). map (λ r. form_value r s) first ++ zs) given) ∙ sym (append_assoc (cell_nums (Some x)) (map (λ r. form_value r s) first) (map (λ f. form_value f (state_at mids s)) added)) in
         ap cell.Nums all ∙ ap (λ (k : Cell). cell_at (form.Nums added) (state_at mids s) k) (sym same);
   }
     where
@@ -315,7 +315,7 @@ module _ (truth : Truth) (p : ScriptPlan) (lefts : List Part) (mids : List Form)
     value = λ s x y a ex ey.
         let z : Some y ≡ Some (cell_at (form.Words first) s x) = sym ey ∙ cells_at_get mids s s.cells c (form.Words first) x at ex in
         let same : y ≡ cell_at (form.Words first) s x = cc in
-        let all : words_in (Some x) ++ new ≡ (words_in (Some x) ++ first) ++ added = ap (λ (ts : List (List ℕ)). words_in (Some x) ++ ts) whole ∙ sym (append_assoc (words_in (Some x)) first added) in
+        let all : cell_words (Some x) ++ new ≡ (cell_words (Some x) ++ first) ++ added = ap (λ (ts : List (List ℕ)). cell_words (Some x) ++ ts) whole ∙ sym (append_assoc (cell_words (Some x)) first added) in
         ap cell.Words all ∙ ap (λ (k : Cell). cell_at (form.Words added) (state_at mids s) k) (sym same);
   }
     where

@@ -4,7 +4,7 @@ use Rattle.std.proofs.Common.{◌≡◌, ◌≢◌, ℕ, ℤ, ◌+ℤ◌, ◌*�
 use Rattle.std.proofs.lemmas.Bool.{cases_eq}
 use Rattle.std.proofs.lemmas.Int.{ints, by_lt_z}
 use Rattle.std.specs.List.{AllZip}
-use Rattle.sym_base.specs.States.{number_at, label_at, label_in, nums_in}
+use Rattle.sym_base.specs.States.{number_at, label_at, cell_label, cell_nums}
 use Rattle.sym_base.specs.declared.values.state.Cell.{Cell}
 use Rattle.sym_base.specs.declared.values.state.Cell.TheVariants as cell
 use Rattle.sym_base.specs.declared.values.state.State.{State}
@@ -37,9 +37,9 @@ cases_z x y = by_lt_z x y (λ p. inr (λ e. omega (arith, ints))) (λ p. by_lt_z
 module _ (truth : Truth) (when : List Part) (s : State) (admitted : Admits truth when s) where
   -- The state holds the only label, or number, of a cell.
   label_there : (c l : ℕ) → HasOneLabel when c l → label_at s c ≡ l
-  label_there c l o = let found = zip_get (PartAdmits truth) when s.cells c (part.Set o.set) admitted o.is in ap label_in found.1 ∙ go found.0 found.2
+  label_there c l o = let found = zip_get (PartAdmits truth) when s.cells c (part.Set o.set) admitted o.is in ap cell_label found.1 ∙ go found.0 found.2
     where
-      go : (y : Cell) → PartAdmits truth (part.Set o.set) y → label_in (Some y) ≡ l
+      go : (y : Cell) → PartAdmits truth (part.Set o.set) y → cell_label (Some y) ≡ l
       go (cell.Enum m) r = (o.only m).0 r
       go (cell.Int x) r = absurd r
       go (cell.Hold ps) r = absurd r
@@ -96,7 +96,7 @@ module _ (truth : Truth) (when : List Part) (s : State) (admitted : Admits truth
   cell_same (form.Nums f) (form.Enum g) old h = absurd h
   cell_same (form.Nums f) (form.Int g) old h = absurd h
   cell_same (form.Nums f) (form.Hold g) old h = absurd h
-  cell_same (form.Nums f) (form.Nums g) old h = ap (λ (xs : List ℤ). cell.Nums (nums_in (Some old) ++ xs)) (numbers_same f g h)
+  cell_same (form.Nums f) (form.Nums g) old h = ap (λ (xs : List ℤ). cell.Nums (cell_nums (Some old) ++ xs)) (numbers_same f g h)
   cell_same (form.Nums f) (form.Words g) old h = absurd h
   cell_same (form.Words f) g old h = ap (λ k. cell_at k s old) h
 

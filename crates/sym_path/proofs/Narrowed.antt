@@ -4,13 +4,13 @@ use Rattle.std.proofs.lemmas.Bool.{cases_eq, eq-eqb, ne_eqb}
 use Rattle.std.proofs.lemmas.Int.{ints, by_lt_z}
 use Rattle.std.specs.Prelude.{slice_get, slice_set, if◌then◌else◌}
 use Rattle.std.specs.List.{AllZip}
-use Rattle.sym_base.specs.States.{number_at, number_in, label_at, label_in}
+use Rattle.sym_base.specs.States.{number_at, cell_number, label_at, cell_label}
 use Rattle.sym_base.specs.declared.values.state.Cell.{Cell}
 use Rattle.sym_base.specs.declared.values.state.Cell.TheVariants as cell
 use Rattle.sym_base.specs.declared.values.state.State.{State}
 use Rattle.sym_base.specs.declared.values.state.Outcome.{Outcome}
 use Rattle.sym_base.specs.declared.values.state.Outcome.TheVariants.{Going}
-use Rattle.sym_base.specs.States.{nums_in}
+use Rattle.sym_base.specs.States.{cell_nums}
 use Rattle.sym_enum.specs.Labels.{label_value, IsOnlyLabel}
 use Rattle.sym_enum.specs.declared.form.EnumForm.{EnumForm}
 use Rattle.sym_enum.specs.declared.form.EnumForm.TheVariants as label
@@ -71,7 +71,7 @@ given_from a false b m l e h = rw e refl
 only_label_at : (truth : Truth) (set : LabelSet) (l : ℕ) (s : State) (c : ℕ) → IsOnlyLabel set l → cell_admitted truth (part.Set set) (slice_get s.cells c) ≡ true → label_at s c ≡ l
 only_label_at truth set l s c only = go (slice_get s.cells c)
   where
-    go : (o : Option Cell) → cell_admitted truth (part.Set set) o ≡ true → label_in o ≡ l
+    go : (o : Option Cell) → cell_admitted truth (part.Set set) o ≡ true → cell_label o ≡ l
     go None e = absurd (cc)
     go (Some (cell.Enum m)) e = (only m).0 e
     go (Some (cell.Int x)) e = absurd (cc)
@@ -114,7 +114,7 @@ with_label-end c l (Ended fault) s h = refl
 only_number_at : (truth : Truth) (span : Span) (s : State) (c : ℕ) → span.lo ≡ span.hi → cell_admitted truth (part.Span span) (slice_get s.cells c) ≡ true → number_at s c ≡ span.lo
 only_number_at truth span s c one = go (slice_get s.cells c)
   where
-    go : (o : Option Cell) → cell_admitted truth (part.Span span) o ≡ true → number_in o ≡ span.lo
+    go : (o : Option Cell) → cell_admitted truth (part.Span span) o ≡ true → cell_number o ≡ span.lo
     go None e = absurd (cc)
     go (Some (cell.Enum m)) e = absurd (cc)
     go (Some (cell.Int x)) e = let h : HasPoint span x = (point_decided span x).0 e in let a = h.0 in let b = h.1 in omega (arith, ints)
@@ -156,7 +156,7 @@ put-cell c x (form.Hold f) g s old h e = ap (λ k. cell_at k s old) h
 put-cell c x (form.Nums f) (form.Enum g) s old h e = absurd h
 put-cell c x (form.Nums f) (form.Int g) s old h e = absurd h
 put-cell c x (form.Nums f) (form.Hold g) s old h e = absurd h
-put-cell c x (form.Nums f) (form.Nums g) s old h e = ap (λ (xs : List ℤ). cell.Nums (nums_in (Some old) ++ xs)) (fixed_values f g c x s h e)
+put-cell c x (form.Nums f) (form.Nums g) s old h e = ap (λ (xs : List ℤ). cell.Nums (cell_nums (Some old) ++ xs)) (fixed_values f g c x s h e)
 put-cell c x (form.Nums f) (form.Words g) s old h e = absurd h
 put-cell c x (form.Words f) g s old h e = ap (λ k. cell_at k s old) h
 

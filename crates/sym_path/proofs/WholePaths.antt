@@ -6,7 +6,7 @@ use Rattle.std.proofs.lemmas.Option.{slice_get_within}
 use Rattle.std.specs.FinMap.{empty, get, get-empty, len-empty}
 use Rattle.std.specs.Prelude.{slice_get, Bool}
 use Rattle.std.specs.List.{All}
-use Rattle.sym_base.specs.States.{number_at, number_in, label_in, parts_in}
+use Rattle.sym_base.specs.States.{number_at, cell_number, cell_label, cell_parts}
 use Rattle.sym_base.specs.Tests.{Truth}
 use Rattle.sym_base.specs.declared.values.value.Value.{Value}
 use Rattle.sym_base.specs.declared.values.state.Cell.{Cell}
@@ -157,14 +157,14 @@ module _ (p : ScriptPlan) (c : ℕ) where
   module _ (s : State) where
     own_label_same : (count l : ℕ) (set : LabelSet) (f : EnumForm) → l < count → slice_get s.cells c ≡ Some (cell.Enum l) → IsWholeEnum count c (part.Set set) (form.Enum f) → cell_at (form.Enum f) s (cell.Enum l) ≡ cell.Enum l
     own_label_same count l set (label.Const m) q e h = ap (λ k. cell.Enum k) (sym ((h.1 l).0 ((h.0 l).1 q)))
-    own_label_same count l set (label.Copy d) q e h = ap (λ k. cell.Enum k) (ap (λ i. label_in (slice_get s.cells i)) h.1.0 ∙ ap label_in e)
+    own_label_same count l set (label.Copy d) q e h = ap (λ k. cell.Enum k) (ap (λ i. cell_label (slice_get s.cells i)) h.1.0 ∙ ap cell_label e)
 
     own_number_same : (lo hi x : ℤ) (span : Span) (f : IntForm) → InRange lo hi x → span.lo ≡ lo → span.hi ≡ hi → slice_get s.cells c ≡ Some (cell.Int x) → IsOwnNumber c span f → cell_at (form.Int f) s (cell.Int x) ≡ cell.Int x
     own_number_same lo hi x span (number.Const n) q l u e h = let a = q.0 in let b = q.1 in let y = h.0 in let z = h.1 in let same : n.value ≡ x = omega (arith, ints) in ap (λ (v : ℤ). cell.Int v) same
     own_number_same lo hi x span (number.Line line) q l u e h = ap (λ (v : ℤ). cell.Int v) same
       where
         held : number_at s line.cell ≡ x
-        held = ap (λ i. number_in (slice_get s.cells i)) h.0 ∙ ap number_in e
+        held = ap (λ i. cell_number (slice_get s.cells i)) h.0 ∙ ap cell_number e
 
         same : line.a *ℤ number_at s line.cell +ℤ line.b ≡ x
         same = rw (h.1, h.2, held) (omega (arith, ints))
@@ -172,7 +172,7 @@ module _ (p : ScriptPlan) (c : ℕ) where
     pub own_same : (cp : CellPlan) (now : Part) (f : Form) (x : Cell) → slice_get s.cells c ≡ Some x → IsWholeCell p c cp now f → IsValidCell p.enums cp x → cell_at f s x ≡ x
     own_same _ (part.Set set) (form.Enum f) _ e h (valid.enum of first l q) = own_label_same (label_count p.enums of) l set f q e h
     own_same _ (part.Span span) (form.Int f) _ e h (valid.int lo hi first x q) = own_number_same lo hi x span f q h.0 h.1 e h.2
-    own_same _ (part.Facts known) (form.Hold f) _ e h (valid.hold kinds first parts q) = rw h.1 (ap (λ (ps : List Value). cell.Hold ps) (ap parts_in e))
+    own_same _ (part.Facts known) (form.Hold f) _ e h (valid.hold kinds first parts q) = rw h.1 (ap (λ (ps : List Value). cell.Hold ps) (ap cell_parts e))
     own_same _ part.Free (form.Nums added) _ e h (valid.nums lo hi xs q) = rw h (ap (λ (ys : List ℤ). cell.Nums ys) (append-nil xs))
     own_same _ part.Free (form.Words added) _ e h (valid.words ts) = rw h (ap (λ (ys : List (List ℕ)). cell.Words ys) (append-nil ts))
     own_same _ now f _ e h (valid.enum of first l q) = absurd h

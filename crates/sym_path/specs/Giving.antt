@@ -9,7 +9,7 @@ use Rattle.sym_base.specs.declared.values.state.State.{State}
 use Rattle.sym_base.specs.declared.values.state.Outcome.{Outcome}
 use Rattle.sym_base.specs.declared.values.state.Outcome.TheVariants.{Going}
 use Rattle.sym_base.specs.declared.values.state.Outcome.TheVariants as outcome
-use Rattle.sym_base.specs.States.{nums_in, words_in}
+use Rattle.sym_base.specs.States.{cell_nums, cell_words}
 use Rattle.sym_enum.specs.Labels.{label_value}
 use Rattle.sym_int.specs.Lines.{form_value}
 use Rattle.sym_int.specs.declared.form.IntForm.{IntForm}
@@ -24,10 +24,10 @@ use Rattle.sym_path.specs.Admitting.{Admits, admits}
 
 -- The old list of a cell with the added elements' values after it.
 abbrev pub nums_after : List IntForm → State → Cell → List ℤ
-nums_after added s old = nums_in (Some old) ++ map (λ f. form_value f s) added
+nums_after added s old = cell_nums (Some old) ++ map (λ f. form_value f s) added
 
 abbrev pub words_after : List (List ℕ) → Cell → List (List ℕ)
-words_after added old = words_in (Some old) ++ added
+words_after added old = cell_words (Some old) ++ added
 
 -- What a cell holds by its form at a state, in which it holds `old`: a constant, the label, number
 -- or parts that the form takes from the state, or a list with elements added.

@@ -4,7 +4,7 @@ ghost use Rattle.sym_base.specs.declared.values.state.State.{State as OneState};
 ghost use Rattle.sym_check.specs.CheckedScripts.{checked_plan};
 ghost use Rattle.sym_check.specs.Conditions.{test_truth};
 ghost use Rattle.sym_check.specs.ScriptPlans.{script_plan};
-ghost use Rattle.sym_base.specs.States.{nums_in, words_in};
+ghost use Rattle.sym_base.specs.States.{cell_nums, cell_words};
 ghost use Rattle.sym_check.specs.Validity.{IsValid, IsValidOutcome};
 ghost use Rattle.sym_check.specs.WellFormed.{IsWellFormed};
 ghost use Rattle.sym_base.specs.Limits.{IsNumber};

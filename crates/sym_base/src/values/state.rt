@@ -1,10 +1,10 @@
 //! The state of a group, and how a group stands after some records.
-ghost use Rattle.std.specs.Prelude.{◌≡◌, IfOk, OnOk, OnErr, IsTrue};
-ghost use Rattle.sym_base.specs.States.{label_at, number_at, parts_at, nums_at, words_at, has_nums, has_words, with_cell, with_int, with_num, with_word};
+ghost use Rattle.std.specs.Prelude.{◌≡◌, IfOk};
+ghost use Rattle.sym_base.specs.States.{label_at, number_at, parts_at, with_int};
 
 use crate::values::memory::NoMemory;
 use crate::values::sequence::{Plain, Sequence};
-use crate::values::text::{Text, Words};
+use crate::values::text::Words;
 use crate::values::value::{Nums, Value, Values};
 use std::alloc::Global;
 
@@ -27,9 +27,15 @@ pub enum Cell {
 pub type Cells = Sequence<Cell>;
 
 /// A state: one cell for each `state` declaration of the script, in order.
-#[derive(PartialEq, Eq, Drop)]
+#[derive(PartialEq, Eq)]
 pub struct State {
     pub cells: Cells,
+}
+
+impl Drop for State {
+    fn drop(self) {
+        let State { cells: _cells } = self;
+    }
 }
 
 /// Why a group ended early.
@@ -133,48 +139,6 @@ impl State {
         }
     }
 
-    /// The numbers in the `nums` cell with this number, counted from 0; none where no such cell
-    /// has it.
-    pub fn nums_at(&self, cell: u16) -> &[i64]
-        ensures { result.now ≡ nums_at self.now cell }
-    {
-        match self.cells.get(usize::from(cell)) {
-            Some(Cell::Nums(numbers)) => numbers.as_slice(),
-            _ => &[],
-        }
-    }
-
-    /// The words in the `words` cell with this number, counted from 0; none where no such cell
-    /// has it.
-    pub fn words_at(&self, cell: u16) -> &[Text]
-        ensures { result.now ≡ words_at self.now cell }
-    {
-        match self.cells.get(usize::from(cell)) {
-            Some(Cell::Words(words)) => words.as_slice(),
-            _ => &[],
-        }
-    }
-
-    /// The state in which the cell with this number, counted from 0, is `content`. Where the state
-    /// has no such cell, it is as before.
-    pub fn with_cell(self, cell: u16, content: Cell) -> State
-        ensures { result ≡ with_cell self cell content }
-    {
-        let mut cells = self.cells;
-        cells.set(usize::from(cell), content);
-        State { cells }
-    }
-
-    /// The state in which the cell with this number, counted from 0, is an integer cell with
-    /// `number` in it. Where the state has no such cell, it is as before.
-    pub fn with_int(self, cell: u16, number: i64) -> State
-        ensures { result ≡ with_int self cell number }
-    {
-        self.with_cell(cell, Cell::Int(number))
-    }
-}
-
-impl State {
     /// Puts a number into the cell with this number, counted from 0, which becomes an integer cell.
     /// Where the state has no such cell, it is as before.
     pub fn set_int(&mut self, cell: u16, number: i64)
@@ -182,42 +146,6 @@ impl State {
     {
         if let Some(cell) = self.cells.get_mut(usize::from(cell)) {
             cell.set_int(number);
-        }
-    }
-
-    /// Adds a number as the last one of the `nums` cell with this number, counted from 0. After an
-    /// `Err` the state is as before.
-    pub fn push_num(&mut self, cell: u16, number: i64) -> Result<(), NoMemory>
-        requires { IsTrue (has_nums self.old cell) }
-        ensures ok { OnOk result (self.new ≡ with_num self.old cell number) }
-        ensures err { OnErr result (self.new ≡ self.old) }
-    {
-        let index = usize::from(cell);
-        match self.cells.replace(index, Cell::Enum(0)) {
-            Some(Cell::Nums(mut numbers)) => {
-                let pushed = numbers.push(number);
-                self.cells.set(index, Cell::Nums(numbers));
-                pushed
-            }
-            _ => unreachable!(),
-        }
-    }
-
-    /// Adds a word as the last one of the `words` cell with this number, counted from 0. After an
-    /// `Err` the state is as before.
-    pub fn push_word(&mut self, cell: u16, word: Text) -> Result<(), NoMemory>
-        requires { IsTrue (has_words self.old cell) }
-        ensures ok { OnOk result (self.new ≡ with_word self.old cell word) }
-        ensures err { OnErr result (self.new ≡ self.old) }
-    {
-        let index = usize::from(cell);
-        match self.cells.replace(index, Cell::Enum(0)) {
-            Some(Cell::Words(mut words)) => {
-                let pushed = words.push(word);
-                self.cells.set(index, Cell::Words(words));
-                pushed
-            }
-            _ => unreachable!(),
         }
     }
 }

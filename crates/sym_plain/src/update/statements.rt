@@ -7,7 +7,7 @@ ghost use Rattle.sym_check.specs.FixedPlans.{fixed_plan};
 ghost use Rattle.sym_check.specs.KnownValues.{known_values};
 ghost use Rattle.sym_check.specs.ScriptPlans.{script_plan};
 ghost use Rattle.sym_check.specs.Updates.{environment, environment_after, do_step, dos_step};
-ghost use Rattle.sym_base.specs.States.{nums_in, parts_at, parts_in, words_in, with_cell, with_num, with_word};
+ghost use Rattle.sym_base.specs.States.{cell_nums, parts_at, cell_parts, cell_words, with_cell, with_num, with_word};
 ghost use Rattle.sym_plain.specs.Running.{IsAssignment, Makes, kept, kept_cell};
 
 use crate::update::buffers::{Buffers, shorten};
@@ -31,7 +31,7 @@ fn known_in<'a>(rec: &'a Record, locals: &'a Values) -> Known<'a>
 
 // A cell of another kind becomes a list of this number.
 fn push_to(alloc: Global, cell: &mut Cell, number: i64) -> Result<(), NoMemory>
-    ensures { OnOk result (cell.new ≡ Cell.Nums (nums_in (Some cell.old) ++ number ∷ [])) }
+    ensures { OnOk result (cell.new ≡ Cell.Nums (cell_nums (Some cell.old) ++ number ∷ [])) }
 {
     match cell {
         Cell::Nums(numbers) => numbers.push(number),
@@ -54,7 +54,7 @@ fn push_num(alloc: Global, state: &mut State, cell: u16, number: i64) -> Result<
 }
 
 fn words_of(alloc: Global, cell: Option<Cell>) -> Words
-    ensures { result ≡ words_in cell }
+    ensures { result ≡ cell_words cell }
 {
     match cell {
         Some(Cell::Words(words)) => words,
@@ -102,7 +102,7 @@ fn set_parts(alloc: Global, parts: &[Value], values: &mut Values) -> Result<(), 
 }
 
 fn parts_of(alloc: Global, cell: Option<Cell>) -> Values
-    ensures { result ≡ parts_in cell }
+    ensures { result ≡ cell_parts cell }
 {
     match cell {
         Some(Cell::Hold(parts)) => parts,
