@@ -1,5 +1,5 @@
--- The limits of scripts and of their data, as contracts cite them: each is a constant of
--- src/limits.rt.
+-- The limits of scripts and of their numbers, as contracts cite them: each is a constant of
+-- src/limits.rt. The limits of files and of runs are cited as the constants themselves.
 use Rattle.std.specs.Prelude.{ℕ, ℤ, ◌≤◌, nat_le, Bool, unsigned_abs}
 use Rattle.sym_base.specs.declared.limits.TheConstants as limit
 

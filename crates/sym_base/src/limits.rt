@@ -1,5 +1,6 @@
-//! The limits of scripts, of their data and of a run. Each stands here once; code cites it by
-//! name, and `specs/Limits.antt` gives it to contracts.
+//! The limits of scripts, of files and of a run. Each is written here once, and code cites it by
+//! name. Contracts cite those of scripts by their names in `specs/Limits.antt`, and the others as
+//! these constants.
 
 /// The largest number of a script and of its data, 10^12; the least is its opposite.
 pub const NUM_MAX: i64 = 1_000_000_000_000;

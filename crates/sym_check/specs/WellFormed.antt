@@ -4,8 +4,7 @@
 use Rattle.std.specs.Prelude.{◌≡◌, ℕ, ℤ, ◌-◌, ◌<◌, ◌≤◌, ◌≤ℤ◌, List, [], ◌∷◌, ◌++◌, replicate, length, Some, slice_get, IfSome}
 use Rattle.std.specs.List.{All, AllZip}
 use Rattle.sym_base.specs.declared.values.value.Value.{Value}
-use Rattle.sym_base.specs.Limits.{IsNumber}
-use Rattle.sym_base.specs.declared.limits.TheConstants as limit
+use Rattle.sym_base.specs.Limits.{IsNumber, max_labels, max_cells}
 use Rattle.sym_check.specs.declared.plan.expression.WordOf.{WordOf}
 use Rattle.sym_check.specs.declared.plan.expression.WordOf.TheVariants as word
 use Rattle.sym_check.specs.declared.plan.expression.LabelOf.{LabelOf}
@@ -209,14 +208,14 @@ known_kinds p = record { fields = field_kinds p; locals = []; params = [] }
 
 -- An enum has from 1 to 32 labels.
 abbrev pub IsEnum : EnumPlan → Type 0
-IsEnum e = (1 ≤ length e.labels) × (length e.labels ≤ limit.LABELS_MAX)
+IsEnum e = (1 ≤ length e.labels) × (length e.labels ≤ max_labels)
 
 -- Each part of the plan is so, and there are at most 32 cells.
 pub record IsWellFormed (p : ScriptPlan) : Type 0 where
   pub enums : All IsEnum p.enums
   pub fields : All (IsField p.enums) p.fields
   pub group : IfSome p.group (λ g. g < length p.fields)
-  pub cell_count : length p.cells ≤ limit.CELLS_MAX
+  pub cell_count : length p.cells ≤ max_cells
   pub cells : All (IsCell p.enums) p.cells
   pub tests : All (IsTest p) p.tests
   pub update : IsDos p (known_kinds p) p.update

@@ -1,6 +1,7 @@
 -- A row of a file as a record: the value of each field, or the first rule that the row breaks.
 use Rattle.std.specs.Prelude.{◌≡◌, ◌≢◌, ◌≤◌, ◌<◌, ℕ, ◌+◌, ◌^◌, ◌==◌, List, [], ◌∷◌, length, Result, Ok, Err, slice_index_or, if◌then◌else◌}
 use Rattle.std.specs.List.{All}
+use Rattle.sym_base.specs.Limits.{max_fields}
 use Rattle.sym_base.specs.declared.limits.TheConstants as limit
 use Rattle.sym_base.specs.declared.values.value.Value.{Value}
 use Rattle.sym_check.specs.declared.plan.script.EnumPlan.{EnumPlan}
@@ -15,7 +16,7 @@ use Rattle.sym_table.specs.Fields.{IsValue, BreaksField, read_field}
 
 -- There are no more fields than a script may have, and no enum has more labels.
 pub record KeepsLimits (enums : List EnumPlan) (fields : List FieldPlan) : Type 0 where
-  pub few_fields : length fields ≤ limit.FIELDS_MAX
+  pub few_fields : length fields ≤ max_fields
   pub few_labels : All IsEnum enums
 
 -- The header has the column of each field.

@@ -2,7 +2,7 @@
 ghost use Rattle.std.specs.Prelude.{◌≡◌, ◌<◌, ◌≤◌, ◌+◌, ◌^◌, [], nat_eq, IfOk, IfSome, drop, length, slice_index_or};
 ghost use Rattle.std.specs.Cmp.Lexicographic.{pointwise};
 ghost use Rattle.std.specs.List.{All};
-ghost use Rattle.sym_base.specs.declared.limits.TheConstants as limit;
+ghost use Rattle.sym_base.specs.Limits.{max_fields};
 ghost use Rattle.sym_table.specs.Cutting.{Locates};
 ghost use Rattle.sym_table.specs.Headers.{column_from, column_of, columns_of};
 
@@ -51,7 +51,7 @@ fn column_of(row: &Row, text: &[u8], which: u16) -> Result<u64, HeadFault>
 
 /// The column of each field, by the header row.
 pub fn columns_of(alloc: Global, row: &Row, fields: &[FieldPlan]) -> Result<Places, HeadErr>
-    requires { length fields.now ≤ limit.FIELDS_MAX }
+    requires { length fields.now ≤ max_fields }
     ensures found { Locates result (columns_of row.now 0 fields.now) }
     ensures count { IfOk result (λ places. length places ≡ length fields.now) }
     ensures within { IfOk result (λ places. All (λ place. place < length row.now) places) }

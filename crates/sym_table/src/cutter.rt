@@ -1,6 +1,7 @@
 //! Cutting a file into chunks of rows.
 ghost use Rattle.std.specs.Prelude.{◌≡◌, ◌≤◌, ◌+◌, ◌^◌, ◌<◌, List, IfOk, IfSome, IsSome, length};
 ghost use Rattle.std.specs.List.{All};
+ghost use Rattle.sym_base.specs.Limits.{max_fields};
 ghost use Rattle.sym_base.specs.declared.limits.TheConstants as limit;
 ghost use Rattle.sym_check.specs.CheckedScripts.{checked_plan};
 ghost use Rattle.sym_check.specs.declared.plan.script.FieldPlan.{FieldPlan as OneField};
@@ -85,7 +86,7 @@ fn read_header(
     fields: &[FieldPlan],
     reader: &mut RowReader<'_>,
 ) -> Result<Header, HeadErr>
-    requires few { length fields.now ≤ limit.FIELDS_MAX }
+    requires few { length fields.now ≤ max_fields }
     requires reading { IsSome reader.old }
     ensures reads { IfSome reader.old (λ rows. HeadsBy fields.now rows reader.new result) }
     ensures fits { IfOk result (λ h. FitsHeader fields.now h) }
@@ -110,7 +111,7 @@ fn open_by<'a>(
     first_no: u64,
     chunk: u32,
 ) -> Result<Cutter<'a>, HeadErr>
-    requires fields { length plan.now.fields ≤ limit.FIELDS_MAX }
+    requires fields { length plan.now.fields ≤ max_fields }
     requires size { length bytes.now ≤ limit.FILE_MAX }
     requires first { first_no ≤ 2 ^ 62 }
     requires some { 1 ≤ chunk }

@@ -26,6 +26,7 @@ pub struct Checked {
 impl Checked {
     ghost use Rattle.std.specs.Prelude.{◌≤◌, IfOk, IsTrue, length};
     ghost use Rattle.std.specs.List.{list_all};
+    ghost use Rattle.sym_base.specs.Limits.{max_fields};
     ghost use Rattle.sym_base.specs.declared.limits.TheConstants as limit;
     ghost use Rattle.sym_check.specs.CheckedScripts.{checked_tree, checked_plan};
     ghost use Rattle.sym_check.specs.Conditions.{has_fixed_body};
@@ -70,7 +71,7 @@ impl Checked {
         ensures same { script_plan result.now ≡ checked_plan self.now }
         ensures accepted { IsAccepted (checked_tree self.now) (script_plan result.now) }
         ensures well_formed { IsWellFormed (script_plan result.now) }
-        ensures fields { length (script_plan result.now).fields ≤ limit.FIELDS_MAX }
+        ensures fields { length (script_plan result.now).fields ≤ max_fields }
         ensures tests { IsTrue (list_all has_fixed_body (script_plan result.now).tests) }
     {
         &self.plan
