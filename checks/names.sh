@@ -3,6 +3,7 @@
 # - each path in backticks, from the top of the repository, or in a crate's README from there;
 # - each definition that is named with its file, `NAME` in `FILE`, which each entry of
 #   docs/DEFINITIONS.md is;
+# - each file and name in the table of questions of docs/ARCHITECTURE.md;
 # - in the README's rows on a crate, each call and its clauses, between `fn CALL` and its body:
 #   (`CALL`: `CLAUSE`, `CLAUSE`);
 # - in a crate's README, docs/ARCHITECTURE.md, docs/DECISIONS.md and CONTRIBUTING.md, each single
@@ -81,6 +82,38 @@ check_definitions() {
     done <"$work/groups"
 }
 
+# Each name of a table that names crates, their files and names: | .. | CRATE | `FILE`: `NAME`, .. |
+# CRATE | `FILE`: `NAME`, .. |, the first of specs and the second of code.
+check_questions() {
+    awk -F'|' '
+        function side(crate, text, folder, ending,    entry, entries, name, names, file) {
+            gsub(/[` ]/, "", crate)
+            if (crate != "symple")
+                crate = "sym_" crate
+            gsub(/[` ]/, "", text)
+            for (entry = split(text, entries, ";"); entry > 0; entry--) {
+                file = entries[entry]
+                sub(/:.*/, "", file)
+                sub(/^[^:]*:?/, "", entries[entry])
+                file = "crates/" crate "/" folder "/" file ending
+                print file
+                for (name = split(entries[entry], names, ","); name > 0; name--)
+                    print file, names[name]
+            }
+        }
+        NF == 7 && $3 !~ /---/ && $3 !~ /Defined/ {
+            side($3, $4, "specs", ".antt")
+            side($5, $6, "src", ".rt")
+        }
+    ' "$1" | sort -u >"$work/questions"
+    [ -s "$work/questions" ]
+    note $? "$1: no table of questions"
+    while read -r file name; do
+        [ -e "$file" ] && { [ -z "$name" ] || defines "$name" "$file"; }
+        note $? "$1: no $file with ${name:-this name}"
+    done <"$work/questions"
+}
+
 # Each entry of the glossary has a definition with its file.
 check_glossary() {
     entries "$1" | grep '^- ' | grep -vE '` in `crates/' >"$work/entries"
@@ -128,7 +161,7 @@ check_clauses() {
 # All words of the sources, the crates' names, the handles, and the directories at the top.
 {
     find crates -name out -prune -o -type f \( -name '*.rt' -o -name '*.antt' \) -exec cat {} +
-    cat crates.txt HANDLES checks/*.c
+    cat crates.txt HANDLES symple checks/*.c
     ls
 } | grep -oE '[A-Za-z_][A-Za-z0-9_]*' | sort -u >"$work/words"
 
@@ -141,11 +174,12 @@ check_words() {
     done <"$work/names"
 }
 
-for document in README.md CONTRIBUTING.md docs/*.md crates/*/README.md; do
+for document in README.md CONTRIBUTING.md bench/README.md docs/*.md crates/*/README.md; do
     check_paths "$document"
     check_definitions "$document"
 done
 check_glossary docs/DEFINITIONS.md
+check_questions docs/ARCHITECTURE.md
 check_clauses README.md
 for document in docs/ARCHITECTURE.md docs/DECISIONS.md CONTRIBUTING.md crates/*/README.md; do
     check_words "$document"
