@@ -4,9 +4,7 @@ use Rattle.std.proofs.lemmas.List.{append_assoc, append-nil, drop_all}
 use Rattle.std.proofs.lemmas.Option.{slice_get_read}
 use Rattle.std.proofs.lemmas.Result.{IfOk-weaker}
 use Rattle.sym_base.specs.declared.values.record.Record.{Record}
-use Rattle.sym_base.specs.declared.values.state.Fault.{Fault}
 use Rattle.sym_base.specs.declared.values.state.Outcome.{Outcome}
-use Rattle.sym_base.specs.declared.values.state.Outcome.TheVariants.{Going, Ended}
 use Rattle.sym_check.specs.ScriptPlans.{ScriptPlan}
 use Rattle.sym_check.specs.Updates.{after}
 use Rattle.sym_check.proofs.PlanLaws.{after_append}
@@ -15,11 +13,6 @@ use Rattle.sym_path.specs.Standing.{StandsFor}
 use Rattle.sym_path.proofs.Lists.{take_get}
 use Rattle.sym_bench.specs.declared.chain.Chain.{Chain}
 use Rattle.sym_bench.specs.Chains.{StandInTurn, LastStandsFor, IsChainOf}
-
--- A group that has ended stays as it is.
-pub ended_stays : (p : ScriptPlan) (records : List Record) (fault : Fault) → after p records (Ended fault) ≡ Ended fault
-ended_stays p [] fault = refl
-ended_stays p (rec ∷ records) fault = ended_stays p records fault
 
 -- A segment more stands for more records.
 pub in_turn_push : (p : ScriptPlan) (records : List Record) (segments : List (List Path)) (more : List Record) (segment : List Path) → StandInTurn p records segments → StandsFor p more segment → StandInTurn p (records ++ more) (segments ++ segment ∷ [])

@@ -17,6 +17,8 @@ mod ZippedLists
 pub mod ValidSteps
 mod TestAnswers
 pub mod PlanLaws
+pub mod Keys
+pub mod GroupLaws
 mod CheckedExamples
 mod Fits
 mod ScopeLaws

@@ -4,7 +4,9 @@ use Rattle.std.specs.Prelude.{IsTrue}
 use Rattle.std.specs.List.{list_all, All}
 use Rattle.std.specs.Cmp.Derive.{both_true}
 use Rattle.sym_base.specs.declared.values.record.Record.{Record}
+use Rattle.sym_base.specs.declared.values.state.Fault.{Fault}
 use Rattle.sym_base.specs.declared.values.state.Outcome.{Outcome}
+use Rattle.sym_base.specs.declared.values.state.Outcome.TheVariants.{Ended}
 use Rattle.sym_check.specs.LinePlans as line
 use Rattle.sym_check.specs.CondPlans.{CondPlan, Compared, Words, CellIs, LabelIs, Test, Not, And, Or}
 use Rattle.sym_check.specs.ScriptPlans.{ScriptPlan, TestOf}
@@ -51,3 +53,8 @@ bodies_are_fixed p w = all_fixed p p.tests w.tests
 pub after_append : (p : ScriptPlan) (first rest : List Record) (o : Outcome) → after p (first ++ rest) o ≡ after p rest (after p first o)
 after_append p [] rest o = refl
 after_append p (rec ∷ first) rest o = after_append p first rest (step p o rec)
+
+-- A group that has ended stays as it is.
+pub ended_stays : (p : ScriptPlan) (records : List Record) (fault : Fault) → after p records (Ended fault) ≡ Ended fault
+ended_stays p [] fault = refl
+ended_stays p (rec ∷ records) fault = ended_stays p records fault

@@ -1,12 +1,13 @@
 -- The sequential pass over records: how each group stands after its records. Groups and their order
 -- are those of the SYMPLE paper (SOSP 2015).
 use Rattle.std.specs.Prelude.{ℕ, Bool, not, List, [], ◌∷◌, map, Option, Some, None, slice_get, pos}
-use Rattle.std.specs.List.{filter}
+use Rattle.std.specs.List.{filter, list_any}
 use Rattle.sym_base.specs.declared.values.value.Value.{Value}
 use Rattle.sym_base.specs.declared.values.value.Value.TheVariants as value
 use Rattle.sym_base.specs.declared.values.value.Key.{Key}
 use Rattle.sym_base.specs.declared.values.value.Key.TheVariants.{Whole, One}
 use Rattle.sym_base.specs.contracts.values.value.KeyPartialEq.TheImpl as same_key
+use Rattle.sym_base.specs.contracts.values.value.ValuePartialEq.TheImpl as same_value
 use Rattle.sym_base.specs.declared.values.record.Record.{Record}
 use Rattle.sym_base.specs.declared.values.state.Outcome.{Outcome}
 use Rattle.sym_base.specs.declared.values.state.Outcome.TheVariants.{Going}
@@ -26,8 +27,21 @@ key_by (Some field) rec = One (field_value (slice_get rec.fields field))
 abbrev pub key_of : ScriptPlan → Record → Key
 key_of p rec = key_by p.group rec
 
+-- The values are equal, as `==` tells.
+abbrev pub is_value : Value → Value → Bool
+is_value v other = (same_value.ghosts).eq v other
+
+-- The keys are equal, as `==` tells.
 abbrev pub is_key : Key → Key → Bool
 is_key k other = (same_key.ghosts).eq k other
+
+-- The key is one of these.
+abbrev pub is_among : Key → List Key → Bool
+is_among key ks = list_any (is_key key) ks
+
+-- The keys that are none of these others, in order.
+abbrev pub not_among : List Key → List Key → List Key
+not_among others ks = filter (λ key. not (is_among key others)) ks
 
 -- The records with a key, in order, where `key` gives the key of a record.
 abbrev pub records_by : (Record → Key) → Key → List Record → List Record

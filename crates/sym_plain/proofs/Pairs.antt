@@ -1,8 +1,6 @@
 -- Pairs with distinct keys, as the map keeps them.
-use Rattle.std.proofs.Common.{◌≡◌, ◌∙◌, ap, sym, refl, rules, Bool, true, false, cond, ◌||◌, if◌then◌else◌, List, [], ◌∷◌, ◌++◌, map, Option, Some, None}
-use Rattle.std.specs.Bool.{Decides}
+use Rattle.std.proofs.Common.{◌≡◌, ◌∙◌, ap, sym, refl, Bool, true, false, cond, ◌||◌, if◌then◌else◌, List, [], ◌∷◌, ◌++◌, map, Option, Some, None}
 use Rattle.std.specs.List.{AllByRecursion}
-use Rattle.std.specs.Cmp.{IsEquivalence}
 use Rattle.std.specs.Map.{keys_of, lookup, set_value}
 use Rattle.std.proofs.lemmas.Map.{NonePasses}
 use Rattle.std.proofs.lemmas.Map.Entries.{none_past_head}
@@ -15,30 +13,8 @@ use Rattle.sym_base.specs.declared.values.state.Outcome.TheVariants.{Going}
 use Rattle.sym_check.specs.Groups.{is_key}
 use Rattle.sym_check.specs.ScriptPlans.{ScriptPlan}
 use Rattle.sym_check.specs.Updates.{initial, step}
+use Rattle.sym_check.proofs.Keys.{keys_equiv}
 use Rattle.sym_plain.specs.Pairs.{HaveDistinctKeys, has_key, put, standing, stepped}
-
--- The test of keys holds exactly of equal ones.
-pub key-Decides : (x y : Key) → Decides (is_key x y) (x ≡ y)
-key-Decides x y = search rules
-
-pub same_key : (x : Key) → is_key x x ≡ true
-same_key x = (key-Decides x x).1 refl
-
-by_tests : (a b : Bool) → (a ≡ true → b ≡ true) → (b ≡ true → a ≡ true) → a ≡ b
-by_tests true true f g = refl
-by_tests true false f g = sym (f refl)
-by_tests false true f g = g refl
-by_tests false false f g = refl
-
-turned : (x y : Key) → is_key x y ≡ true → is_key y x ≡ true
-turned x y h = (key-Decides y x).1 (sym ((key-Decides x y).0 h))
-
-pub keys_equiv : IsEquivalence is_key
-keys_equiv = record {
-  refl = same_key;
-  symm = λ x y. by_tests (is_key x y) (is_key y x) (turned x y) (turned y x);
-  congr = λ x y z h. ap (λ (k : Key). is_key k z) ((key-Decides x y).0 h);
-}
 
 abbrev at_key : Key → Outcome → Key × Outcome → Key × Outcome
 at_key key outcome p = if is_key key p.0 then (p.0, outcome) else p

@@ -1,12 +1,12 @@
 -- Groups as a list of pairs: each key with how its group stands.
 use Rattle.std.specs.Prelude.{◌≡◌, Bool, true, false, List, [], ◌∷◌, ◌++◌, map, Option, Some, None, if◌then◌else◌}
-use Rattle.std.specs.List.{list_any, IsDistinct}
+use Rattle.std.specs.List.{IsDistinct}
 use Rattle.std.specs.Map.{keys_of, lookup}
 use Rattle.sym_base.specs.declared.values.value.Key.{Key}
 use Rattle.sym_base.specs.declared.values.record.Record.{Record}
 use Rattle.sym_base.specs.declared.values.state.Outcome.{Outcome}
 use Rattle.sym_base.specs.declared.values.state.Outcome.TheVariants.{Going}
-use Rattle.sym_check.specs.Groups.{is_key, key_of}
+use Rattle.sym_check.specs.Groups.{is_among, is_key, key_of}
 use Rattle.sym_check.specs.ScriptPlans.{ScriptPlan}
 use Rattle.sym_check.specs.Updates.{initial, step}
 
@@ -15,7 +15,7 @@ abbrev pub HaveDistinctKeys : List (Key × Outcome) → Type 0
 HaveDistinctKeys pairs = IsDistinct is_key (keys_of pairs)
 
 abbrev pub has_key : List (Key × Outcome) → Key → Bool
-has_key pairs key = list_any (is_key key) (keys_of pairs)
+has_key pairs key = is_among key (keys_of pairs)
 
 -- The key's outcome becomes this one; a new key goes last; all other pairs stay.
 abbrev pub put : List (Key × Outcome) → Key → Outcome → List (Key × Outcome)

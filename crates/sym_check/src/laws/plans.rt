@@ -2,7 +2,9 @@
 ghost use Rattle.std.specs.Prelude.{◌≡◌, ◌++◌, ◌∷◌, [], List, IsTrue};
 ghost use Rattle.std.specs.List.{list_all};
 ghost use Rattle.sym_base.specs.declared.values.record.Record.{Record as OneRecord};
+ghost use Rattle.sym_base.specs.declared.values.state.Fault.{Fault as OneFault};
 ghost use Rattle.sym_base.specs.declared.values.state.Outcome.{Outcome as OneOutcome};
+ghost use Rattle.sym_base.specs.declared.values.state.Outcome.TheVariants.{Ended};
 ghost use Rattle.sym_base.specs.declared.values.state.State.{State as OneState};
 ghost use Rattle.sym_check.specs.ScriptPlans.{ScriptPlan};
 ghost use Rattle.sym_check.specs.Conditions.{has_fixed_body};
@@ -12,12 +14,15 @@ ghost use Rattle.sym_check.specs.Updates.{initial, step, after};
 ghost use Rattle.sym_check.specs.Validity.{IsRecord, IsKey, IsValid, IsValidOutcome};
 ghost use Rattle.sym_check.specs.WellFormed.{IsWellFormed};
 
-/// One record more is one step more, and more records go on from where the first ones ended.
+/// One record more is one step more, and more records go on from where the first ones ended. A group
+/// that has ended stays as it is.
 pub fn records_run_on()
     ensures one { (p : ScriptPlan) (records : List OneRecord) (rec : OneRecord) (o : OneOutcome) →
         after p (records ++ rec ∷ []) o ≡ step p (after p records o) rec }
     ensures more { (p : ScriptPlan) (first rest : List OneRecord) (o : OneOutcome) →
         after p (first ++ rest) o ≡ after p rest (after p first o) }
+    ensures ended { (p : ScriptPlan) (records : List OneRecord) (fault : OneFault) →
+        after p records (Ended fault) ≡ Ended fault }
 {}
 
 /// A group begins with a valid state, and no record leads to one that isn't.
