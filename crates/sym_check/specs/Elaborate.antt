@@ -102,11 +102,19 @@ opposite (line.OfLine k) = line.OfLine (line.Neg k)
 
 abbrev pub negated : ℕ → Typed → Result Typed CheckErr
 negated at (Number t) = Ok (Number (opposite t))
-negated at _ = kind_at at
+negated at (Word w) = kind_at at
+negated at (Label enum l) = kind_at at
+negated at (EnumCell c enum) = kind_at at
+negated at (HoldCell c ks) = kind_at at
+negated at (Truth c) = kind_at at
 
 abbrev pub condition : ℕ → Typed → Result CondPlan CheckErr
 condition at (Truth c) = Ok c
-condition at _ = kind_at at
+condition at (Number t) = kind_at at
+condition at (Word w) = kind_at at
+condition at (Label enum l) = kind_at at
+condition at (EnumCell c enum) = kind_at at
+condition at (HoldCell c ks) = kind_at at
 
 abbrev pub inverted : ℕ → Typed → Result Typed CheckErr
 inverted at t = do
@@ -154,7 +162,11 @@ compared c at (line.OfLine k) (line.OfLine m) = Err (broken.NotLinear at)
 
 abbrev pub term_of : ℕ → Typed → Result TermPlan CheckErr
 term_of at (Number t) = Ok t
-term_of at _ = kind_at at
+term_of at (Word w) = kind_at at
+term_of at (Label enum l) = kind_at at
+term_of at (EnumCell c enum) = kind_at at
+term_of at (HoldCell c ks) = kind_at at
+term_of at (Truth c) = kind_at at
 
 abbrev pub arithmetic : (ℕ → TermPlan → TermPlan → Result TermPlan CheckErr) → ℕ → Typed → Typed
     → Result Typed CheckErr
@@ -219,7 +231,22 @@ value_of wanted a = of_kind wanted a.typed
     of_kind kind.Word (Word w) = Ok (fixed.OfWord w)
     of_kind (kind.Label enum) (Label other l) =
         if enum == other then Ok (fixed.OfLabel l) else kind_at a.at
-    of_kind _ _ = kind_at a.at
+    of_kind kind.Num (Number (line.OfLine k)) = kind_at a.at
+    of_kind kind.Num (Word w) = kind_at a.at
+    of_kind kind.Num (Label enum l) = kind_at a.at
+    of_kind kind.Num (EnumCell c enum) = kind_at a.at
+    of_kind kind.Num (HoldCell c ks) = kind_at a.at
+    of_kind kind.Num (Truth c) = kind_at a.at
+    of_kind kind.Word (Number t) = kind_at a.at
+    of_kind kind.Word (Label enum l) = kind_at a.at
+    of_kind kind.Word (EnumCell c enum) = kind_at a.at
+    of_kind kind.Word (HoldCell c ks) = kind_at a.at
+    of_kind kind.Word (Truth c) = kind_at a.at
+    of_kind (kind.Label enum) (Number t) = kind_at a.at
+    of_kind (kind.Label enum) (Word w) = kind_at a.at
+    of_kind (kind.Label enum) (EnumCell c other) = kind_at a.at
+    of_kind (kind.Label enum) (HoldCell c ks) = kind_at a.at
+    of_kind (kind.Label enum) (Truth c) = kind_at a.at
 
 -- As many values as kinds.
 abbrev pub values_of : List KindPlan → List Located → Result (List FixedPlan) CheckErr
@@ -245,7 +272,11 @@ called_on at test args (HoldCell c ks) =
       Ok (Truth (cond.Test test.test c vs)))
     else kind_at args.first.at)
     else kind_at at
-called_on at test args _ = kind_at args.first.at
+called_on at test args (Number t) = kind_at args.first.at
+called_on at test args (Word w) = kind_at args.first.at
+called_on at test args (Label enum l) = kind_at args.first.at
+called_on at test args (EnumCell c enum) = kind_at args.first.at
+called_on at test args (Truth c) = kind_at args.first.at
 
 abbrev mutual
   pub infer : Scope → ExprTree → Result Typed CheckErr

@@ -100,9 +100,15 @@ of_word_list at show_fn.Min c = kind_at at
 of_word_list at show_fn.Max c = kind_at at
 
 abbrev pub of_list : ℕ → ShowFn → List Seen → Result Seen CheckErr
+of_list at f [] = kind_at at
+of_list at f (Numeral n place ∷ rest) = kind_at at
+of_list at f (Number p ∷ rest) = kind_at at
+of_list at f (Word p ∷ rest) = kind_at at
 of_list at f (NumList c ∷ []) = Ok (Number (show.Call f c))
+of_list at f (NumList c ∷ other ∷ rest) = kind_at at
 of_list at f (WordList c ∷ []) = of_word_list at f c
-of_list at f _ = kind_at at
+of_list at f (WordList c ∷ other ∷ rest) = kind_at at
+of_list at f (Parts c ks ∷ rest) = kind_at at
 
 abbrev pub of_parts : ℕ → List Seen → Result Seen CheckErr
 of_parts at (Parts c ks ∷ Numeral n place ∷ []) = part_by at place c ks n

@@ -102,7 +102,25 @@ placed_in at (ToEnum c enum) (EnumCell d other) =
     if (enum == other) && not (c == d) then Ok (plan.CopyEnum c d) else kind_at at
 placed_in at (ToNums c) (Number t) = Ok (plan.PushNum c t)
 placed_in at (ToWords c) (Word w) = Ok (plan.PushWord c w)
-placed_in at _ _ = kind_at at
+placed_in at (ToInt c) (Word w) = kind_at at
+placed_in at (ToInt c) (Label enum l) = kind_at at
+placed_in at (ToInt c) (EnumCell d enum) = kind_at at
+placed_in at (ToInt c) (HoldCell d ks) = kind_at at
+placed_in at (ToInt c) (Truth b) = kind_at at
+placed_in at (ToEnum c enum) (Number t) = kind_at at
+placed_in at (ToEnum c enum) (Word w) = kind_at at
+placed_in at (ToEnum c enum) (HoldCell d ks) = kind_at at
+placed_in at (ToEnum c enum) (Truth b) = kind_at at
+placed_in at (ToNums c) (Word w) = kind_at at
+placed_in at (ToNums c) (Label enum l) = kind_at at
+placed_in at (ToNums c) (EnumCell d enum) = kind_at at
+placed_in at (ToNums c) (HoldCell d ks) = kind_at at
+placed_in at (ToNums c) (Truth b) = kind_at at
+placed_in at (ToWords c) (Number t) = kind_at at
+placed_in at (ToWords c) (Label enum l) = kind_at at
+placed_in at (ToWords c) (EnumCell d enum) = kind_at at
+placed_in at (ToWords c) (HoldCell d ks) = kind_at at
+placed_in at (ToWords c) (Truth b) = kind_at at
 
 -- As many values as parts, else the place is that of the cell's name.
 abbrev pub kept_values : ℕ → Kept → List Located → Result DoPlan CheckErr

@@ -9,7 +9,7 @@ use Rattle.sym_check.specs.CondPlans.{CondPlan, cond_plan}
 use Rattle.sym_check.specs.CondPlans as cond
 use Rattle.sym_check.specs.Elaborate.{kind_at, added, subtracted, multiplied, quotient_of}
 use Rattle.sym_check.specs.LinePlans.{TermPlan}
-use Rattle.sym_check.specs.Typing.{Typed, Word, Truth}
+use Rattle.sym_check.specs.Typing.{Typed, Number, Word, Label, EnumCell, HoldCell, Truth}
 
 -- The rule of an operator of arithmetic.
 abbrev pub rule_of : ArithOp → ℕ → TermPlan → TermPlan → Result TermPlan CheckErr
@@ -22,7 +22,11 @@ rule_of arith.Rem = quotient_of arith.Rem
 -- Whether a word is another operand, which is a word too.
 abbrev pub words_joined : ℕ → WordOf → Typed → Result CondPlan CheckErr
 words_joined at v (Word w) = Ok (cond.Words v w)
-words_joined at v _ = kind_at at
+words_joined at v (Number t) = kind_at at
+words_joined at v (Label enum l) = kind_at at
+words_joined at v (EnumCell c enum) = kind_at at
+words_joined at v (HoldCell c ks) = kind_at at
+words_joined at v (Truth c) = kind_at at
 
 -- A condition as what an expression stands for.
 abbrev pub truth_plan : Cond → Typed
