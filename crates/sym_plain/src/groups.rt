@@ -27,12 +27,22 @@ fn copy_map(alloc: Global, map: &IndexMap<Key, Outcome>) -> Result<IndexMap<Key,
 }
 
 /// Each key with how its group stands. A contract sees a list of pairs with distinct keys.
-#[derive(Drop)]
 pub struct Groups {
     map: IndexMap<Key, Outcome>,
     // The key that was looked up last; the next one is made over its memory.
     key: Key,
     buffers: Buffers,
+}
+
+// Written here so that the crates above don't prove it for each type inside.
+impl Drop for Groups {
+    fn drop(self) {
+        let Groups {
+            map: _map,
+            key: _key,
+            buffers: _buffers,
+        } = self;
+    }
 }
 
 impl Model for Groups {

@@ -7,11 +7,21 @@ use std::alloc::Global;
 use sym_base::{NoMemory, Plain, Sequence};
 
 /// Consecutive rows of a file, with its header and the number of the first row.
-#[derive(Drop)]
 pub struct Chunk {
     pub first_no: u64,
     pub header: Header,
     pub rows: Rows,
+}
+
+// Written here so that the crates above don't prove it for each type inside.
+impl Drop for Chunk {
+    fn drop(self) {
+        let Chunk {
+            first_no: _first_no,
+            header: _header,
+            rows: _rows,
+        } = self;
+    }
 }
 
 /// Chunks, in order.

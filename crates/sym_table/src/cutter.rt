@@ -23,12 +23,23 @@ use sym_check::{Checked, FieldPlan, Plan};
 /// Reads a file's rows from its bytes where they lie, in chunks or one by one. A contract sees the
 /// rows that are left, `None` after memory ran out; the header; the number of the next row;
 /// and how many rows a full chunk has.
-#[derive(Drop)]
 pub struct Cutter<'a> {
     rows: RowReader<'a>,
     header: Header,
     next_no: u64,
     chunk: u32,
+}
+
+// Written here so that the crates above don't prove it for each type inside.
+impl<'a> Drop for Cutter<'a> {
+    fn drop(self) {
+        let Cutter {
+            rows: _rows,
+            header: _header,
+            next_no: _next_no,
+            chunk: _chunk,
+        } = self;
+    }
 }
 
 impl<'a> Model for Cutter<'a> {

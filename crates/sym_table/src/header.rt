@@ -9,12 +9,22 @@ use thiserror::Error;
 pub type Places = Sequence<u64>;
 
 /// Where a file has the fields of a script.
-#[derive(PartialEq, Eq, Drop)]
+#[derive(PartialEq, Eq)]
 pub struct Header {
     /// For each field of the script its column, counted from 0.
     pub places: Places,
     /// The number of columns.
     pub columns: u64,
+}
+
+// Written here so that the crates above don't prove it for each type inside.
+impl Drop for Header {
+    fn drop(self) {
+        let Header {
+            places: _places,
+            columns: _columns,
+        } = self;
+    }
 }
 
 /// What is wrong with a header. A `u16` is a field of the script, counted from 0.

@@ -13,7 +13,6 @@ use std::alloc::Global;
 use sym_base::{NoMemory, Script};
 
 /// A script that breaks no rule, with its plan and its path bound.
-#[derive(Drop)]
 pub struct Checked {
     script: Script,
     plan: Plan,
@@ -21,6 +20,17 @@ pub struct Checked {
     pub ghost lawful: { IsLawful (script_tree script) },
     pub ghost planned: { IsPlanned script plan } by { IsPlanned-prop script plan },
     pub ghost bound: { path_bound ≡ paths_of (dos_plan plan.update) },
+}
+
+// Written here so that the crates above don't prove it for each type inside.
+impl Drop for Checked {
+    fn drop(self) {
+        let Checked {
+            script: _script,
+            plan: _plan,
+            path_bound: _path_bound,
+        } = self;
+    }
 }
 
 impl Checked {

@@ -77,7 +77,6 @@ pub type TestPlans = Sequence<TestPlan>;
 pub type ColumnPlans = Sequence<ColumnPlan>;
 
 /// A script with its names resolved to numbers.
-#[derive(Drop)]
 pub struct Plan {
     pub enums: EnumPlans,
     pub fields: FieldPlans,
@@ -88,6 +87,21 @@ pub struct Plan {
     pub tests: TestPlans,
     pub update: Dos,
     pub columns: ColumnPlans,
+}
+
+// Written here so that the crates above don't prove it for each type inside.
+impl Drop for Plan {
+    fn drop(self) {
+        let Plan {
+            enums: _enums,
+            fields: _fields,
+            group: _group,
+            cells: _cells,
+            tests: _tests,
+            update: _update,
+            columns: _columns,
+        } = self;
+    }
 }
 
 /// The names of the labels of the enum with this number; none where there is no such enum.
