@@ -14,9 +14,9 @@ use Rattle.sym_table.specs.declared.bad.BadCause.{BadCause}
 use Rattle.sym_table.specs.declared.bad.Decoded.TheVariants as decoded
 use Rattle.sym_table.specs.declared.header.Header.{Header}
 use Rattle.sym_table.specs.Decoding.{Fills, numbered}
-use Rattle.sym_table.specs.Fields.{IsValue}
+use Rattle.sym_table.specs.Fields.{IsFieldValue}
 use Rattle.sym_table.specs.Fields as fields
-use Rattle.sym_table.specs.Rows.{AreValues, column, read_row}
+use Rattle.sym_table.specs.Rows.{AreFieldValues, column, read_row}
 use Rattle.sym_table.specs.Rows as rows
 use Rattle.sym_table.proofs.RowsAgree.{row_values}
 
@@ -35,7 +35,7 @@ label_below enums enum l text e =
     let count = labels_counted (slice_get enums enum) in
     omega arith
 
-value_is_of_kind : (enums : List EnumPlan) (f : FieldPlan) (bytes : List ℕ) (v : Value) → IsField enums f → IsValue enums f bytes v → IsOfKind enums f.kind v
+value_is_of_kind : (enums : List EnumPlan) (f : FieldPlan) (bytes : List ℕ) (v : Value) → IsField enums f → IsFieldValue enums f bytes v → IsOfKind enums f.kind v
 value_is_of_kind enums f bytes _ is (fields.empty v utf8 empty default) = rw default at is.empty
 value_is_of_kind enums f bytes _ is (fields.number x k read says) = rw k says.in_range
 value_is_of_kind enums f bytes _ is (fields.word k read) = rw k tt
@@ -43,7 +43,7 @@ value_is_of_kind enums f bytes _ is (fields.label enum l k read says) =
     rw k (label_below enums enum l _ says.named)
 
 values_are_of_kinds : (enums : List EnumPlan) (row : List (List ℕ)) (fs : List FieldPlan) (places : List ℕ) (values : List Value)
-    → All (IsField enums) fs → AreValues enums row fs places values → AreOfKinds enums (map (λ (f : FieldPlan). f.kind) fs) values
+    → All (IsField enums) fs → AreFieldValues enums row fs places values → AreOfKinds enums (map (λ (f : FieldPlan). f.kind) fs) values
 values_are_of_kinds enums row _ _ _ all rows.no_field = tt
 values_are_of_kinds enums row _ _ _ all (rows.one_more f fs place places v vs is are) = (
   value_is_of_kind enums f (column row place) v (all 0 f (omega arith)) is,

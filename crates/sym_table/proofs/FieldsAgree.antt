@@ -12,7 +12,7 @@ use Rattle.sym_check.specs.declared.plan.script.FieldPlan.{FieldPlan}
 use Rattle.sym_table.specs.declared.bad.BadCause.{BadCause}
 use Rattle.sym_table.specs.declared.bad.BadCause.TheVariants as cause
 use Rattle.sym_check.specs.Validity.{enum_labels}
-use Rattle.sym_table.specs.Fields.{text_of, IsRead, IsValue, BreaksField, default_for, value_in, unless_given, read_text, read_field}
+use Rattle.sym_table.specs.Fields.{text_of, IsRead, IsFieldValue, IsBadField, default_for, value_in, unless_given, read_text, read_field}
 use Rattle.sym_table.specs.Fields as fields
 use Rattle.sym_table.specs.Texts.{without_blanks, SaysNumber, number_in, SaysLabel, label_in}
 use Rattle.sym_table.proofs.FieldFacts.{is_text, is_no_text}
@@ -40,7 +40,7 @@ no_l labels text l e says = let found = said_label labels text l says in cc (e, 
 
 number_holds : (enums : List EnumPlan) (which : ℕ) (field : FieldPlan) (bytes : List ℕ) (o : Option ℤ)
     → field.kind ≡ kind.Num → IsRead field bytes → number_in (without_blanks bytes) ≡ o
-    → MatchResult (ok_or (option_map value.Num o) (cause.Number which)) (IsValue enums field bytes) (BreaksField enums which field bytes)
+    → MatchResult (ok_or (option_map value.Num o) (cause.Number which)) (IsFieldValue enums field bytes) (IsBadField enums which field bytes)
 number_holds enums which field bytes None k read e =
     fields.no_number k read (λ x says. no_x (without_blanks bytes) x e says)
 number_holds enums which field bytes (Some x) k read e =
@@ -48,7 +48,7 @@ number_holds enums which field bytes (Some x) k read e =
 
 label_holds : (enums : List EnumPlan) (which : ℕ) (field : FieldPlan) (bytes : List ℕ) (enum : ℕ) (o : Option ℕ)
     → field.kind ≡ kind.Label enum → IsRead field bytes → label_in (enum_labels enums enum) (without_blanks bytes) ≡ o
-    → MatchResult (ok_or (option_map value.Label o) (cause.Label which)) (IsValue enums field bytes) (BreaksField enums which field bytes)
+    → MatchResult (ok_or (option_map value.Label o) (cause.Label which)) (IsFieldValue enums field bytes) (IsBadField enums which field bytes)
 label_holds enums which field bytes enum None k read e =
     fields.no_label enum k read (λ l says. no_l (enum_labels enums enum) (without_blanks bytes) l e says)
 label_holds enums which field bytes enum (Some l) k read e =
@@ -56,7 +56,7 @@ label_holds enums which field bytes enum (Some l) k read e =
 
 kind_holds : (enums : List EnumPlan) (which : ℕ) (field : FieldPlan) (bytes : List ℕ) (k : KindPlan)
     → field.kind ≡ k → IsRead field bytes
-    → MatchResult (value_in enums which k (text_of k bytes)) (IsValue enums field bytes) (BreaksField enums which field bytes)
+    → MatchResult (value_in enums which k (text_of k bytes)) (IsFieldValue enums field bytes) (IsBadField enums which field bytes)
 kind_holds enums which field bytes kind.Num e read =
     number_holds enums which field bytes (number_in (without_blanks bytes)) e read refl
 kind_holds enums which field bytes kind.Word e read = fields.word e read
@@ -65,7 +65,7 @@ kind_holds enums which field bytes (kind.Label enum) e read =
 
 text_holds : (enums : List EnumPlan) (which : ℕ) (field : FieldPlan) (bytes : List ℕ) (d : Option Value)
     → IsUtf8 bytes → default_for field.default (text_of field.kind bytes) ≡ d
-    → MatchResult (unless_given d (value_in enums which field.kind (text_of field.kind bytes))) (IsValue enums field bytes) (BreaksField enums which field bytes)
+    → MatchResult (unless_given d (value_in enums which field.kind (text_of field.kind bytes))) (IsFieldValue enums field bytes) (IsBadField enums which field bytes)
 text_holds enums which field bytes None utf8 e =
     kind_holds enums which field bytes field.kind refl
     (record { utf8 = utf8; given = default_left field.default (text_of field.kind bytes) e })
@@ -74,7 +74,7 @@ text_holds enums which field bytes (Some v) utf8 e =
     fields.empty v utf8 taken.0 taken.1
 
 utf8_holds : (enums : List EnumPlan) (which : ℕ) (field : FieldPlan) (bytes : List ℕ) (b : Bool) → is_utf8 bytes ≡ b
-    → MatchResult (if b then read_text enums which field (text_of field.kind bytes) else Err (cause.Utf8 which)) (IsValue enums field bytes) (BreaksField enums which field bytes)
+    → MatchResult (if b then read_text enums which field (text_of field.kind bytes) else Err (cause.Utf8 which)) (IsFieldValue enums field bytes) (IsBadField enums which field bytes)
 utf8_holds enums which field bytes true e =
     text_holds enums which field bytes (default_for field.default (text_of field.kind bytes)) (IsUtf8-from_is_utf8 bytes e) refl
 utf8_holds enums which field bytes false e =
@@ -82,7 +82,7 @@ utf8_holds enums which field bytes false e =
 
 -- What the function answers is so.
 pub field_holds : (enums : List EnumPlan) (which : ℕ) (field : FieldPlan) (bytes : List ℕ)
-    → MatchResult (read_field enums which field bytes) (IsValue enums field bytes) (BreaksField enums which field bytes)
+    → MatchResult (read_field enums which field bytes) (IsFieldValue enums field bytes) (IsBadField enums which field bytes)
 field_holds enums which field bytes = utf8_holds enums which field bytes (is_utf8 bytes) refl
 
 -- What is so is answered.
@@ -94,7 +94,7 @@ given_read enums which field bytes k e read =
     ∙ ap (λ c. value_in enums which c (text_of c bytes)) e
 
 pub value_read : (enums : List EnumPlan) (which : ℕ) (field : FieldPlan) (bytes : List ℕ) (v : Value)
-    → IsValue enums field bytes v → read_field enums which field bytes ≡ Ok v
+    → IsFieldValue enums field bytes v → read_field enums which field bytes ≡ Ok v
 value_read enums which field bytes v (fields.empty _ utf8 empty default) =
     is_text enums which field bytes utf8 ∙ rw (empty, default) refl
 value_read enums which field bytes _ (fields.number x k read says) =
@@ -114,7 +114,7 @@ no_label_in labels text None e h = e
 no_label_in labels text (Some l) e h = absurd (h l (label_said labels text l e))
 
 pub fault_read : (enums : List EnumPlan) (which : ℕ) (field : FieldPlan) (bytes : List ℕ) (why : BadCause)
-    → BreaksField enums which field bytes why → read_field enums which field bytes ≡ Err why
+    → IsBadField enums which field bytes why → read_field enums which field bytes ≡ Err why
 fault_read enums which field bytes _ (fields.not_utf8 h) = is_no_text enums which field bytes h
 fault_read enums which field bytes _ (fields.no_number k read none) =
     given_read enums which field bytes kind.Num k read

@@ -6,7 +6,7 @@ use Rattle.sym_check.specs.declared.plan.script.FieldPlan.{FieldPlan}
 use Rattle.sym_check.specs.Arithmetic.{and_then}
 use Rattle.sym_table.specs.declared.header.HeadFault.{HeadFault}
 use Rattle.sym_table.specs.declared.header.HeadFault.TheVariants as head
-use Rattle.sym_table.specs.Headers.{IsColumn, HasNoColumn, HasTwoColumns, AreColumns, FirstHeadFault, column_from, unless_again, found_column, column_of, columns_of}
+use Rattle.sym_table.specs.Headers.{HasColumn, HasNoColumn, HasTwoColumns, AreColumns, FirstHeadFault, column_from, unless_again, found_column, column_of, columns_of}
 use Rattle.sym_table.specs.Headers as headers
 use Rattle.sym_table.proofs.Said.{is_text, other_text}
 
@@ -82,7 +82,7 @@ Broken row which text (head.NoField n) = (n ≡ which) × HasNoColumn row text
 Broken row which text (head.Twice n) = (n ≡ which) × HasTwoColumns row text
 
 again_holds : (row : List (List ℕ)) (text : List ℕ) (which place : ℕ) (o : Option ℕ) → IsFirst 0 row text place
-    → Found (place + 1) (drop (place + 1) row) text o → MatchResult (unless_again which place o) (IsColumn row text) (Broken row which text)
+    → Found (place + 1) (drop (place + 1) row) text o → MatchResult (unless_again which place o) (HasColumn row text) (Broken row which text)
 again_holds row text which place None is none =
     let same : place ≡ is.here = omega (arith, is.place_is) in
     record {
@@ -102,37 +102,37 @@ again_holds row text which place (Some other) is found =
     )
 
 found_holds : (row : List (List ℕ)) (text : List ℕ) (which : ℕ) (o : Option ℕ) → Found 0 row text o
-    → MatchResult (found_column row text which o) (IsColumn row text) (Broken row which text)
+    → MatchResult (found_column row text which o) (HasColumn row text) (Broken row which text)
 found_holds row text which None none = (refl, none)
 found_holds row text which (Some place) is =
     again_holds row text which place (column_from (place + 1) (drop (place + 1) row) text) is
     (from_found (place + 1) (drop (place + 1) row) text)
 
-column_holds : (row : List (List ℕ)) (text : List ℕ) (which : ℕ) → MatchResult (column_of row text which) (IsColumn row text) (Broken row which text)
+column_holds : (row : List (List ℕ)) (text : List ℕ) (which : ℕ) → MatchResult (column_of row text which) (HasColumn row text) (Broken row which text)
 column_holds row text which = found_holds row text which (column_from 0 row text) (from_found 0 row text)
 
 -- The three cases exclude each other.
-not_none : (row : List (List ℕ)) (text : List ℕ) (place : ℕ) → IsColumn row text place → HasNoColumn row text → ⊥
+not_none : (row : List (List ℕ)) (text : List ℕ) (place : ℕ) → HasColumn row text place → HasNoColumn row text → ⊥
 not_none row text place is none = none place is.named
 
-not_two : (row : List (List ℕ)) (text : List ℕ) (place : ℕ) → IsColumn row text place → HasTwoColumns row text → ⊥
+not_two : (row : List (List ℕ)) (text : List ℕ) (place : ℕ) → HasColumn row text place → HasTwoColumns row text → ⊥
 not_two row text place is two =
     let a = is.only two.one two.named in let b = is.only two.other two.again in let c = two.apart in omega arith
 
 column_answered : (row : List (List ℕ)) (text : List ℕ) (which place : ℕ) (r : Result ℕ HeadFault)
-    → MatchResult r (IsColumn row text) (Broken row which text) → IsColumn row text place → r ≡ Ok place
+    → MatchResult r (HasColumn row text) (Broken row which text) → HasColumn row text place → r ≡ Ok place
 column_answered row text which place (Ok other) so is = ap Ok (is.only other so.named)
 column_answered row text which place (Err (head.NoField n)) so is = absurd (not_none row text place is so.1)
 column_answered row text which place (Err (head.Twice n)) so is = absurd (not_two row text place is so.1)
 
 none_answered : (row : List (List ℕ)) (text : List ℕ) (which : ℕ) (r : Result ℕ HeadFault)
-    → MatchResult r (IsColumn row text) (Broken row which text) → HasNoColumn row text → r ≡ Err (head.NoField which)
+    → MatchResult r (HasColumn row text) (Broken row which text) → HasNoColumn row text → r ≡ Err (head.NoField which)
 none_answered row text which (Ok other) so none = absurd (not_none row text other so none)
 none_answered row text which (Err (head.NoField n)) so none = ap (λ m. Err (head.NoField m)) so.0
 none_answered row text which (Err (head.Twice n)) so none = absurd (none so.1.one so.1.named)
 
 two_answered : (row : List (List ℕ)) (text : List ℕ) (which : ℕ) (r : Result ℕ HeadFault)
-    → MatchResult r (IsColumn row text) (Broken row which text) → HasTwoColumns row text → r ≡ Err (head.Twice which)
+    → MatchResult r (HasColumn row text) (Broken row which text) → HasTwoColumns row text → r ≡ Err (head.Twice which)
 two_answered row text which (Ok other) so two = absurd (not_two row text other so two)
 two_answered row text which (Err (head.NoField n)) so two = absurd (so.1 two.one two.named)
 two_answered row text which (Err (head.Twice n)) so two = ap (λ m. Err (head.Twice m)) so.0
@@ -144,7 +144,7 @@ first_fault row which f fields (head.NoField n) so = rw so.0 (headers.absent whi
 first_fault row which f fields (head.Twice n) so = rw so.0 (headers.twice which f fields so.1)
 
 more_hold : (row : List (List ℕ)) (which : ℕ) (f : FieldPlan) (fields : List FieldPlan) (first : Result ℕ HeadFault) (rest : Result (List ℕ) HeadFault)
-    → MatchResult first (IsColumn row f.header) (Broken row which f.header)
+    → MatchResult first (HasColumn row f.header) (Broken row which f.header)
     → MatchResult rest (AreColumns row fields) (FirstHeadFault row (which + 1) fields)
     → MatchResult (and_then (λ place. and_then (λ places. Ok (place ∷ places)) rest) first) (AreColumns row (f ∷ fields)) (FirstHeadFault row which (f ∷ fields))
 more_hold row which f fields (Ok place) (Ok places) is are = headers.one_more f fields place places is are

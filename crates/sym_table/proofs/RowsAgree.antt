@@ -8,23 +8,23 @@ use Rattle.sym_check.specs.Arithmetic.{and_then}
 use Rattle.sym_table.specs.declared.bad.BadCause.{BadCause}
 use Rattle.sym_table.specs.declared.bad.BadCause.TheVariants as cause
 use Rattle.sym_table.specs.declared.header.Header.{Header}
-use Rattle.sym_table.specs.Fields.{IsValue, BreaksField, read_field}
-use Rattle.sym_table.specs.Rows.{column, AreValues, FirstBroken, HasValues, BreaksRow, read_fields, read_row}
+use Rattle.sym_table.specs.Fields.{IsFieldValue, IsBadField, read_field}
+use Rattle.sym_table.specs.Rows.{column, AreFieldValues, FirstBadField, HasValues, BreaksRow, read_fields, read_row}
 use Rattle.sym_table.specs.Rows as rows
 use Rattle.sym_table.proofs.FieldsAgree.{field_holds, value_read, fault_read}
 
 -- One field, and then the others.
 more_hold : (enums : List EnumPlan) (row : List (List ℕ)) (which : ℕ) (f : FieldPlan) (fields : List FieldPlan) (place : ℕ) (places : List ℕ)
     (first : Result Value BadCause) (rest : Result (List Value) BadCause)
-    → MatchResult first (IsValue enums f (column row place)) (BreaksField enums which f (column row place))
-    → MatchResult rest (AreValues enums row fields places) (FirstBroken enums row (which + 1) fields places)
-    → MatchResult (and_then (λ v. and_then (λ vs. Ok (v ∷ vs)) rest) first) (AreValues enums row (f ∷ fields) (place ∷ places)) (FirstBroken enums row which (f ∷ fields) (place ∷ places))
+    → MatchResult first (IsFieldValue enums f (column row place)) (IsBadField enums which f (column row place))
+    → MatchResult rest (AreFieldValues enums row fields places) (FirstBadField enums row (which + 1) fields places)
+    → MatchResult (and_then (λ v. and_then (λ vs. Ok (v ∷ vs)) rest) first) (AreFieldValues enums row (f ∷ fields) (place ∷ places)) (FirstBadField enums row which (f ∷ fields) (place ∷ places))
 more_hold enums row which f fields place places (Ok v) (Ok vs) is are = rows.one_more f fields place places v vs is are
 more_hold enums row which f fields place places (Ok v) (Err why) is broken = rows.later which f fields place places v why is broken
 more_hold enums row which f fields place places (Err why) rest broken others = rows.here which f fields place places why broken
 
 fields_hold : (enums : List EnumPlan) (row : List (List ℕ)) (which : ℕ) (fields : List FieldPlan) (places : List ℕ) → length places ≡ length fields
-    → MatchResult (read_fields enums row which fields places) (AreValues enums row fields places) (FirstBroken enums row which fields places)
+    → MatchResult (read_fields enums row which fields places) (AreFieldValues enums row fields places) (FirstBadField enums row which fields places)
 fields_hold enums row which [] [] l = rows.no_field
 fields_hold enums row which [] (place ∷ places) l = absurd (omega (arith, l))
 fields_hold enums row which (f ∷ fields) [] l = absurd (omega (arith, l))
@@ -33,20 +33,20 @@ fields_hold enums row which (f ∷ fields) (place ∷ places) l =
     (field_holds enums which f (column row place)) (fields_hold enums row (which + 1) fields places (omega (arith, l)))
 
 values_read : (enums : List EnumPlan) (row : List (List ℕ)) (which : ℕ) (fields : List FieldPlan) (places : List ℕ) (values : List Value)
-    → AreValues enums row fields places values → read_fields enums row which fields places ≡ Ok values
+    → AreFieldValues enums row fields places values → read_fields enums row which fields places ≡ Ok values
 values_read enums row which _ _ _ rows.no_field = refl
 values_read enums row which _ _ _ (rows.one_more f fields place places v vs is are) =
     rw (value_read enums which f (column row place) v is, values_read enums row (which + 1) fields places vs are) refl
 
 broken_read : (enums : List EnumPlan) (row : List (List ℕ)) (which : ℕ) (fields : List FieldPlan) (places : List ℕ) (why : BadCause)
-    → FirstBroken enums row which fields places why → read_fields enums row which fields places ≡ Err why
+    → FirstBadField enums row which fields places why → read_fields enums row which fields places ≡ Err why
 broken_read enums row _ _ _ _ (rows.here which f fields place places why breaks) =
     rw (fault_read enums which f (column row place) why breaks) refl
 broken_read enums row _ _ _ _ (rows.later which f fields place places v why is after) =
     rw (value_read enums which f (column row place) v is, broken_read enums row (which + 1) fields places why after) refl
 
 in_width : (enums : List EnumPlan) (fields : List FieldPlan) (header : Header) (row : List (List ℕ)) (r : Result (List Value) BadCause)
-    → length row ≡ header.columns → MatchResult r (AreValues enums row fields header.places) (FirstBroken enums row 0 fields header.places)
+    → length row ≡ header.columns → MatchResult r (AreFieldValues enums row fields header.places) (FirstBadField enums row 0 fields header.places)
     → MatchResult r (HasValues enums fields header row) (BreaksRow enums fields header row)
 in_width enums fields header row (Ok values) e are = record { width_is = e; have = are }
 in_width enums fields header row (Err why) e broken = rows.in_field why e broken

@@ -26,39 +26,39 @@ pub record IsRead (field : FieldPlan) (bytes : List ℕ) : Type 0 where
   pub given : (text_of field.kind bytes ≢ []) ⊎ (field.default ≡ None)
 
 -- The value that a field has where its column holds these bytes.
-pub data IsValue (enums : List EnumPlan) (field : FieldPlan) (bytes : List ℕ) : Value → Type 0 where
+pub data IsFieldValue (enums : List EnumPlan) (field : FieldPlan) (bytes : List ℕ) : Value → Type 0 where
   empty : (v : Value)
       → IsUtf8 bytes
       → text_of field.kind bytes ≡ []
       → field.default ≡ Some v
-      → IsValue enums field bytes v
+      → IsFieldValue enums field bytes v
   number : (x : ℤ)
       → field.kind ≡ kind.Num
       → IsRead field bytes
       → SaysNumber (without_blanks bytes) x
-      → IsValue enums field bytes (value.Num x)
+      → IsFieldValue enums field bytes (value.Num x)
   word : field.kind ≡ kind.Word
       → IsRead field bytes
-      → IsValue enums field bytes (value.Word bytes)
+      → IsFieldValue enums field bytes (value.Word bytes)
   label : (enum l : ℕ)
       → field.kind ≡ kind.Label enum
       → IsRead field bytes
       → SaysLabel (enum_labels enums enum) (without_blanks bytes) l
-      → IsValue enums field bytes (value.Label l)
+      → IsFieldValue enums field bytes (value.Label l)
 
 -- What is wrong with the bytes of the field with the number `which`.
-pub data BreaksField (enums : List EnumPlan) (which : ℕ) (field : FieldPlan) (bytes : List ℕ)
+pub data IsBadField (enums : List EnumPlan) (which : ℕ) (field : FieldPlan) (bytes : List ℕ)
     : BadCause → Type 0 where
-  not_utf8 : ¬ (IsUtf8 bytes) → BreaksField enums which field bytes (cause.Utf8 which)
+  not_utf8 : ¬ (IsUtf8 bytes) → IsBadField enums which field bytes (cause.Utf8 which)
   no_number : field.kind ≡ kind.Num
       → IsRead field bytes
       → ((x : ℤ) → ¬ (SaysNumber (without_blanks bytes) x))
-      → BreaksField enums which field bytes (cause.Number which)
+      → IsBadField enums which field bytes (cause.Number which)
   no_label : (enum : ℕ)
       → field.kind ≡ kind.Label enum
       → IsRead field bytes
       → ((l : ℕ) → ¬ (SaysLabel (enum_labels enums enum) (without_blanks bytes) l))
-      → BreaksField enums which field bytes (cause.Label which)
+      → IsBadField enums which field bytes (cause.Label which)
 
 -- The value after `else`, for an empty text.
 abbrev pub default_for : Option Value → List ℕ → Option Value

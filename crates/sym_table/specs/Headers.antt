@@ -7,7 +7,7 @@ use Rattle.sym_table.specs.declared.header.HeadFault.{HeadFault}
 use Rattle.sym_table.specs.declared.header.HeadFault.TheVariants as head
 
 -- The column with this text, and the only one.
-pub record IsColumn (row : List (List ℕ)) (text : List ℕ) (place : ℕ) : Type 0 where
+pub record HasColumn (row : List (List ℕ)) (text : List ℕ) (place : ℕ) : Type 0 where
   pub named : slice_get row place ≡ Some text
   pub only : (k : ℕ) → slice_get row k ≡ Some text → k ≡ place
 
@@ -27,7 +27,7 @@ pub record HasTwoColumns (row : List (List ℕ)) (text : List ℕ) : Type 0 wher
 pub data AreColumns (row : List (List ℕ)) : List FieldPlan → List ℕ → Type 0 where
   no_field : AreColumns row [] []
   one_more : (f : FieldPlan) (fields : List FieldPlan) (place : ℕ) (places : List ℕ)
-      → IsColumn row f.header place
+      → HasColumn row f.header place
       → AreColumns row fields places
       → AreColumns row (f ∷ fields) (place ∷ places)
 
@@ -41,7 +41,7 @@ pub data FirstHeadFault (row : List (List ℕ)) : ℕ → List FieldPlan → Hea
       → HasTwoColumns row f.header
       → FirstHeadFault row which (f ∷ fields) (head.Twice which)
   later : (which : ℕ) (f : FieldPlan) (fields : List FieldPlan) (place : ℕ) (why : HeadFault)
-      → IsColumn row f.header place
+      → HasColumn row f.header place
       → FirstHeadFault row (which + 1) fields why
       → FirstHeadFault row which (f ∷ fields) why
 

@@ -12,14 +12,14 @@ use Rattle.sym_table.specs.declared.bad.BadCause.{BadCause}
 use Rattle.sym_table.specs.declared.bad.BadCause.TheVariants as cause
 use Rattle.sym_table.specs.declared.chunk.Chunk.{Chunk}
 use Rattle.sym_table.specs.declared.header.Header.{Header}
-use Rattle.sym_table.specs.Fields.{IsValue, BreaksField, read_field}
+use Rattle.sym_table.specs.Fields.{IsFieldValue, IsBadField, read_field}
 
 -- There are no more fields than a script may have, and no enum has more labels.
 pub record KeepsLimits (enums : List EnumPlan) (fields : List FieldPlan) : Type 0 where
   pub few_fields : length fields ≤ max_fields
   pub few_labels : All IsEnum enums
 
--- The header has the column of each field.
+-- The header has one position for each field, and each is below the header's width.
 pub record FitsHeader (fields : List FieldPlan) (header : Header) : Type 0 where
   pub count : length header.places ≡ length fields
   pub places : All (λ place. place < header.columns) header.places
@@ -36,34 +36,34 @@ abbrev pub column : List (List ℕ) → ℕ → List ℕ
 column row place = slice_index_or row place []
 
 -- Each field, from these columns of the row, has its value.
-pub data AreValues (enums : List EnumPlan) (row : List (List ℕ))
+pub data AreFieldValues (enums : List EnumPlan) (row : List (List ℕ))
     : List FieldPlan → List ℕ → List Value → Type 0 where
-  no_field : AreValues enums row [] [] []
+  no_field : AreFieldValues enums row [] [] []
   one_more : (field : FieldPlan) (fields : List FieldPlan) (place : ℕ) (places : List ℕ)
       (v : Value) (vs : List Value)
-      → IsValue enums field (column row place) v
-      → AreValues enums row fields places vs
-      → AreValues enums row (field ∷ fields) (place ∷ places) (v ∷ vs)
+      → IsFieldValue enums field (column row place) v
+      → AreFieldValues enums row fields places vs
+      → AreFieldValues enums row (field ∷ fields) (place ∷ places) (v ∷ vs)
 
 -- A field breaks a rule, and those before it have their values. The fields are numbered from
 -- `which` on.
-pub data FirstBroken (enums : List EnumPlan) (row : List (List ℕ))
+pub data FirstBadField (enums : List EnumPlan) (row : List (List ℕ))
     : ℕ → List FieldPlan → List ℕ → BadCause → Type 0 where
   here : (which : ℕ) (field : FieldPlan) (fields : List FieldPlan) (place : ℕ) (places : List ℕ)
       (why : BadCause)
-      → BreaksField enums which field (column row place) why
-      → FirstBroken enums row which (field ∷ fields) (place ∷ places) why
+      → IsBadField enums which field (column row place) why
+      → FirstBadField enums row which (field ∷ fields) (place ∷ places) why
   later : (which : ℕ) (field : FieldPlan) (fields : List FieldPlan) (place : ℕ) (places : List ℕ)
       (v : Value) (why : BadCause)
-      → IsValue enums field (column row place) v
-      → FirstBroken enums row (which + 1) fields places why
-      → FirstBroken enums row which (field ∷ fields) (place ∷ places) why
+      → IsFieldValue enums field (column row place) v
+      → FirstBadField enums row (which + 1) fields places why
+      → FirstBadField enums row which (field ∷ fields) (place ∷ places) why
 
 -- The row has a column for each of the header, and these are the values of the fields in it.
 pub record HasValues (enums : List EnumPlan) (fields : List FieldPlan) (header : Header)
     (row : List (List ℕ)) (values : List Value) : Type 0 where
   pub width_is : length row ≡ header.columns
-  pub have : AreValues enums row fields header.places values
+  pub have : AreFieldValues enums row fields header.places values
 
 -- The first rule that the row breaks: its width, and then the fields' own in their order.
 pub data BreaksRow (enums : List EnumPlan) (fields : List FieldPlan) (header : Header)
@@ -72,7 +72,7 @@ pub data BreaksRow (enums : List EnumPlan) (fields : List FieldPlan) (header : H
       → BreaksRow enums fields header row (cause.Fields (length row))
   in_field : (why : BadCause)
       → length row ≡ header.columns
-      → FirstBroken enums row 0 fields header.places why
+      → FirstBadField enums row 0 fields header.places why
       → BreaksRow enums fields header row why
 
 -- The values of the fields, which are numbered from `which` on, or the first broken rule.
