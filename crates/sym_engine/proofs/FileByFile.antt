@@ -14,7 +14,9 @@ use Rattle.sym_table.specs.Reading.{Row}
 use Rattle.sym_table.proofs.RowCounts.{rows_few}
 use Rattle.sym_engine.specs.declared.error.PassErr.{PassErr}
 use Rattle.sym_engine.specs.declared.error.PassErr.TheVariants as pass_err
-use Rattle.sym_engine.specs.FileRecords.{AreRecords, IsFine, HasProblem, row_records}
+use Rattle.sym_table.specs.RowRecords.{HaveRecords}
+use Rattle.sym_table.specs.RowRecords as have
+use Rattle.sym_engine.specs.FileRecords.{IsFine, HasProblem, row_records}
 use Rattle.sym_engine.specs.FileRecords as files
 use Rattle.sym_engine.specs.FirstProblems.{AllFine, FirstProblem}
 use Rattle.sym_engine.specs.FirstProblems as problems
@@ -125,9 +127,9 @@ file_problem p max file first bytes why size e =
     rw e at (in_size p max file first bytes (file_rows bytes) size refl)
 
 -- ---- a file has no more records than bytes
-records_count : (p : ScriptPlan) (header : Header) (n : ℕ) (rows : List Row) (records : List Record) → AreRecords p header n rows records → length records ≡ length rows
-records_count p header _ _ _ (files.no_row n) = refl
-records_count p header _ _ _ (files.one_more n row rows values records has are) =
+records_count : (p : ScriptPlan) (header : Header) (n : ℕ) (rows : List Row) (records : List Record) → HaveRecords p header n rows records → length records ≡ length rows
+records_count p header _ _ _ (have.no_row n) = refl
+records_count p header _ _ _ (have.one_more n row rows values records has are) =
     let more = records_count p header (n + 1) rows records are in omega (arith, more)
 
 pub fine_few : (p : ScriptPlan) (max first : ℕ) (bytes : List ℕ) (records : List Record) → IsFine p max first bytes records → length records ≤ length bytes

@@ -12,16 +12,18 @@ use Rattle.sym_table.specs.Headers.{FirstHeadFault}
 use Rattle.sym_table.specs.Reading.{Row}
 use Rattle.sym_engine.specs.declared.error.PassErr.{PassErr}
 use Rattle.sym_engine.specs.declared.error.PassErr.TheVariants as pass_err
-use Rattle.sym_engine.specs.FileRecords.{IsHeader, AreRecords, FirstBad, IsFine, HasProblem, or_else, records_from, header_of, row_records, file_records}
+use Rattle.sym_table.specs.RowRecords.{HaveRecords, FirstBadRow, records_or_bad}
+use Rattle.sym_engine.specs.FileRecords.{IsHeader, IsFine, HasProblem, or_else, header_of, row_records, file_records}
 use Rattle.sym_engine.specs.FileRecords as files
 use Rattle.sym_engine.specs.FirstProblems.{AllFine, FirstProblem, records_in}
 use Rattle.sym_engine.specs.FirstProblems as problems
-use Rattle.sym_engine.proofs.RowsAgree.{records_hold, records_answered, bad_answered, header_holds, header_answered, head_answered, places_count}
+use Rattle.sym_table.proofs.RecordsAgree.{records_hold, records_answered, bad_answered}
+use Rattle.sym_engine.proofs.RowsAgree.{header_holds, header_answered, head_answered, places_count}
 
 -- ---- one file
 in_rows : (p : ScriptPlan) (max file first : ℕ) (bytes : List ℕ) (row : Row) (rows : List Row) (header : Header) (r : Result (List Record) Bad)
     → length bytes ≤ max → file_rows bytes ≡ row ∷ rows → IsHeader p row header
-    → MatchResult r (AreRecords p header first rows) (FirstBad p header first rows)
+    → MatchResult r (HaveRecords p header first rows) (FirstBadRow p header first rows)
     → MatchResult (or_else (pass_err.Bad file) r) (IsFine p max first bytes) (HasProblem p max file first bytes)
 in_rows p max file first bytes row rows header (Ok records) size e is are = files.filled row rows header records size e is are
 in_rows p max file first bytes row rows header (Err bad) size e is broken = files.bad_row row rows header bad size e is broken
@@ -29,9 +31,9 @@ in_rows p max file first bytes row rows header (Err bad) size e is broken = file
 in_header : (p : ScriptPlan) (max file first : ℕ) (bytes : List ℕ) (row : Row) (rows : List Row) (r : Result Header HeadFault)
     → length bytes ≤ max → file_rows bytes ≡ row ∷ rows
     → MatchResult r (IsHeader p row) (FirstHeadFault row 0 p.fields)
-    → MatchResult (and_then (λ header. or_else (pass_err.Bad file) (records_from p header first rows)) (or_else (pass_err.Head file) r)) (IsFine p max first bytes) (HasProblem p max file first bytes)
+    → MatchResult (and_then (λ header. or_else (pass_err.Bad file) (records_or_bad p header first rows)) (or_else (pass_err.Head file) r)) (IsFine p max first bytes) (HasProblem p max file first bytes)
 in_header p max file first bytes row rows (Ok header) size e is =
-    in_rows p max file first bytes row rows header (records_from p header first rows) size e is
+    in_rows p max file first bytes row rows header (records_or_bad p header first rows) size e is
     (records_hold p header first rows (places_count row p.fields header.places is.have))
 in_header p max file first bytes row rows (Err fault) size e is = files.bad_head row rows fault size e is
 

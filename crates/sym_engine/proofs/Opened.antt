@@ -11,7 +11,8 @@ use Rattle.sym_table.specs.Headers.{columns_of}
 use Rattle.sym_table.specs.Reading.{Row}
 use Rattle.sym_table.specs.Rows.{FitsHeader}
 use Rattle.sym_engine.specs.declared.error.PassErr.TheVariants as pass_err
-use Rattle.sym_engine.specs.FileRecords.{or_else, header_of, records_from, row_records}
+use Rattle.sym_table.specs.RowRecords.{records_or_bad}
+use Rattle.sym_engine.specs.FileRecords.{or_else, header_of, row_records}
 use Rattle.sym_engine.specs.Folding.{IsOpened}
 
 header_is : (p : ScriptPlan) (row : Row) (header : Header) → columns_of row 0 p.fields ≡ Ok header.places → header.columns ≡ length row
@@ -22,9 +23,9 @@ header_fault : (p : ScriptPlan) (row : Row) (why : HeadFault) → columns_of row
 header_fault p row why e = rw e refl
 
 by_header : (p : ScriptPlan) (file first : ℕ) (row : Row) (rows : List Row) (r : Result Header HeadFault) → header_of p row ≡ r
-    → row_records p file first (row ∷ rows) ≡ and_then (λ header. or_else (pass_err.Bad file) (records_from p header first rows)) (or_else (pass_err.Head file) r)
+    → row_records p file first (row ∷ rows) ≡ and_then (λ header. or_else (pass_err.Bad file) (records_or_bad p header first rows)) (or_else (pass_err.Head file) r)
 by_header p file first row rows r e =
-    ap (λ found. and_then (λ header. or_else (pass_err.Bad file) (records_from p header first rows)) (or_else (pass_err.Head file) found)) e
+    ap (λ found. and_then (λ header. or_else (pass_err.Bad file) (records_or_bad p header first rows)) (or_else (pass_err.Head file) found)) e
 
 pub opened : (p : ScriptPlan) (file first : ℕ) (rows : List Row) (c : Cutting)
     → Opens p.fields rows (Ok c) → c.next_no ≡ first → FitsHeader p.fields c.header → IsOpened p file first rows c

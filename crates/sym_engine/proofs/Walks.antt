@@ -17,7 +17,8 @@ use Rattle.sym_table.specs.Reading.{Row}
 use Rattle.sym_table.specs.Rows.{read_row}
 use Rattle.sym_engine.specs.declared.error.PassErr.{PassErr}
 use Rattle.sym_engine.specs.declared.error.PassErr.TheVariants as pass_err
-use Rattle.sym_engine.specs.FileRecords.{or_else, record_of, records_from}
+use Rattle.sym_table.specs.RowRecords.{record_or_bad, records_or_bad}
+use Rattle.sym_engine.specs.FileRecords.{or_else}
 use Rattle.sym_engine.specs.Folding.{Extends, Pairs, IsOpened, IsRowFolded, FoldsRow, AreFolded, FoldsRows, IsFolded, Folds, OpensFile}
 
 -- The records of some rows, after those that were folded.
@@ -30,7 +31,7 @@ pub record IsWalk (p : ScriptPlan) (header : Header) (first : ℕ) (rows : List 
   pub done : List Record
   pub has : c.left ≡ Some left
   pub next : c.next_no ≡ first + length done
-  pub reads : records_from p header first rows ≡ after done (records_from p header c.next_no left)
+  pub reads : records_or_bad p header first rows ≡ after done (records_or_bad p header c.next_no left)
   pub stands : Extends p old now done
 
 after_none : (r : Result (List Record) Bad) → r ≡ after [] r
@@ -44,7 +45,7 @@ walk_begins p header rows groups c has = record {
   done = [];
   has = has;
   next = omega arith;
-  reads = after_none (records_from p header c.next_no rows);
+  reads = after_none (records_or_bad p header c.next_no rows);
   stands = λ before e. e ∙ ap (pass p) (sym (append-nil before));
 }
 
@@ -52,23 +53,23 @@ some_rows : (a b : List Row) → ◌≡◌ {A = Option (List Row)} (Some a) (Som
 some_rows a b e = cc
 
 -- What a row was decoded to.
-record_is : (n : ℕ) (read : Result (List Value) BadCause) (rec : Record) → numbered n read ≡ decoded.Is rec → record_of n read ≡ Ok rec
+record_is : (n : ℕ) (read : Result (List Value) BadCause) (rec : Record) → numbered n read ≡ decoded.Is rec → record_or_bad n read ≡ Ok rec
 record_is n (Ok values) rec e =
     let same : record { no = n; fields = values } ≡ rec = cc in ap Ok same
 record_is n (Err why) rec e = absurd (cc)
 
-bad_is : (n : ℕ) (read : Result (List Value) BadCause) (bad : Bad) → numbered n read ≡ decoded.Bad bad → record_of n read ≡ Err bad
+bad_is : (n : ℕ) (read : Result (List Value) BadCause) (bad : Bad) → numbered n read ≡ decoded.Bad bad → record_or_bad n read ≡ Err bad
 bad_is n (Ok values) bad e = absurd (cc)
 bad_is n (Err why) bad e =
     let same : record { no = n; cause = why } ≡ bad = cc in ap Err same
 
 pub row_folded : (p : ScriptPlan) (row : Row) (n m : ℕ) (h header : Header) (found : Option Bad) (rec : Record) (old new : Pairs)
     → n ≡ m → h ≡ header → found ≡ None → Fills found rec (numbered n (read_row p.enums p.fields h row)) → Extends p old new (rec ∷ [])
-    → IsRowFolded p (record_of m (read_row p.enums p.fields header row)) old new
+    → IsRowFolded p (record_or_bad m (read_row p.enums p.fields header row)) old new
 row_folded p row n m h header found rec old new same at none fills stands =
     let F : Option Bad → Type 0 = λ o. Fills o rec (numbered n (read_row p.enums p.fields h row)) in
-    let P : ℕ → Type 0 = λ k. record_of k (read_row p.enums p.fields h row) ≡ Ok rec in
-    let Q : Header → Type 0 = λ k. record_of m (read_row p.enums p.fields k row) ≡ Ok rec in
+    let P : ℕ → Type 0 = λ k. record_or_bad k (read_row p.enums p.fields h row) ≡ Ok rec in
+    let Q : Header → Type 0 = λ k. record_or_bad m (read_row p.enums p.fields k row) ≡ Ok rec in
     record {
       rec = rec;
       is = subst Q at (subst P same (record_is n (read_row p.enums p.fields h row) rec (subst F none fills)));
@@ -77,11 +78,11 @@ row_folded p row n m h header found rec old new same at none fills stands =
 
 pub row_bad : (p : ScriptPlan) (row : Row) (n m : ℕ) (h header : Header) (found : Option Bad) (rec : Record) (bad : Bad)
     → n ≡ m → h ≡ header → found ≡ Some bad → Fills found rec (numbered n (read_row p.enums p.fields h row))
-    → record_of m (read_row p.enums p.fields header row) ≡ Err bad
+    → record_or_bad m (read_row p.enums p.fields header row) ≡ Err bad
 row_bad p row n m h header found rec bad same at some fills =
     let F : Option Bad → Type 0 = λ o. Fills o rec (numbered n (read_row p.enums p.fields h row)) in
-    let P : ℕ → Type 0 = λ k. record_of k (read_row p.enums p.fields h row) ≡ Err bad in
-    let Q : Header → Type 0 = λ k. record_of m (read_row p.enums p.fields k row) ≡ Err bad in
+    let P : ℕ → Type 0 = λ k. record_or_bad k (read_row p.enums p.fields h row) ≡ Err bad in
+    let Q : Header → Type 0 = λ k. record_or_bad m (read_row p.enums p.fields k row) ≡ Err bad in
     subst Q at (subst P same (bad_is n (read_row p.enums p.fields h row) bad (subst F some fills)))
 
 after_more : (done : List Record) (rec : Record) (r : Result (List Record) Bad)
@@ -91,10 +92,10 @@ after_more done rec (Err bad) = refl
 
 -- The next row, by the record that it is.
 next_row : (p : ScriptPlan) (header : Header) (n : ℕ) (row : Row) (rows : List Row) (r : Result Record Bad)
-    → record_of n (read_row p.enums p.fields header row) ≡ r
-    → records_from p header n (row ∷ rows) ≡ and_then (λ rec. and_then (λ others. Ok (rec ∷ others)) (records_from p header (n + 1) rows)) r
+    → record_or_bad n (read_row p.enums p.fields header row) ≡ r
+    → records_or_bad p header n (row ∷ rows) ≡ and_then (λ rec. and_then (λ others. Ok (rec ∷ others)) (records_or_bad p header (n + 1) rows)) r
 next_row p header n row rows r e =
-    ap (λ found. and_then (λ rec. and_then (λ others. Ok (rec ∷ others)) (records_from p header (n + 1) rows)) found) e
+    ap (λ found. and_then (λ rec. and_then (λ others. Ok (rec ∷ others)) (records_or_bad p header (n + 1) rows)) found) e
 
 -- The row that was taken, and its number.
 record IsTaken (c d : Cutting) (row : Row) (left : List Row) : Type 0 where
@@ -115,15 +116,15 @@ taken c d row left has took = record {
 
 -- What is read from this row on.
 from_row : (p : ScriptPlan) (header : Header) (c d : Cutting) (row : Row) (left : List Row) (r : Result Record Bad) → (t : IsTaken c d row left)
-    → record_of (d.next_no - 1) (read_row p.enums p.fields header row) ≡ r
-    → records_from p header c.next_no left ≡ and_then (λ rec. and_then (λ others. Ok (rec ∷ others)) (records_from p header (c.next_no + 1) t.rest)) r
+    → record_or_bad (d.next_no - 1) (read_row p.enums p.fields header row) ≡ r
+    → records_or_bad p header c.next_no left ≡ and_then (λ rec. and_then (λ others. Ok (rec ∷ others)) (records_or_bad p header (c.next_no + 1) t.rest)) r
 from_row p header c d row left r t e =
-    let P : ℕ → Type 0 = λ k. record_of k (read_row p.enums p.fields header row) ≡ r in
-    ap (records_from p header c.next_no) t.left_is ∙ next_row p header c.next_no row t.rest r (subst P t.number e)
+    let P : ℕ → Type 0 = λ k. record_or_bad k (read_row p.enums p.fields header row) ≡ r in
+    ap (records_or_bad p header c.next_no) t.left_is ∙ next_row p header c.next_no row t.rest r (subst P t.number e)
 
 pub walk_on : (p : ScriptPlan) (header : Header) (first : ℕ) (rows : List Row) (old now new : Pairs) (c d : Cutting) (row : Row)
     → IsWalk p header first rows old now c → Takes c d row (Ok true)
-    → IsRowFolded p (record_of (d.next_no - 1) (read_row p.enums p.fields header row)) now new
+    → IsRowFolded p (record_or_bad (d.next_no - 1) (read_row p.enums p.fields header row)) now new
     → IsWalk p header first rows old new d
 walk_on p header first rows old now new c d row w took folded =
     let t = taken c d row w.left w.has took in
@@ -136,24 +137,24 @@ walk_on p header first rows old now new c d row w took folded =
       reads =
           w.reads
           ∙ ap (after w.done) (from_row p header c d row w.left (Ok rec) t folded.is)
-          ∙ after_more w.done rec (records_from p header (c.next_no + 1) t.rest)
-          ∙ ap (λ n. after (w.done ++ rec ∷ []) (records_from p header n t.rest)) (sym t.next);
+          ∙ after_more w.done rec (records_or_bad p header (c.next_no + 1) t.rest)
+          ∙ ap (λ n. after (w.done ++ rec ∷ []) (records_or_bad p header n t.rest)) (sym t.next);
       stands = λ before e.
           folded.stands (before ++ w.done) (w.stands before e) ∙ ap (pass p) (append_assoc before w.done (rec ∷ []));
     }
 
 walk_bad : (p : ScriptPlan) (header : Header) (first : ℕ) (rows : List Row) (old now : Pairs) (c d : Cutting) (row : Row) (bad : Bad)
     → IsWalk p header first rows old now c → Takes c d row (Ok true)
-    → record_of (d.next_no - 1) (read_row p.enums p.fields header row) ≡ Err bad
-    → records_from p header first rows ≡ Err bad
+    → record_or_bad (d.next_no - 1) (read_row p.enums p.fields header row) ≡ Err bad
+    → records_or_bad p header first rows ≡ Err bad
 walk_bad p header first rows old now c d row bad w took e =
     let t = taken c d row w.left w.has took in
     w.reads ∙ ap (after w.done) (from_row p header c d row w.left (Err bad) t e)
 
 pub walk_stops : (p : ScriptPlan) (header : Header) (first file next : ℕ) (rows : List Row) (old now : Pairs) (c d : Cutting) (row : Row) (why : PassErr)
     → IsWalk p header first rows old now c → Takes c d row (Ok true)
-    → FoldsRow p file (record_of (d.next_no - 1) (read_row p.enums p.fields header row)) now (Err why)
-    → FoldsRows p file (records_from p header first rows) first next old (Err why)
+    → FoldsRow p file (record_or_bad (d.next_no - 1) (read_row p.enums p.fields header row)) now (Err why)
+    → FoldsRows p file (records_or_bad p header first rows) first next old (Err why)
 walk_stops p header first file next rows old now c d row (pass_err.Read n) w took stops = stops
 walk_stops p header first file next rows old now c d row (pass_err.TooLarge n) w took stops = stops
 walk_stops p header first file next rows old now c d row (pass_err.Head n fault) w took stops = stops
@@ -163,38 +164,38 @@ walk_stops p header first file next rows old now c d row pass_err.NoMemory w too
 
 pub walk_ends : (p : ScriptPlan) (header : Header) (first : ℕ) (rows : List Row) (old now : Pairs) (c d : Cutting) (row : Row)
     → IsWalk p header first rows old now c → Takes c d row (Ok false)
-    → AreFolded p (records_from p header first rows) first d.next_no old now
+    → AreFolded p (records_or_bad p header first rows) first d.next_no old now
 walk_ends p header first rows old now c d row w took =
     let none : w.left ≡ [] = some_rows w.left [] (sym w.has ∙ took.0) in
     record {
       records = w.done;
-      are = w.reads ∙ ap (λ left. after w.done (records_from p header c.next_no left)) none ∙ ap Ok (append-nil w.done);
+      are = w.reads ∙ ap (λ left. after w.done (records_or_bad p header c.next_no left)) none ∙ ap Ok (append-nil w.done);
       next_is = took.2 ∙ w.next;
       stands = w.stands;
     }
 
 -- ---- the whole file
 pub file_folded : (p : ScriptPlan) (file first next last : ℕ) (rows : List Row) (c : Cutting) (old new : Pairs) → last ≡ next
-    → (is : IsOpened p file first rows c) → AreFolded p (records_from p c.header c.next_no is.left) c.next_no next old new → IsFolded p file first last rows old new
+    → (is : IsOpened p file first rows c) → AreFolded p (records_or_bad p c.header c.next_no is.left) c.next_no next old new → IsFolded p file first last rows old new
 file_folded p file first next last rows c old new same is are = record {
   records = are.records;
   are =
       is.reads
-      ∙ ap (λ n. or_else (pass_err.Bad file) (records_from p c.header n is.left)) (sym is.next)
+      ∙ ap (λ n. or_else (pass_err.Bad file) (records_or_bad p c.header n is.left)) (sym is.next)
       ∙ ap (or_else (pass_err.Bad file)) are.are;
   next_is = omega (arith, same, are.next_is, is.next);
   stands = are.stands;
 }
 
 pub file_stops : (p : ScriptPlan) (file first next later : ℕ) (rows : List Row) (c : Cutting) (old : Pairs) (why : PassErr)
-    → (is : IsOpened p file first rows c) → FoldsRows p file (records_from p c.header c.next_no is.left) c.next_no next old (Err why)
+    → (is : IsOpened p file first rows c) → FoldsRows p file (records_or_bad p c.header c.next_no is.left) c.next_no next old (Err why)
     → Folds p file first later rows old (Err why)
 file_stops p file first next later rows c old (pass_err.Read n) is stops = stops
 file_stops p file first next later rows c old (pass_err.TooLarge n) is stops = stops
 file_stops p file first next later rows c old (pass_err.Head n fault) is stops = absurd stops
 file_stops p file first next later rows c old (pass_err.Bad n bad) is stops =
     is.reads
-    ∙ ap (λ n. or_else (pass_err.Bad file) (records_from p c.header n is.left)) (sym is.next)
+    ∙ ap (λ n. or_else (pass_err.Bad file) (records_or_bad p c.header n is.left)) (sym is.next)
     ∙ ap (or_else (pass_err.Bad file)) stops.1
     ∙ ap (λ m. Err (pass_err.Bad m bad)) (sym stops.0)
 file_stops p file first next later rows c old pass_err.NoMemory is stops = tt

@@ -12,7 +12,8 @@ use Rattle.sym_table.specs.Reading.{Row}
 use Rattle.sym_table.specs.Rows.{FitsHeader}
 use Rattle.sym_engine.specs.declared.error.PassErr.{PassErr}
 use Rattle.sym_engine.specs.declared.error.PassErr.TheVariants as pass_err
-use Rattle.sym_engine.specs.FileRecords.{or_else, records_from, row_records}
+use Rattle.sym_table.specs.RowRecords.{records_or_bad}
+use Rattle.sym_engine.specs.FileRecords.{or_else, row_records}
 
 abbrev pub Pairs : Type 0
 Pairs = List (Key × Outcome)
@@ -29,7 +30,7 @@ pub record IsOpened (p : ScriptPlan) (file first : ℕ) (rows : List Row) (c : C
   pub next : c.next_no ≡ first
   pub fits : FitsHeader p.fields c.header
   pub reads : row_records p file first rows
-      ≡ or_else (pass_err.Bad file) (records_from p c.header first left)
+      ≡ or_else (pass_err.Bad file) (records_or_bad p c.header first left)
 
 -- The file is opened, or its header has a fault.
 abbrev pub OpensFile : ScriptPlan → ℕ → ℕ → List Row → Result Cutting PassErr → Type 0

@@ -2,7 +2,7 @@
 ghost use Rattle.std.specs.Prelude.{◌≡◌, ◌≤◌, ◌-◌, ◌^◌, List, Some, length};
 ghost use Rattle.sym_base.specs.declared.limits.TheConstants as limit;
 ghost use Rattle.sym_check.specs.CheckedScripts.{checked_plan};
-ghost use Rattle.sym_engine.specs.FileRecords.{record_of, records_from};
+ghost use Rattle.sym_table.specs.RowRecords.{record_or_bad, records_or_bad};
 ghost use Rattle.sym_engine.specs.Folding.{Folds, FoldsRow, FoldsRows, OpensFile, left_as};
 ghost use Rattle.sym_table.specs.FileRows.{file_rows};
 ghost use Rattle.sym_table.specs.Reading.{Row as OneRow};
@@ -66,7 +66,7 @@ fn fold_row(
     requires fits { FitsHeader (checked_plan checked.now).fields cutter.now.header }
     ensures { let p = checked_plan checked.now in
         let read = read_row p.enums p.fields cutter.now.header row.now in
-        let found = record_of (cutter.now.next_no - 1) read in
+        let found = record_or_bad (cutter.now.next_no - 1) read in
         FoldsRow p file found groups.old (left_as groups.new result) }
 {
     let no = cutter.next_no() - 1;
@@ -89,7 +89,7 @@ fn fold_rows(
     ensures { (left : List OneRow) → cutter.old.left ≡ Some left →
         let p = checked_plan checked.now in
         let first = cutter.old.next_no in
-        let read = records_from p cutter.old.header first left in
+        let read = records_or_bad p cutter.old.header first left in
         FoldsRows p file read first cutter.new.next_no groups result }
 {
     let mut groups = groups;

@@ -16,7 +16,7 @@ use Rattle.sym_table.specs.declared.header.Header.{Header}
 use Rattle.sym_table.specs.Decoding.{Fills, numbered}
 use Rattle.sym_table.specs.Fields.{IsFieldValue}
 use Rattle.sym_table.specs.Fields as fields
-use Rattle.sym_table.specs.Rows.{AreFieldValues, column, read_row}
+use Rattle.sym_table.specs.Rows.{AreFieldValues, HasValues, column, read_row}
 use Rattle.sym_table.specs.Rows as rows
 use Rattle.sym_table.proofs.RowsAgree.{row_values}
 
@@ -49,6 +49,12 @@ values_are_of_kinds enums row _ _ _ all (rows.one_more f fs place places v vs is
   value_is_of_kind enums f (column row place) v (all 0 f (omega arith)) is,
   values_are_of_kinds enums row fs places vs (λ i d lt. all (suc i) d (omega arith)) are,
 )
+
+-- The values of a row are those of a record of the script.
+pub row_is_record : (p : ScriptPlan) (header : Header) (row : List (List ℕ)) (n : ℕ) (values : List Value) → IsWellFormed p
+    → HasValues p.enums p.fields header row values → IsRecord p (record { no = n; fields = values })
+row_is_record p header row n values formed has =
+    values_are_of_kinds p.enums row p.fields header.places values formed.fields has.have
 
 record_fits : (p : ScriptPlan) (header : Header) (row : List (List ℕ)) (n : ℕ) (rec : Record) (r : Result (List Value) BadCause)
     → IsWellFormed p → length header.places ≡ length p.fields

@@ -13,5 +13,6 @@ pub mod FieldsAgree
 pub mod RowsAgree
 pub mod HeadersAgree
 pub mod FieldKinds
+pub mod RecordsAgree
 pub mod RowCounts
 pub mod NumbersAscii

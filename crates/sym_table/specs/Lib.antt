@@ -1,6 +1,7 @@
 pub mod Texts
 pub mod Fields
 pub mod Rows
+pub mod RowRecords
 pub mod Decoding
 pub mod FileRows
 pub mod Headers

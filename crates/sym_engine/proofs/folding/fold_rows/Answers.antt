@@ -3,7 +3,7 @@ use Rattle.sym_check.specs.CheckedScripts.{checked_plan}
 use Rattle.sym_table.specs.declared.header.Header.{Header}
 use Rattle.sym_table.specs.Rows.{FitsHeader, read_row}
 use Rattle.sym_engine.specs.declared.error.PassErr.{PassErr}
-use Rattle.sym_engine.specs.FileRecords.{record_of, records_from}
+use Rattle.sym_table.specs.RowRecords.{record_or_bad, records_or_bad}
 use Rattle.sym_engine.specs.Folding.{Pairs, FoldsRow, FoldsRows, IsRowFolded}
 use Rattle.sym_engine.proofs.Walks.{walk_begins, walk_on, walk_stops, walk_ends, took_as, fewer, numbered_on, fails_as}
 use Rattle.sym_engine.proofs.folding.fold_rows.Goals as goal
@@ -23,7 +23,7 @@ rows-preserved c =
     let row = c.next_row.new.row in
     let took = took_as c.rows.cutter cut row c.in_ok-next_row.field-0 true c.if-branch.true c.in_ok-next_row.ensures.takes in
     let header = c.in_ok-next_row.ensures.header ∙ c.rows.invariant.header in
-    let F : Header → Type 0 = λ h. IsRowFolded p (record_of (cut.next_no - 1) (read_row p.enums p.fields h row)) c.rows.groups c.fold_row.new.groups in
+    let F : Header → Type 0 = λ h. IsRowFolded p (record_or_bad (cut.next_no - 1) (read_row p.enums p.fields h row)) c.rows.groups c.fold_row.new.groups in
     record {
       header = header;
       walk = λ left has.
@@ -63,8 +63,8 @@ returns-in_err-fold_row c =
     let took = took_as c.rows.cutter cut row c.in_ok-next_row.field-0 true c.if-branch.true c.in_ok-next_row.ensures.takes in
     let header = c.in_ok-next_row.ensures.header ∙ c.rows.invariant.header in
     let why = c.in_err-fold_row.field-0.0 in
-    let F : Header → Type 0 = λ h. FoldsRow p c.args.file (record_of (cut.next_no - 1) (read_row p.enums p.fields h row)) c.rows.groups (Err why) in
+    let F : Header → Type 0 = λ h. FoldsRow p c.args.file (record_or_bad (cut.next_no - 1) (read_row p.enums p.fields h row)) c.rows.groups (Err why) in
     λ left has.
-    let P : Result Pairs PassErr → Type 0 = λ r. FoldsRows p c.args.file (records_from p old.header old.next_no left) old.next_no cut.next_no c.args.groups r in
+    let P : Result Pairs PassErr → Type 0 = λ r. FoldsRows p c.args.file (records_or_bad p old.header old.next_no left) old.next_no cut.next_no c.args.groups r in
     fails_as c.from_residual-in_err-fold_row.result why P c.from_residual-in_err-fold_row.ensures.1
     (walk_stops p old.header old.next_no c.args.file cut.next_no left c.args.groups c.rows.groups c.rows.cutter cut row why (c.rows.invariant.walk left has) took (subst F header c.in_err-fold_row.ensures))
