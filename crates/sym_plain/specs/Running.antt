@@ -40,9 +40,9 @@ IsAssignment (PushWord c w) = Unit {0}
 IsAssignment (If c a b) = ⊥
 
 -- The fault that statements mean, or the state after them.
-abbrev pub Ends : Option FaultKind → State → Result State FaultKind → Type 0
-Ends None s meaning = meaning ≡ Ok s
-Ends (Some kind) s meaning = meaning ≡ Err kind
+abbrev pub ComesTo : Option FaultKind → State → Result State FaultKind → Type 0
+ComesTo None s meaning = meaning ≡ Ok s
+ComesTo (Some kind) s meaning = meaning ≡ Err kind
 
 -- What `keep` with these values makes of a cell.
 abbrev pub kept_cell : Environment → List FixedPlan → Result Cell FaultKind

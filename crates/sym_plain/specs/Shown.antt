@@ -38,16 +38,16 @@ wide_column None = Bad fault.Overflow
 wide_column (Some x) = Num x
 
 -- A quotient or a remainder by y.
-abbrev pub divided : ℤ → ℤ → Column
-divided y x = if int_eq y (pos 0) then Bad fault.Zero else wide x
+abbrev pub quotient_column : ℤ → ℤ → Column
+quotient_column y x = if int_eq y (pos 0) then Bad fault.Zero else wide x
 
 -- A quotient is rounded towards zero, a remainder has the sign of the left operand.
-abbrev pub calculated : ArithOp → ℤ → ℤ → Column
-calculated op.Add x y = wide (x +ℤ y)
-calculated op.Sub x y = wide (x -ℤ y)
-calculated op.Mul x y = wide (x *ℤ y)
-calculated op.Div x y = divided y (int_div x y)
-calculated op.Rem x y = divided y (int_rem x y)
+abbrev pub result_column : ArithOp → ℤ → ℤ → Column
+result_column op.Add x y = wide (x +ℤ y)
+result_column op.Sub x y = wide (x -ℤ y)
+result_column op.Mul x y = wide (x *ℤ y)
+result_column op.Div x y = quotient_column y (int_div x y)
+result_column op.Rem x y = quotient_column y (int_rem x y)
 
 -- What a function of numbers gives for a column: what is bad stays so, and all else gives nothing.
 abbrev pub on_number : (ℤ → Column) → Column → Column
@@ -63,7 +63,7 @@ no_number x = Nothing
 
 -- An operand that is bad is the result, the left one first; else one that is nothing.
 abbrev pub operated : ArithOp → Column → Column → Column
-operated o (Num x) right = on_number (calculated o x) right
+operated o (Num x) right = on_number (result_column o x) right
 operated o (Word t) right = on_number no_number right
 operated o (Nums xs) right = on_number no_number right
 operated o (Words ts) right = on_number no_number right
@@ -164,18 +164,18 @@ call_column f (Some (cell.Nums xs)) = of_nums f xs
 call_column f (Some (cell.Words ts)) = of_words f ts
 
 -- What an expression shows of a state. The parts of a hold cell are counted from 1.
-abbrev pub shown : ScriptPlan → State → ShowPlan → Column
-shown p s (show.Num n) = Num n
-shown p s (show.Text t) = Word t
-shown p s (show.Cell c) =
+abbrev pub show_column : ScriptPlan → State → ShowPlan → Column
+show_column p s (show.Num n) = Num n
+show_column p s (show.Text t) = Word t
+show_column p s (show.Cell c) =
     cell_column (cell_labels p.enums (slice_get p.cells c)) (slice_get s.cells c)
-shown p s (show.Part c part) =
+show_column p s (show.Part c part) =
     let of = part_kind (slice_get p.cells c) (part - 1) in
     value_column (kind_labels p.enums of) (slice_get (parts_at s c) (part - 1))
-shown p s (show.Call f c) = call_column f (slice_get s.cells c)
-shown p s (show.Neg e) = negated (shown p s e)
-shown p s (show.Bin o l r) = operated o (shown p s l) (shown p s r)
+show_column p s (show.Call f c) = call_column f (slice_get s.cells c)
+show_column p s (show.Neg e) = negated (show_column p s e)
+show_column p s (show.Bin o l r) = operated o (show_column p s l) (show_column p s r)
 
 -- The columns of a row, in order.
 abbrev pub columns : ScriptPlan → State → List Column
-columns p s = map (λ (c : ColumnOf). shown p s c.value) p.columns
+columns p s = map (λ (c : ColumnOf). show_column p s c.value) p.columns

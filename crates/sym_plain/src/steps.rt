@@ -6,7 +6,7 @@ ghost use Rattle.sym_check.specs.Conditions.{has_fixed_body};
 ghost use Rattle.sym_check.specs.DoPlans.{dos_plan};
 ghost use Rattle.sym_check.specs.ScriptPlans.{script_plan};
 ghost use Rattle.sym_check.specs.Updates.{environment, dos_step, step};
-ghost use Rattle.sym_plain.specs.Running.{Ends};
+ghost use Rattle.sym_plain.specs.Running.{ComesTo};
 
 use crate::update::buffers::{Buffers, shorten};
 use crate::update::statements::run_all;
@@ -27,7 +27,7 @@ fn update(
     requires { IsTrue (list_all has_fixed_body (script_plan plan.now).tests) }
     ensures { let p = script_plan plan.now in
         IfOk result (λ kind.
-        Ends kind state.new (dos_step p (environment rec.now []) p.update state.old)) }
+        ComesTo kind state.new (dos_step p (environment rec.now []) p.update state.old)) }
 {
     if !buffers.locals.is_empty() {
         shorten(alloc, &mut buffers.locals, 0);

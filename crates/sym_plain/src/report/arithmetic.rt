@@ -1,6 +1,6 @@
 //! Arithmetic of report expressions, over whole numbers of 128 bits.
 ghost use Rattle.std.specs.Prelude.{◌≡◌, ◌≢◌, pos, neg_ℤ, int_rem};
-ghost use Rattle.sym_plain.specs.Shown.{wide, wide_column, calculated, on_number, operated, negated, no_number};
+ghost use Rattle.sym_plain.specs.Shown.{wide, wide_column, result_column, on_number, operated, negated, no_number};
 
 use sym_base::{Column, ReportFault};
 use sym_check::ArithOp;
@@ -31,8 +31,8 @@ fn remainder(x: i128, y: i128) -> i128
 
 // What the operator gives for two numbers.
 #[tactic(auto, using(crate::proofs::Wide::exact))]
-fn calculated(operator: ArithOp, x: i128, y: i128) -> Column
-    ensures { result ≡ calculated operator x y }
+fn result_column(operator: ArithOp, x: i128, y: i128) -> Column
+    ensures { result ≡ result_column operator x y }
 {
     match operator {
         ArithOp::Add => checked(x.checked_add(y)),
@@ -55,10 +55,10 @@ fn nothing_with(right: &Column) -> Column
 }
 
 fn number_with(operator: ArithOp, left: i128, right: &Column) -> Column
-    ensures { result ≡ on_number (calculated operator left) right.now }
+    ensures { result ≡ on_number (result_column operator left) right.now }
 {
     match right {
-        Column::Num(right) => calculated(operator, left, *right),
+        Column::Num(right) => result_column(operator, left, *right),
         Column::Bad(fault) => Column::Bad(*fault),
         _ => Column::Nothing,
     }

@@ -3,7 +3,7 @@ ghost use Rattle.std.specs.Prelude.{◌≡◌, ◌-◌, [], IfOk, option_copied,
 ghost use Rattle.sym_base.specs.States.{parts_at};
 ghost use Rattle.sym_check.specs.ScriptPlans.{script_plan};
 ghost use Rattle.sym_check.specs.ShowPlans.{show_plan};
-ghost use Rattle.sym_plain.specs.Shown.{cell_labels, kind_labels, part_kind, label_column, value_column, cell_column, call_column, shown, columns};
+ghost use Rattle.sym_plain.specs.Shown.{cell_labels, kind_labels, part_kind, label_column, value_column, cell_column, call_column, show_column, columns};
 
 use crate::report::arithmetic::{negated, operated};
 use crate::report::lists::{of_nums, of_words};
@@ -54,7 +54,11 @@ fn label_column(alloc: Global, labels: &[Text], label: u8) -> Result<Column, NoM
     Ok(Column::Word(text))
 }
 
-fn value_column(alloc: Global, labels: &[Text], value: Option<&Value>) -> Result<Column, NoMemory>
+fn value_column(
+    alloc: Global,
+    labels: &[Text],
+    value: Option<&Value>,
+) -> Result<Column, NoMemory>
     ensures { IfOk result (λ c. c ≡ value_column labels.now (option_copied value.entry)) }
 {
     match value {
@@ -118,9 +122,9 @@ fn show_part(
     )
 }
 
-fn shown(alloc: Global, plan: &Plan, state: &State, show: &Show) -> Result<Column, NoMemory>
+fn show_column(alloc: Global, plan: &Plan, state: &State, show: &Show) -> Result<Column, NoMemory>
     ensures { let p = script_plan plan.now in
-        IfOk result (λ c. c ≡ shown p state.now (show_plan show.now)) }
+        IfOk result (λ c. c ≡ show_column p state.now (show_plan show.now)) }
 {
     match show {
         Show::Num(number) => Ok(Column::Num(*number as i128)),
@@ -131,12 +135,12 @@ fn shown(alloc: Global, plan: &Plan, state: &State, show: &Show) -> Result<Colum
             call_column(alloc, *function, state.cells.get(usize::from(*cell)))
         }
         Show::Neg(operand) => {
-            let operand = shown(alloc, plan, state, operand)?;
+            let operand = show_column(alloc, plan, state, operand)?;
             Ok(negated(&operand))
         }
         Show::Bin(operator, left, right) => {
-            let left = shown(alloc, plan, state, left)?;
-            let right = shown(alloc, plan, state, right)?;
+            let left = show_column(alloc, plan, state, left)?;
+            let right = show_column(alloc, plan, state, right)?;
             Ok(operated(*operator, &left, &right))
         }
     }
@@ -148,7 +152,7 @@ pub(crate) fn shown_columns(alloc: Global, plan: &Plan, state: &State) -> Result
 {
     let mut columns = Vec::with_capacity(alloc, plan.columns.len())?;
     'columns: for column in plan.columns.as_slice() {
-        let column = shown(alloc, plan, state, &column.value)?;
+        let column = show_column(alloc, plan, state, &column.value)?;
         columns.push(column)?;
     }
     Ok(Columns::of(columns))
