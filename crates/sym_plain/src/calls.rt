@@ -8,7 +8,6 @@ ghost use Rattle.sym_check.specs.Updates.{initial, step};
 ghost use Rattle.sym_plain.specs.Pairs.{after_record};
 ghost use Rattle.sym_plain.specs.Shown.{columns};
 
-use crate::folding::{fold_record, fold_record_into};
 use crate::groups::Groups;
 use crate::keys::record_key;
 use crate::report::shown::shown_columns;
@@ -68,11 +67,13 @@ pub fn fold(
         IfOk result (λ g. (records : List OneRecord) →
         groups ≡ pass p records → g ≡ pass p (records ++ rec.now ∷ [])) }
 {
-    fold_record(alloc, checked.plan(), groups, rec)
+    let mut groups = groups;
+    groups.take(alloc, checked.plan(), rec)?;
+    Ok(groups)
 }
 
 /// Makes the groups those after one record more, as `fold` does, where they stand. After an `Err`
-/// they may be any groups.
+/// they are unspecified.
 pub fn fold_into(
     alloc: Global,
     checked: &Checked,
@@ -85,5 +86,5 @@ pub fn fold_into(
         OnOk result ((records : List OneRecord) →
         groups.old ≡ pass p records → groups.new ≡ pass p (records ++ rec.now ∷ [])) }
 {
-    fold_record_into(alloc, checked.plan(), groups, rec)
+    groups.take(alloc, checked.plan(), rec)
 }

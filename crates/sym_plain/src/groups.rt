@@ -1,13 +1,17 @@
 //! How groups stand, in order of their keys' first appearance.
-ghost use Rattle.std.specs.Prelude.{◌≡◌, [], IsTrue, IfOk, OnOk, length, slice_get};
+ghost use Rattle.std.specs.Prelude.{◌≡◌, [], None, IsTrue, IfOk, OnOk, length, slice_get};
 ghost use Rattle.std.specs.List.{list_all};
+ghost use Rattle.std.specs.Map.{lookup};
 ghost use Rattle.std.specs.Map.Iter.{deref_pair};
 ghost use Rattle.std.specs.Option.{option_map};
 ghost use Rattle.sym_check.specs.Conditions.{has_fixed_body};
+ghost use Rattle.sym_check.specs.Groups.{is_key};
 ghost use Rattle.sym_check.specs.ScriptPlans.{script_plan};
-ghost use Rattle.sym_plain.specs.Pairs.{HaveDistinctKeys, after_record, put};
+ghost use Rattle.sym_plain.specs.Pairs.{HaveDistinctKeys, Steps, after_record, put, stepped};
 
-use crate::folding::{set_key, step_group};
+use crate::keys::set_key;
+use crate::states::first_state;
+use crate::steps::advance;
 use crate::update::buffers::Buffers;
 use indexmap::IndexMap;
 use std::alloc::Global;
@@ -24,6 +28,73 @@ fn copy_map(alloc: Global, map: &IndexMap<Key, Outcome>) -> Result<IndexMap<Key,
         drop(copied.insert(key.copy(alloc)?, outcome.copy(alloc)?)?);
     }
     Ok(copied)
+}
+
+// Whether there is a group with this key, which then makes its step.
+fn go_on(
+    alloc: Global,
+    plan: &Plan,
+    map: &mut IndexMap<Key, Outcome>,
+    key: &Key,
+    rec: &Record,
+    buffers: &mut Buffers,
+) -> Result<bool, NoMemory>
+    requires { IsTrue (list_all has_fixed_body (script_plan plan.now).tests) }
+    ensures steps { let p = script_plan plan.now in
+        IfOk result (λ there. Steps p key.now rec.now map.old.entries there map.new.entries) }
+    ensures distinct { HaveDistinctKeys map.new.entries }
+{
+    match map.get_mut(key) {
+        Some(outcome) => {
+            advance(alloc, plan, outcome, rec, buffers)?;
+            Ok(true)
+        }
+        None => Ok(false),
+    }
+}
+
+// A new group makes its first step.
+fn begin(
+    alloc: Global,
+    plan: &Plan,
+    map: &mut IndexMap<Key, Outcome>,
+    key: &Key,
+    rec: &Record,
+    buffers: &mut Buffers,
+) -> Result<(), NoMemory>
+    requires tests { IsTrue (list_all has_fixed_body (script_plan plan.now).tests) }
+    requires new { lookup (is_key key.now) map.old.entries ≡ None }
+    requires distinct { HaveDistinctKeys map.old.entries }
+    ensures steps { let p = script_plan plan.now in
+        OnOk result (map.new.entries ≡ stepped p key.now rec.now map.old.entries) }
+    ensures distinct { HaveDistinctKeys map.new.entries }
+{
+    let key = key.copy(alloc)?;
+    let mut outcome = Outcome::Going(first_state(alloc, plan)?);
+    advance(alloc, plan, &mut outcome, rec, buffers)?;
+    map.insert(key, outcome)?;
+    Ok(())
+}
+
+// Makes the step of the group with this key. After an `Err` the groups are unspecified.
+fn step_group(
+    alloc: Global,
+    plan: &Plan,
+    map: &mut IndexMap<Key, Outcome>,
+    key: &Key,
+    rec: &Record,
+    buffers: &mut Buffers,
+) -> Result<(), NoMemory>
+    requires { IsTrue (list_all has_fixed_body (script_plan plan.now).tests) }
+    ensures steps { let p = script_plan plan.now in
+        OnOk result (map.new.entries ≡ stepped p key.now rec.now map.old.entries) }
+    ensures distinct { HaveDistinctKeys map.new.entries }
+{
+    if go_on(alloc, plan, map, key, rec, buffers)? {
+        Ok(())
+    } else {
+        begin(alloc, plan, map, key, rec, buffers)
+    }
 }
 
 /// Each key with how its group stands. A contract sees a list of pairs with distinct keys.
@@ -106,7 +177,7 @@ impl Groups {
         })
     }
 
-    /// Makes the step of the record's group. After an `Err` the groups may stand anyhow.
+    /// Makes the step of the record's group. After an `Err` the groups are unspecified.
     pub(crate) fn take(&mut self, alloc: Global, plan: &Plan, rec: &Record) -> Result<(), NoMemory>
         requires { IsTrue (list_all has_fixed_body (script_plan plan.now).tests) }
         ensures { OnOk result (self.new ≡ after_record (script_plan plan.now) rec.now self.old) }

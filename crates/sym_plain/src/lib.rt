@@ -3,7 +3,6 @@
 #![tactic(auto)]
 
 mod calls;
-mod folding;
 mod groups;
 mod keys;
 mod report;
@@ -13,6 +12,7 @@ mod update;
 
 pub use calls::{columns, fold, fold_into, initial, key_of, step};
 pub use groups::Groups;
+pub use report::shown::{kind_labels, value_column};
 pub use update::buffers::{Buffers, shorten};
 pub use update::conditions::{fixed_value, set_values};
 pub use update::statements::name_local;

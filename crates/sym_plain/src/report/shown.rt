@@ -20,7 +20,8 @@ fn cell_labels<'a>(plan: &'a Plan, cell: Option<&CellPlan>) -> &'a [Text]
     }
 }
 
-fn kind_labels<'a>(plan: &'a Plan, kind: Option<&KindPlan>) -> &'a [Text]
+/// The names of the labels of a kind; none of any other kind, or of none.
+pub fn kind_labels<'a>(plan: &'a Plan, kind: Option<&KindPlan>) -> &'a [Text]
     ensures { result.now ≡ kind_labels (script_plan plan.now).enums (option_copied kind.entry) }
 {
     match kind {
@@ -54,7 +55,9 @@ fn label_column(alloc: Global, labels: &[Text], label: u8) -> Result<Column, NoM
     Ok(Column::Word(text))
 }
 
-fn value_column(
+/// What a value shows: a label its name, which is the one with its number among these. Nothing where
+/// there is no value.
+pub fn value_column(
     alloc: Global,
     labels: &[Text],
     value: Option<&Value>,

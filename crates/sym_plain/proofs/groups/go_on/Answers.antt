@@ -3,7 +3,7 @@ use Rattle.std.specs.Map.{set_value}
 use Rattle.sym_check.specs.Groups.{is_key}
 use Rattle.sym_check.specs.ScriptPlans.{script_plan}
 use Rattle.sym_plain.proofs.Pairs.{gone_on}
-use Rattle.sym_plain.proofs.folding.go_on.Goals as goal
+use Rattle.sym_plain.proofs.groups.go_on.Goals as goal
 
 pub returns-in_ok-advance-in-Some-clause-steps : goal.returns-in_ok-advance-in-Some-clause-steps
 returns-in_ok-advance-in-Some-clause-steps c =

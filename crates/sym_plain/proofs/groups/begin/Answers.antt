@@ -6,7 +6,7 @@ use Rattle.sym_check.specs.Groups.{is_key}
 use Rattle.sym_check.specs.ScriptPlans.{script_plan}
 use Rattle.sym_check.specs.Updates.{initial, step}
 use Rattle.sym_plain.proofs.Pairs.{begun}
-use Rattle.sym_plain.proofs.folding.begin.Goals as goal
+use Rattle.sym_plain.proofs.groups.begin.Goals as goal
 
 pub returns-clause-steps : goal.returns-clause-steps
 returns-clause-steps c =
