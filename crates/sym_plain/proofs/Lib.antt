@@ -4,3 +4,5 @@ pub mod Places
 pub mod Pairs
 pub mod Passes
 pub mod Wide
+pub mod Puts
+pub mod Apart

@@ -6,9 +6,9 @@ use Rattle.sym_base.specs.declared.values.value.Key.{Key}
 use Rattle.sym_base.specs.declared.values.record.Record.{Record}
 use Rattle.sym_base.specs.declared.values.state.Outcome.{Outcome}
 use Rattle.sym_base.specs.declared.values.state.Outcome.TheVariants.{Going}
-use Rattle.sym_check.specs.Groups.{is_among, is_key, key_of}
+use Rattle.sym_check.specs.Groups.{is_among, is_key, key_of, records_of}
 use Rattle.sym_check.specs.ScriptPlans.{ScriptPlan}
-use Rattle.sym_check.specs.Updates.{initial, step}
+use Rattle.sym_check.specs.Updates.{initial, step, after}
 
 -- No key stands twice.
 abbrev pub HaveDistinctKeys : List (Key × Outcome) → Type 0
@@ -36,6 +36,24 @@ stepped p key rec pairs = put pairs key (step p (standing p (lookup (is_key key)
 -- The groups after one record more: the record's group makes its step.
 abbrev pub after_record : ScriptPlan → Record → List (Key × Outcome) → List (Key × Outcome)
 after_record p rec pairs = stepped p (key_of p rec) rec pairs
+
+-- The groups after more records, in order.
+abbrev pub after_records : ScriptPlan → List Record → List (Key × Outcome) → List (Key × Outcome)
+after_records p [] pairs = pairs
+after_records p (rec ∷ records) pairs = after_records p records (after_record p rec pairs)
+
+-- The groups where the one with this key has made the steps of its own records among these.
+abbrev pub stepped_by :
+    ScriptPlan → List Record → Key → List (Key × Outcome) → List (Key × Outcome)
+stepped_by p records key pairs =
+    put pairs key (after p (records_of p key records) (standing p (lookup (is_key key) pairs)))
+
+-- The same of each of these keys, in order.
+abbrev pub after_keys :
+    ScriptPlan → List Record → List Key → List (Key × Outcome) → List (Key × Outcome)
+after_keys p records [] pairs = pairs
+after_keys p records (key ∷ rest) pairs =
+    after_keys p records rest (stepped_by p records key pairs)
 
 -- A group with this key makes its step; where there is none, the groups stay.
 abbrev pub Steps :

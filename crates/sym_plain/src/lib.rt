@@ -5,6 +5,7 @@
 mod calls;
 mod groups;
 mod keys;
+pub mod laws;
 mod report;
 mod states;
 mod steps;
