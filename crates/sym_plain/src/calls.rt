@@ -86,5 +86,6 @@ pub fn fold_into(
         OnOk result ((records : List OneRecord) →
         groups.old ≡ pass p records → groups.new ≡ pass p (records ++ rec.now ∷ [])) }
 {
-    groups.take(alloc, checked.plan(), rec)
+    groups.take(alloc, checked.plan(), rec)?;
+    Ok(())
 }
