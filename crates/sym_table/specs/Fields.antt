@@ -26,7 +26,8 @@ pub record IsRead (field : FieldPlan) (bytes : List ℕ) : Type 0 where
   pub given : (text_of field.kind bytes ≢ []) ⊎ (field.default ≡ None)
 
 -- The value that a field has where its column holds these bytes.
-pub data IsFieldValue (enums : List EnumPlan) (field : FieldPlan) (bytes : List ℕ) : Value → Type 0 where
+pub data IsFieldValue (enums : List EnumPlan) (field : FieldPlan) (bytes : List ℕ)
+    : Value → Type 0 where
   empty : (v : Value)
       → IsUtf8 bytes
       → text_of field.kind bytes ≡ []

@@ -14,8 +14,8 @@ ghost use Rattle.sym_check.specs.Updates.{initial, step, after};
 ghost use Rattle.sym_check.specs.Validity.{IsRecord, IsKey, IsValid, IsValidOutcome};
 ghost use Rattle.sym_check.specs.WellFormed.{IsWellFormed};
 
-/// One record more is one step more, and more records go on from where the first ones ended. A group
-/// that has ended stays as it is.
+/// One record more is one step more, and more records go on from where the first ones ended. A
+/// group that has ended stays as it is.
 pub fn records_run_on()
     ensures one { (p : ScriptPlan) (records : List OneRecord) (rec : OneRecord) (o : OneOutcome) →
         after p (records ++ rec ∷ []) o ≡ step p (after p records o) rec }

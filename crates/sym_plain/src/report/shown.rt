@@ -55,8 +55,8 @@ fn label_column(alloc: Global, labels: &[Text], label: u8) -> Result<Column, NoM
     Ok(Column::Word(text))
 }
 
-/// What a value shows: a label its name, which is the one with its number among these. Nothing where
-/// there is no value.
+/// What a value shows: a label its name, which is the one with its number among these. Nothing
+/// where there is no value.
 pub fn value_column(
     alloc: Global,
     labels: &[Text],
