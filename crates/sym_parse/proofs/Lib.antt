@@ -25,3 +25,4 @@ pub mod KeepingExpressions
 pub mod KeepingStatements
 pub mod KeepingScripts
 pub mod Refusing
+pub mod Examples
