@@ -44,18 +44,22 @@ pub record Level (ops : Terminal → Option BinOp) (level : ℕ) : Type 0 where
 
 or-is : (t : Terminal) (b : BinOp) → or_op t ≡ Some b → tight (Some t) ≡ 1
 or-is (Word keyword.Or) b e = refl
+or-is (Sign symbol.Comma) b e = cc
 or-is _ b e = cc
 
 or-none : (o : Option Terminal) → tight o < 1 → op_in or_op o ≡ None
 or-none (Some (Word keyword.Or)) h = absurd (omega arith)
+or-none (Some (Sign symbol.Comma)) h = refl
 or-none _ h = refl
 
 and-is : (t : Terminal) (b : BinOp) → and_op t ≡ Some b → tight (Some t) ≡ 2
 and-is (Word keyword.And) b e = refl
+and-is (Sign symbol.Comma) b e = cc
 and-is _ b e = cc
 
 and-none : (o : Option Terminal) → tight o < 2 → op_in and_op o ≡ None
 and-none (Some (Word keyword.And)) h = absurd (omega arith)
+and-none (Some (Sign symbol.Comma)) h = refl
 and-none _ h = refl
 
 compare-is : (t : Terminal) (b : BinOp) → compare_op t ≡ Some b → tight (Some t) ≡ 3
@@ -81,23 +85,27 @@ compare-none _ h = refl
 sum-is : (t : Terminal) (b : BinOp) → sum_op t ≡ Some b → tight (Some t) ≡ 4
 sum-is (Sign symbol.Plus) b e = refl
 sum-is (Sign symbol.Minus) b e = refl
+sum-is (Word keyword.Enum) b e = cc
 sum-is _ b e = cc
 
 sum-none : (o : Option Terminal) → tight o < 4 → op_in sum_op o ≡ None
 sum-none (Some (Sign symbol.Plus)) h = absurd (omega arith)
 sum-none (Some (Sign symbol.Minus)) h = absurd (omega arith)
+sum-none (Some (Word keyword.Enum)) h = refl
 sum-none _ h = refl
 
 product-is : (t : Terminal) (b : BinOp) → product_op t ≡ Some b → tight (Some t) ≡ 5
 product-is (Sign symbol.Star) b e = refl
 product-is (Sign symbol.Slash) b e = refl
 product-is (Sign symbol.Percent) b e = refl
+product-is (Word keyword.Enum) b e = cc
 product-is _ b e = cc
 
 product-none : (o : Option Terminal) → tight o < 5 → op_in product_op o ≡ None
 product-none (Some (Sign symbol.Star)) h = absurd (omega arith)
 product-none (Some (Sign symbol.Slash)) h = absurd (omega arith)
 product-none (Some (Sign symbol.Percent)) h = absurd (omega arith)
+product-none (Some (Word keyword.Enum)) h = refl
 product-none _ h = refl
 
 or-level : Level or_op 1

@@ -125,21 +125,25 @@ record Groups (ops : Terminal → Option BinOp) (level : ℕ) : Type 0 where
 
 or-is : (t : Terminal) (b : BinOp) → or_op t ≡ Some b → b ≡ op.Or
 or-is (Word keyword.Or) b e = cc
+or-is (Sign symbol.Comma) b e = cc
 or-is _ b e = cc
 
 and-is : (t : Terminal) (b : BinOp) → and_op t ≡ Some b → b ≡ op.And
 and-is (Word keyword.And) b e = cc
+and-is (Sign symbol.Comma) b e = cc
 and-is _ b e = cc
 
 sum-own : (t : Terminal) (b : BinOp) → sum_op t ≡ Some b → (op_level b ≡ 4) × (left_level b ≡ 4) × (right_level b ≡ 5)
 sum-own (Sign symbol.Plus) b e = let same : b ≡ op.Add = cc in (ap op_level same, ap left_level same, ap right_level same)
 sum-own (Sign symbol.Minus) b e = let same : b ≡ op.Sub = cc in (ap op_level same, ap left_level same, ap right_level same)
+sum-own (Word keyword.Enum) b e = absurd (cc)
 sum-own _ b e = absurd (cc)
 
 product-own : (t : Terminal) (b : BinOp) → product_op t ≡ Some b → (op_level b ≡ 5) × (left_level b ≡ 5) × (right_level b ≡ 6)
 product-own (Sign symbol.Star) b e = let same : b ≡ op.Mul = cc in (ap op_level same, ap left_level same, ap right_level same)
 product-own (Sign symbol.Slash) b e = let same : b ≡ op.Div = cc in (ap op_level same, ap left_level same, ap right_level same)
 product-own (Sign symbol.Percent) b e = let same : b ≡ op.Rem = cc in (ap op_level same, ap left_level same, ap right_level same)
+product-own (Word keyword.Enum) b e = absurd (cc)
 product-own _ b e = absurd (cc)
 
 compare-own : (t : Terminal) (b : BinOp) → compare_op t ≡ Some b → (op_level b ≡ 3) × (left_level b ≡ 4) × (right_level b ≡ 4)

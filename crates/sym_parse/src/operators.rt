@@ -4,7 +4,7 @@ ghost use Rattle.sym_parse.specs.Lexemes.{Sign, Word};
 ghost use Rattle.sym_parse.specs.Parsing.Expressions.{op_in};
 ghost use Rattle.sym_parse.specs.Parsing.Levels.{op_at};
 ghost use Rattle.sym_parse.specs.Steps.{next};
-ghost use Rattle.sym_parse.specs.Syntax.Expressions.{and_word, compare_op, compare_sign, compare_word, or_word, product_sign, sum_sign};
+ghost use Rattle.sym_parse.specs.Syntax.Expressions.{and_op, compare_op, or_op, product_op, sum_op};
 ghost use Rattle.sym_parse.specs.Views.{input};
 
 use crate::state::Cursor;
@@ -21,7 +21,7 @@ pub enum Level {
 }
 
 fn or_word(keyword: Keyword) -> Option<BinOp>
-    ensures { result ≡ or_word keyword }
+    ensures { result ≡ or_op (Word keyword) }
 {
     match keyword {
         Keyword::Or => Some(BinOp::Or),
@@ -30,7 +30,7 @@ fn or_word(keyword: Keyword) -> Option<BinOp>
 }
 
 fn and_word(keyword: Keyword) -> Option<BinOp>
-    ensures { result ≡ and_word keyword }
+    ensures { result ≡ and_op (Word keyword) }
 {
     match keyword {
         Keyword::And => Some(BinOp::And),
@@ -39,7 +39,7 @@ fn and_word(keyword: Keyword) -> Option<BinOp>
 }
 
 fn compare_word(keyword: Keyword) -> Option<BinOp>
-    ensures { result ≡ compare_word keyword }
+    ensures { result ≡ compare_op (Word keyword) }
 {
     match keyword {
         Keyword::Is => Some(BinOp::Is),
@@ -48,7 +48,7 @@ fn compare_word(keyword: Keyword) -> Option<BinOp>
 }
 
 fn compare_sign(symbol: Symbol) -> Option<BinOp>
-    ensures { result ≡ compare_sign symbol }
+    ensures { result ≡ compare_op (Sign symbol) }
 {
     match symbol {
         Symbol::Equal => Some(BinOp::Eq),
@@ -62,7 +62,7 @@ fn compare_sign(symbol: Symbol) -> Option<BinOp>
 }
 
 fn sum_sign(symbol: Symbol) -> Option<BinOp>
-    ensures { result ≡ sum_sign symbol }
+    ensures { result ≡ sum_op (Sign symbol) }
 {
     match symbol {
         Symbol::Plus => Some(BinOp::Add),
@@ -72,7 +72,7 @@ fn sum_sign(symbol: Symbol) -> Option<BinOp>
 }
 
 fn product_sign(symbol: Symbol) -> Option<BinOp>
-    ensures { result ≡ product_sign symbol }
+    ensures { result ≡ product_op (Sign symbol) }
 {
     match symbol {
         Symbol::Star => Some(BinOp::Mul),

@@ -1,10 +1,11 @@
 -- Expressions. Operators of one line group to the left. What follows a token that opens a level
 -- (`(`, `not`, a unary `-`) stands one level deeper.
-use Rattle.std.specs.Prelude.{◌≡◌, ℕ, zero, suc, ◌≤◌, ℤ, List, [], ◌∷◌, ◌++◌, Option, None, Some}
+use Rattle.std.specs.Prelude.{◌≡◌, ℕ, zero, suc, ◌≤◌, ◌==◌, ℤ, if◌then◌else◌, List, [], ◌∷◌, ◌++◌, Option, None, Some}
 use Rattle.sym_base.specs.declared.tree.name.Name.{Name as NameRecord}
 use Rattle.sym_base.specs.declared.tree.expression.BinOp.{BinOp}
 use Rattle.sym_base.specs.declared.tree.expression.BinOp.TheVariants as op
 use Rattle.sym_base.specs.Trees.{ExprTree, ExprsTree, Num, Words, Named, Call, Neg, Not, Bin, End, More}
+use Rattle.sym_base.specs.Precedence.{op_level, or_level, and_level, relation_level, sum_level, product_level}
 use Rattle.sym_base.specs.Sizes.{operand_count}
 use Rattle.sym_lex.specs.declared.keyword.Keyword.{Keyword}
 use Rattle.sym_lex.specs.declared.keyword.Keyword.TheVariants as keyword
@@ -21,64 +22,84 @@ pub data Line : Type 0 where
   Negation : Line
   Signed : Line
 
+-- The operator of two operands that a token is, if it is one.
+abbrev pub word_op : Keyword → Option BinOp
+word_op keyword.Enum = None
+word_op keyword.Field = None
+word_op keyword.From = None
+word_op keyword.Num = None
+word_op keyword.Word = None
+word_op keyword.Else = None
+word_op keyword.Group = None
+word_op keyword.State = None
+word_op keyword.Int = None
+word_op keyword.Nums = None
+word_op keyword.Words = None
+word_op keyword.Hold = None
+word_op keyword.Test = None
+word_op keyword.Update = None
+word_op keyword.Report = None
+word_op keyword.Let = None
+word_op keyword.Push = None
+word_op keyword.Keep = None
+word_op keyword.If = None
+word_op keyword.And = Some op.And
+word_op keyword.Or = Some op.Or
+word_op keyword.Not = None
+word_op keyword.Is = Some op.Is
+word_op keyword.Clamp = None
+
+abbrev pub sign_op : Symbol → Option BinOp
+sign_op symbol.OpenBrace = None
+sign_op symbol.CloseBrace = None
+sign_op symbol.OpenParen = None
+sign_op symbol.CloseParen = None
+sign_op symbol.OpenBracket = None
+sign_op symbol.CloseBracket = None
+sign_op symbol.Comma = None
+sign_op symbol.Colon = None
+sign_op symbol.Semicolon = None
+sign_op symbol.Assign = None
+sign_op symbol.Equal = Some op.Eq
+sign_op symbol.NotEqual = Some op.Ne
+sign_op symbol.Less = Some op.Lt
+sign_op symbol.LessEqual = Some op.Le
+sign_op symbol.Greater = Some op.Gt
+sign_op symbol.GreaterEqual = Some op.Ge
+sign_op symbol.Plus = Some op.Add
+sign_op symbol.Minus = Some op.Sub
+sign_op symbol.Star = Some op.Mul
+sign_op symbol.Slash = Some op.Div
+sign_op symbol.Percent = Some op.Rem
+sign_op symbol.DotDot = None
+
+abbrev pub op_of : Terminal → Option BinOp
+op_of (Name text) = None
+op_of (Number n) = None
+op_of (Str text) = None
+op_of (Word k) = word_op k
+op_of (Sign s) = sign_op s
+
+-- The operator, if it binds as tightly as this.
+abbrev pub of_level : ℕ → Option BinOp → Option BinOp
+of_level level None = None
+of_level level (Some b) = if op_level b == level then Some b else None
+
 -- The operators of each line.
-abbrev pub or_word : Keyword → Option BinOp
-or_word keyword.Or = Some op.Or
-or_word _ = None
-
-abbrev pub and_word : Keyword → Option BinOp
-and_word keyword.And = Some op.And
-and_word _ = None
-
-abbrev pub compare_word : Keyword → Option BinOp
-compare_word keyword.Is = Some op.Is
-compare_word _ = None
-
-abbrev pub compare_sign : Symbol → Option BinOp
-compare_sign symbol.Equal = Some op.Eq
-compare_sign symbol.NotEqual = Some op.Ne
-compare_sign symbol.Less = Some op.Lt
-compare_sign symbol.LessEqual = Some op.Le
-compare_sign symbol.Greater = Some op.Gt
-compare_sign symbol.GreaterEqual = Some op.Ge
-compare_sign _ = None
-
-abbrev pub sum_sign : Symbol → Option BinOp
-sum_sign symbol.Plus = Some op.Add
-sum_sign symbol.Minus = Some op.Sub
-sum_sign _ = None
-
-abbrev pub product_sign : Symbol → Option BinOp
-product_sign symbol.Star = Some op.Mul
-product_sign symbol.Slash = Some op.Div
-product_sign symbol.Percent = Some op.Rem
-product_sign _ = None
-
-abbrev pub no_op : {A : Type 0} → A → Option BinOp
-no_op _ = None
-
--- The operator that a token is, by the words and the symbols of a line.
-abbrev pub op_by : (Keyword → Option BinOp) → (Symbol → Option BinOp) → Terminal → Option BinOp
-op_by words signs (Name text) = None
-op_by words signs (Number n) = None
-op_by words signs (Str text) = None
-op_by words signs (Word k) = words k
-op_by words signs (Sign s) = signs s
-
 abbrev pub or_op : Terminal → Option BinOp
-or_op = op_by or_word no_op
+or_op t = of_level or_level (op_of t)
 
 abbrev pub and_op : Terminal → Option BinOp
-and_op = op_by and_word no_op
+and_op t = of_level and_level (op_of t)
 
 abbrev pub compare_op : Terminal → Option BinOp
-compare_op = op_by compare_word compare_sign
+compare_op t = of_level relation_level (op_of t)
 
 abbrev pub sum_op : Terminal → Option BinOp
-sum_op = op_by no_op sum_sign
+sum_op t = of_level sum_level (op_of t)
 
 abbrev pub product_op : Terminal → Option BinOp
-product_op = op_by no_op product_sign
+product_op t = of_level product_level (op_of t)
 
 -- item {operator item}
 pub data IsGrouped (ops : Terminal → Option BinOp) (Item : List Lexeme → ExprTree → Type 0) :
