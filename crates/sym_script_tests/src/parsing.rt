@@ -343,14 +343,14 @@ fn answer_to(alloc: Global, rt: &impl Abort, text: &str) -> Option<ParseErr> {
     }
 }
 
+fn assert_answer(alloc: Global, rt: &impl Abort, text: &str, wanted: Option<ParseErr>) {
+    assert_eq!(rt; answer_to(alloc, rt, text), wanted, "{text}");
+}
+
 #[test]
 fn stops_where_no_sentence_goes_on(rt: HostRuntime) {
     for (text, at) in UNEXPECTED {
-        assert_eq!(rt;
-            answer_to(rt.alloc(), &rt, text),
-            Some(ParseErr::Expected { at }),
-            "{text}"
-        );
+        assert_answer(rt.alloc(), &rt, text, Some(ParseErr::Expected { at }));
     }
 }
 
@@ -367,17 +367,27 @@ fn with_count(alloc: Global, row: &Counted, count: usize) -> Result<String, Allo
     Ok(text)
 }
 
+fn assert_fits(alloc: Global, rt: &impl Abort, row: &Counted) -> Result<(), Fail> {
+    let text = with_count(alloc, row, usize::from(row.fits))?;
+    assert_answer(alloc, rt, &text, None);
+    Ok(())
+}
+
+fn assert_passed(alloc: Global, rt: &impl Abort, row: &Counted) -> Result<(), Fail> {
+    let text = with_count(alloc, row, usize::from(row.fits) + 1)?;
+    let passed = ParseErr::Limit {
+        at: row.at,
+        which: row.which,
+    };
+    assert_answer(alloc, rt, &text, Some(passed));
+    Ok(())
+}
+
 #[test]
 fn stops_where_a_number_is_passed(rt: HostRuntime) -> Result<(), Fail> {
     for row in &COUNTED {
-        let most = with_count(rt.alloc(), row, usize::from(row.fits))?;
-        assert_eq!(rt; answer_to(rt.alloc(), &rt, &most), None, "{most}");
-        let more = with_count(rt.alloc(), row, usize::from(row.fits) + 1)?;
-        let passed = ParseErr::Limit {
-            at: row.at,
-            which: row.which,
-        };
-        assert_eq!(rt; answer_to(rt.alloc(), &rt, &more), Some(passed), "{more}");
+        assert_fits(rt.alloc(), &rt, row)?;
+        assert_passed(rt.alloc(), &rt, row)?;
     }
     Ok(())
 }
@@ -390,43 +400,52 @@ fn is_separated(which: LimitKind) -> bool {
     )
 }
 
+/// As many items as there may be, and then a comma with no item after it.
+fn with_comma(alloc: Global, row: &Counted) -> Result<String, AllocError> {
+    let mut text = String::from_str(alloc, row.before)?;
+    for _ in 0..row.fits {
+        text.push_str(row.unit)?;
+    }
+    text.push_str(", ;")?;
+    Ok(text)
+}
+
+fn assert_no_item(alloc: Global, rt: &impl Abort, row: &Counted) -> Result<(), Fail> {
+    let text = with_comma(alloc, row)?;
+    assert_answer(alloc, rt, &text, Some(ParseErr::Expected { at: row.at }));
+    Ok(())
+}
+
 #[test]
 fn what_begins_no_item_is_unexpected_after_the_last_one(rt: HostRuntime) -> Result<(), Fail> {
     for row in &COUNTED {
         if is_separated(row.which) {
-            let mut text = String::from_str(rt.alloc(), row.before)?;
-            for _ in 0..row.fits {
-                text.push_str(row.unit)?;
-            }
-            text.push_str(", ;")?;
-            let unexpected = ParseErr::Expected { at: row.at };
-            assert_eq!(rt;
-                answer_to(rt.alloc(), &rt, &text),
-                Some(unexpected),
-                "{text}"
-            );
+            assert_no_item(rt.alloc(), &rt, row)?;
         }
     }
     Ok(())
 }
 
-#[test]
-fn an_if_passes_the_number_of_statements_first(rt: HostRuntime) -> Result<(), Fail> {
-    let mut text = String::from_str(
-        rt.alloc(),
-        "field x: num; state n: int [0..3] = 0; update { ",
-    )?;
+/// The last `if` passes the number of statements, and the number of levels.
+fn nested_ifs(alloc: Global) -> Result<String, AllocError> {
+    let mut text = String::from_str(alloc, "field x: num; state n: int [0..3] = 0; update { ")?;
     for _ in 0..448 {
         text.push_str("n = 1;")?;
     }
     for _ in 0..65 {
         text.push_str("if n == 1 { ")?;
     }
+    Ok(text)
+}
+
+#[test]
+fn an_if_passes_the_number_of_statements_first(rt: HostRuntime) -> Result<(), Fail> {
+    let text = nested_ifs(rt.alloc())?;
     let passed = ParseErr::Limit {
         at: 3504,
         which: LimitKind::Statements,
     };
-    assert_eq!(rt; answer_to(rt.alloc(), &rt, &text), Some(passed));
+    assert_answer(rt.alloc(), &rt, &text, Some(passed));
     Ok(())
 }
 
@@ -449,21 +468,23 @@ fn a_lexical_fault_comes_first(rt: HostRuntime) {
         ),
     ];
     for (text, fault) in rows {
-        let answer = answer_to(rt.alloc(), &rt, text);
-        assert_eq!(rt; answer, Some(ParseErr::Lex(fault)), "{text}");
+        assert_answer(rt.alloc(), &rt, text, Some(ParseErr::Lex(fault)));
     }
+}
+
+fn assert_text(alloc: Global, rt: &impl Abort, err: &ParseErr, wanted: &str) -> Result<(), Fail> {
+    let text = format!(in alloc; "{err}")?;
+    assert_eq!(rt; text.as_str(), wanted);
+    Ok(())
 }
 
 #[test]
 fn the_text_of_an_error_is_its_variant(rt: HostRuntime) -> Result<(), Fail> {
-    let lex = format!(in rt.alloc(); "{}", ParseErr::Lex(LexFault::BadByte { at: 0 }))?;
-    assert_eq!(rt; lex.as_str(), "Lex");
-    let expected = format!(in rt.alloc(); "{}", ParseErr::Expected { at: 0 })?;
-    assert_eq!(rt; expected.as_str(), "Expected");
+    let alloc = rt.alloc();
+    let fault = LexFault::BadByte { at: 0 };
     let which = LimitKind::Depth;
-    let limit = format!(in rt.alloc(); "{}", ParseErr::Limit { at: 0, which })?;
-    assert_eq!(rt; limit.as_str(), "Limit");
-    let no_memory = format!(in rt.alloc(); "{}", ParseErr::NoMemory)?;
-    assert_eq!(rt; no_memory.as_str(), "NoMemory");
-    Ok(())
+    assert_text(alloc, &rt, &ParseErr::Lex(fault), "Lex")?;
+    assert_text(alloc, &rt, &ParseErr::Expected { at: 0 }, "Expected")?;
+    assert_text(alloc, &rt, &ParseErr::Limit { at: 0, which }, "Limit")?;
+    assert_text(alloc, &rt, &ParseErr::NoMemory, "NoMemory")
 }

@@ -327,24 +327,39 @@ fn printed(alloc: Global, rt: &impl Abort, text: &[u8]) -> Result<Vec<u8>, Fail>
     Ok(print(alloc, &script)?)
 }
 
-/// That an expression is printed so within a script.
-fn assert_printed(alloc: Global, rt: &impl Abort, read: &str, wanted: &str) -> Result<(), Fail> {
-    let source = format!(in alloc;
-        "field x: num; state n: int [0..3] = 0; update {{ n = {read}; }} report {{ n = n; }}"
-    )?;
-    let text = printed(alloc, rt, source.as_bytes())?;
-    let form = format!(in alloc;
+/// That a text is printed so.
+fn assert_form(alloc: Global, rt: &impl Abort, read: &str, wanted: &str) -> Result<(), Fail> {
+    let text = printed(alloc, rt, read.as_bytes())?;
+    assert!(rt; text.as_slice() == wanted.as_bytes(), "{read}");
+    Ok(())
+}
+
+/// A script with an expression, as it is read.
+fn source(alloc: Global, expression: &str) -> Result<String, AllocError> {
+    format!(in alloc;
+        "field x: num; state n: int [0..3] = 0; update {{ n = {expression}; }} report {{ n = n; }}"
+    )
+}
+
+/// The same as it is printed.
+fn form(alloc: Global, expression: &str) -> Result<String, AllocError> {
+    format!(in alloc;
         "field x: num;\n\
          state n: int [0..3] = 0;\n\
          update {{\n\
-         \x20 n = {wanted};\n\
+         \x20 n = {expression};\n\
          }}\n\
          report {{\n\
          \x20 n = n;\n\
          }}\n"
-    )?;
-    assert!(rt; text.as_slice() == form.as_bytes(), "{read}");
-    Ok(())
+    )
+}
+
+/// That an expression is printed so within a script.
+fn assert_printed(alloc: Global, rt: &impl Abort, read: &str, wanted: &str) -> Result<(), Fail> {
+    let source = source(alloc, read)?;
+    let form = form(alloc, wanted)?;
+    assert_form(alloc, rt, &source, &form)
 }
 
 #[test]
@@ -355,29 +370,54 @@ fn expressions_are_printed_in_their_one_form(rt: HostRuntime) -> Result<(), Fail
     Ok(())
 }
 
-/// An operand, in parentheses unless it stands without.
-fn operand(alloc: Global, bare: bool, text: &str) -> Result<String, AllocError> {
-    if bare {
-        String::from_str(alloc, text)
-    } else {
-        format!(in alloc; "({text})")
-    }
+/// What stands around an operand: parentheses, or nothing.
+fn brackets(bare: bool) -> (&'static str, &'static str) {
+    if bare { ("", "") } else { ("(", ")") }
+}
+
+/// The inner operator to the left of the outer one.
+fn on_the_left(alloc: Global, inner: &str, outer: &str, bare: bool) -> Result<String, AllocError> {
+    let (open, close) = brackets(bare);
+    format!(in alloc; "{open}a {inner} b{close} {outer} c")
+}
+
+/// And to its right.
+fn on_the_right(alloc: Global, inner: &str, outer: &str, bare: bool) -> Result<String, AllocError> {
+    let (open, close) = brackets(bare);
+    format!(in alloc; "c {outer} {open}a {inner} b{close}")
+}
+
+fn assert_left(
+    alloc: Global,
+    rt: &impl Abort,
+    inner: &str,
+    outer: &str,
+    bare: bool,
+) -> Result<(), Fail> {
+    let read = on_the_left(alloc, inner, outer, false)?;
+    let wanted = on_the_left(alloc, inner, outer, bare)?;
+    assert_printed(alloc, rt, &read, &wanted)
+}
+
+fn assert_right(
+    alloc: Global,
+    rt: &impl Abort,
+    inner: &str,
+    outer: &str,
+    bare: bool,
+) -> Result<(), Fail> {
+    let read = on_the_right(alloc, inner, outer, false)?;
+    let wanted = on_the_right(alloc, inner, outer, bare)?;
+    assert_printed(alloc, rt, &read, &wanted)
 }
 
 /// That each operator is printed as it must be on both sides of this one.
 fn assert_nested(alloc: Global, rt: &impl Abort, outer: &str, level: u8) -> Result<(), Fail> {
     for (inner, binds) in OPERATORS {
-        let text = format!(in alloc; "a {inner} b")?;
         let tighter = binds > level;
         let grouped = binds == level && level != COMPARISON;
-        let left = operand(alloc, tighter || grouped, &text)?;
-        let right = operand(alloc, tighter, &text)?;
-        let read = format!(in alloc; "({text}) {outer} c")?;
-        let wanted = format!(in alloc; "{left} {outer} c")?;
-        assert_printed(alloc, rt, &read, &wanted)?;
-        let read = format!(in alloc; "c {outer} ({text})")?;
-        let wanted = format!(in alloc; "c {outer} {right}")?;
-        assert_printed(alloc, rt, &read, &wanted)?;
+        assert_left(alloc, rt, inner, outer, tighter || grouped)?;
+        assert_right(alloc, rt, inner, outer, tighter)?;
     }
     Ok(())
 }
@@ -393,18 +433,16 @@ fn parentheses_are_printed_where_an_operator_needs_them(rt: HostRuntime) -> Resu
 #[test]
 fn scripts_are_printed_in_their_one_form(rt: HostRuntime) -> Result<(), Fail> {
     for (read, wanted) in SCRIPTS {
-        let text = printed(rt.alloc(), &rt, read.as_bytes())?;
-        assert!(rt; text.as_slice() == wanted.as_bytes(), "{read}");
-        let again = printed(rt.alloc(), &rt, &text)?;
-        assert!(rt; again.as_slice() == wanted.as_bytes(), "{read}");
+        assert_form(rt.alloc(), &rt, read, wanted)?;
+        assert_form(rt.alloc(), &rt, wanted, wanted)?;
     }
     Ok(())
 }
 
-#[test]
-fn a_keep_of_many_values_is_read_printed_and_freed(rt: HostRuntime) -> Result<(), Fail> {
+/// A script whose `keep` has 16,000 values, as it is printed.
+fn many_values(alloc: Global) -> Result<String, AllocError> {
     let mut text = String::from_str(
-        rt.alloc(),
+        alloc,
         "field x: num;\n\
          state h: hold(num = 0);\n\
          update {\n\
@@ -420,7 +458,11 @@ fn a_keep_of_many_values_is_read_printed_and_freed(rt: HostRuntime) -> Result<()
          \x20 n = x;\n\
          }\n",
     )?;
-    let again = printed(rt.alloc(), &rt, text.as_bytes())?;
-    assert!(rt; again.as_slice() == text.as_bytes());
-    Ok(())
+    Ok(text)
+}
+
+#[test]
+fn a_keep_of_many_values_is_read_printed_and_freed(rt: HostRuntime) -> Result<(), Fail> {
+    let text = many_values(rt.alloc())?;
+    assert_form(rt.alloc(), &rt, &text, &text)
 }

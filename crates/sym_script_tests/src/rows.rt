@@ -57,11 +57,9 @@ pub const UPDATE: Frame = Frame {
 /// The path bound of a script, or its first broken rule.
 pub fn answer_to(rt: &impl Abort, alloc: Global, text: &str) -> Result<u32, CheckErr> {
     assert!(rt; text.len() < 100_000, "{text}");
-    let script = parse(alloc, text.as_bytes());
-    assert!(rt; script.is_ok(), "{text}");
-    match script {
+    match parse(alloc, text.as_bytes()) {
         Ok(script) => Ok(check(alloc, script)?.path_bound()),
-        Err(_) => Err(CheckErr::NoMemory),
+        Err(_) => panic!(rt; "{text}"),
     }
 }
 

@@ -5,6 +5,7 @@ ghost use Rattle.sym_check.specs.Conditions.{has_fixed_body};
 ghost use Rattle.sym_check.specs.ScriptPlans.{test_plan};
 
 use std::alloc::Global;
+use std::process::Abort;
 use std::test::Fail;
 use sym_base::{Compare, NUM_MAX, NoMemory, Text, Value};
 use sym_check::{
@@ -82,23 +83,74 @@ fn bin(alloc: Global, operator: ArithOp, left: Num, right: Num) -> Result<Num, N
     Ok(Num::Bin(operator, left, Box::new(alloc, right)?))
 }
 
+// -(field 0 - 9)
+fn past_nine(alloc: Global) -> Result<Num, NoMemory> {
+    let difference = bin(alloc, ArithOp::Sub, Num::Field(0), Num::Lit(9))?;
+    Ok(Num::Neg(Box::new(alloc, difference)?))
+}
+
 #[test]
-fn fixed_expressions_have_values(rt: HostRuntime) -> Result<(), Fail> {
-    let alloc = rt.alloc();
-    let fields = [Value::Num(7), Value::Word(Text::from_str(alloc, "ann")?)];
-    let locals = [Value::Label(3)];
-    let known = known(&fields, &locals);
-    let operand = bin(alloc, ArithOp::Sub, Num::Field(0), Num::Lit(9))?;
-    let number = Num::Neg(Box::new(alloc, operand)?);
-    assert_eq!(rt; number_of(&known, &number), Ok(2));
-    let word = value_of(alloc, &known, &Fixed::Word(WordOf::Field(1)))?;
-    let ann = FixedValue::Is(Value::Word(Text::from_str(alloc, "ann")?));
-    assert!(rt; word == ann);
-    let label = value_of(alloc, &known, &Fixed::Label(LabelOf::Local(0)))?;
-    assert!(rt; label == FixedValue::Is(Value::Label(3)));
-    let broken = bin(alloc, ArithOp::Rem, Num::Lit(1), Num::Lit(0))?;
-    assert!(rt; value_of(alloc, &known, &Fixed::Num(broken))? == FixedValue::Arith);
+fn a_fixed_number_is_calculated_from_a_field(rt: HostRuntime) -> Result<(), Fail> {
+    let number = past_nine(rt.alloc())?;
+    assert_eq!(rt; number_of(&known(&[Value::Num(7)], &[]), &number), Ok(2));
     Ok(())
+}
+
+fn assert_value(
+    alloc: Global,
+    rt: &impl Abort,
+    known: &Known<'_>,
+    fixed: &Fixed,
+    wanted: &FixedValue,
+) -> Result<(), Fail> {
+    let value = value_of(alloc, known, fixed)?;
+    assert!(rt; value == *wanted);
+    Ok(())
+}
+
+fn ann(alloc: Global) -> Result<Value, NoMemory> {
+    Ok(Value::Word(Text::from_str(alloc, "ann")?))
+}
+
+#[test]
+fn a_fixed_word_is_a_fields(rt: HostRuntime) -> Result<(), Fail> {
+    let fields = [Value::Num(7), ann(rt.alloc())?];
+    let wanted = FixedValue::Is(ann(rt.alloc())?);
+    assert_value(
+        rt.alloc(),
+        &rt,
+        &known(&fields, &[]),
+        &Fixed::Word(WordOf::Field(1)),
+        &wanted,
+    )
+}
+
+#[test]
+fn a_fixed_label_is_a_locals(rt: HostRuntime) -> Result<(), Fail> {
+    assert_value(
+        rt.alloc(),
+        &rt,
+        &known(&[], &[Value::Label(3)]),
+        &Fixed::Label(LabelOf::Local(0)),
+        &FixedValue::Is(Value::Label(3)),
+    )
+}
+
+// 1 % 0
+fn broken(alloc: Global) -> Result<Fixed, NoMemory> {
+    Ok(Fixed::Num(bin(alloc, ArithOp::Rem, Num::Lit(1), Num::Lit(0))?))
+}
+
+#[test]
+fn a_fixed_number_fails_by_zero(rt: HostRuntime) -> Result<(), Fail> {
+    let broken = broken(rt.alloc())?;
+    assert_value(
+        rt.alloc(),
+        &rt,
+        &known(&[], &[]),
+        &broken,
+        &FixedValue::Arith,
+    )
 }
 
 #[test]
@@ -233,19 +285,29 @@ fn gap(alloc: Global) -> Result<TestPlan, NoMemory>
     Ok(TestPlan { params, body })
 }
 
+// That the first test answers so, with its hold cell's part and its argument given.
+fn assert_answers(rt: &impl Abort, tests: &TestPlans, rows: &[(i64, i64, bool)])
+    requires { IsTrue (list_all has_fixed_body (map test_plan tests.now)) }
+{
+    for (part, argument, wanted) in rows {
+        let (parts, args) = ([Value::Num(*part)], [Value::Num(*argument)]);
+        assert_eq!(rt; answer_at(tests, 0, &parts, &args), *wanted);
+    }
+}
+
 #[test]
 fn tests_answer_by_their_bodies(rt: HostRuntime) -> Result<(), Fail> {
-    let rows = [
-        (0, 30, false),
-        (0, 31, true),
-        (-NUM_MAX, 0, true),
-        (-NUM_MAX, 1, false),
-    ];
-    for (last, now, wanted) in rows {
-        let tests = alone(rt.alloc(), gap(rt.alloc())?)?;
-        let (parts, args) = ([Value::Num(last)], [Value::Num(now)]);
-        assert_eq!(rt; answer_at(&tests, 0, &parts, &args), wanted);
-    }
+    let tests = alone(rt.alloc(), gap(rt.alloc())?)?;
+    assert_answers(
+        &rt,
+        &tests,
+        &[
+            (0, 30, false),
+            (0, 31, true),
+            (-NUM_MAX, 0, true),
+            (-NUM_MAX, 1, false),
+        ],
+    );
     Ok(())
 }
 
@@ -288,24 +350,58 @@ fn remains_small(alloc: Global) -> Result<TestPlan, NoMemory>
 }
 
 #[test]
+fn failed_arithmetic_is_no_matter_where_it_is_not_looked_at(rt: HostRuntime) -> Result<(), Fail> {
+    let tests = alone(rt.alloc(), ratio(rt.alloc(), true)?)?;
+    assert_answers(
+        &rt,
+        &tests,
+        &[
+            (2, 5, true),
+            (-2, -5, true),
+            (2, 3, false),
+            (3, 5, false),
+            (0, 5, true),
+            (0, -5, true),
+            (0, 0, true),
+        ],
+    );
+    Ok(())
+}
+
+#[test]
 fn failed_arithmetic_makes_a_test_false_where_it_is_looked_at(rt: HostRuntime) -> Result<(), Fail> {
-    let guarded = alone(rt.alloc(), ratio(rt.alloc(), true)?)?;
-    let open = alone(rt.alloc(), ratio(rt.alloc(), false)?)?;
-    let small = alone(rt.alloc(), remains_small(rt.alloc())?)?;
-    let rows = [
-        (2, 5, true, true, true),
-        (-2, -5, true, true, true),
-        (2, 3, false, false, true),
-        (3, 5, false, false, false),
-        (0, 5, true, false, false),
-        (0, -5, true, false, false),
-        (0, 0, true, false, false),
-    ];
-    for (last, now, when_guarded, when_open, when_small) in rows {
-        let (parts, args) = ([Value::Num(last)], [Value::Num(now)]);
-        assert_eq!(rt; answer_at(&guarded, 0, &parts, &args), when_guarded);
-        assert_eq!(rt; answer_at(&open, 0, &parts, &args), when_open);
-        assert_eq!(rt; answer_at(&small, 0, &parts, &args), when_small);
-    }
+    let tests = alone(rt.alloc(), ratio(rt.alloc(), false)?)?;
+    assert_answers(
+        &rt,
+        &tests,
+        &[
+            (2, 5, true),
+            (-2, -5, true),
+            (2, 3, false),
+            (3, 5, false),
+            (0, 5, false),
+            (0, -5, false),
+            (0, 0, false),
+        ],
+    );
+    Ok(())
+}
+
+#[test]
+fn failed_arithmetic_makes_a_test_false_and_not_its_parts(rt: HostRuntime) -> Result<(), Fail> {
+    let tests = alone(rt.alloc(), remains_small(rt.alloc())?)?;
+    assert_answers(
+        &rt,
+        &tests,
+        &[
+            (2, 5, true),
+            (-2, -5, true),
+            (2, 3, true),
+            (3, 5, false),
+            (0, 5, false),
+            (0, -5, false),
+            (0, 0, false),
+        ],
+    );
     Ok(())
 }
