@@ -1,5 +1,5 @@
--- The text of a report in the form `table`: a line of names, a line for each row, and a last line.
--- The form is this project's profile.
+-- The text of a report in a form, and that of the form `table`: a line of names, a line for each
+-- row, and a last line. The form is this project's profile.
 use Rattle.std.specs.Prelude.{ℕ, nat_lt, ◌==◌, ◌||◌, if◌then◌else◌, List, [], ◌∷◌, ◌++◌, map, codes}
 use Rattle.std.specs.Fmt.{decimal, signed_decimal}
 use Rattle.std.specs.List.{flat_map}
@@ -41,12 +41,12 @@ value_text column.Nothing = codes "none"
 value_text (column.Bad fault) = bad_text fault
 
 -- Names or values of one row, with ` | ` between two, and the end of the line.
-abbrev pub line_of : List (List ℕ) → List ℕ
-line_of texts = joined (codes " | ") texts ++ codes "\n"
+abbrev pub table_line : List (List ℕ) → List ℕ
+table_line texts = joined (codes " | ") texts ++ codes "\n"
 
 -- The line of names.
 abbrev pub head_text : Heads → List ℕ
-head_text heads = line_of (heads.keys ++ heads.columns)
+head_text heads = table_line (heads.keys ++ heads.columns)
 
 -- A fault of the cell of this name, and one of arithmetic, at a record.
 abbrev pub over_text : List ℕ → ℕ → List ℕ
@@ -64,12 +64,27 @@ body_texts (Arith record_no) = arith_text record_no ∷ []
 
 -- The line of a row.
 abbrev pub row_text : Row → List ℕ
-row_text row = line_of (map value_text row.keys ++ body_texts row.body)
+row_text row = table_line (map value_text row.keys ++ body_texts row.body)
 
 -- The last line.
 abbrev pub end_text : List ℕ
 end_text = codes "--\n"
 
+-- The three texts of a form: of the names above the rows, of a row under these names, and of the
+-- report's end.
+pub record FormTexts : Type 0 where
+  pub begin : Heads → List ℕ
+  pub row : Heads → Row → List ℕ
+  pub end : List ℕ
+
+-- The whole text of a report in a form.
+abbrev pub report_text : FormTexts → Heads → List Row → List ℕ
+report_text form heads rows = form.begin heads ++ (flat_map (form.row heads) rows ++ form.end)
+
+-- The form `table`.
+abbrev pub table_form : FormTexts
+table_form = record { begin = head_text; row = λ heads row. row_text row; end = end_text }
+
 -- The whole table.
 abbrev pub table_text : Heads → List Row → List ℕ
-table_text heads rows = head_text heads ++ (flat_map row_text rows ++ end_text)
+table_text = report_text table_form
