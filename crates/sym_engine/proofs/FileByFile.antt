@@ -1,7 +1,7 @@
 -- The files so far, and what comes of the next one.
-use Rattle.std.proofs.Common.{◌≡◌, ◌∙◌, append-nil, refl, sym, ap, ℕ, zero, suc, ◌+◌, ◌≤◌, ◌<◌, arith, append_assoc, length-append, List, [], ◌∷◌, ◌++◌, length, take, drop, map, get_or, Option, Some, None, IfSome, Ok, Err, slice_get, replicate, subst}
+use Rattle.std.proofs.Common.{◌≡◌, ◌∙◌, append-nil, refl, sym, ap, ℕ, zero, suc, ◌+◌, ◌≤◌, ◌<◌, arith, append_assoc, length-append, List, [], ◌∷◌, ◌++◌, length, take, drop, map, get_or, Option, Some, None, IfSome, Result, Ok, Err, slice_get, replicate, subst}
 use Rattle.std.specs.Option.{unwrap_or}
-use Rattle.std.proofs.lemmas.List.{take-append-drop, length-replicate}
+use Rattle.std.proofs.lemmas.List.{take-append-drop, length-map, length-replicate}
 use Rattle.std.proofs.lemmas.List.Elements.{length_all_zip}
 use Rattle.std.proofs.Math.Seq.{take-append_seam}
 use Rattle.sym_base.specs.Counts.{Rose}
@@ -16,7 +16,7 @@ use Rattle.sym_engine.specs.declared.error.PassErr.{PassErr}
 use Rattle.sym_engine.specs.declared.error.PassErr.TheVariants as pass_err
 use Rattle.sym_table.specs.RowRecords.{HaveRecords}
 use Rattle.sym_table.specs.RowRecords as have
-use Rattle.sym_engine.specs.FileRecords.{IsFine, HasProblem, row_records}
+use Rattle.sym_engine.specs.FileRecords.{FileRules, plain_rules, shown_rows, rows_by, IsFine, HasProblem, row_records}
 use Rattle.sym_engine.specs.FileRecords as files
 use Rattle.sym_engine.specs.FirstProblems.{AllFine, FirstProblem}
 use Rattle.sym_engine.specs.FirstProblems as problems
@@ -25,32 +25,32 @@ use Rattle.sym_engine.specs.Passing.{May, MayAll, PassedAll, FailsAt, HasFirstPr
 use Rattle.sym_engine.proofs.FilesAgree.{in_size}
 
 -- ---- files after files
-pub fine_then : (p : ScriptPlan) (max first : ℕ) (told more : List (List ℕ)) (records others : List Record)
-    → AllFine p max first told records → AllFine p max (first + length records) more others → AllFine p max first (told ++ more) (records ++ others)
-fine_then p max _ _ more _ others (problems.no_file first) all =
+pub fine_then : (p : ScriptPlan) (rules : FileRules) (first : ℕ) (told more : List (List ℕ)) (records others : List Record)
+    → AllFine p rules first told records → AllFine p rules (first + length records) more others → AllFine p rules first (told ++ more) (records ++ others)
+fine_then p rules _ _ more _ others (problems.no_file first) all =
     let same : first + 0 ≡ first = omega arith in
-    let P : ℕ → Type 0 = λ n. AllFine p max n more others in subst P same all
-fine_then p max _ _ more _ others (problems.one_more first bytes rest records later fine all) then_all =
+    let P : ℕ → Type 0 = λ n. AllFine p rules n more others in subst P same all
+fine_then p rules _ _ more _ others (problems.one_more first bytes rest records later fine all) then_all =
     let same : first + length (records ++ later) ≡ first + length records + length later = omega (arith, length-append records later) in
-    let P : ℕ → Type 0 = λ n. AllFine p max n more others in
-    let Q : List Record → Type 0 = λ all. AllFine p max first (bytes ∷ (rest ++ more)) all in
+    let P : ℕ → Type 0 = λ n. AllFine p rules n more others in
+    let Q : List Record → Type 0 = λ all. AllFine p rules first (bytes ∷ (rest ++ more)) all in
     subst Q (sym (append_assoc records later others))
-    (problems.one_more first bytes (rest ++ more) records (later ++ others) fine (fine_then p max (first + length records) rest more later others all (subst P same then_all)))
+    (problems.one_more first bytes (rest ++ more) records (later ++ others) fine (fine_then p rules (first + length records) rest more later others all (subst P same then_all)))
 
-pub problem_then : (p : ScriptPlan) (max file first : ℕ) (told more : List (List ℕ)) (records : List Record) (why : PassErr)
-    → AllFine p max first told records → FirstProblem p max (file + length told) (first + length records) more why → FirstProblem p max file first (told ++ more) why
-problem_then p max file _ _ more _ why (problems.no_file first) problem =
+pub problem_then : (p : ScriptPlan) (rules : FileRules) (file first : ℕ) (told more : List (List ℕ)) (records : List Record) (why : PassErr)
+    → AllFine p rules first told records → FirstProblem p rules (file + length told) (first + length records) more why → FirstProblem p rules file first (told ++ more) why
+problem_then p rules file _ _ more _ why (problems.no_file first) problem =
     let same : first + 0 ≡ first = omega arith in
     let as_file : file + 0 ≡ file = omega arith in
-    let P : ℕ → Type 0 = λ n. FirstProblem p max (file + 0) n more why in
-    let Q : ℕ → Type 0 = λ n. FirstProblem p max n first more why in subst Q as_file (subst P same problem)
-problem_then p max file _ _ more _ why (problems.one_more first bytes rest records later fine all) problem =
+    let P : ℕ → Type 0 = λ n. FirstProblem p rules (file + 0) n more why in
+    let Q : ℕ → Type 0 = λ n. FirstProblem p rules n first more why in subst Q as_file (subst P same problem)
+problem_then p rules file _ _ more _ why (problems.one_more first bytes rest records later fine all) problem =
     let same : first + length (records ++ later) ≡ first + length records + length later = omega (arith, length-append records later) in
     let as_file : file + length (bytes ∷ rest) ≡ file + 1 + length rest = omega arith in
-    let P : ℕ → Type 0 = λ n. FirstProblem p max (file + length (bytes ∷ rest)) n more why in
-    let Q : ℕ → Type 0 = λ n. FirstProblem p max n (first + length records + length later) more why in
+    let P : ℕ → Type 0 = λ n. FirstProblem p rules (file + length (bytes ∷ rest)) n more why in
+    let Q : ℕ → Type 0 = λ n. FirstProblem p rules n (first + length records + length later) more why in
     problems.later file first bytes (rest ++ more) records why fine
-    (problem_then p max (file + 1) (first + length records) rest more later why all (subst Q as_file (subst P same problem)))
+    (problem_then p rules (file + 1) (first + length records) rest more later why all (subst Q as_file (subst P same problem)))
 
 -- ---- bytes that files may hold
 may_one : (o : Option (List ℕ)) → May o (unwrap_or o [])
@@ -103,28 +103,48 @@ within (n ∷ names) zero name e = refl
 within (n ∷ names) (suc k) name e = let more = within names k name e in omega (arith, more)
 
 -- ---- how a pass stands
-pub record IsPassing (p : ScriptPlan) (max : ℕ) (holds : List ℕ → Option (List ℕ)) (names : List (List ℕ)) (k next : ℕ) (groups : Pairs) : Type 0 where
+pub record IsPassing (p : ScriptPlan) (rules : FileRules) (holds : List ℕ → Option (List ℕ)) (names : List (List ℕ)) (k next : ℕ) (groups : Pairs) : Type 0 where
   pub told : List (List ℕ)
   pub may : MayAll holds (take k names) told
   pub records : List Record
-  pub fine : AllFine p max 1 told records
+  pub fine : AllFine p rules 1 told records
   pub next_is : next ≡ 1 + length records
   pub stands : groups ≡ pass p records
 
-told_count : (p : ScriptPlan) (max : ℕ) (holds : List ℕ → Option (List ℕ)) (names : List (List ℕ)) (k next : ℕ) (groups : Pairs) (name : List ℕ)
-    → (is : IsPassing p max holds names k next groups) → slice_get names k ≡ Some name → length is.told ≡ k
-told_count p max holds names k next groups name is at =
+told_count : (p : ScriptPlan) (rules : FileRules) (holds : List ℕ → Option (List ℕ)) (names : List (List ℕ)) (k next : ℕ) (groups : Pairs) (name : List ℕ)
+    → (is : IsPassing p rules holds names k next groups) → slice_get names k ≡ Some name → length is.told ≡ k
+told_count p rules holds names k next groups name is at =
     sym (length_all_zip (λ n bytes. May (holds n) bytes) (take k names) is.told is.may) ∙ within names k name at
 
-file_fine : (p : ScriptPlan) (max file first : ℕ) (bytes : List ℕ) (records : List Record) → length bytes ≤ max
-    → row_records p file first (file_rows bytes) ≡ Ok records → IsFine p max first bytes records
-file_fine p max file first bytes records size e =
-    rw e at (in_size p max file first bytes (file_rows bytes) size refl)
+file_fine : (p : ScriptPlan) (rules : FileRules) (file first : ℕ) (bytes : List ℕ) (records : List Record) → length bytes ≤ rules.max_bytes
+    → row_records p file first (rows_by rules bytes) ≡ Ok records → IsFine p rules first bytes records
+file_fine p rules file first bytes records size e =
+    rw e at (in_size p rules file first bytes (rows_by rules bytes) size refl)
 
-file_problem : (p : ScriptPlan) (max file first : ℕ) (bytes : List ℕ) (why : PassErr) → length bytes ≤ max
-    → row_records p file first (file_rows bytes) ≡ Err why → HasProblem p max file first bytes why
-file_problem p max file first bytes why size e =
-    rw e at (in_size p max file first bytes (file_rows bytes) size refl)
+file_problem : (p : ScriptPlan) (rules : FileRules) (file first : ℕ) (bytes : List ℕ) (why : PassErr) → length bytes ≤ rules.max_bytes
+    → row_records p file first (rows_by rules bytes) ≡ Err why → HasProblem p rules file first bytes why
+file_problem p rules file first bytes why size e =
+    rw e at (in_size p rules file first bytes (rows_by rules bytes) size refl)
+
+-- ---- rows as they are shown
+shown_count : (shown : Row → Row) (rows : List Row) → length (shown_rows shown rows) ≡ length rows
+shown_count shown [] = refl
+shown_count shown (header ∷ rows) = ap suc (length-map rows shown)
+
+same_rows : (rows : List Row) → rows ≡ map (λ row. row) rows
+same_rows [] = refl
+same_rows (row ∷ rows) = ap (λ more. row ∷ more) (same_rows rows)
+
+same_shown : (rows : List Row) → rows ≡ shown_rows (λ row. row) rows
+same_shown [] = refl
+same_shown (header ∷ rows) = ap (λ more. header ∷ more) (same_rows rows)
+
+-- What is folded of a file's rows is folded of its rows as they are.
+pub fold_plain : (p : ScriptPlan) (max file first next : ℕ) (bytes : List ℕ) (old : Pairs) (r : Result Pairs PassErr)
+    → Folds p file first next (file_rows bytes) old r → Folds p file first next (rows_by (plain_rules max) bytes) old r
+fold_plain p max file first next bytes old r folds =
+    let P : List Row → Type 0 = λ rows. Folds p file first next rows old r in
+    subst P (same_shown (file_rows bytes)) folds
 
 -- ---- a file has no more records than bytes
 records_count : (p : ScriptPlan) (header : Header) (n : ℕ) (rows : List Row) (records : List Record) → HaveRecords p header n rows records → length records ≡ length rows
@@ -132,64 +152,65 @@ records_count p header _ _ _ (have.no_row n) = refl
 records_count p header _ _ _ (have.one_more n row rows values records has are) =
     let more = records_count p header (n + 1) rows records are in omega (arith, more)
 
-pub fine_few : (p : ScriptPlan) (max first : ℕ) (bytes : List ℕ) (records : List Record) → IsFine p max first bytes records → length records ≤ length bytes
-fine_few p max first bytes _ (files.empty size e) = omega arith
-fine_few p max first bytes _ (files.filled row rows header records size e is are) =
+pub fine_few : (p : ScriptPlan) (rules : FileRules) (first : ℕ) (bytes : List ℕ) (records : List Record) → IsFine p rules first bytes records → length records ≤ length bytes
+fine_few p rules first bytes _ (files.empty size e) = omega arith
+fine_few p rules first bytes _ (files.filled row rows header records size e is are) =
     let few = rows_few bytes in
+    let shown = shown_count rules.shown (file_rows bytes) in
     let same = records_count p header first rows records are in
-    let count : length (file_rows bytes) ≡ length (row ∷ rows) = ap length e in
-    omega (arith, few, same, count)
+    let count : length (rows_by rules bytes) ≡ length (row ∷ rows) = ap length e in
+    omega (arith, few, same, shown, count)
 
 -- ---- one file more
-next_fine : (p : ScriptPlan) (max file first next : ℕ) (old new : Pairs) (bytes : List ℕ) (earlier : List Record) → first ≡ 1 + length earlier → length bytes ≤ max
-    → (folded : IsFolded p file first next (file_rows bytes) old new) → IsFine p max (1 + length earlier) bytes folded.records
-next_fine p max file first next old new bytes earlier e size folded =
-    let Q : ℕ → Type 0 = λ n. IsFine p max n bytes folded.records in
-    subst Q e (file_fine p max file first bytes folded.records size folded.are)
+next_fine : (p : ScriptPlan) (rules : FileRules) (file first next : ℕ) (old new : Pairs) (bytes : List ℕ) (earlier : List Record) → first ≡ 1 + length earlier → length bytes ≤ rules.max_bytes
+    → (folded : IsFolded p file first next (rows_by rules bytes) old new) → IsFine p rules (1 + length earlier) bytes folded.records
+next_fine p rules file first next old new bytes earlier e size folded =
+    let Q : ℕ → Type 0 = λ n. IsFine p rules n bytes folded.records in
+    subst Q e (file_fine p rules file first bytes folded.records size folded.are)
 
-one_fine : (p : ScriptPlan) (max first : ℕ) (bytes : List ℕ) (records : List Record) → IsFine p max first bytes records → AllFine p max first (bytes ∷ []) records
-one_fine p max first bytes records fine =
-    let Q : List Record → Type 0 = λ all. AllFine p max first (bytes ∷ []) all in
+one_fine : (p : ScriptPlan) (rules : FileRules) (first : ℕ) (bytes : List ℕ) (records : List Record) → IsFine p rules first bytes records → AllFine p rules first (bytes ∷ []) records
+one_fine p rules first bytes records fine =
+    let Q : List Record → Type 0 = λ all. AllFine p rules first (bytes ∷ []) all in
     subst Q (append-nil records) (problems.one_more first bytes [] records [] fine (problems.no_file (first + length records)))
 
-pub pass_on : (p : ScriptPlan) (max : ℕ) (holds : List ℕ → Option (List ℕ)) (names : List (List ℕ)) (k first next : ℕ) (old new : Pairs) (name bytes : List ℕ)
-    → IsPassing p max holds names k first old → slice_get names k ≡ Some name → May (holds name) bytes → length bytes ≤ max
-    → IsFolded p k first next (file_rows bytes) old new → IsPassing p max holds names (k + 1) next new
-pass_on p max holds names k first next old new name bytes is at may size folded =
+pub pass_on : (p : ScriptPlan) (rules : FileRules) (holds : List ℕ → Option (List ℕ)) (names : List (List ℕ)) (k first next : ℕ) (old new : Pairs) (name bytes : List ℕ)
+    → IsPassing p rules holds names k first old → slice_get names k ≡ Some name → May (holds name) bytes → length bytes ≤ rules.max_bytes
+    → IsFolded p k first next (rows_by rules bytes) old new → IsPassing p rules holds names (k + 1) next new
+pass_on p rules holds names k first next old new name bytes is at may size folded =
     let P : List (List ℕ) → Type 0 = λ ns. MayAll holds ns (is.told ++ bytes ∷ []) in
-    let fine = next_fine p max k first next old new bytes is.records is.next_is size folded in
+    let fine = next_fine p rules k first next old new bytes is.records is.next_is size folded in
     record {
       told = is.told ++ bytes ∷ [];
       may = subst P (sym (take_at names k name at)) (may_both holds (take k names) (name ∷ []) is.told (bytes ∷ []) is.may (may, tt));
       records = is.records ++ folded.records;
-      fine = fine_then p max 1 is.told (bytes ∷ []) is.records folded.records is.fine (one_fine p max (1 + length is.records) bytes folded.records fine);
+      fine = fine_then p rules 1 is.told (bytes ∷ []) is.records folded.records is.fine (one_fine p rules (1 + length is.records) bytes folded.records fine);
       next_is = omega (arith, folded.next_is, is.next_is, length-append is.records folded.records);
       stands = folded.stands is.records is.stands;
     }
 
 -- The next number is at most by the file's size larger.
-pub number_few : (p : ScriptPlan) (max : ℕ) (holds : List ℕ → Option (List ℕ)) (names : List (List ℕ)) (k first next : ℕ) (old new : Pairs) (bytes : List ℕ)
-    → IsPassing p max holds names k first old → length bytes ≤ max → IsFolded p k first next (file_rows bytes) old new → next ≤ first + max
-number_few p max holds names k first next old new bytes is size folded =
-    let few = fine_few p max (1 + length is.records) bytes folded.records (next_fine p max k first next old new bytes is.records is.next_is size folded) in
+pub number_few : (p : ScriptPlan) (rules : FileRules) (holds : List ℕ → Option (List ℕ)) (names : List (List ℕ)) (k first next : ℕ) (old new : Pairs) (bytes : List ℕ)
+    → IsPassing p rules holds names k first old → length bytes ≤ rules.max_bytes → IsFolded p k first next (rows_by rules bytes) old new → next ≤ first + rules.max_bytes
+number_few p rules holds names k first next old new bytes is size folded =
+    let few = fine_few p rules (1 + length is.records) bytes folded.records (next_fine p rules k first next old new bytes is.records is.next_is size folded) in
     omega (arith, folded.next_is, few, size)
 
 -- ---- why a pass stops
-pub stops_at : (p : ScriptPlan) (max : ℕ) (holds : List ℕ → Option (List ℕ)) (names : List (List ℕ)) (k next : ℕ) (groups : Pairs) (name bytes : List ℕ) (why : PassErr)
-    → IsPassing p max holds names k next groups → slice_get names k ≡ Some name → May (holds name) bytes
-    → HasProblem p max k next bytes why → HasFirstProblem p max holds names why
-stops_at p max holds names k next groups name bytes why is at may problem =
-    let count = told_count p max holds names k next groups name is at in
+pub stops_at : (p : ScriptPlan) (rules : FileRules) (holds : List ℕ → Option (List ℕ)) (names : List (List ℕ)) (k next : ℕ) (groups : Pairs) (name bytes : List ℕ) (why : PassErr)
+    → IsPassing p rules holds names k next groups → slice_get names k ≡ Some name → May (holds name) bytes
+    → HasProblem p rules k next bytes why → HasFirstProblem p rules holds names why
+stops_at p rules holds names k next groups name bytes why is at may problem =
+    let count = told_count p rules holds names k next groups name is at in
     let as_file : k ≡ 0 + length is.told = omega (arith, count) in
-    let P : ℕ → Type 0 = λ n. HasProblem p max k n bytes why in
-    let Q : ℕ → Type 0 = λ n. FirstProblem p max n (1 + length is.records) (bytes ∷ some_files holds (drop (k + 1) names)) why in
+    let P : ℕ → Type 0 = λ n. HasProblem p rules k n bytes why in
+    let Q : ℕ → Type 0 = λ n. FirstProblem p rules n (1 + length is.records) (bytes ∷ some_files holds (drop (k + 1) names)) why in
     let R : List (List ℕ) → Type 0 = λ ns. MayAll holds ns (bytes ∷ some_files holds (drop (k + 1) names)) in
     let here = problems.here k (1 + length is.records) bytes (some_files holds (drop (k + 1) names)) why (subst P is.next_is problem) in
     record {
       files = is.told ++ bytes ∷ some_files holds (drop (k + 1) names);
       may = may_whole holds names is.told (bytes ∷ some_files holds (drop (k + 1) names)) k is.may
           (subst R (sym (drop_at names k name at)) (may, may_some holds (drop (k + 1) names)));
-      first = problem_then p max 0 1 is.told (bytes ∷ some_files holds (drop (k + 1) names)) is.records why is.fine (subst Q as_file here);
+      first = problem_then p rules 0 1 is.told (bytes ∷ some_files holds (drop (k + 1) names)) is.records why is.fine (subst Q as_file here);
     }
 
 -- More bytes than are allowed, which the file may hold.
@@ -200,13 +221,13 @@ larger max (Some bytes) h = (bytes, refl, h)
 rose_later : (a b c : ℕ) → a ≤ b → Rose b c → Rose a c
 rose_later a b c h rose = omega arith
 
-fails_at : (p : ScriptPlan) (max : ℕ) (holds : List ℕ → Option (List ℕ)) (names : List (List ℕ)) (before after : List ℕ → ℕ) (k next : ℕ) (groups : Pairs) (name : List ℕ)
-    → IsPassing p max holds names k next groups → slice_get names k ≡ Some name → Rose (before name) (after name)
-    → FailsAt p max holds names before after k
-fails_at p max holds names before after k next groups name is at rose =
-    let count = told_count p max holds names k next groups name is at in
+fails_at : (p : ScriptPlan) (rules : FileRules) (holds : List ℕ → Option (List ℕ)) (names : List (List ℕ)) (before after : List ℕ → ℕ) (k next : ℕ) (groups : Pairs) (name : List ℕ)
+    → IsPassing p rules holds names k next groups → slice_get names k ≡ Some name → Rose (before name) (after name)
+    → FailsAt p rules holds names before after k
+fails_at p rules holds names before after k next groups name is at rose =
+    let count = told_count p rules holds names k next groups name is at in
     let rest = some_files holds (drop k names) in
-    let P : List (List ℕ) → Type 0 = λ fs. AllFine p max 1 fs is.records in
+    let P : List (List ℕ) → Type 0 = λ fs. AllFine p rules 1 fs is.records in
     let front : take k (is.told ++ rest) ≡ is.told = ap (λ n. take n (is.told ++ rest)) (sym count) ∙ take-append_seam is.told rest in
     record {
       files = is.told ++ rest;
@@ -219,36 +240,36 @@ fails_at p max holds names before after k next groups name is at rose =
     }
 
 -- The file wasn't read.
-pub unread_stops : (p : ScriptPlan) (max : ℕ) (holds : List ℕ → Option (List ℕ)) (names : List (List ℕ)) (before now after : List ℕ → ℕ) (k next : ℕ) (groups : Pairs) (name : List ℕ) (why : PassErr)
-    → IsPassing p max holds names k next groups → slice_get names k ≡ Some name → before name ≤ now name
-    → IsUnread max k (holds name) (now name) (after name) why → StopsPass p max holds names before after why
-unread_stops p max holds names before now after k next groups name (pass_err.Read file) is at later unread =
-    let P : ℕ → Type 0 = λ n. FailsAt p max holds names before after n in
-    subst P (sym unread.0) (fails_at p max holds names before after k next groups name is at (rose_later (before name) (now name) (after name) later unread.1))
-unread_stops p max holds names before now after k next groups name (pass_err.TooLarge file) is at later unread =
-    let large = larger max (holds name) unread.1 in
-    let P : ℕ → Type 0 = λ n. HasFirstProblem p max holds names (pass_err.TooLarge n) in
-    subst P (sym unread.0) (stops_at p max holds names k next groups name large.0 (pass_err.TooLarge k) is at large.1 (files.too_large large.2))
-unread_stops p max holds names before now after k next groups name (pass_err.Head file fault) is at later unread = absurd unread
-unread_stops p max holds names before now after k next groups name (pass_err.Bad file bad) is at later unread = absurd unread
-unread_stops p max holds names before now after k next groups name pass_err.NoMemory is at later unread = tt
+pub unread_stops : (p : ScriptPlan) (rules : FileRules) (holds : List ℕ → Option (List ℕ)) (names : List (List ℕ)) (before now after : List ℕ → ℕ) (k next : ℕ) (groups : Pairs) (name : List ℕ) (why : PassErr)
+    → IsPassing p rules holds names k next groups → slice_get names k ≡ Some name → before name ≤ now name
+    → IsUnread rules.max_bytes k (holds name) (now name) (after name) why → StopsPass p rules holds names before after why
+unread_stops p rules holds names before now after k next groups name (pass_err.Read file) is at later unread =
+    let P : ℕ → Type 0 = λ n. FailsAt p rules holds names before after n in
+    subst P (sym unread.0) (fails_at p rules holds names before after k next groups name is at (rose_later (before name) (now name) (after name) later unread.1))
+unread_stops p rules holds names before now after k next groups name (pass_err.TooLarge file) is at later unread =
+    let large = larger rules.max_bytes (holds name) unread.1 in
+    let P : ℕ → Type 0 = λ n. HasFirstProblem p rules holds names (pass_err.TooLarge n) in
+    subst P (sym unread.0) (stops_at p rules holds names k next groups name large.0 (pass_err.TooLarge k) is at large.1 (files.too_large large.2))
+unread_stops p rules holds names before now after k next groups name (pass_err.Head file fault) is at later unread = absurd unread
+unread_stops p rules holds names before now after k next groups name (pass_err.Bad file bad) is at later unread = absurd unread
+unread_stops p rules holds names before now after k next groups name pass_err.NoMemory is at later unread = tt
 
 -- The file has a problem.
-pub unfolded_stops : (p : ScriptPlan) (max : ℕ) (holds : List ℕ → Option (List ℕ)) (names : List (List ℕ)) (before after : List ℕ → ℕ) (k next later : ℕ) (groups : Pairs) (name bytes : List ℕ) (why : PassErr)
-    → IsPassing p max holds names k next groups → slice_get names k ≡ Some name → May (holds name) bytes → length bytes ≤ max
-    → Folds p k next later (file_rows bytes) groups (Err why) → StopsPass p max holds names before after why
-unfolded_stops p max holds names before after k next later groups name bytes (pass_err.Read file) is at may size e = absurd e
-unfolded_stops p max holds names before after k next later groups name bytes (pass_err.TooLarge file) is at may size e = absurd e
-unfolded_stops p max holds names before after k next later groups name bytes (pass_err.Head file fault) is at may size e =
-    stops_at p max holds names k next groups name bytes (pass_err.Head file fault) is at may (file_problem p max k next bytes (pass_err.Head file fault) size e)
-unfolded_stops p max holds names before after k next later groups name bytes (pass_err.Bad file bad) is at may size e =
-    stops_at p max holds names k next groups name bytes (pass_err.Bad file bad) is at may (file_problem p max k next bytes (pass_err.Bad file bad) size e)
-unfolded_stops p max holds names before after k next later groups name bytes pass_err.NoMemory is at may size e = tt
+pub unfolded_stops : (p : ScriptPlan) (rules : FileRules) (holds : List ℕ → Option (List ℕ)) (names : List (List ℕ)) (before after : List ℕ → ℕ) (k next later : ℕ) (groups : Pairs) (name bytes : List ℕ) (why : PassErr)
+    → IsPassing p rules holds names k next groups → slice_get names k ≡ Some name → May (holds name) bytes → length bytes ≤ rules.max_bytes
+    → Folds p k next later (rows_by rules bytes) groups (Err why) → StopsPass p rules holds names before after why
+unfolded_stops p rules holds names before after k next later groups name bytes (pass_err.Read file) is at may size e = absurd e
+unfolded_stops p rules holds names before after k next later groups name bytes (pass_err.TooLarge file) is at may size e = absurd e
+unfolded_stops p rules holds names before after k next later groups name bytes (pass_err.Head file fault) is at may size e =
+    stops_at p rules holds names k next groups name bytes (pass_err.Head file fault) is at may (file_problem p rules k next bytes (pass_err.Head file fault) size e)
+unfolded_stops p rules holds names before after k next later groups name bytes (pass_err.Bad file bad) is at may size e =
+    stops_at p rules holds names k next groups name bytes (pass_err.Bad file bad) is at may (file_problem p rules k next bytes (pass_err.Bad file bad) size e)
+unfolded_stops p rules holds names before after k next later groups name bytes pass_err.NoMemory is at may size e = tt
 
 -- ---- all files
-pub pass_begins : (p : ScriptPlan) (max : ℕ) (holds : List ℕ → Option (List ℕ)) (names : List (List ℕ)) (next : ℕ) (groups : Pairs)
-    → groups ≡ [] → next ≡ 1 → IsPassing p max holds names 0 next groups
-pass_begins p max holds names next groups e n = record {
+pub pass_begins : (p : ScriptPlan) (rules : FileRules) (holds : List ℕ → Option (List ℕ)) (names : List (List ℕ)) (next : ℕ) (groups : Pairs)
+    → groups ≡ [] → next ≡ 1 → IsPassing p rules holds names 0 next groups
+pass_begins p rules holds names next groups e n = record {
   told = [];
   may = tt;
   records = [];
@@ -257,9 +278,9 @@ pass_begins p max holds names next groups e n = record {
   stands = e;
 }
 
-pub passed_all : (p : ScriptPlan) (max : ℕ) (holds : List ℕ → Option (List ℕ)) (names : List (List ℕ)) (k next : ℕ) (groups : Pairs)
-    → IsPassing p max holds names k next groups → take k names ≡ names → PassedAll p max holds names groups
-passed_all p max holds names k next groups is all =
+pub passed_all : (p : ScriptPlan) (rules : FileRules) (holds : List ℕ → Option (List ℕ)) (names : List (List ℕ)) (k next : ℕ) (groups : Pairs)
+    → IsPassing p rules holds names k next groups → take k names ≡ names → PassedAll p rules holds names groups
+passed_all p rules holds names k next groups is all =
     let P : List (List ℕ) → Type 0 = λ ns. MayAll holds ns is.told in
     record {
       files = is.told;

@@ -9,6 +9,7 @@ use Rattle.sym_check.specs.Groups.{pass}
 use Rattle.sym_check.specs.ScriptPlans.{ScriptPlan}
 use Rattle.sym_engine.specs.declared.error.PassErr.{PassErr}
 use Rattle.sym_engine.specs.declared.error.PassErr.TheVariants as pass_err
+use Rattle.sym_engine.specs.FileRecords.{FileRules}
 use Rattle.sym_engine.specs.FirstProblems.{AllFine, FirstProblem}
 
 -- The bytes of the file of each name, where a store tells them.
@@ -29,41 +30,42 @@ abbrev pub MayAll : Holds → List (List ℕ) → List (List ℕ) → Type 0
 MayAll holds names files = AllZip (λ name bytes. May (holds name) bytes) names files
 
 -- The groups are those of one sequential pass over the records of files that the names may hold.
-pub record PassedAll (p : ScriptPlan) (max : ℕ) (holds : Holds)
+pub record PassedAll (p : ScriptPlan) (rules : FileRules) (holds : Holds)
     (names : List (List ℕ)) (groups : List (Key × Outcome)) : Type 0 where
   pub files : List (List ℕ)
   pub may : MayAll holds names files
   pub records : List Record
-  pub fine : AllFine p max 1 files records
+  pub fine : AllFine p rules 1 files records
   pub stands : groups ≡ pass p records
 
 -- A read of the file with this number failed: a fault of its name was counted, and no file before
 -- it has a problem.
-pub record FailsAt (p : ScriptPlan) (max : ℕ) (holds : Holds)
+pub record FailsAt (p : ScriptPlan) (rules : FileRules) (holds : Holds)
     (names : List (List ℕ)) (before after : Counts) (file : ℕ) : Type 0 where
   pub files : List (List ℕ)
   pub may : MayAll holds names files
   pub records : List Record
-  pub fine : AllFine p max 1 (take file files) records
+  pub fine : AllFine p rules 1 (take file files) records
   pub name : List ℕ
   pub named : slice_get names file ≡ Some name
   pub rose : Rose (before name) (after name)
 
 -- The first problem of files that the names may hold.
-pub record HasFirstProblem (p : ScriptPlan) (max : ℕ) (holds : Holds)
+pub record HasFirstProblem (p : ScriptPlan) (rules : FileRules) (holds : Holds)
     (names : List (List ℕ)) (why : PassErr) : Type 0 where
   pub files : List (List ℕ)
   pub may : MayAll holds names files
-  pub first : FirstProblem p max 0 1 files why
+  pub first : FirstProblem p rules 0 1 files why
 
 -- Why a pass gives no groups. `before` and `after` count each name's faults.
-abbrev pub StopsPass : ScriptPlan → ℕ → Holds → List (List ℕ) → Counts → Counts → PassErr → Type 0
-StopsPass p max holds names before after (pass_err.Read file) =
-    FailsAt p max holds names before after file
-StopsPass p max holds names before after (pass_err.TooLarge file) =
-    HasFirstProblem p max holds names (pass_err.TooLarge file)
-StopsPass p max holds names before after (pass_err.Head file fault) =
-    HasFirstProblem p max holds names (pass_err.Head file fault)
-StopsPass p max holds names before after (pass_err.Bad file bad) =
-    HasFirstProblem p max holds names (pass_err.Bad file bad)
-StopsPass p max holds names before after pass_err.NoMemory = Unit {0}
+abbrev pub StopsPass : ScriptPlan → FileRules → Holds → List (List ℕ) → Counts → Counts
+    → PassErr → Type 0
+StopsPass p rules holds names before after (pass_err.Read file) =
+    FailsAt p rules holds names before after file
+StopsPass p rules holds names before after (pass_err.TooLarge file) =
+    HasFirstProblem p rules holds names (pass_err.TooLarge file)
+StopsPass p rules holds names before after (pass_err.Head file fault) =
+    HasFirstProblem p rules holds names (pass_err.Head file fault)
+StopsPass p rules holds names before after (pass_err.Bad file bad) =
+    HasFirstProblem p rules holds names (pass_err.Bad file bad)
+StopsPass p rules holds names before after pass_err.NoMemory = Unit {0}

@@ -3,15 +3,17 @@ ghost use Rattle.std.specs.Prelude.{◌≡◌, ◌↔◌, ℕ, List, Ok, Err};
 ghost use Rattle.sym_base.specs.declared.values.record.Record.{Record as OneRecord};
 ghost use Rattle.sym_check.specs.ScriptPlans.{ScriptPlan};
 ghost use Rattle.sym_engine.specs.declared.error.PassErr.{PassErr as Problem};
+ghost use Rattle.sym_engine.specs.FileRecords.{FileRules};
 ghost use Rattle.sym_engine.specs.FirstProblems.{AllFine, FirstProblem, records_in};
 
 /// The records of files, and their first problem, are what the function answers. So any files have
 /// one list of records or one first problem, and never both.
 pub fn files_have_records_or_a_problem()
-    ensures records { (p : ScriptPlan) (max file first : ℕ) (files : List (List ℕ))
+    ensures records { (p : ScriptPlan) (rules : FileRules) (file first : ℕ) (files : List (List ℕ))
         (records : List OneRecord) →
-        AllFine p max first files records ↔ (records_in p max file first files ≡ Ok records) }
-    ensures problem { (p : ScriptPlan) (max file first : ℕ) (files : List (List ℕ))
+        AllFine p rules first files records ↔ (records_in p rules file first files ≡ Ok records) }
+    ensures problem { (p : ScriptPlan) (rules : FileRules) (file first : ℕ) (files : List (List ℕ))
         (why : Problem) →
-        FirstProblem p max file first files why ↔ (records_in p max file first files ≡ Err why) }
+        FirstProblem p rules file first files why
+        ↔ (records_in p rules file first files ≡ Err why) }
 {}

@@ -3,6 +3,7 @@ ghost use Rattle.std.specs.Prelude.{◌≡◌, ◌≤◌, ℕ, List, IfOk, IfErr
 ghost use Rattle.std.specs.String.{string_bytes};
 ghost use Rattle.sym_base.specs.declared.limits.TheConstants as limit;
 ghost use Rattle.sym_check.specs.CheckedScripts.{checked_plan};
+ghost use Rattle.sym_engine.specs.FileRecords.{plain_rules};
 ghost use Rattle.sym_engine.specs.Folding.{IsUnread};
 ghost use Rattle.sym_engine.specs.Passing.{May, PassedAll, StopsPass};
 
@@ -63,12 +64,14 @@ pub fn pass<F: Store>(
     requires few { length names.now ≤ limit.FILES_MAX }
     ensures passed { let p = checked_plan checked.now in
         let names = map string_bytes names.now in
-        IfOk result (λ g. PassedAll p max_bytes (F.holds files.old) names g) }
+        let rules = plain_rules max_bytes in
+        IfOk result (λ g. PassedAll p rules (F.holds files.old) names g) }
     ensures stopped { let p = checked_plan checked.now in
         let names = map string_bytes names.now in
+        let rules = plain_rules max_bytes in
         let before = F.faults files.old in
         let after = F.faults files.new in
-        IfErr result (StopsPass p max_bytes (F.holds files.old) names before after) }
+        IfErr result (StopsPass p rules (F.holds files.old) names before after) }
     ensures same { F.holds files.new ≡ F.holds files.old }
     ensures later { (other : List ℕ) → F.faults files.old other ≤ F.faults files.new other }
 {
