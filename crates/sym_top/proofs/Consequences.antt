@@ -1,6 +1,5 @@
 -- What follows from what the top call says of each status.
-use Rattle.std.proofs.Common.{◌≡◌, ◌↔◌, ◌⊎◌, inl, inr, ℕ, Bool, true, false, if◌then◌else◌, List, [], ◌∷◌, map, Option, None, Some, slice_get, refl, sym, ap, subst, ◌∙◌}
-use Rattle.sym_base.specs.Counts.{Rose}
+use Rattle.std.proofs.Common.{◌≡◌, ◌⊎◌, inl, inr, ℕ, Bool, true, false, if◌then◌else◌, List, [], ◌∷◌, map, Option, None, Some, refl, sym, ap, subst, ◌∙◌}
 use Rattle.sym_check.specs.declared.elaborate.error.CheckErr.TheVariants as check_error
 use Rattle.sym_check.specs.declared.elaborate.error.CheckErr.{CheckErr}
 use Rattle.sym_engine.specs.declared.error.PassErr.{PassErr}
@@ -10,22 +9,22 @@ use Rattle.sym_lex.specs.declared.error.LexFault.{LexFault}
 use Rattle.sym_lex.specs.declared.error.LexFault.TheVariants as lex_fault
 use Rattle.sym_parse.specs.declared.error.ParseErr.{ParseErr}
 use Rattle.sym_parse.specs.declared.error.ParseErr.TheVariants as parse_error
-use Rattle.sym_report.specs.declared.rows.Heads.{Heads}
-use Rattle.sym_report.specs.declared.rows.Row.{Row}
 use Rattle.sym_report.specs.ReportRows.{some_faulty}
 use Rattle.sym_top.specs.declared.load.Failure.{Failure}
+use Rattle.sym_top.specs.declared.refusal.Place.{Place}
+use Rattle.sym_top.specs.declared.refusal.Place.TheVariants as place
 use Rattle.sym_top.specs.declared.refusal.Refusal.{Refusal}
 use Rattle.sym_top.specs.declared.refusal.Refusal.TheVariants as refusal
 use Rattle.sym_top.specs.declared.report.Report.{Report}
 use Rattle.sym_top.specs.declared.status.Status.{Status}
 use Rattle.sym_top.specs.declared.status.Status.TheVariants as status
-use Rattle.sym_top.specs.Commands.{Run, options}
-use Rattle.sym_top.specs.Ends.{End, Refused, Reported, Held, IsEnd, usage, no_program, problem, report, IsTextOf, status_of}
-use Rattle.sym_top.specs.EndReading.{run_end}
+use Rattle.sym_top.specs.Commands.{Names, name_at, names_of}
+use Rattle.sym_top.specs.Ends.{End, Refused, Reported, Held, IsEnd, usage, no_program, problem, report, IsWhole, status_of}
+use Rattle.sym_top.specs.EndReading.{command_end}
 use Rattle.sym_top.specs.Loading.{Ready, Stops, failure_line}
 use Rattle.sym_top.specs.Messages.{line_of}
-use Rattle.sym_top.specs.Programs.{IsNoProgram, too_large, unread, broken, headers_in}
-use Rattle.sym_top.specs.Promises.{Call, MayHold, TellsAll, Told, IsStop, at_end, script_unread, file_unread, no_memory, IsUntouched, WriteFails, failed, short, IsCause, stopped, cut, Refuses, Wrote, Answers, Unless, IsReported, IsRefused, MustReport}
+use Rattle.sym_top.specs.Programs.{IsNoProgram, too_large, unparsed, broken, headers_in}
+use Rattle.sym_top.specs.Promises.{Call, IsUsage, call_names, MayScript, MayHold, TellsScript, Told, ReadFailed, IsStop, at_end, script_unread, file_unread, no_memory, IsUntouched, WriteFails, failed, short, IsCause, stopped, cut, Refuses, Wrote, line_told, text_written, Answers, Unless, IsReported, IsRefused, IsUnwritten, MustReport}
 use Rattle.sym_top.specs.Refusals.{status_of_refusal, parse_refusal, check_refusal, pass_refusal}
 use Rattle.sym_top.specs.Telling.{Sunk, Has, Tells}
 use Rattle.sym_top.proofs.EndsFound.{found, one_end}
@@ -47,8 +46,9 @@ faulty-reported : (b : Bool) → IsReported (if b then status.Faulted else statu
 faulty-reported true = tt
 faulty-reported false = tt
 
-pub report-reported : (heads : Heads) (rows : List Row) → IsReported (status_of (Reported heads rows))
-report-reported heads rows = faulty-reported (some_faulty rows)
+pub whole-reported : (end : End) → IsWhole end → IsReported (status_of end)
+whole-reported (Refused why) whole = absurd whole
+whole-reported (Reported form heads rows) whole = faulty-reported (some_faulty rows)
 
 decided : (result : Status) → IsReported result ⊎ IsRefused result
 decided status.Done = inl tt
@@ -60,6 +60,17 @@ decided status.ReadFault = inr (λ h. h)
 decided status.WriteFault = inr (λ h. h)
 decided status.TooLarge = inr (λ h. h)
 decided status.NoMemory = inr (λ h. h)
+
+pub reported-written : (result : Status) → IsReported result → IsUnwritten result → ⊥
+reported-written status.Done reported unwritten = unwritten
+reported-written status.Faulted reported unwritten = unwritten
+reported-written status.Usage reported unwritten = reported
+reported-written status.Script reported unwritten = reported
+reported-written status.Input reported unwritten = reported
+reported-written status.ReadFault reported unwritten = reported
+reported-written status.WriteFault reported unwritten = reported
+reported-written status.TooLarge reported unwritten = reported
+reported-written status.NoMemory reported unwritten = reported
 
 unless : (result : Status) (P : Type 0) → P → Unless result P
 unless status.Done P p = p
@@ -75,7 +86,7 @@ unless status.NoMemory P p = tt
 -- ---- the exits
 
 pub stop-refuses : (call : Call) (out err : Sunk) (failure : Failure) (result : Status) → Stops call failure →
-    result ≡ status_of_refusal failure.why → IsUntouched out → Tells err (failure_line call.words failure) →
+    result ≡ status_of_refusal failure.why → IsUntouched out → Tells err (failure_line failure) →
     Refuses call out err result
 stop-refuses call out err failure result s status_is untouched told = record {
   held = s.held;
@@ -86,21 +97,21 @@ stop-refuses call out err failure result s status_is untouched told = record {
   line = subst (Tells err) s.line told;
 }
 
-cut-line : (words : List (List ℕ)) (headers : List (List ℕ)) (out : Sunk) (text : List ℕ) (why : Refusal) →
-    WriteFails out text why → line_of words [] why ≡ line_of words headers why
-cut-line words headers out text _ (failed prefix rose) = refl
-cut-line words headers out text _ (short prefix rose) = refl
+cut-line : (names others : Names) (headers : List (List ℕ)) (out : Sunk) (text : List ℕ) (why : Refusal) →
+    WriteFails out text why → line_of names [] why ≡ line_of others headers why
+cut-line names others headers out text _ (failed prefix rose) = refl
+cut-line names others headers out text _ (short prefix rose) = refl
 
-pub cut-refuses : (call : Call) (out err : Sunk) (made : Report) (why : Refusal) (result : Status) → Ready call made →
-    result ≡ status_of_refusal why → WriteFails out made.text.items why → Tells err (line_of call.words [] why) →
+pub cut-refuses : (call : Call) (names : Names) (out err : Sunk) (made : Report) (why : Refusal) (result : Status) → Ready call made →
+    result ≡ status_of_refusal why → WriteFails out made.text.items why → Tells err (line_of names [] why) →
     Refuses call out err result
-cut-refuses call out err made why result ready status_is fails told = record {
+cut-refuses call names out err made why result ready status_is fails told = record {
   held = ready.held;
   may = ready.may;
   why = why;
   status_is = status_is;
   cause = cut made.status made.text.items ready.has fails;
-  line = subst (Tells err) (cut-line call.words (headers_in ready.held.script) out made.text.items why fails) told;
+  line = subst (Tells err) (cut-line names (call_names call) (headers_in ready.held.script) out made.text.items why fails) told;
 }
 
 pub ready-writes : (call : Call) (out : Sunk) (made : Report) → Ready call made → Has out made.text.items →
@@ -115,7 +126,7 @@ ready-writes call out made ready has = record {
 
 pub ready-reported : (call : Call) (made : Report) → Ready call made → IsReported made.status
 ready-reported call made ready =
-    subst IsReported (sym ready.has.status_is) (report-reported ready.has.heads ready.has.rows)
+    subst IsReported (sym ready.has.status_is) (whole-reported ready.has.end ready.has.whole)
 
 -- What the call says of each status.
 pub record Says (call : Call) (out err : Sunk) (result : Status) : Type 0 where
@@ -143,38 +154,41 @@ files-told holds (name ∷ names) (a ∷ ones) (b ∷ bs) may e =
     let others : ones ≡ bs = files-told holds names ones bs may.1 rest in
     cc
 
-held-told : (holds : Holds) (o : Option Run) (held told : Held) → MayHold holds o held → TellsAll holds o told → held ≡ told
-held-told holds None held told may e = may ∙ sym e
-held-told holds (Some run) held told may e =
-    let script : held.script ≡ told.script = may-told (holds run.script) held.script told.script may.0 e.0 in
-    let files : held.files ≡ told.files = files-told holds run.files held.files told.files may.1 e.1 in
+script-told : (holds : Holds) (name : Option (List ℕ)) (text told : List ℕ) → MayScript holds name text →
+    TellsScript holds name told → text ≡ told
+script-told holds None text told may e = may ∙ sym e
+script-told holds (Some name) text told may e = may-told (holds name) text told may e
+
+held-told : (call : Call) (held told : Held) → MayHold call held → Told call told → held ≡ told
+held-told call held told may e =
+    let names = call_names call in
+    let script : held.script ≡ told.script = script-told call.holds names.script held.script told.script may.0 e.0 in
+    let files : held.files ≡ told.files = files-told call.holds names.files held.files told.files may.1 e.1 in
     let held_of : List ℕ → List (List ℕ) → Held = λ script files. record { script = script; files = files } in
     ap (λ s. held_of s held.files) script ∙ ap (λ fs. held_of told.script fs) files
 
 -- ---- the end that is expected
 
 module _ (call : Call) (out err : Sunk) (result : Status) where
-  wrote-expected : (held : Held) (end : End) (heads : Heads) (rows : List Row) (text : List ℕ) →
-      end ≡ Reported heads rows → result ≡ status_of (Reported heads rows) →
-      IsTextOf (Reported heads rows) text → Has out text → IsUntouched err →
+  wrote-expected : (held : Held) (end : End) (w : Wrote call out result) → w.report.end ≡ end → IsUntouched err →
       Answers call held end out err result
-  wrote-expected held end heads rows text same status_is text_is has quiet =
-      subst (λ e. Answers call held e out err result) (sym same)
-      (record { status_is = status_is; ends = ((text, text_is, has), quiet) })
+  wrote-expected held end w same quiet =
+      subst (λ e. Answers call held e out err result) same
+      (record { status_is = w.report.status_is; sinks = text_written w.report.end w.text w.report.whole w.report.text_is w.written quiet })
 
-  stop-expected : (held : Held) (end : End) (why : Refusal) → IsEnd call.words held end → IsStop call held why →
-      result ≡ status_of_refusal why → IsUntouched out → Tells err (line_of call.words (headers_in held.script) why) →
+  stop-expected : (held : Held) (end : End) (why : Refusal) → IsEnd call.asked held end → IsStop call held why →
+      result ≡ status_of_refusal why → IsUntouched out → Tells err (line_of (call_names call) (headers_in held.script) why) →
       Unless result (Answers call held end out err result)
   stop-expected held end _ is (at_end why stop) status_is untouched line =
-      let same : Refused why ≡ end = one_end call.words held (Refused why) end stop is in
+      let same : Refused why ≡ end = one_end call.asked held (Refused why) end stop is in
       unless result (Answers call held end out err result)
       (subst (λ e. Answers call held e out err result) same
-      (record { status_is = status_is; ends = (untouched, line) }))
-  stop-expected held end _ is (script_unread run asked rose) status_is untouched line =
+      (record { status_is = status_is; sinks = line_told why untouched line }))
+  stop-expected held end _ is (script_unread unread) status_is untouched line =
       subst (λ s. Unless s (Answers call held end out err result)) (sym status_is) tt
-  stop-expected held end _ is (file_unread run program records number name asked prog fine named rose) status_is untouched line =
+  stop-expected held end _ is (file_unread command program records number asked prog fine unread) status_is untouched line =
       subst (λ s. Unless s (Answers call held end out err result)) (sym status_is) tt
-  stop-expected held end _ is (no_memory run asked) status_is untouched line =
+  stop-expected held end _ is no_memory status_is untouched line =
       subst (λ s. Unless s (Answers call held end out err result)) (sym status_is) tt
 
   cut-expected : (P : Type 0) (text : List ℕ) (why : Refusal) → WriteFails out text why →
@@ -182,57 +196,51 @@ module _ (call : Call) (out err : Sunk) (result : Status) where
   cut-expected P text _ (failed prefix rose) status_is = subst (λ s. Unless s P) (sym status_is) tt
   cut-expected P text _ (short prefix rose) status_is = subst (λ s. Unless s P) (sym status_is) tt
 
-  cause-expected : (held : Held) (end : End) (why : Refusal) → IsEnd call.words held end → IsCause call held out why →
-      result ≡ status_of_refusal why → Tells err (line_of call.words (headers_in held.script) why) →
+  cause-expected : (held : Held) (end : End) (why : Refusal) → IsEnd call.asked held end → IsCause call held out why →
+      result ≡ status_of_refusal why → Tells err (line_of (call_names call) (headers_in held.script) why) →
       Unless result (Answers call held end out err result)
   cause-expected held end why is (stopped stop untouched) status_is line =
       stop-expected held end why is stop status_is untouched line
   cause-expected held end why is (cut s text has fails) status_is line =
       cut-expected (Answers call held end out err result) text why fails status_is
 
-  refused-expected : (held : Held) (end : End) → Told call held → IsEnd call.words held end → Refuses call out err result →
+  refused-expected : (held : Held) (end : End) → Told call held → IsEnd call.asked held end → Refuses call out err result →
       Unless result (Answers call held end out err result)
   refused-expected held end told is r =
-      let same : r.held ≡ held = held-told call.holds (options call.words) r.held held r.may told in
+      let same : r.held ≡ held = held-told call r.held held r.may told in
       subst (λ h. Unless result (Answers call h end out err result)) same
-      (cause-expected r.held end r.why (subst (λ h. IsEnd call.words h end) (sym same) is) r.cause r.status_is r.line)
+      (cause-expected r.held end r.why (subst (λ h. IsEnd call.asked h end) (sym same) is) r.cause r.status_is r.line)
 
-  reported-expected : (held : Held) (end : End) → Told call held → IsEnd call.words held end → Wrote call out result →
+  reported-expected : (held : Held) (end : End) → Told call held → IsEnd call.asked held end → Wrote call out result →
       IsUntouched err → Unless result (Answers call held end out err result)
   reported-expected held end told is w quiet =
-      let same : w.held ≡ held = held-told call.holds (options call.words) w.held held w.may told in
-      let there : IsEnd call.words held (Reported w.report.heads w.report.rows) =
-      subst (λ h. IsEnd call.words h (Reported w.report.heads w.report.rows)) same w.report.is_end in
-      let ends : end ≡ Reported w.report.heads w.report.rows = one_end call.words held end (Reported w.report.heads w.report.rows) is there in
+      let same : w.held ≡ held = held-told call w.held held w.may told in
+      let there : IsEnd call.asked held w.report.end = subst (λ h. IsEnd call.asked h w.report.end) same w.report.is_end in
       unless result (Answers call held end out err result)
-      (wrote-expected held end w.report.heads w.report.rows w.text ends w.report.status_is w.report.text_is w.written quiet)
+      (wrote-expected held end w (one_end call.asked held w.report.end end there is) quiet)
 
   expected-or : IsReported result ⊎ IsRefused result → Says call out err result → (held : Held) (end : End) → Told call held →
-      IsEnd call.words held end → Unless result (Answers call held end out err result)
+      IsEnd call.asked held end → Unless result (Answers call held end out err result)
   expected-or (inl done) says held end told is = reported-expected held end told is (says.reported done) (says.quiet done)
   expected-or (inr undone) says held end told is = refused-expected held end told is (says.refused undone)
 
   pub expected-by : Says call out err result → (held : Held) (end : End) → Told call held →
-      IsEnd call.words held end → Unless result (Answers call held end out err result)
+      IsEnd call.asked held end → Unless result (Answers call held end out err result)
   expected-by = expected-or (decided result)
 
-  -- ---- a run that must report
+  -- ---- a call that must write its text
 
-  same-run : (a b : Run) → options call.words ≡ Some a → options call.words ≡ Some b → a ≡ b
-  same-run a b e f = let g : Some a ≡ Some b = sym e ∙ f in cc
+  never-whole : (held : Held) (end : End) (why : Refusal) → IsEnd call.asked held end → IsWhole end →
+      IsEnd call.asked held (Refused why) → ⊥
+  never-whole held end why is whole stop = subst IsWhole (one_end call.asked held end (Refused why) is stop) whole
 
   stop-complete : (m : MustReport call out) (why : Refusal) → IsStop call m.held why → result ≡ status_of_refusal why →
       result ≡ status.NoMemory
-  stop-complete m _ (at_end why stop) status_is =
-      let same : Refused why ≡ Reported m.heads m.rows = one_end call.words m.held (Refused why) (Reported m.heads m.rows) stop m.is_end in
-      cc
-  stop-complete m _ (script_unread run asked rose) status_is =
-      let same : run ≡ m.run = same-run run m.run asked m.asked in
-      absurd (m.read.0 (subst (λ (r : Run). Rose (call.before r.script) (call.after r.script)) same rose))
-  stop-complete m _ (file_unread run program records number name asked prog fine named rose) status_is =
-      let same : run ≡ m.run = same-run run m.run asked m.asked in
-      absurd (m.read.1 number name (subst (λ (r : Run). slice_get r.files number ≡ Some name) same named) rose)
-  stop-complete m _ (no_memory run asked) status_is = status_is
+  stop-complete m _ (at_end why stop) status_is = absurd (never-whole m.held m.end why m.is_end m.whole stop)
+  stop-complete m _ (script_unread unread) status_is = absurd (m.read place.Script unread)
+  stop-complete m _ (file_unread command program records number asked prog fine unread) status_is =
+      absurd (m.read (place.File number) unread)
+  stop-complete m _ no_memory status_is = status_is
 
   cut-complete : (m : MustReport call out) (text : List ℕ) (why : Refusal) → WriteFails out text why →
       result ≡ status_of_refusal why → result ≡ status.NoMemory
@@ -247,44 +255,48 @@ module _ (call : Call) (out err : Sunk) (result : Status) where
   pub complete-by : Says call out err result → MustReport call out → IsRefused result → result ≡ status.NoMemory
   complete-by says m undone =
       let r = says.refused undone in
-      let same : r.held ≡ m.held = held-told call.holds (options call.words) r.held m.held r.may m.told in
+      let same : r.held ≡ m.held = held-told call r.held m.held r.may m.told in
       cause-complete m r.why (subst (λ h. IsCause call h out r.why) same r.cause) r.status_is
 
-  -- ---- words
+  -- ---- arguments of no command
 
-  asked-not : (run : Run) → options call.words ≡ Some run → options call.words ≡ None → ⊥
-  asked-not run e f = let g : Some run ≡ None = sym e ∙ f in cc
+  usage-end : (held : Held) (end : End) → IsUsage call → IsEnd call.asked held end → Refused refusal.Usage ≡ end
+  usage-end held end none is = sym (ap (λ o. command_end o held) none) ∙ found call.asked held end is
 
-  usage-end : (held : Held) (end : End) → options call.words ≡ None → IsEnd call.words held end → Refused refusal.Usage ≡ end
-  usage-end held end none is = sym (ap (λ o. run_end o held) none) ∙ found call.words held end is
+  usage-whole : {A : Type 0} (held : Held) (end : End) → IsUsage call → IsEnd call.asked held end → IsWhole end → A
+  usage-whole held end none is whole = absurd (subst IsWhole (sym (usage-end held end none is)) whole)
 
-  usage-stop : (held : Held) (why : Refusal) → options call.words ≡ None → IsStop call held why → result ≡ status_of_refusal why →
-      result ≡ status.Usage
+  unnamed : (at : Place) → IsUsage call → ReadFailed call at → ⊥
+  unnamed place.Script none unread =
+      let e : None ≡ Some unread.name = sym (ap (λ o. name_at (names_of o) place.Script) none) ∙ unread.named in cc
+  unnamed (place.File number) none unread =
+      let e : None ≡ Some unread.name = sym (ap (λ o. name_at (names_of o) (place.File number)) none) ∙ unread.named in cc
+
+  usage-stop : (held : Held) (why : Refusal) → IsUsage call → IsStop call held why → result ≡ status_of_refusal why →
+      (result ≡ status.Usage) ⊎ (result ≡ status.NoMemory)
   usage-stop held _ none (at_end why stop) status_is =
       let same : Refused refusal.Usage ≡ Refused why = usage-end held (Refused why) none stop in
       let cause : why ≡ refusal.Usage = cc in
-      status_is ∙ ap status_of_refusal cause
-  usage-stop held _ none (script_unread run asked rose) status_is = absurd (asked-not run asked none)
-  usage-stop held _ none (file_unread run program records number name asked prog fine named rose) status_is =
-      absurd (asked-not run asked none)
-  usage-stop held _ none (no_memory run asked) status_is = absurd (asked-not run asked none)
+      inl (status_is ∙ ap status_of_refusal cause)
+  usage-stop held _ none (script_unread unread) status_is = absurd (unnamed place.Script none unread)
+  usage-stop held _ none (file_unread command program records number asked prog fine unread) status_is =
+      absurd (unnamed (place.File number) none unread)
+  usage-stop held _ none no_memory status_is = inr status_is
 
-  none-reported : {A : Type 0} (held : Held) (heads : Heads) (rows : List Row) → options call.words ≡ None →
-      IsEnd call.words held (Reported heads rows) → A
-  none-reported held heads rows none is =
-      let same : Refused refusal.Usage ≡ Reported heads rows = usage-end held (Reported heads rows) none is in
-      absurd (cc)
-
-  usage-cause : (held : Held) (why : Refusal) → options call.words ≡ None → IsCause call held out why →
-      result ≡ status_of_refusal why → result ≡ status.Usage
+  usage-cause : (held : Held) (why : Refusal) → IsUsage call → IsCause call held out why →
+      result ≡ status_of_refusal why → (result ≡ status.Usage) ⊎ (result ≡ status.NoMemory)
   usage-cause held why none (stopped stop untouched) status_is = usage-stop held why none stop status_is
-  usage-cause held why none (cut s text has fails) status_is = none-reported held has.heads has.rows none has.is_end
+  usage-cause held why none (cut s text has fails) status_is = usage-whole held has.end none has.is_end has.whole
 
-  none-usage : IsReported result ⊎ IsRefused result → Says call out err result → options call.words ≡ None → result ≡ status.Usage
+  none-usage : IsReported result ⊎ IsRefused result → Says call out err result → IsUsage call →
+      (result ≡ status.Usage) ⊎ (result ≡ status.NoMemory)
   none-usage (inl done) says none =
-      let w = says.reported done in none-reported w.held w.report.heads w.report.rows none w.report.is_end
+      let w = says.reported done in usage-whole w.held w.report.end none w.report.is_end w.report.whole
   none-usage (inr undone) says none =
       let r = says.refused undone in usage-cause r.held r.why none r.cause r.status_is
+
+  pub no-command-by : Says call out err result → IsUsage call → (result ≡ status.Usage) ⊎ (result ≡ status.NoMemory)
+  no-command-by = none-usage (decided result)
 
   fault-words : (b : Bool) → (if b then status.Faulted else status.Done) ≡ status.Usage → ⊥
   fault-words true e = cc
@@ -320,34 +332,31 @@ module _ (call : Call) (out err : Sunk) (result : Status) where
 
   program-words : (text : List ℕ) (why : Refusal) → IsNoProgram text why → status_of_refusal why ≡ status.Usage → ⊥
   program-words text _ (too_large large) e = cc
-  program-words text _ (unread why small is) e = parse-words why e
+  program-words text _ (unparsed why small is) e = parse-words why e
   program-words text _ (broken tree why small is breaks) e = check-words why e
 
-  end-words : (held : Held) (end : End) → IsEnd call.words held end → status_of end ≡ status.Usage → options call.words ≡ None
-  end-words held _ (usage asked) e = asked
-  end-words held _ (no_program run why asked is) e = absurd (program-words held.script why is e)
-  end-words held _ (problem run program why asked is first) e = absurd (pass-words why e)
-  end-words held _ (report run program records asked is fine) e = absurd (fault-words _ e)
+  end-words : (held : Held) (end : End) → IsEnd call.asked held end → status_of end ≡ status.Usage → IsUsage call
+  end-words held _ (usage none) e = none
+  end-words held _ (no_program command why asked is) e = absurd (program-words held.script why is e)
+  end-words held _ (problem command program why asked is first) e = absurd (pass-words why e)
+  end-words held _ (report command program records asked is fine) e = absurd (fault-words _ e)
 
-  stop-words : (held : Held) (why : Refusal) → IsStop call held why → status_of_refusal why ≡ status.Usage → options call.words ≡ None
+  stop-words : (held : Held) (why : Refusal) → IsStop call held why → status_of_refusal why ≡ status.Usage → IsUsage call
   stop-words held _ (at_end why stop) e = end-words held (Refused why) stop e
-  stop-words held _ (script_unread run asked rose) e = cc
-  stop-words held _ (file_unread run program records number name asked prog fine named rose) e = cc
-  stop-words held _ (no_memory run asked) e = cc
+  stop-words held _ (script_unread unread) e = cc
+  stop-words held _ (file_unread command program records number asked prog fine unread) e = cc
+  stop-words held _ no_memory e = cc
 
   cut-words : (text : List ℕ) (why : Refusal) → WriteFails out text why → status_of_refusal why ≡ status.Usage → ⊥
   cut-words text _ (failed prefix rose) e = cc
   cut-words text _ (short prefix rose) e = cc
 
-  cause-words : (held : Held) (why : Refusal) → IsCause call held out why → status_of_refusal why ≡ status.Usage → options call.words ≡ None
+  cause-words : (held : Held) (why : Refusal) → IsCause call held out why → status_of_refusal why ≡ status.Usage → IsUsage call
   cause-words held why (stopped stop untouched) e = stop-words held why stop e
   cause-words held why (cut s text has fails) e = absurd (cut-words text why fails e)
 
-  usage-words : Refuses call out err result → result ≡ status.Usage → options call.words ≡ None
+  usage-words : Refuses call out err result → result ≡ status.Usage → IsUsage call
   usage-words r e = cause-words r.held r.why r.cause (sym r.status_is ∙ e)
 
-  usage-refused : result ≡ status.Usage → IsRefused result
-  usage-refused e = subst IsRefused (sym e) (λ h. h)
-
-  pub usage-by : Says call out err result → (result ≡ status.Usage) ↔ (options call.words ≡ None)
-  usage-by says = (λ e. usage-words (says.refused (usage-refused e)) e, none-usage (decided result) says)
+  pub usage-by : Says call out err result → result ≡ status.Usage → IsUsage call
+  usage-by says e = usage-words (says.refused (subst IsRefused (sym e) (λ h. h))) e

@@ -5,54 +5,54 @@ use Rattle.sym_engine.specs.declared.error.PassErr.{PassErr}
 use Rattle.sym_engine.specs.FirstProblems.{records_in}
 use Rattle.sym_engine.proofs.FilesAgree.{files_records, files_problem}
 use Rattle.sym_top.specs.declared.refusal.Refusal.{Refusal}
-use Rattle.sym_top.specs.Commands.{Run, options}
-use Rattle.sym_top.specs.Ends.{End, Held, IsEnd, usage, no_program, problem, report, file_max_default}
-use Rattle.sym_top.specs.EndReading.{files_end, program_end, run_end, end_of}
+use Rattle.sym_top.specs.Commands.{Asked, Command, command_of, file_rules}
+use Rattle.sym_top.specs.Ends.{End, Held, IsEnd, usage, no_program, problem, report}
+use Rattle.sym_top.specs.EndReading.{files_end, program_end, command_end, end_of}
 use Rattle.sym_top.specs.Programs.{Program, IsProgram, program_in}
 use Rattle.sym_top.proofs.ProgramsFound.{program-found, none-found, Reading, reading}
 
-pub found : (words : List (List ℕ)) (held : Held) (end : End) → IsEnd words held end → end_of words held ≡ end
-found words held _ (usage asked) = ap (λ o. run_end o held) asked
-found words held _ (no_program run why asked is) =
-    ap (λ o. run_end o held) asked
-    ∙ ap (λ r. program_end r held.files) (none-found held.script why is)
-found words held _ (problem run program why asked is first) =
-    ap (λ o. run_end o held) asked
-    ∙ ap (λ r. program_end r held.files) (program-found held.script program is)
-    ∙ ap (files_end program) ((files_problem program.plan file_max_default 0 1 held.files why).0 first)
-found words held _ (report run program records asked is fine) =
-    ap (λ o. run_end o held) asked
-    ∙ ap (λ r. program_end r held.files) (program-found held.script program is)
-    ∙ ap (files_end program) ((files_records program.plan file_max_default 0 1 held.files records).0 fine)
+pub found : (asked : Asked) (held : Held) (end : End) → IsEnd asked held end → end_of asked held ≡ end
+found asked held _ (usage none) = ap (λ o. command_end o held) none
+found asked held _ (no_program command why some is) =
+    ap (λ o. command_end o held) some
+    ∙ ap (λ r. program_end command r held.files) (none-found held.script why is)
+found asked held _ (problem command program why some is first) =
+    ap (λ o. command_end o held) some
+    ∙ ap (λ r. program_end command r held.files) (program-found held.script program is)
+    ∙ ap (files_end program) ((files_problem program.plan (file_rules command) 0 1 held.files why).0 first)
+found asked held _ (report command program records some is fine) =
+    ap (λ o. command_end o held) some
+    ∙ ap (λ r. program_end command r held.files) (program-found held.script program is)
+    ∙ ap (files_end program) ((files_records program.plan (file_rules command) 0 1 held.files records).0 fine)
 
-files-is : (words : List (List ℕ)) (held : Held) (run : Run) (program : Program) →
-    options words ≡ Some run → IsProgram held.script program → (r : Result (List Record) PassErr) →
-    records_in program.plan file_max_default 0 1 held.files ≡ r → IsEnd words held (files_end program r)
-files-is words held run program asked is (Ok records) e =
-    report run program records asked is
-    ((files_records program.plan file_max_default 0 1 held.files records).1 e)
-files-is words held run program asked is (Err why) e =
-    problem run program why asked is
-    ((files_problem program.plan file_max_default 0 1 held.files why).1 e)
+files-is : (asked : Asked) (held : Held) (command : Command) (program : Program) →
+    command_of asked ≡ Some command → IsProgram held.script program → (r : Result (List Record) PassErr) →
+    records_in program.plan (file_rules command) 0 1 held.files ≡ r → IsEnd asked held (files_end program r)
+files-is asked held command program some is (Ok records) e =
+    report command program records some is
+    ((files_records program.plan (file_rules command) 0 1 held.files records).1 e)
+files-is asked held command program some is (Err why) e =
+    problem command program why some is
+    ((files_problem program.plan (file_rules command) 0 1 held.files why).1 e)
 
-program-is : (words : List (List ℕ)) (held : Held) (run : Run) → options words ≡ Some run →
-    (r : Result Program Refusal) → Reading held.script r → IsEnd words held (program_end r held.files)
-program-is words held run asked (Ok program) is =
-    files-is words held run program asked is (records_in program.plan file_max_default 0 1 held.files) refl
-program-is words held run asked (Err why) is = no_program run why asked is
+program-is : (asked : Asked) (held : Held) (command : Command) → command_of asked ≡ Some command →
+    (r : Result Program Refusal) → Reading held.script r → IsEnd asked held (program_end command r held.files)
+program-is asked held command some (Ok program) is =
+    files-is asked held command program some is (records_in program.plan (file_rules command) 0 1 held.files) refl
+program-is asked held command some (Err why) is = no_program command why some is
 
-run-is : (words : List (List ℕ)) (held : Held) (o : Option Run) → options words ≡ o → IsEnd words held (run_end o held)
-run-is words held None asked = usage asked
-run-is words held (Some run) asked =
-    program-is words held run asked (program_in held.script) (reading held.script)
+command-is : (asked : Asked) (held : Held) (o : Option Command) → command_of asked ≡ o → IsEnd asked held (command_end o held)
+command-is asked held None e = usage e
+command-is asked held (Some command) e =
+    program-is asked held command e (program_in held.script) (reading held.script)
 
--- Every run has an end.
-pub is_end : (words : List (List ℕ)) (held : Held) → IsEnd words held (end_of words held)
-is_end words held = run-is words held (options words) refl
+-- Every call has an end.
+pub is_end : (asked : Asked) (held : Held) → IsEnd asked held (end_of asked held)
+is_end asked held = command-is asked held (command_of asked) refl
 
-pub agree : (words : List (List ℕ)) (held : Held) (end : End) → IsEnd words held end ↔ (end_of words held ≡ end)
-agree words held end = (found words held end, λ e. subst (IsEnd words held) e (is_end words held))
+pub agree : (asked : Asked) (held : Held) (end : End) → IsEnd asked held end ↔ (end_of asked held ≡ end)
+agree asked held end = (found asked held end, λ e. subst (IsEnd asked held) e (is_end asked held))
 
 -- And just one.
-pub one_end : (words : List (List ℕ)) (held : Held) (end other : End) → IsEnd words held end → IsEnd words held other → end ≡ other
-one_end words held end other is also = sym (found words held end is) ∙ found words held other also
+pub one_end : (asked : Asked) (held : Held) (end other : End) → IsEnd asked held end → IsEnd asked held other → end ≡ other
+one_end asked held end other is also = sym (found asked held end is) ∙ found asked held other also

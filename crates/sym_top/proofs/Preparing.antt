@@ -1,7 +1,8 @@
 -- What each exit before the writing of a report says of the run.
-use Rattle.std.proofs.Common.{◌≡◌, ◌≢◌, ℕ, ◌+◌, ◌<◌, ◌≤◌, inl, inr, List, [], ◌∷◌, map, length, replicate, Option, None, Some, Result, Ok, Err, IfOk, IfErr, IfSome, if◌then◌else◌, refl, sym, ap, subst, ◌∙◌, arith}
+use Rattle.std.proofs.Common.{◌≡◌, ◌≢◌, ℕ, ◌+◌, ◌<◌, ◌≤◌, inl, inr, List, [], ◌∷◌, map, length, replicate, Option, None, Some, Result, Ok, Err, IfOk, IfErr, IfSome, slice_get, if◌then◌else◌, refl, sym, ap, subst, ◌∙◌, arith}
 use Rattle.std.proofs.lemmas.List.{length-replicate}
 use Rattle.sym_base.specs.Counts.{Rose}
+use Rattle.sym_base.specs.declared.limits.TheConstants as limit
 use Rattle.sym_base.specs.Trees.{ScriptTree}
 use Rattle.sym_base.specs.declared.edge.read.ReadErr.{ReadErr}
 use Rattle.sym_base.specs.declared.edge.read.ReadErr.TheVariants as read_error
@@ -19,39 +20,42 @@ use Rattle.sym_check.specs.declared.elaborate.error.CheckErr.{CheckErr}
 use Rattle.sym_check.specs.declared.elaborate.error.CheckErr.TheVariants as check_error
 use Rattle.sym_engine.specs.declared.error.PassErr.{PassErr}
 use Rattle.sym_engine.specs.declared.error.PassErr.TheVariants as pass_error
-use Rattle.sym_engine.specs.Passing.{Holds, Counts, May, MayAll, PassedAll, StopsPass}
+use Rattle.sym_engine.specs.FileRecords.{FileRules}
+use Rattle.sym_engine.specs.Passing.{Holds, Counts, May, MayAll, PassedAll, HasFirstProblem, StopsPass}
 use Rattle.sym_report.specs.ReportRows.{heads_of, row_of, some_faulty}
-use Rattle.sym_report.specs.Tables.{table_text}
+use Rattle.sym_report.specs.Tables.{table_form, table_text}
 use Rattle.sym_top.specs.declared.refusal.Place.TheVariants as place
 use Rattle.sym_top.specs.declared.refusal.Refusal.{Refusal}
 use Rattle.sym_top.specs.declared.refusal.Refusal.TheVariants as refusal
 use Rattle.sym_top.specs.declared.report.Report.{Report}
 use Rattle.sym_top.specs.declared.status.Status.TheVariants as status
-use Rattle.sym_top.specs.Commands.{Run, options}
-use Rattle.sym_top.specs.Ends.{Held, IsTextOf, table, usage, no_program, problem, report, file_max_default, report_of}
+use Rattle.sym_top.specs.declared.commands.Command.{Command as CommandRead}
+use Rattle.sym_top.specs.Commands.{Names, command_of, file_rules, name_at, names_of}
+use Rattle.sym_top.specs.Ends.{Held, IsTextOf, report_in, usage, no_program, problem, report, report_of}
 use Rattle.sym_top.specs.Loading.{MayRefuse, Loads, Unloads, refused, unread, no_memory, Reports, StopsFiles, stops, Ready, Stops}
-use Rattle.sym_top.specs.Messages.{line_of}
-use Rattle.sym_top.specs.Programs.{Program, IsProgram, IsNoProgram, checked_program, program_headers, script_max}
+use Rattle.sym_top.specs.Messages.{headers_of, line_of}
+use Rattle.sym_top.specs.Programs.{Program, IsProgram, IsNoProgram, checked_program, program_headers}
 use Rattle.sym_top.specs.Programs as programs
-use Rattle.sym_top.specs.Promises.{Call, MayHold, IsStop, WriteFails, no_files}
+use Rattle.sym_top.specs.Promises.{Call, MayHold, MayScript, ReadFailed, IsStop, WriteFails, call_names}
 use Rattle.sym_top.specs.Promises as promise
 use Rattle.sym_top.specs.Refusals.{parse_refusal, check_refusal, read_refusal, pass_refusal, write_refusal}
+use Rattle.sym_top.specs.Words.{command_seen}
 use Rattle.sym_top.specs.Telling.{Sunk, HasPrefix, Failed, Short}
-use Rattle.sym_top.proofs.ProgramsFound.{parsed-unread, program-found, none-found}
+use Rattle.sym_top.proofs.ProgramsFound.{parsed-unparsed, program-found, none-found}
 
 -- ---- the script
 
-pub unparsed-refuses : (text : List ℕ) (why : ParseErr) → length text ≤ script_max →
+pub unparsed-refuses : (text : List ℕ) (why : ParseErr) → length text ≤ limit.SCRIPT_MAX →
     (why ≢ parse_error.NoMemory → parsed text ≡ Err why) → MayRefuse text (parse_refusal why)
 unparsed-refuses text (parse_error.Lex fault) small g =
-    inr (programs.unread (parse_error.Lex fault) small (parsed-unread text (parse_error.Lex fault) (g (λ h. cc))))
+    inr (programs.unparsed (parse_error.Lex fault) small (parsed-unparsed text (parse_error.Lex fault) (g (λ h. cc))))
 unparsed-refuses text (parse_error.Expected at) small g =
-    inr (programs.unread (parse_error.Expected at) small (parsed-unread text (parse_error.Expected at) (g (λ h. cc))))
+    inr (programs.unparsed (parse_error.Expected at) small (parsed-unparsed text (parse_error.Expected at) (g (λ h. cc))))
 unparsed-refuses text (parse_error.Limit at which) small g =
-    inr (programs.unread (parse_error.Limit at which) small (parsed-unread text (parse_error.Limit at which) (g (λ h. cc))))
+    inr (programs.unparsed (parse_error.Limit at which) small (parsed-unparsed text (parse_error.Limit at which) (g (λ h. cc))))
 unparsed-refuses text parse_error.NoMemory small g = inl refl
 
-pub broken-refuses : (text : List ℕ) (tree : ScriptTree) (why : CheckErr) → length text ≤ script_max →
+pub broken-refuses : (text : List ℕ) (tree : ScriptTree) (why : CheckErr) → length text ≤ limit.SCRIPT_MAX →
     IsScriptOf text tree → (why ≢ check_error.NoMemory → BreaksScript tree why) → MayRefuse text (check_refusal why)
 broken-refuses text tree (check_error.Name at) small is g =
     inr (programs.broken tree (check_error.Name at) small is (g (λ h. cc)))
@@ -71,15 +75,15 @@ zeros : (n : ℕ) → (bytes : List ℕ) × (length bytes ≡ n)
 zeros n = (replicate n 0, length-replicate n 0)
 
 large-unloads : (told : Option (List ℕ)) (before after : ℕ) →
-    IfSome told (λ bytes. script_max < length bytes) → Unloads told before after (refusal.TooLarge place.Script)
+    IfSome told (λ bytes. limit.SCRIPT_MAX < length bytes) → Unloads told before after (refusal.TooLarge place.Script)
 large-unloads None before after h =
-    let z = zeros (script_max + 1) in
+    let z = zeros (limit.SCRIPT_MAX + 1) in
     refused z.0 (refusal.TooLarge place.Script) tt (programs.too_large (omega (arith, z.1)))
 large-unloads (Some bytes) before after h =
     refused bytes (refusal.TooLarge place.Script) refl (programs.too_large h)
 
 pub unread-unloads : (told : Option (List ℕ)) (before after : ℕ) (why : ReadErr) →
-    (why ≡ read_error.TooLarge → IfSome told (λ bytes. script_max < length bytes)) →
+    (why ≡ read_error.TooLarge → IfSome told (λ bytes. limit.SCRIPT_MAX < length bytes)) →
     (why ≡ read_error.Failed → Rose before after) → Unloads told before after (read_refusal place.Script why)
 unread-unloads told before after read_error.Failed large failed = unread (failed refl)
 unread-unloads told before after read_error.TooLarge large failed = large-unloads told before after (large refl)
@@ -102,12 +106,12 @@ unloads-by told before after text (Err why) may (inr is) = refused text why may 
 
 -- ---- the files
 
-pub reports-by : (program : Program) (holds : Holds) (names : List (List ℕ)) (groups : List (Key × Outcome)) (made : Report) →
-    PassedAll program.plan file_max_default holds names groups →
+pub reports-by : (program : Program) (rules : FileRules) (holds : Holds) (names : List (List ℕ)) (groups : List (Key × Outcome)) (made : Report) →
+    PassedAll program.plan rules holds names groups →
     made.text.items ≡ table_text (heads_of program.tree program.plan) (map (row_of program.tree program.plan) groups) →
     made.status ≡ (if some_faulty (map (row_of program.tree program.plan) groups) then status.Faulted else status.Done) →
-    Reports program holds names made
-reports-by program holds names groups made passed text_is status_is =
+    Reports program rules holds names made
+reports-by program rules holds names groups made passed text_is status_is =
     let row = row_of program.tree program.plan in
     let heads = heads_of program.tree program.plan in
     record {
@@ -117,7 +121,7 @@ reports-by program holds names groups made passed text_is status_is =
       fine = passed.fine;
       status_is = status_is ∙ ap (λ gs. if some_faulty (map row gs) then status.Faulted else status.Done) passed.stands;
       text_is = subst (IsTextOf (report_of program passed.records)) (sym (text_is ∙ ap (λ gs. table_text heads (map row gs)) passed.stands))
-          (table heads (map row (pass program.plan passed.records)));
+          (report_in table_form heads (map row (pass program.plan passed.records)));
     }
 
 -- ---- all of it
@@ -134,109 +138,140 @@ some-files holds (name ∷ names) =
     let rest = some-files holds names in
     (first.0 ∷ rest.0, (first.1, rest.1))
 
-may-by : (holds : Holds) (o : Option Run) (run : Run) (held : Held) → o ≡ Some run →
-    May (holds run.script) held.script → MayAll holds run.files held.files → MayHold holds o held
-may-by holds o run held asked script files = subst (λ o. MayHold holds o held) (sym asked) (script, files)
-
-pub usage-stops : (call : Call) → options call.words ≡ None → Stops call (record { why = refusal.Usage; checked = None })
-usage-stops call asked = record {
-  held = no_files;
-  may = subst (λ o. MayHold call.holds o no_files) (sym asked) refl;
-  stop = promise.at_end refusal.Usage (usage asked);
-  line = refl;
-}
-
-pub load-stops : (call : Call) (run : Run) (why : Refusal) → options call.words ≡ Some run →
-    Unloads (call.holds run.script) (call.before run.script) (call.after run.script) why →
-    Stops call (record { why = why; checked = None })
-load-stops call run _ asked (refused text why may is) =
-    let others = some-files call.holds run.files in
-    let held : Held = record { script = text; files = others.0 } in
-    record {
-      held = held;
-      may = may-by call.holds (options call.words) run held asked may others.1;
-      stop = promise.at_end why (no_program run why asked is);
-      line = ap (λ r. line_of call.words (program_headers r) why) (sym (none-found text why is));
-    }
-load-stops call run _ asked (unread rose) =
-    let text = some-bytes (call.holds run.script) in
-    let others = some-files call.holds run.files in
-    let held : Held = record { script = text.0; files = others.0 } in
-    record {
-      held = held;
-      may = may-by call.holds (options call.words) run held asked text.1 others.1;
-      stop = promise.script_unread run asked rose;
-      line = refl;
-    }
-load-stops call run _ asked no_memory =
-    let text = some-bytes (call.holds run.script) in
-    let others = some-files call.holds run.files in
-    let held : Held = record { script = text.0; files = others.0 } in
-    record {
-      held = held;
-      may = may-by call.holds (options call.words) run held asked text.1 others.1;
-      stop = promise.no_memory run asked;
-      line = refl;
-    }
-
-pub ready-by : (call : Call) (run : Run) (program : Program) (made : Report) → options call.words ≡ Some run →
-    Loads (call.holds run.script) program → Reports program call.holds run.files made → Ready call made
-ready-by call run program made asked loads reports =
-    let held : Held = record { script = loads.text; files = reports.files } in
-    record {
-      held = held;
-      may = may-by call.holds (options call.words) run held asked loads.may reports.may;
-      has = record {
-        heads = heads_of program.tree program.plan;
-        rows = map (row_of program.tree program.plan) (pass program.plan reports.records);
-        is_end = report run program reports.records asked loads.is_program reports.fine;
-        status_is = reports.status_is;
-        text_is = reports.text_is;
-      };
-    }
-
 -- Why a text isn't written whole.
 pub fails-by : (out : Sunk) (text : List ℕ) (why : SinkErr) → HasPrefix out text → (why ≡ sink_error.Failed → Failed out) →
     (why ≡ sink_error.NoMemory → Short out) → WriteFails out text (write_refusal why)
 fails-by out text sink_error.Failed prefix bad full = promise.failed prefix (bad refl)
 fails-by out text sink_error.NoMemory prefix bad full = promise.short prefix (full refl)
 
-module _ (call : Call) (run : Run) (checked : Checked) (middle : Counts) (asked : options call.words ≡ Some run)
-    (lower : (name : List ℕ) → call.before name ≤ middle name) (loads : Loads (call.holds run.script) (checked_program checked)) where
-  known : (why : Refusal) (files : List (List ℕ)) → MayAll call.holds run.files files →
-      IsStop call (record { script = loads.text; files = files }) why → Stops call (record { why = why; checked = Some checked })
+-- A call that asks for no command.
+pub usage-stops : (call : Call) → command_of call.asked ≡ None → Stops call (record { why = refusal.Usage; command = None; checked = None })
+usage-stops call asked =
+    let P : Names → Type 0 = λ names. MayScript call.holds names.script [] × MayAll call.holds names.files [] in
+    record {
+      held = record { script = []; files = [] };
+      may = subst P (sym (ap names_of asked)) (refl, tt);
+      stop = promise.at_end refusal.Usage (usage asked);
+      line = refl;
+    }
+
+-- A call that asks for this command.
+module _ (call : Call) (read : CommandRead) (asked : command_of call.asked ≡ Some (command_seen read)) where
+  names-known : call_names call ≡ names_of (Some (command_seen read))
+  names-known = ap names_of asked
+
+  may-by : (held : Held) → May (call.holds (command_seen read).script) held.script → MayAll call.holds (command_seen read).files held.files →
+      MayHold call held
+  may-by held script files =
+      let P : Names → Type 0 = λ names. MayScript call.holds names.script held.script × MayAll call.holds names.files held.files in
+      subst P (sym names-known) (script, files)
+
+  script-failed : Rose (call.before (command_seen read).script) (call.after (command_seen read).script) → ReadFailed call place.Script
+  script-failed rose = record {
+    name = (command_seen read).script;
+    named = ap (λ (names : Names). name_at names place.Script) names-known;
+    rose = rose;
+  }
+
+  file-failed : (number : ℕ) (name : List ℕ) → slice_get (command_seen read).files number ≡ Some name → Rose (call.before name) (call.after name) →
+      ReadFailed call (place.File number)
+  file-failed number name named rose = record {
+    name = name;
+    named = ap (λ (names : Names). name_at names (place.File number)) names-known ∙ named;
+    rose = rose;
+  }
+
+  named-line : (headers : List (List ℕ)) (why : Refusal) → line_of (names_of (Some (command_seen read))) headers why ≡ line_of (call_names call) headers why
+  named-line headers why = ap (λ names. line_of names headers why) (sym names-known)
+
+  pub load-stops : (why : Refusal) → Unloads (call.holds (command_seen read).script) (call.before (command_seen read).script) (call.after (command_seen read).script) why →
+      Stops call (record { why = why; command = Some read; checked = None })
+  load-stops _ (refused text why may is) =
+      let others = some-files call.holds (command_seen read).files in
+      let held : Held = record { script = text; files = others.0 } in
+      record {
+        held = held;
+        may = may-by held may others.1;
+        stop = promise.at_end why (no_program (command_seen read) why asked is);
+        line = named-line [] why ∙ ap (λ r. line_of (call_names call) (program_headers r) why) (sym (none-found text why is));
+      }
+  load-stops _ (unread rose) =
+      let text = some-bytes (call.holds (command_seen read).script) in
+      let others = some-files call.holds (command_seen read).files in
+      let held : Held = record { script = text.0; files = others.0 } in
+      record {
+        held = held;
+        may = may-by held text.1 others.1;
+        stop = promise.script_unread (script-failed rose);
+        line = named-line [] (refusal.Read place.Script);
+      }
+  load-stops _ no_memory =
+      let text = some-bytes (call.holds (command_seen read).script) in
+      let others = some-files call.holds (command_seen read).files in
+      let held : Held = record { script = text.0; files = others.0 } in
+      record {
+        held = held;
+        may = may-by held text.1 others.1;
+        stop = promise.no_memory;
+        line = refl;
+      }
+
+  pub ready-by : (program : Program) (made : Report) → Loads (call.holds (command_seen read).script) program →
+      Reports program (file_rules (command_seen read)) call.holds (command_seen read).files made → Ready call made
+  ready-by program made loads reports =
+      let held : Held = record { script = loads.text; files = reports.files } in
+      record {
+        held = held;
+        may = may-by held loads.may reports.may;
+        has = record {
+          end = report_of program reports.records;
+          is_end = report (command_seen read) program reports.records asked loads.is_program reports.fine;
+          whole = tt;
+          status_is = reports.status_is;
+          text_is = reports.text_is;
+        };
+      }
+
+-- What stops it after its script was accepted.
+module _ (call : Call) (read : CommandRead) (asked : command_of call.asked ≡ Some (command_seen read))
+    (checked : Checked) (middle : Counts) (lower : (name : List ℕ) → call.before name ≤ middle name)
+    (loads : Loads (call.holds (command_seen read).script) (checked_program checked)) where
+  known : (why : Refusal) (files : List (List ℕ)) → MayAll call.holds (command_seen read).files files →
+      IsStop call (record { script = loads.text; files = files }) why →
+      Stops call (record { why = why; command = Some read; checked = Some checked })
   known why files may stop =
       let held : Held = record { script = loads.text; files = files } in
       record {
         held = held;
-        may = may-by call.holds (options call.words) run held asked loads.may may;
+        may = may-by call read asked held loads.may may;
         stop = stop;
-        line = ap (λ r. line_of call.words (program_headers r) why)
+        line = named-line call read asked (headers_of (checked_program checked).plan.fields) why
+            ∙ ap (λ r. line_of (call_names call) (program_headers r) why)
             (sym (program-found loads.text (checked_program checked) loads.is_program));
       }
 
-  error-stops : (why : PassErr) → StopsPass (checked_program checked).plan file_max_default call.holds run.files middle call.after why →
-      Stops call (record { why = pass_refusal why; checked = Some checked })
+  problem-stops : (why : PassErr) →
+      HasFirstProblem (checked_program checked).plan (file_rules (command_seen read)) call.holds (command_seen read).files why →
+      Stops call (record { why = pass_refusal why; command = Some read; checked = Some checked })
+  problem-stops why s =
+      known (pass_refusal why) s.files s.may
+      (promise.at_end (pass_refusal why) (problem (command_seen read) (checked_program checked) why asked loads.is_program s.first))
+
+  error-stops : (why : PassErr) →
+      StopsPass (checked_program checked).plan (file_rules (command_seen read)) call.holds (command_seen read).files middle call.after why →
+      Stops call (record { why = pass_refusal why; command = Some read; checked = Some checked })
   error-stops (pass_error.Read file) s =
       known (refusal.Read (place.File file)) s.files s.may
-      (promise.file_unread run (checked_program checked) s.records file s.name asked loads.is_program s.fine s.named
-      (omega (arith, lower s.name, s.rose)))
-  error-stops (pass_error.TooLarge file) s =
-      known (refusal.TooLarge (place.File file)) s.files s.may
-      (promise.at_end (refusal.TooLarge (place.File file))
-      (problem run (checked_program checked) (pass_error.TooLarge file) asked loads.is_program s.first))
-  error-stops (pass_error.Head file fault) s =
-      known (refusal.Head file fault) s.files s.may
-      (promise.at_end (refusal.Head file fault)
-      (problem run (checked_program checked) (pass_error.Head file fault) asked loads.is_program s.first))
-  error-stops (pass_error.Bad file bad) s =
-      known (refusal.Bad file bad) s.files s.may
-      (promise.at_end (refusal.Bad file bad)
-      (problem run (checked_program checked) (pass_error.Bad file bad) asked loads.is_program s.first))
+      (promise.file_unread (command_seen read) (checked_program checked) s.records file asked loads.is_program s.fine
+      (file-failed call read asked file s.name s.named (omega (arith, lower s.name, s.rose))))
+  error-stops (pass_error.TooLarge file) s = problem-stops (pass_error.TooLarge file) s
+  error-stops (pass_error.Head file fault) s = problem-stops (pass_error.Head file fault) s
+  error-stops (pass_error.Bad file bad) s = problem-stops (pass_error.Bad file bad) s
   error-stops pass_error.NoMemory s =
-      let others = some-files call.holds run.files in
-      known refusal.NoMemory others.0 others.1 (promise.no_memory run asked)
+      let others = some-files call.holds (command_seen read).files in
+      known refusal.NoMemory others.0 others.1 promise.no_memory
 
-  pub files-stop : (why : Refusal) → StopsFiles (checked_program checked) call.holds run.files middle call.after why →
-      Stops call (record { why = why; checked = Some checked })
+  pub files-stop : (why : Refusal) →
+      StopsFiles (checked_program checked) (file_rules (command_seen read)) call.holds (command_seen read).files middle call.after why →
+      Stops call (record { why = why; command = Some read; checked = Some checked })
   files-stop _ (stops why s) = error-stops why s

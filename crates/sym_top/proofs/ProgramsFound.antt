@@ -1,6 +1,7 @@
 -- The program that is found in a text, or why it has none, is what the relations say.
 use Rattle.std.proofs.Common.{◌≡◌, ℕ, ◌<◌, ◌≤◌, nat_le, Bool, true, false, if◌then◌else◌, List, length, Result, Ok, Err, refl, ap, subst, ◌∙◌, arith}
 use Rattle.std.proofs.lemmas.Bool.Decides.{nat_tests}
+use Rattle.sym_base.specs.declared.limits.TheConstants as limit
 use Rattle.sym_base.specs.declared.tree.script.Script.{Script}
 use Rattle.sym_base.specs.Trees.{ScriptTree}
 use Rattle.sym_lex.specs.declared.token.Token.{Token}
@@ -24,7 +25,7 @@ use Rattle.sym_check.proofs.ScriptsAgree.{accepted_planned, planned_accepted, br
 use Rattle.sym_top.specs.declared.refusal.Place.TheVariants as place
 use Rattle.sym_top.specs.declared.refusal.Refusal.{Refusal}
 use Rattle.sym_top.specs.declared.refusal.Refusal.TheVariants as refusal
-use Rattle.sym_top.specs.Programs.{Program, IsProgram, IsUnread, lexical, unexpected, reached, IsNoProgram, too_large, unread, broken, script_max, planned, program_of, program_in}
+use Rattle.sym_top.specs.Programs.{Program, IsProgram, IsUnparsed, lexical, unexpected, reached, IsNoProgram, too_large, unparsed, broken, planned, program_of, program_in}
 
 over : (n m : ℕ) → m < n → nat_le n m ≡ false
 over n m h = grind (arith, nat_tests)
@@ -62,21 +63,21 @@ parsed-some text e = result-some text (lexed text) e
 
 -- ---- where a text can't be read
 
-unread-parsed : (text : List ℕ) (why : ParseErr) → IsUnread text why → parsed text ≡ Err why
-unread-parsed text _ (lexical fault reads) = parsed-fault text fault reads
-unread-parsed text _ (unexpected at is e) = e
-unread-parsed text _ (reached at which is e) = e
+unparsed-parsed : (text : List ℕ) (why : ParseErr) → IsUnparsed text why → parsed text ≡ Err why
+unparsed-parsed text _ (lexical fault reads) = parsed-fault text fault reads
+unparsed-parsed text _ (unexpected at is e) = e
+unparsed-parsed text _ (reached at which is e) = e
 
 abbrev refused : ParseErr → Result Script ParseErr
 refused why = Err why
 
-pub parsed-unread : (text : List ℕ) (why : ParseErr) → parsed text ≡ Err why → IsUnread text why
-parsed-unread text (parse_error.Lex fault) e = lexical fault (fault-parsed text fault e)
-parsed-unread text (parse_error.Expected at) e =
+pub parsed-unparsed : (text : List ℕ) (why : ParseErr) → parsed text ≡ Err why → IsUnparsed text why
+parsed-unparsed text (parse_error.Lex fault) e = lexical fault (fault-parsed text fault e)
+parsed-unparsed text (parse_error.Expected at) e =
     unexpected at (unexpected-by text (refused (parse_error.Expected at)) (λ n. e) at refl) e
-parsed-unread text (parse_error.Limit at which) e =
+parsed-unparsed text (parse_error.Limit at which) e =
     reached at which (reached-by text (refused (parse_error.Limit at which)) (λ n. e) at which refl) e
-parsed-unread text parse_error.NoMemory e = absurd (parsed-some text e)
+parsed-unparsed text parse_error.NoMemory e = absurd (parsed-some text e)
 
 -- ---- what is, is found
 
@@ -84,17 +85,17 @@ pub program-found : (text : List ℕ) (program : Program) → IsProgram text pro
     program_in text ≡ Ok program
 unfolding program_in
 program-found text program is =
-    rw (upto (length text) script_max is.small)
+    rw (upto (length text) limit.SCRIPT_MAX is.small)
     (ap program_of (parsed-reads text program.tree is.script)
     ∙ ap (planned program.tree) (accepted_planned program.tree program.plan is.accepted))
 
 pub none-found : (text : List ℕ) (why : Refusal) → IsNoProgram text why → program_in text ≡ Err why
 unfolding program_in
-none-found text _ (too_large large) = rw (over (length text) script_max large) refl
-none-found text _ (unread why small is) =
-    rw (upto (length text) script_max small) (ap program_of (unread-parsed text why is))
+none-found text _ (too_large large) = rw (over (length text) limit.SCRIPT_MAX large) refl
+none-found text _ (unparsed why small is) =
+    rw (upto (length text) limit.SCRIPT_MAX small) (ap program_of (unparsed-parsed text why is))
 none-found text _ (broken tree why small is breaks) =
-    rw (upto (length text) script_max small)
+    rw (upto (length text) limit.SCRIPT_MAX small)
     (ap program_of (parsed-reads text tree is) ∙ ap (planned tree) (breaks_planned tree why breaks))
 
 -- ---- what is found, is
@@ -104,22 +105,22 @@ Reading text (Ok program) = IsProgram text program
 Reading text (Err why) = IsNoProgram text why
 
 planned-is : (text : List ℕ) (tree : ScriptTree) (r : Result ScriptPlan CheckErr) →
-    length text ≤ script_max → IsScriptOf text tree → plan_of tree ≡ r → Reading text (planned tree r)
+    length text ≤ limit.SCRIPT_MAX → IsScriptOf text tree → plan_of tree ≡ r → Reading text (planned tree r)
 planned-is text tree (Ok plan) small is e =
     record { small = small; script = is; accepted = planned_accepted tree plan e }
 planned-is text tree (Err why) small is e = broken tree why small is (planned_breaks tree why e)
 
-parsed-is : (text : List ℕ) (r : Result ScriptTree ParseErr) → length text ≤ script_max →
+parsed-is : (text : List ℕ) (r : Result ScriptTree ParseErr) → length text ≤ limit.SCRIPT_MAX →
     parsed text ≡ r → Reading text (program_of r)
 parsed-is text (Ok tree) small e =
     planned-is text tree (plan_of tree) small (parsed-found text tree e) refl
-parsed-is text (Err why) small e = unread why small (parsed-unread text why e)
+parsed-is text (Err why) small e = unparsed why small (parsed-unparsed text why e)
 
-sized-is : (text : List ℕ) (b : Bool) → nat_le (length text) script_max ≡ b →
+sized-is : (text : List ℕ) (b : Bool) → nat_le (length text) limit.SCRIPT_MAX ≡ b →
     Reading text (if b then program_of (parsed text) else Err (refusal.TooLarge place.Script))
-sized-is text true e = parsed-is text (parsed text) (is-upto (length text) script_max e) refl
-sized-is text false e = too_large (is-over (length text) script_max e)
+sized-is text true e = parsed-is text (parsed text) (is-upto (length text) limit.SCRIPT_MAX e) refl
+sized-is text false e = too_large (is-over (length text) limit.SCRIPT_MAX e)
 
 pub reading : (text : List ℕ) → Reading text (program_in text)
 unfolding program_in
-reading text = sized-is text (nat_le (length text) script_max) refl
+reading text = sized-is text (nat_le (length text) limit.SCRIPT_MAX) refl

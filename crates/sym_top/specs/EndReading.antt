@@ -5,8 +5,8 @@ use Rattle.sym_engine.specs.declared.error.PassErr.{PassErr}
 use Rattle.sym_engine.specs.FirstProblems.{records_in}
 use Rattle.sym_top.specs.declared.refusal.Refusal.{Refusal}
 use Rattle.sym_top.specs.declared.refusal.Refusal.TheVariants as refusal
-use Rattle.sym_top.specs.Commands.{Run, options}
-use Rattle.sym_top.specs.Ends.{End, Refused, Held, file_max_default, report_of}
+use Rattle.sym_top.specs.Commands.{Asked, Command, command_of, file_rules}
+use Rattle.sym_top.specs.Ends.{End, Refused, Held, report_of}
 use Rattle.sym_top.specs.Programs.{Program, program_in}
 use Rattle.sym_top.specs.Refusals.{pass_refusal}
 
@@ -14,14 +14,14 @@ abbrev pub files_end : Program → Result (List Record) PassErr → End
 files_end program (Ok records) = report_of program records
 files_end program (Err why) = Refused (pass_refusal why)
 
-abbrev pub program_end : Result Program Refusal → List (List ℕ) → End
-program_end (Ok program) files =
-    files_end program (records_in program.plan file_max_default 0 1 files)
-program_end (Err why) files = Refused why
+abbrev pub program_end : Command → Result Program Refusal → List (List ℕ) → End
+program_end command (Ok program) files =
+    files_end program (records_in program.plan (file_rules command) 0 1 files)
+program_end command (Err why) files = Refused why
 
-abbrev pub run_end : Option Run → Held → End
-run_end None held = Refused refusal.Usage
-run_end (Some run) held = program_end (program_in held.script) held.files
+abbrev pub command_end : Option Command → Held → End
+command_end None held = Refused refusal.Usage
+command_end (Some command) held = program_end command (program_in held.script) held.files
 
-abbrev pub end_of : List (List ℕ) → Held → End
-end_of words held = run_end (options words) held
+abbrev pub end_of : Asked → Held → End
+end_of asked held = command_end (command_of asked) held

@@ -1,6 +1,6 @@
--- The line that is written to the sink for errors where a run is refused.
+-- The line that is written to the sink for errors where a call is refused.
 -- Its texts are this project's profile.
-use Rattle.std.specs.Prelude.{ℕ, ◌+◌, List, [], ◌++◌, map, codes, decimal, slice_index_or}
+use Rattle.std.specs.Prelude.{ℕ, List, [], ◌++◌, map, codes, decimal, slice_index_or}
 use Rattle.sym_parse.specs.declared.error.LimitKind.{LimitKind}
 use Rattle.sym_parse.specs.declared.error.LimitKind.TheVariants as limit
 use Rattle.sym_check.specs.declared.plan.script.FieldPlan.{FieldPlan}
@@ -14,12 +14,7 @@ use Rattle.sym_top.specs.declared.refusal.Refusal.{Refusal}
 use Rattle.sym_top.specs.declared.refusal.Refusal.TheVariants as refusal
 use Rattle.sym_top.specs.declared.refusal.ScriptFault.{ScriptFault}
 use Rattle.sym_top.specs.declared.refusal.ScriptFault.TheVariants as fault
-
--- The argument that names a file. The command is argument 0, the script argument 1, and the files
--- of records follow it.
-abbrev pub file_word : List (List ℕ) → Place → List ℕ
-file_word words place.Script = slice_index_or words 1 []
-file_word words (place.File number) = slice_index_or words (2 + number) []
+use Rattle.sym_top.specs.Commands.{Names, file_name}
 
 -- The header texts of a script's fields.
 abbrev pub headers_of : List FieldPlan → List (List ℕ)
@@ -56,9 +51,9 @@ fault_text fault.WrongRange = codes "wrong range"
 fault_text fault.NotLinear = codes "not linear"
 
 -- What is wrong with a header.
-abbrev pub head_text : List (List ℕ) → HeadFault → List ℕ
-head_text headers (head.NoField which) = codes "no field " ++ header_text headers which
-head_text headers (head.Twice which) =
+abbrev pub head_fault_text : List (List ℕ) → HeadFault → List ℕ
+head_fault_text headers (head.NoField which) = codes "no field " ++ header_text headers which
+head_fault_text headers (head.Twice which) =
     codes "field " ++ header_text headers which ++ codes " twice"
 
 -- What is wrong with a row.
@@ -72,23 +67,23 @@ cause_text headers (cause.Utf8 which) =
     codes "field " ++ header_text headers which ++ codes " is not UTF-8"
 
 -- What a line says of a refusal.
-abbrev pub refusal_text : List (List ℕ) → List (List ℕ) → Refusal → List ℕ
-refusal_text words headers refusal.Usage = codes "usage"
-refusal_text words headers (refusal.Script what at) =
+abbrev pub refusal_text : Names → List (List ℕ) → Refusal → List ℕ
+refusal_text names headers refusal.Usage = codes "usage"
+refusal_text names headers (refusal.Script what at) =
     codes "script: " ++ fault_text what ++ codes " at byte " ++ decimal at
-refusal_text words headers (refusal.Branchy paths) =
+refusal_text names headers (refusal.Branchy paths) =
     codes "script: " ++ decimal paths ++ codes " paths"
-refusal_text words headers (refusal.Head file what) =
-    file_word words (place.File file) ++ codes ": header: " ++ head_text headers what
-refusal_text words headers (refusal.Bad file bad) =
-    file_word words (place.File file) ++ codes ": record " ++ decimal bad.no ++ codes ": "
+refusal_text names headers (refusal.Head file what) =
+    file_name names (place.File file) ++ codes ": header: " ++ head_fault_text headers what
+refusal_text names headers (refusal.Bad file bad) =
+    file_name names (place.File file) ++ codes ": record " ++ decimal bad.no ++ codes ": "
     ++ cause_text headers bad.cause
-refusal_text words headers (refusal.Read at) = file_word words at ++ codes ": read fault"
-refusal_text words headers refusal.Write = codes "write fault"
-refusal_text words headers (refusal.TooLarge at) = file_word words at ++ codes ": too large"
-refusal_text words headers refusal.NoMemory = codes "out of memory"
+refusal_text names headers (refusal.Read at) = file_name names at ++ codes ": read fault"
+refusal_text names headers refusal.Write = codes "write fault"
+refusal_text names headers (refusal.TooLarge at) = file_name names at ++ codes ": too large"
+refusal_text names headers refusal.NoMemory = codes "out of memory"
 
--- The line of a refusal, of a run with these arguments and of a script whose fields have these
--- header texts.
-abbrev pub line_of : List (List ℕ) → List (List ℕ) → Refusal → List ℕ
-line_of words headers why = codes "symple: " ++ refusal_text words headers why ++ codes "\n"
+-- The line of a refusal, of a command that reads the files of these names, and of a script whose
+-- fields have these header texts.
+abbrev pub line_of : Names → List (List ℕ) → Refusal → List ℕ
+line_of names headers why = codes "symple: " ++ refusal_text names headers why ++ codes "\n"

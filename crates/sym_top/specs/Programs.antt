@@ -20,10 +20,6 @@ use Rattle.sym_top.specs.declared.refusal.Refusal.TheVariants as refusal
 use Rattle.sym_top.specs.Messages.{headers_of}
 use Rattle.sym_top.specs.Refusals.{parse_refusal, check_refusal}
 
--- The most bytes of a script.
-abbrev pub script_max : ℕ
-script_max = limit.SCRIPT_MAX
-
 -- A script with its plan.
 pub record Program : Type 0 where
   pub tree : ScriptTree
@@ -32,37 +28,37 @@ pub record Program : Type 0 where
 -- The text isn't too large, it is that of the script, and the script breaks no rule and has this
 -- plan.
 pub record IsProgram (text : List ℕ) (program : Program) : Type 0 where
-  pub small : length text ≤ script_max
+  pub small : length text ≤ limit.SCRIPT_MAX
   pub script : IsScriptOf text program.tree
   pub accepted : IsAccepted program.tree program.plan
 
 -- Where a text can't be read as a script: its first lexical fault; else a place at which no
--- sentence of the grammar goes on, or one that is reached under wider limits. Which place it is, and
--- which limit is passed, is what the parser's function answers (`parsed`).
-pub data IsUnread (text : List ℕ) : ParseErr → Type 0 where
+-- sentence of the grammar goes on, or one that is reached under wider limits. Which place it is,
+-- and which limit is passed, is what the parser's function answers (`parsed`).
+pub data IsUnparsed (text : List ℕ) : ParseErr → Type 0 where
   lexical : (fault : LexFault)
       → Reads 0 text (Err fault)
-      → IsUnread text (parse_error.Lex fault)
+      → IsUnparsed text (parse_error.Lex fault)
   unexpected : (at : ℕ)
       → IsUnexpected text at
       → parsed text ≡ Err (parse_error.Expected at)
-      → IsUnread text (parse_error.Expected at)
+      → IsUnparsed text (parse_error.Expected at)
   reached : (at : ℕ) (which : LimitKind)
       → IsReached text at
       → parsed text ≡ Err (parse_error.Limit at which)
-      → IsUnread text (parse_error.Limit at which)
+      → IsUnparsed text (parse_error.Limit at which)
 
 -- Why a text is refused as a script: its size; else where it can't be read; else the first rule
 -- that its script breaks.
 pub data IsNoProgram (text : List ℕ) : Refusal → Type 0 where
-  too_large : script_max < length text
+  too_large : limit.SCRIPT_MAX < length text
       → IsNoProgram text (refusal.TooLarge place.Script)
-  unread : (why : ParseErr)
-      → length text ≤ script_max
-      → IsUnread text why
+  unparsed : (why : ParseErr)
+      → length text ≤ limit.SCRIPT_MAX
+      → IsUnparsed text why
       → IsNoProgram text (parse_refusal why)
   broken : (tree : ScriptTree) (why : CheckErr)
-      → length text ≤ script_max
+      → length text ≤ limit.SCRIPT_MAX
       → IsScriptOf text tree
       → BreaksScript tree why
       → IsNoProgram text (check_refusal why)
@@ -78,7 +74,7 @@ program_of (Err why) = Err (parse_refusal why)
 -- The program of a text, or why it has none.
 unfoldable pub program_in : List ℕ → Result Program Refusal
 program_in text =
-    if nat_le (length text) script_max
+    if nat_le (length text) limit.SCRIPT_MAX
     then program_of (parsed text)
     else Err (refusal.TooLarge place.Script)
 

@@ -1,8 +1,20 @@
 -- What a contract sees of the arguments that were read.
-use Rattle.std.specs.Prelude.{map}
+use Rattle.std.specs.Prelude.{map, Option}
+use Rattle.std.specs.Option.{option_map}
 use Rattle.std.specs.String.{string_bytes}
-use Rattle.sym_top.specs.declared.commands.Run.{Run as RunRead}
-use Rattle.sym_top.specs.Commands.{Run}
+use Rattle.sym_top.specs.declared.commands.Command.{Command as CommandRead}
+use Rattle.sym_top.specs.declared.commands.Names.{Names as NamesRead}
+use Rattle.sym_top.specs.Commands.{Command, Names}
 
-abbrev pub run_words : RunRead → Run
-run_words run = record { script = run.script.now; files = map string_bytes run.files.now }
+abbrev pub command_seen : CommandRead → Command
+command_seen command = record {
+  script = command.script.now;
+  files = map string_bytes command.files.now;
+  max_bytes = command.max_bytes;
+}
+
+abbrev pub names_seen : NamesRead → Names
+names_seen names = record {
+  script = option_map (λ script. script.now) names.script;
+  files = map string_bytes names.files.now;
+}

@@ -1,11 +1,12 @@
 //! Everything of a run but the writing: its script, its files, its report.
 ghost use Rattle.std.specs.Prelude.{◌≡◌, ◌≤◌, ℕ, List, map, length, IfOk, IfErr};
 ghost use Rattle.std.specs.String.{string_bytes};
+ghost use Rattle.sym_base.specs.declared.limits.TheConstants as limit;
 ghost use Rattle.sym_top.specs.Loading.{MayRefuse, Loads, Unloads, Ready, Stops};
-ghost use Rattle.sym_top.specs.Programs.{IsProgram, checked_program, script_max};
+ghost use Rattle.sym_top.specs.Programs.{IsProgram, checked_program};
 ghost use Rattle.sym_top.specs.Promises.{called};
 
-use crate::commands::read_words;
+use crate::commands::{Command, read_words};
 use crate::refusal::{Place, Refusal, check_refusal, parse_refusal, read_refusal};
 use crate::report::{Report, report_files};
 use std::alloc::Global;
@@ -13,16 +14,18 @@ use sym_base::{SCRIPT_MAX, Store, read_all};
 use sym_check::{Checked, check};
 use sym_parse::parse;
 
-/// Why a run stops before it writes, with the script, where one was accepted.
+/// Why a call stops before it writes, with the command, where the arguments are those of one, and
+/// the script, where one was accepted.
 #[derive(Drop)]
-pub struct Failure {
+pub struct Failure<'a> {
     pub why: Refusal,
+    pub command: Option<Command<'a>>,
     pub checked: Option<Checked>,
 }
 
 // The checked script of a text.
 fn accept(alloc: Global, text: &[u8]) -> Result<Checked, Refusal>
-    requires { length text.now ≤ script_max }
+    requires { length text.now ≤ limit.SCRIPT_MAX }
     ensures accepted { IfOk result (λ checked. IsProgram text.now (checked_program checked)) }
     ensures refused { IfErr result (MayRefuse text.now) }
 {
@@ -54,7 +57,11 @@ fn load_script<F: Store>(alloc: Global, files: &mut F, name: &str) -> Result<Che
 }
 
 /// Reads the files that the arguments name, and makes the run's report.
-pub fn prepare<F: Store>(alloc: Global, words: &[String], files: &mut F) -> Result<Report, Failure>
+pub fn prepare<'a, F: Store>(
+    alloc: Global,
+    words: &'a [String],
+    files: &mut F,
+) -> Result<Report, Failure<'a>>
     ensures ready { let words = map string_bytes words.now in
         let call = called F.holds F.faults words files.old files.new in
         IfOk result (Ready call) }
@@ -64,24 +71,32 @@ pub fn prepare<F: Store>(alloc: Global, words: &[String], files: &mut F) -> Resu
     ensures same { F.holds files.new ≡ F.holds files.old }
     ensures later { (other : List ℕ) → F.faults files.old other ≤ F.faults files.new other }
 {
-    let asked = match read_words(words) {
-        Some(asked) => asked,
+    let command = match read_words(words) {
+        Some(command) => command,
         None => {
             return Err(Failure {
                 why: Refusal::Usage,
+                command: None,
                 checked: None,
             });
         }
     };
-    let checked = match load_script(alloc, files, asked.script) {
+    let checked = match load_script(alloc, files, command.script) {
         Ok(checked) => checked,
-        Err(why) => return Err(Failure { why, checked: None }),
-    };
-    match report_files(alloc, &checked, files, asked.files) {
-        Ok(report) => Ok(report),
         Err(why) => {
-            let checked = Some(checked);
-            Err(Failure { why, checked })
+            return Err(Failure {
+                why,
+                command: Some(command),
+                checked: None,
+            });
         }
+    };
+    match report_files(alloc, &checked, files, command.files, command.max_bytes) {
+        Ok(report) => Ok(report),
+        Err(why) => Err(Failure {
+            why,
+            command: Some(command),
+            checked: Some(checked),
+        }),
     }
 }

@@ -1,11 +1,13 @@
 //! The line of a refusal, on the sink for errors.
-ghost use Rattle.std.specs.Prelude.{◌≡◌, ◌++◌, List, [], map, codes, decimal, slice_index_or};
+ghost use Rattle.std.specs.Prelude.{◌≡◌, ◌++◌, List, [], None, codes, decimal, slice_index_or};
 ghost use Rattle.std.specs.List.{flat_map};
-ghost use Rattle.std.specs.String.{string_bytes};
-ghost use Rattle.sym_top.specs.Messages.{file_word as file_word_of, headers_of, header_text as header_text_of, fault_text as fault_text_of, limit_text as limit_text_of, head_text, cause_text, line_of};
+ghost use Rattle.sym_top.specs.Commands.{names_of as names_of_command, file_name as file_name_in};
+ghost use Rattle.sym_top.specs.Messages.{headers_of, header_text as header_text_of, fault_text as fault_text_of, limit_text as limit_text_of, head_fault_text, cause_text, line_of};
 ghost use Rattle.sym_top.specs.Refusals.{start_refusal as refusal_of_start, status_of_refusal};
 ghost use Rattle.sym_top.specs.Telling.{Later, Tells, sunk};
+ghost use Rattle.sym_top.specs.Words.{names_seen};
 
+use crate::commands::{Names, file_name, names_of};
 use crate::refusal::{Place, Refusal, ScriptFault, StartErr, start_refusal};
 use crate::status::Status;
 use itoa::Buffer;
@@ -26,26 +28,6 @@ fn write_pieces<E: Sink>(err: &mut E, pieces: &[&str])
             Err(SinkErr::Failed) => return,
             Err(SinkErr::NoMemory) => return,
         }
-    }
-}
-
-// The argument of this number, empty where there is none.
-fn word_at(words: &[String], number: usize) -> &str
-    ensures { result.now ≡ slice_index_or (map string_bytes words.now) number [] }
-{
-    match words.get(number) {
-        Some(word) => word.as_str(),
-        None => "",
-    }
-}
-
-// The argument that names a file, empty where there is none.
-fn file_word(words: &[String], place: Place) -> &str
-    ensures { result.now ≡ file_word_of (map string_bytes words.now) place }
-{
-    match place {
-        Place::Script => word_at(words, 1),
-        Place::File(number) => word_at(words, (number as usize).saturating_add(2)),
     }
 }
 
@@ -98,7 +80,7 @@ fn fault_text(fault: ScriptFault) -> &'static str
 // The line of a script that isn't accepted, its paths aside.
 fn tell_script<E: Sink>(err: &mut E, fault: ScriptFault, at: u32)
     ensures told { Tells (sunk E.written E.faults E.short err.old err.new)
-        (line_of [] [] (Refusal.Script fault at)) }
+        (line_of (names_of_command None) [] (Refusal.Script fault at)) }
     ensures later { Later (sunk E.written E.faults E.short err.old err.new) }
 {
     let mut buffer = Buffer::new();
@@ -118,7 +100,7 @@ fn tell_script<E: Sink>(err: &mut E, fault: ScriptFault, at: u32)
 // The line of a script that has too many paths.
 fn tell_paths<E: Sink>(err: &mut E, paths: u32)
     ensures told { Tells (sunk E.written E.faults E.short err.old err.new)
-        (line_of [] [] (Refusal.Branchy paths)) }
+        (line_of (names_of_command None) [] (Refusal.Branchy paths)) }
     ensures later { Later (sunk E.written E.faults E.short err.old err.new) }
 {
     let mut buffer = Buffer::new();
@@ -139,7 +121,7 @@ fn tell_file<E: Sink>(err: &mut E, file: &str, what: &str)
 fn tell_header<E: Sink>(err: &mut E, file: &str, fields: &[FieldPlan], fault: HeadFault)
     ensures told { Tells (sunk E.written E.faults E.short err.old err.new)
         (codes "symple: " ++ (file.now ++ codes ": header: "
-        ++ head_text (headers_of fields.now) fault) ++ codes "\n") }
+        ++ head_fault_text (headers_of fields.now) fault) ++ codes "\n") }
     ensures later { Later (sunk E.written E.faults E.short err.old err.new) }
 {
     match fault {
@@ -241,12 +223,12 @@ fn tell_field<'a, E: Sink>(err: &mut E, file: &'a str, no: u64, name: &'a str, a
     );
 }
 
-/// Writes the line of a refusal to `err`: of a run with these arguments, and of a script with these
-/// fields, of which there are none where no script was accepted. It takes no memory, and a failure
-/// of `err` ends the line.
-pub fn tell<E: Sink>(err: &mut E, words: &[String], fields: &[FieldPlan], why: Refusal)
+/// Writes the line of a refusal to `err`: of a command that reads the files of these names, and of
+/// a script with these fields, of which there are none where no script was accepted. It takes no
+/// memory, and a failure of `err` ends the line.
+pub fn tell<E: Sink>(err: &mut E, names: &Names<'_>, fields: &[FieldPlan], why: Refusal)
     ensures told { Tells (sunk E.written E.faults E.short err.old err.new)
-        (line_of (map string_bytes words.now) (headers_of fields.now) why) }
+        (line_of (names_seen names.now) (headers_of fields.now) why) }
     ensures later { Later (sunk E.written E.faults E.short err.old err.new) }
 {
     match why {
@@ -254,14 +236,14 @@ pub fn tell<E: Sink>(err: &mut E, words: &[String], fields: &[FieldPlan], why: R
         Refusal::Script { fault, at } => tell_script(err, fault, at),
         Refusal::Branchy { paths } => tell_paths(err, paths),
         Refusal::Head { file, fault } => {
-            tell_header(err, file_word(words, Place::File(file)), fields, fault);
+            tell_header(err, file_name(names, Place::File(file)), fields, fault);
         }
         Refusal::Bad { file, bad } => {
-            tell_row(err, file_word(words, Place::File(file)), fields, bad);
+            tell_row(err, file_name(names, Place::File(file)), fields, bad);
         }
-        Refusal::Read(place) => tell_file(err, file_word(words, place), ": read fault"),
+        Refusal::Read(place) => tell_file(err, file_name(names, place), ": read fault"),
         Refusal::Write => write_pieces(err, &["symple: write fault\n"]),
-        Refusal::TooLarge(place) => tell_file(err, file_word(words, place), ": too large"),
+        Refusal::TooLarge(place) => tell_file(err, file_name(names, place), ": too large"),
         Refusal::NoMemory => write_pieces(err, &["symple: out of memory\n"]),
     }
 }
@@ -271,10 +253,10 @@ pub fn tell<E: Sink>(err: &mut E, words: &[String], fields: &[FieldPlan], why: R
 pub fn refuse_start<E: Sink>(err: &mut E, why: StartErr) -> Status
     ensures status { result ≡ status_of_refusal (refusal_of_start why) }
     ensures told { Tells (sunk E.written E.faults E.short err.old err.new)
-        (line_of [] [] (refusal_of_start why)) }
+        (line_of (names_of_command None) [] (refusal_of_start why)) }
     ensures later { Later (sunk E.written E.faults E.short err.old err.new) }
 {
     let refusal = start_refusal(why);
-    tell(err, &[], &[], refusal);
+    tell(err, &names_of(&None), &[], refusal);
     refusal.status()
 }

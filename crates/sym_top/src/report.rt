@@ -6,13 +6,14 @@ ghost use Rattle.sym_base.specs.declared.limits.TheConstants as limit;
 ghost use Rattle.sym_check.specs.CheckedScripts.{checked_tree, checked_plan};
 ghost use Rattle.sym_report.specs.ReportRows.{heads_of, row_of, some_faulty};
 ghost use Rattle.sym_report.specs.Tables.{row_text, table_text};
+ghost use Rattle.sym_engine.specs.FileRecords.{plain_rules};
 ghost use Rattle.sym_top.specs.Loading.{Reports, StopsFiles, listed};
 ghost use Rattle.sym_top.specs.Programs.{checked_program};
 
 use crate::refusal::{Refusal, pass_refusal};
 use crate::status::Status;
 use std::alloc::Global;
-use sym_base::{FILE_MAX_DEFAULT, NoMemory, Store};
+use sym_base::{NoMemory, Store};
 use sym_check::Checked;
 use sym_engine::pass;
 use sym_plain::Groups;
@@ -110,25 +111,31 @@ fn report_groups(alloc: Global, checked: &Checked, groups: &Groups) -> Result<Re
     })
 }
 
-/// The report of a script over the records of the files of these names, in order.
+/// The report of a script over the records of the files of these names, in order, of which each may
+/// have `max_bytes` bytes.
 pub fn report_files<F: Store>(
     alloc: Global,
     checked: &Checked,
     files: &mut F,
     names: &[String],
+    max_bytes: u64,
 ) -> Result<Report, Refusal>
-    requires { length names.now ≤ limit.FILES_MAX }
+    requires few { length names.now ≤ limit.FILES_MAX }
+    requires size { max_bytes ≤ limit.FILE_MAX }
     ensures ready { let names = map string_bytes names.now in
-        IfOk result (Reports (checked_program checked.now) (F.holds files.old) names) }
+        let program = checked_program checked.now in
+        let rules = plain_rules max_bytes in
+        IfOk result (Reports program rules (F.holds files.old) names) }
     ensures stopped { let names = map string_bytes names.now in
         let program = checked_program checked.now in
+        let rules = plain_rules max_bytes in
         let before = F.faults files.old in
         let after = F.faults files.new in
-        IfErr result (StopsFiles program (F.holds files.old) names before after) }
+        IfErr result (StopsFiles program rules (F.holds files.old) names before after) }
     ensures same { F.holds files.new ≡ F.holds files.old }
     ensures later { (other : List ℕ) → F.faults files.old other ≤ F.faults files.new other }
 {
-    let groups = match pass(alloc, checked, files, names, FILE_MAX_DEFAULT) {
+    let groups = match pass(alloc, checked, files, names, max_bytes) {
         Ok(groups) => groups,
         Err(error) => return Err(pass_refusal(error)),
     };

@@ -1,14 +1,14 @@
 //! The top call.
-ghost use Rattle.std.specs.Prelude.{◌≡◌, ◌≤◌, ◌⊎◌, ◌↔◌, ℕ, List, None, map, OnOk, IfErr};
+ghost use Rattle.std.specs.Prelude.{◌≡◌, ◌≤◌, ◌⊎◌, ℕ, List, map, OnOk, IfErr};
 ghost use Rattle.std.specs.String.{string_bytes};
-ghost use Rattle.sym_top.specs.Commands.{options};
 ghost use Rattle.sym_top.specs.Ends.{End, Held, IsEnd};
 ghost use Rattle.sym_top.specs.Loading.{failure_line, known_headers};
 ghost use Rattle.sym_top.specs.Messages.{headers_of};
-ghost use Rattle.sym_top.specs.Promises.{called, Told, Answers, MustReport, Refuses, Unless, Wrote, WriteFails, IsRefused, IsReported, IsUnwritten};
+ghost use Rattle.sym_top.specs.Promises.{called, IsUsage, Told, Answers, MustReport, Refuses, Unless, Wrote, WriteFails, IsRefused, IsReported, IsUnwritten};
 ghost use Rattle.sym_top.specs.Refusals.{status_of_refusal};
 ghost use Rattle.sym_top.specs.Telling.{Has, Later, Short, Tells, sunk};
 
+use crate::commands::names_of;
 use crate::load::{Failure, prepare};
 use crate::message::tell;
 use crate::refusal::{Refusal, write_refusal};
@@ -41,13 +41,14 @@ fn known_fields(checked: &Option<Checked>) -> &[FieldPlan]
 }
 
 // Tells why a run stopped before it wrote, and gives its status.
-fn refuse<E: Sink>(err: &mut E, words: &[String], failure: &Failure) -> Status
+fn refuse<E: Sink>(err: &mut E, failure: &Failure<'_>) -> Status
     ensures status { result ≡ status_of_refusal failure.now.why }
     ensures told { let err = sunk E.written E.faults E.short err.old err.new in
-        Tells err (failure_line (map string_bytes words.now) failure.now) }
+        Tells err (failure_line failure.now) }
     ensures later { Later (sunk E.written E.faults E.short err.old err.new) }
 {
-    tell(err, words, known_fields(&failure.checked), failure.why);
+    let names = names_of(&failure.command);
+    tell(err, &names, known_fields(&failure.checked), failure.why);
     failure.why.status()
 }
 
@@ -77,15 +78,15 @@ fn run<F: Store, O: Sink, E: Sink>(
     ensures later_out { Later (sunk O.written O.faults O.short out.old out.new) }
     ensures later_err { Later (sunk E.written E.faults E.short err.old err.new) }
 {
-    let names = words.as_slice();
-    let report = match prepare(alloc, names, files) {
+    let arguments = words.as_slice();
+    let report = match prepare(alloc, arguments, files) {
         Ok(report) => report,
-        Err(failure) => return refuse(err, names, &failure),
+        Err(failure) => return refuse(err, &failure),
     };
     match write_report(out, report.text.as_slice()) {
         Ok(()) => report.status,
         Err(why) => {
-            tell(err, names, &[], why);
+            tell(err, &names_of(&None), &[], why);
             why.status()
         }
     }
@@ -121,13 +122,18 @@ pub fn symple<F: Store, O: Sink, E: Sink>(
         let call = called F.holds F.faults words files.old files.new in
         let out = sunk O.written O.faults O.short out.old out.new in
         let err = sunk E.written E.faults E.short err.old err.new in
-        (held : Held) (end : End) → Told call held → IsEnd call.words held end →
+        (held : Held) (end : End) → Told call held → IsEnd call.asked held end →
         Unless result (Answers call held end out err result) }
     ensures complete { let words = map string_bytes words.now.items in
         let call = called F.holds F.faults words files.old files.new in
         let out = sunk O.written O.faults O.short out.old out.new in
         MustReport call out → IsRefused result → result ≡ Status.NoMemory }
-    ensures usage { (result ≡ Status.Usage) ↔ (options (map string_bytes words.now.items) ≡ None) }
+    ensures usage { let words = map string_bytes words.now.items in
+        let call = called F.holds F.faults words files.old files.new in
+        result ≡ Status.Usage → IsUsage call }
+    ensures no_command { let words = map string_bytes words.now.items in
+        let call = called F.holds F.faults words files.old files.new in
+        IsUsage call → (result ≡ Status.Usage) ⊎ (result ≡ Status.NoMemory) }
     ensures unwritten { IsUnwritten result → out.new ≡ out.old }
     ensures memory { result ≡ Status.NoMemory →
         (out.new ≡ out.old) ⊎ Short (sunk O.written O.faults O.short out.old out.new) }

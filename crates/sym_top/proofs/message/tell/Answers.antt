@@ -15,8 +15,8 @@ pub returns-in-Read-clause-told : goal.returns-in-Read-clause-told
 returns-in-Read-clause-told g c =
     rw c.in-Read.is
     (told-along _
-    (codes "symple: " ++ (c.file_word-in-Read.result.now ++ codes ": read fault") ++ codes "\n")
-    _ c.tell_file.ensures.told (simp (c.file_word-in-Read.ensures, append_assoc)))
+    (codes "symple: " ++ (c.file_name-in-Read.result.now ++ codes ": read fault") ++ codes "\n")
+    _ c.tell_file.ensures.told (simp (c.file_name-in-Read.ensures, append_assoc)))
 
 pub returns-in-Write-clause-told : goal.returns-in-Write-clause-told
 returns-in-Write-clause-told g c = rw c.in-Write.is c.write_pieces-in-Write.ensures.told

@@ -1,5 +1,5 @@
 use Rattle.std.proofs.Common.{◌++◌, append_assoc, codes}
-use Rattle.sym_top.specs.Messages.{head_text, headers_of}
+use Rattle.sym_top.specs.Messages.{head_fault_text, headers_of}
 use Rattle.sym_top.proofs.TellingLemmas.{told-along}
 use Rattle.sym_top.proofs.message.tell_header.Goals as goal
 
@@ -11,7 +11,7 @@ returns-in-NoField-clause-told g c =
     ++ (codes ": header: no field " ++ (c.header_text-name.result.now ++ codes "\n"))))
     (codes "symple: "
     ++ (c.args.file.now ++ codes ": header: "
-    ++ head_text (headers_of c.args.fields.now) c.args.fault) ++ codes "\n")
+    ++ head_fault_text (headers_of c.args.fields.now) c.args.fault) ++ codes "\n")
     c.tell_column.ensures.told
     (simp (c.in-NoField.is, c.header_text-name.ensures, append_assoc))
 
@@ -24,6 +24,6 @@ returns-in-Twice-clause-told g c =
     ++ (c.header_text-name-in-Twice.result.now ++ codes " twice\n"))))
     (codes "symple: "
     ++ (c.args.file.now ++ codes ": header: "
-    ++ head_text (headers_of c.args.fields.now) c.args.fault) ++ codes "\n")
+    ++ head_fault_text (headers_of c.args.fields.now) c.args.fault) ++ codes "\n")
     c.tell_column-in-Twice.ensures.told
     (simp (c.in-Twice.is, c.header_text-name-in-Twice.ensures, append_assoc))
