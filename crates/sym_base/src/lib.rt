@@ -39,6 +39,3 @@ pub use values::sequence::{Plain, Sequence};
 pub use values::state::{Cell, Cells, Fault, FaultKind, Outcome, State};
 pub use values::text::{Text, Texts, Words};
 pub use values::value::{Key, Nums, Value, Values};
-
-#[cfg(test)]
-mod copies;

@@ -26,6 +26,3 @@ pub use limits::{LEAVES_MAX, SEATS_MAX};
 pub use pass::Pass;
 pub use piece::Piece;
 pub use tree::Interval;
-
-#[cfg(test)]
-mod tests;

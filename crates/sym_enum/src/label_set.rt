@@ -93,20 +93,3 @@ impl LabelSet {
         }
     }
 }
-
-#[cfg(test)]
-mod tests {
-    use super::*;
-
-    #[test]
-    fn sets_of_labels_by_their_members(rt: HostRuntime) {
-        let all = LabelSet::full(3);
-        let (one, rest) = all.split(1);
-        assert!(rt; all.has(0) && all.has(2) && !all.has(3) && !all.has(40));
-        assert!(rt; one == LabelSet::one(1) && one.only() == Some(1));
-        assert!(rt; !rest.has(1) && rest.only().is_none());
-        assert!(rt; one.unite(&rest) == all && one.meet(&rest).is_empty());
-        assert!(rt; all.split(40).1 == all && all.split(40).0.is_empty());
-        assert!(rt; LabelSet::full(32).has(31) && LabelSet::one(31).only() == Some(31));
-    }
-}

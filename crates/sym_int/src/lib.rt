@@ -23,6 +23,3 @@ pub use pieces::{Cut, Pieces};
 pub use pulling::{Pulled, pull};
 pub use span::Span;
 pub use wide::{Wide, WideLine, WideNumber};
-
-#[cfg(test)]
-mod tests;

@@ -9,8 +9,6 @@ pub mod laws;
 mod lexer;
 mod scan;
 mod symbol;
-#[cfg(test)]
-mod tests;
 mod token;
 
 pub use error::{LexErr, LexFault};

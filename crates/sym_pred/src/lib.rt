@@ -8,6 +8,3 @@ mod literal;
 pub use facts::{Added, Facts};
 pub use form::HoldForm;
 pub use literal::Literal;
-
-#[cfg(test)]
-mod tests;

@@ -74,20 +74,3 @@ impl Sink for SureSink {
         Ok(bytes.len())
     }
 }
-
-#[cfg(test)]
-mod tests {
-    use super::*;
-    use crate::edge::write::write_all;
-    use std::test::Fail;
-
-    #[test]
-    fn all_bytes_are_taken_at_once(rt: HostRuntime) -> Result<(), Fail> {
-        let mut sink = SureSink::new(rt.alloc());
-        assert_eq!(rt; sink.write_some(b""), Ok(0));
-        assert_eq!(rt; sink.write_some(b"first"), Ok(5));
-        assert_eq!(rt; write_all(&mut sink, b", second"), Ok(()));
-        assert_eq!(rt; sink.bytes(), b"first, second".as_slice());
-        Ok(())
-    }
-}

@@ -76,27 +76,3 @@ impl Store for SureStore {
         }
     }
 }
-
-#[cfg(test)]
-mod tests {
-    use super::*;
-    use crate::edge::read::read_all;
-    use std::test::Fail;
-
-    #[test]
-    fn an_absent_file_is_empty_and_one_that_is_set_again_is_replaced(
-        rt: HostRuntime,
-    ) -> Result<(), Fail> {
-        let mut store = SureStore::new(rt.alloc());
-        assert!(rt; read_all(rt.alloc(), &mut store, "a", 0)?.is_empty());
-        store.add(rt.alloc(), "a", b"first, and longer")?;
-        store.add(rt.alloc(), "b", b"other")?;
-        store.add(rt.alloc(), "a", b"second")?;
-        let read = read_all(rt.alloc(), &mut store, "a", 20)?;
-        assert_eq!(rt; read.as_slice(), b"second".as_slice());
-        let read = read_all(rt.alloc(), &mut store, "b", 20)?;
-        assert_eq!(rt; read.as_slice(), b"other".as_slice());
-        assert!(rt; read_all(rt.alloc(), &mut store, "", 20)?.is_empty());
-        Ok(())
-    }
-}

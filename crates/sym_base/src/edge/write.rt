@@ -30,38 +30,3 @@ pub fn write_all<O: Sink>(sink: &mut O, bytes: &[u8]) -> Result<(), SinkErr>
     }
     Ok(())
 }
-
-#[cfg(test)]
-mod tests {
-    use super::*;
-    use crate::edge::mem_sink::MemSink;
-    use std::test::Fail;
-
-    #[test]
-    fn all_bytes_are_written_whatever_a_write_takes(rt: HostRuntime) -> Result<(), Fail> {
-        for piece in [1, 4, 10, 11] {
-            assert!(rt; piece >= 1);
-            let mut sink = MemSink::new(rt.alloc(), piece);
-            assert_eq!(rt; write_all(&mut sink, b"0123456789"), Ok(()));
-            assert_eq!(rt; write_all(&mut sink, b""), Ok(()));
-            assert_eq!(rt; write_all(&mut sink, b"ab"), Ok(()));
-            assert_eq!(rt;
-                sink.bytes(),
-                b"0123456789ab".as_slice(),
-                "pieces of {piece}"
-            );
-        }
-        Ok(())
-    }
-
-    #[test]
-    fn a_failed_write_leaves_the_bytes_before_it(rt: HostRuntime) -> Result<(), Fail> {
-        let mut sink = MemSink::new(rt.alloc(), 4);
-        sink.fail_at(rt.alloc(), 3)?;
-        assert_eq!(rt; write_all(&mut sink, b"0123456789"), Err(SinkErr::Failed));
-        assert_eq!(rt; sink.bytes(), b"01234567".as_slice());
-        assert_eq!(rt; write_all(&mut sink, b"ab"), Ok(()));
-        assert_eq!(rt; sink.bytes(), b"01234567ab".as_slice());
-        Ok(())
-    }
-}

@@ -1,5 +1,6 @@
-use crate::{Keyword, LexErr, LexFault, Symbol, Token, TokenKind, lex};
+//! Tokens and the faults of texts.
 use std::test::Fail;
+use sym_lex::{Keyword, LexErr, LexFault, Symbol, Token, TokenKind, lex};
 
 /// Texts with a fault, and the fault that stands first.
 const FAULTS: [(&[u8], LexFault); 22] = [

@@ -1,9 +1,9 @@
 //! Worked rows of facts.
-use crate::{Added, Facts, Literal};
 use std::alloc::Global;
 use std::process::Abort;
 use std::test::Fail;
 use sym_base::{NoMemory, Sequence, Text, Value};
+use sym_pred::{Added, Facts, Literal};
 
 fn literal(alloc: Global, test: u16, value: Value, outcome: bool) -> Result<Literal, NoMemory> {
     let mut args = Sequence::new(alloc);

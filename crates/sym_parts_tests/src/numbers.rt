@@ -1,11 +1,11 @@
-//! Worked rows.
-use crate::{
-    Cut, Fitted, IntForm, IntForms, Line, Number, Pieces, Pulled, Span, Wide, WideLine, cut, fit,
-    pull,
-};
+//! Worked rows of spans, lines and forms.
 use std::alloc::Global;
 use std::test::Fail;
 use sym_base::{Cell, Cells, Compare, Element, NUM_MAX, Sequence, State};
+use sym_int::{
+    Cut, Fitted, IntForm, IntForms, Line, Number, Pieces, Pulled, Span, Wide, WideLine, cut, fit,
+    pull,
+};
 
 /// `a * x + b` over the number x of cell 3; a constant where `a` is 0.
 fn form_of(a: i64, b: i64) -> Option<IntForm> {

@@ -1,11 +1,12 @@
+//! A board of few leaves.
 ghost use Rattle.std.specs.Prelude.{◌≡◌, ℕ, ◌+◌, ◌-◌, ◌<◌, true, false, None, Some, All, IfOk, IfSome, vec_len, slice_index};
 ghost use Rattle.sym_board.specs.Arrived.{LeavesAlone, FindsSibling};
 ghost use Rattle.sym_board.specs.Passes.{IsPassOf, IsFree, IsNewPassOf, StandsForHand, KeepsClaims};
 
-use crate::{Arrived, Board, Interval, LEAVES_MAX, Made, Pass, Piece};
 use std::alloc::Global;
 use std::test::Fail;
 use sym_base::NoMemory;
+use sym_board::{Arrived, Board, Interval, LEAVES_MAX, Made, Pass, Piece};
 
 // The list of a row of leaves.
 #[derive(Drop)]

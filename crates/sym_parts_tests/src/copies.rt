@@ -1,8 +1,13 @@
 //! With ample memory each type of plain values gives its copy.
-use crate::*;
 use std::alloc::{AllocError, Global};
 use std::process::Abort;
 use std::test::Fail;
+use sym_base::{
+    BinOp, Cell, CellDecl, Cells, Column, ColumnDecl, ColumnDecls, Columns, Compare, EnumDecl,
+    EnumDecls, Expr, Exprs, FieldDecl, FieldDecls, Key, KindRef, Literal, NUM_MAX, Name, Names,
+    NoMemory, Nums, Outcome, Param, Params, Part, Parts, Record, ReportFault, Script, State,
+    StateDecl, StateDecls, Stmt, Stmts, TestDecl, TestDecls, Text, Value, Values, Words,
+};
 
 fn word(alloc: Global) -> Result<Text, NoMemory> {
     Text::from_str(alloc, "ann")
@@ -59,20 +64,55 @@ fn columns(alloc: Global) -> Result<Columns, NoMemory> {
     Ok(columns)
 }
 
+fn key_is_copied(alloc: Global, key: &Key) -> Result<bool, NoMemory> {
+    let copy = key.copy(alloc)?;
+    Ok(copy == *key)
+}
+
+fn record_is_copied(alloc: Global, record: &Record) -> Result<bool, NoMemory> {
+    let copy = record.copy(alloc)?;
+    Ok(copy == *record)
+}
+
+fn outcome_is_copied(alloc: Global, outcome: &Outcome) -> Result<bool, NoMemory> {
+    let copy = outcome.copy(alloc)?;
+    Ok(copy == *outcome)
+}
+
+fn columns_are_copied(alloc: Global, columns: &Columns) -> Result<bool, NoMemory> {
+    let copy = columns.copy(alloc)?;
+    Ok(copy == *columns)
+}
+
 #[test]
-fn values_are_copied(rt: HostRuntime) -> Result<(), Fail> {
-    let alloc = rt.alloc();
-    let key = Key::One(Value::Word(word(alloc)?));
-    assert!(rt; key.copy(alloc)? == key && Key::Whole.copy(alloc)? == Key::Whole);
+fn keys_are_copied(rt: HostRuntime) -> Result<(), Fail> {
+    let key = Key::One(Value::Word(word(rt.alloc())?));
+    assert!(rt; key_is_copied(rt.alloc(), &key)?);
+    assert!(rt; key_is_copied(rt.alloc(), &Key::Whole)?);
+    Ok(())
+}
+
+#[test]
+fn records_are_copied(rt: HostRuntime) -> Result<(), Fail> {
     let record = Record {
         no: 3,
-        fields: values(alloc)?,
+        fields: values(rt.alloc())?,
     };
-    assert!(rt; record.copy(alloc)? == record);
-    let going = Outcome::Going(state(alloc)?);
-    assert!(rt; going.copy(alloc)? == going);
-    let columns = columns(alloc)?;
-    assert!(rt; columns.copy(alloc)? == columns);
+    assert!(rt; record_is_copied(rt.alloc(), &record)?);
+    Ok(())
+}
+
+#[test]
+fn outcomes_are_copied(rt: HostRuntime) -> Result<(), Fail> {
+    let going = Outcome::Going(state(rt.alloc())?);
+    assert!(rt; outcome_is_copied(rt.alloc(), &going)?);
+    Ok(())
+}
+
+#[test]
+fn columns_of_reports_are_copied(rt: HostRuntime) -> Result<(), Fail> {
+    let columns = columns(rt.alloc())?;
+    assert!(rt; columns_are_copied(rt.alloc(), &columns)?);
     Ok(())
 }
 
@@ -215,15 +255,25 @@ fn count(mut stmts: &Stmts) -> u32 {
     10
 }
 
+fn is_copy(copy: &Script, script: &Script) -> bool {
+    copy.enums == script.enums
+        && copy.fields == script.fields
+        && copy.group == script.group
+        && copy.states == script.states
+        && copy.tests.len() == 1
+        && copy.columns.len() == 1
+        && count(&copy.update) == 5
+}
+
+fn script_is_copied(alloc: Global, script: &Script) -> Result<bool, NoMemory> {
+    let copy = script.copy(alloc)?;
+    Ok(is_copy(&copy, script))
+}
+
 #[test]
 fn a_script_is_copied(rt: HostRuntime) -> Result<(), Fail> {
     let script = script(rt.alloc())?;
-    let copy = script.copy(rt.alloc())?;
-    assert!(rt; copy.enums == script.enums && copy.fields == script.fields);
-    assert!(rt; copy.group == script.group && copy.states == script.states);
-    assert_eq!(rt; copy.tests.len(), 1);
-    assert_eq!(rt; copy.columns.len(), 1);
-    assert_eq!(rt; count(&copy.update), 5);
+    assert!(rt; script_is_copied(rt.alloc(), &script)?);
     Ok(())
 }
 
