@@ -31,7 +31,7 @@ use Rattle.sym_path.specs.Changing.{GivesWhereLiteral, SuitsCell}
 use Rattle.sym_path.specs.Fitting.{PartFits, PathFits, Suits}
 use Rattle.sym_path.specs.Fitting as fitting
 use Rattle.sym_path.specs.Giving.{end_at, given}
-use Rattle.sym_path.specs.Narrowing.{cell_admitted, NarrowsFacts, PartFitsCell}
+use Rattle.sym_path.specs.Narrowing.{cell_admitted}
 use Rattle.sym_path.proofs.Decided.{facts_decided, same_truth_decided}
 use Rattle.sym_path.proofs.JoiningFits.{same_literal}
 use Rattle.sym_path.proofs.Lists.{zip_at}
@@ -70,12 +70,9 @@ where_both true b x o h = refl
 where_both false true x o h = rw (h refl) refl
 where_both false false x o h = refl
 
-pub literal_narrows : (old new : FactMap) (literal : Literal) (o : Option Part) → o ≡ Some (part.Facts old) → AdmitsMore old literal new → NarrowsFacts new o
-literal_narrows old new literal o e more = rw e (λ truth parts all. ((more truth parts).0 all).0)
-
 pub literal_gives : (c : ℕ) (known : FactMap) (literal : Literal) (more : FactMap) (old new : Path) → slice_get old.when c ≡ Some (part.Facts known) → AdmitsMore known literal more → new.when ≡ slice_set old.when c (part.Facts more) → new.end ≡ old.end → GivesWhereLiteral old c literal new
 literal_gives c known literal more old new is admitted w same truth s =
-    let narrowed : given truth new s ≡ (if cell_admitted truth (part.Facts more) (slice_get s.cells c) then given truth old s else []) = facts_give c more old new (literal_narrows known more literal (slice_get old.when c) is admitted) w same truth s in
+    let narrowed : given truth new s ≡ (if cell_admitted truth (part.Facts more) (slice_get s.cells c) then given truth old s else []) = facts_give c known more old new is (λ t parts all. ((admitted t parts).0 all).0) w same truth s in
     let here : cell_admitted truth (part.Facts more) (slice_get s.cells c) ≡ (cell_admitted truth (part.Facts known) (slice_get s.cells c) && gives_outcome truth (parts_at s c) literal) = cell_with_more truth known more literal admitted (slice_get s.cells c) in
     narrowed ∙ ap (λ (b : Bool). if b then given truth old s else []) here ∙ where_both (cell_admitted truth (part.Facts known) (slice_get s.cells c)) (gives_outcome truth (parts_at s c) literal) (admits truth old.when s.cells) (end_at old.end s) (part_refuses truth old.when s.cells c (part.Facts known) is)
 
@@ -104,10 +101,9 @@ literals_suit p kinds known literal suits all = λ k d l. one k d (literal_stand
 suited_part : (p : ScriptPlan) (kinds : List KindPlan) (first : List Value) (known : FactMap) (literal : Literal) → Suits p kinds literal → PartFits p (plan.Hold kinds first) (part.Facts known) → PartFits p (plan.Hold kinds first) (part.Facts (insert known (atom_of literal) literal.outcome))
 suited_part p _ _ _ literal suits (fitting.parts kinds first known all) = fitting.parts kinds first (insert known (atom_of literal) literal.outcome) (literals_suit p kinds known literal suits all)
 
-pub literal_fits : (p : ScriptPlan) (c : ℕ) (known : FactMap) (literal : Literal) (more : FactMap) (old new : Path) → SuitsCell p c literal → slice_get old.when c ≡ Some (part.Facts known) → more ≡ insert known (atom_of literal) literal.outcome → AdmitsMore known literal more → new.when ≡ slice_set old.when c (part.Facts more) → new.end ≡ old.end → PathFits p old → PathFits p new
-literal_fits p c known literal more old new suits is longer admitted w same fits =
+pub literal_fits : (p : ScriptPlan) (c : ℕ) (known : FactMap) (literal : Literal) (more : FactMap) (old new : Path) → SuitsCell p c literal → slice_get old.when c ≡ Some (part.Facts known) → more ≡ insert known (atom_of literal) literal.outcome → new.when ≡ slice_set old.when c (part.Facts more) → new.end ≡ old.end → PathFits p old → PathFits p new
+literal_fits p c known literal more old new suits is longer w same fits =
     let hold : CellPlan = plan.Hold suits.kinds suits.is_hold.first in
     let now : PartFits p hold (part.Facts known) = zip_at (PartFits p) p.cells old.when c hold (part.Facts known) fits.parts suits.is_hold.is is in
     let after : PartFits p hold (part.Facts more) = subst (λ (m : FactMap). PartFits p hold (part.Facts m)) (sym longer) (suited_part p suits.kinds suits.is_hold.first known literal suits.suits now) in
-    let cell : PartFitsCell p c (part.Facts more) = rw suits.is_hold.is after in
-    facts_fit p c more old new (literal_narrows known more literal (slice_get old.when c) is admitted) cell w same fits
+    facts_fit p c hold known more old new suits.is_hold.is is after w same fits

@@ -34,7 +34,7 @@ use Rattle.sym_path.specs.declared.path.PathEnd.TheVariants.{Next, Ended}
 use Rattle.sym_path.specs.declared.path.Path.{Path}
 use Rattle.sym_path.specs.Admitting.{part_admits, admits}
 use Rattle.sym_path.specs.Giving.{cell_at, cells_at, end_at, given}
-use Rattle.sym_path.specs.Narrowing.{cell_admitted, GivesWhere, IsSubset, IsSubspan, NarrowsLabels, NarrowsNumbers, NarrowsFacts, label_put, with_label, NumberIsPut, end_with_label, NumberIsPutAtEnd, LabelsNarrowed, NumbersNarrowed}
+use Rattle.sym_path.specs.Narrowing.{cell_admitted, GivesWhere, IsSubset, IsSubspan, NarrowsLabels, NarrowsNumbers, label_put, with_label, NumberIsPut, end_with_label, NumberIsPutAtEnd, LabelsNarrowed, NumbersNarrowed}
 use Rattle.sym_path.proofs.Decided.{point_decided, facts_decided}
 
 -- ---- what a narrowed constraint admits
@@ -243,13 +243,6 @@ numbers_give c span old new narrower h truth s = go (old_numbers span (slice_get
 
 -- ---- facts
 
-pub old_facts : (new : FactMap) (o : Option Part) → NarrowsFacts new o → (old : FactMap) × (o ≡ Some (part.Facts old)) × ((truth : Truth) (parts : List Value) → facts.Admits truth new parts → facts.Admits truth old parts)
-old_facts new None h = absurd h
-old_facts new (Some (part.Set old)) h = absurd h
-old_facts new (Some (part.Span old)) h = absurd h
-old_facts new (Some (part.Facts old)) h = (old, refl, h)
-old_facts new (Some part.Free) h = absurd h
-
 facts_narrower : (truth : Truth) (old new : FactMap) → ((parts : List Value) → facts.Admits truth new parts → facts.Admits truth old parts) → (c : Cell) → part_admits truth (part.Facts new) c ≡ true → part_admits truth (part.Facts old) c ≡ true
 facts_narrower truth old new h (cell.Enum l) e = e
 facts_narrower truth old new h (cell.Int x) e = e
@@ -257,10 +250,7 @@ facts_narrower truth old new h (cell.Hold ps) e = (facts_decided truth old ps).1
 facts_narrower truth old new h (cell.Nums xs) e = e
 facts_narrower truth old new h (cell.Words ts) e = e
 
-pub facts_give : (c : ℕ) (known : FactMap) (old new : Path) → NarrowsFacts known (slice_get old.when c) → new.when ≡ slice_set old.when c (part.Facts known) → new.end ≡ old.end → GivesWhere old c (part.Facts known) new
-facts_give c known old new narrower w same truth s = go (old_facts known (slice_get old.when c) narrower)
-  where
-    go : (before : FactMap) × (slice_get old.when c ≡ Some (part.Facts before)) × ((truth : Truth) (parts : List Value) → facts.Admits truth known parts → facts.Admits truth before parts) → given truth new s ≡ (if cell_admitted truth (part.Facts known) (slice_get s.cells c) then given truth old s else [])
-    go (before, is, more) =
-        let admitted : admits truth new.when s.cells ≡ (cell_admitted truth (part.Facts known) (slice_get s.cells c) && admits truth old.when s.cells) = ap (λ (v : List Part). admits truth v s.cells) w ∙ admits_set truth old.when s.cells c (part.Facts before) (part.Facts known) is (facts_narrower truth before known (more truth)) in
-        given_from (admits truth new.when s.cells) (cell_admitted truth (part.Facts known) (slice_get s.cells c)) (admits truth old.when s.cells) (end_at new.end s) (end_at old.end s) admitted (λ e. ap (λ (x : PathEnd). end_at x s) same)
+pub facts_give : (c : ℕ) (before known : FactMap) (old new : Path) → slice_get old.when c ≡ Some (part.Facts before) → ((truth : Truth) (parts : List Value) → facts.Admits truth known parts → facts.Admits truth before parts) → new.when ≡ slice_set old.when c (part.Facts known) → new.end ≡ old.end → GivesWhere old c (part.Facts known) new
+facts_give c before known old new is more w same truth s =
+    let admitted : admits truth new.when s.cells ≡ (cell_admitted truth (part.Facts known) (slice_get s.cells c) && admits truth old.when s.cells) = ap (λ (v : List Part). admits truth v s.cells) w ∙ admits_set truth old.when s.cells c (part.Facts before) (part.Facts known) is (facts_narrower truth before known (more truth)) in
+    given_from (admits truth new.when s.cells) (cell_admitted truth (part.Facts known) (slice_get s.cells c)) (admits truth old.when s.cells) (end_at new.end s) (end_at old.end s) admitted (λ e. ap (λ (x : PathEnd). end_at x s) same)

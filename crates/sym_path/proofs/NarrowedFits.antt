@@ -36,10 +36,10 @@ use Rattle.sym_path.specs.declared.path.PathEnd.TheVariants.{Next, Ended}
 use Rattle.sym_path.specs.declared.path.Path.{Path}
 use Rattle.sym_path.specs.Fitting.{FitsEnum, FitsRange, PartFits, StaysWithin, NumberFits, FormFits, FormsFit, EndFits, PathFits}
 use Rattle.sym_path.specs.Fitting as fitting
-use Rattle.sym_path.specs.Narrowing.{IsSubset, IsSubspan, NarrowsLabels, NarrowsNumbers, NarrowsFacts, PartFitsCell, label_put, with_label, NumberIsPut, CanPutNumber, CanPutAtEnd, end_with_label, NumberIsPutAtEnd, LabelsNarrowed, NumbersNarrowed}
+use Rattle.sym_path.specs.Narrowing.{IsSubset, IsSubspan, NarrowsLabels, NarrowsNumbers, label_put, with_label, NumberIsPut, CanPutNumber, CanPutAtEnd, end_with_label, NumberIsPutAtEnd, LabelsNarrowed, NumbersNarrowed}
 use Rattle.sym_path.specs.Taking.{HasOneLabel, HasOneNumber, copied_cell, LabelIsTakenTo, NumberIsTakenTo, IsTakenOn}
 use Rattle.sym_path.proofs.Lists.{set_cases, set_same, set_other, zip_get_right, zip_set, zip_weak, zip_map, zip_trans, zip_all, all_from, all_at}
-use Rattle.sym_path.proofs.Narrowed.{old_labels, old_numbers, old_facts, subspan_point}
+use Rattle.sym_path.proofs.Narrowed.{old_labels, old_numbers, subspan_point}
 use Rattle.sym_path.proofs.Fitted.{number_between}
 
 -- ---- forms that name no cell with one value
@@ -444,14 +444,8 @@ module _ (p : ScriptPlan) (when : List Part) (c : ℕ) (old known : FactMap) (is
   }
   facts_end (Ended fault) h = h
 
-pub facts_fit : (p : ScriptPlan) (c : ℕ) (known : FactMap) (old new : Path) → NarrowsFacts known (slice_get old.when c) → PartFitsCell p c (part.Facts known) → new.when ≡ slice_set old.when c (part.Facts known) → new.end ≡ old.end → PathFits p old → PathFits p new
-facts_fit p c known old new narrower suits w same fits = go (old_facts known (slice_get old.when c) narrower)
-  where
-    go : (before : FactMap) × (slice_get old.when c ≡ Some (part.Facts before)) × ((truth : Truth) (parts : List Value) → facts.Admits truth known parts → facts.Admits truth before parts) → PathFits p new
-    go (before, is, more) =
-        let (cp, there, q) = zip_get_right (PartFits p) p.cells old.when c (part.Facts before) fits.parts is in
-        let fits_cell : PartFits p cp (part.Facts known) = rw there at suits in
-        record {
-          parts = subst (λ (v : List Part). AllZip (PartFits p) p.cells v) (sym w) (zip_set (PartFits p) p.cells old.when c cp (part.Facts known) fits.parts there fits_cell);
-          end = subst (λ (v : List Part). EndFits p v new.end) (sym w) (subst (λ (e : PathEnd). EndFits p (slice_set old.when c (part.Facts known)) e) (sym same) (facts_end p old.when c before known is old.end fits.end));
-        }
+pub facts_fit : (p : ScriptPlan) (c : ℕ) (cp : CellPlan) (before known : FactMap) (old new : Path) → slice_get p.cells c ≡ Some cp → slice_get old.when c ≡ Some (part.Facts before) → PartFits p cp (part.Facts known) → new.when ≡ slice_set old.when c (part.Facts known) → new.end ≡ old.end → PathFits p old → PathFits p new
+facts_fit p c cp before known old new there is suits w same fits = record {
+  parts = subst (λ (v : List Part). AllZip (PartFits p) p.cells v) (sym w) (zip_set (PartFits p) p.cells old.when c cp (part.Facts known) fits.parts there suits);
+  end = subst (λ (v : List Part). EndFits p v new.end) (sym w) (subst (λ (e : PathEnd). EndFits p (slice_set old.when c (part.Facts known)) e) (sym same) (facts_end p old.when c before known is old.end fits.end));
+}

@@ -1,5 +1,5 @@
 -- A path's constraint narrowed in one cell.
-use Rattle.std.specs.Prelude.{◌≡◌, ℕ, ℤ, ◌≤ℤ◌, ◌<ℤ◌, ◌==◌, map, slice_set, Bool, false, IsTrue, List, [], Option, Some, None, slice_get, IfSome, ◌⊎◌, if◌then◌else◌}
+use Rattle.std.specs.Prelude.{◌≡◌, ℕ, ℤ, ◌≤ℤ◌, ◌<ℤ◌, ◌==◌, map, slice_set, Bool, false, IsTrue, List, [], Option, Some, None, slice_get, ◌⊎◌, if◌then◌else◌}
 use Rattle.std.specs.List.{All, AllZip}
 use Rattle.sym_base.specs.declared.values.state.Cell.{Cell}
 use Rattle.sym_base.specs.declared.values.state.State.{State}
@@ -9,13 +9,7 @@ use Rattle.sym_enum.specs.declared.form.EnumForm.TheVariants as label
 use Rattle.sym_enum.specs.declared.label_set.LabelSet.{LabelSet}
 use Rattle.sym_int.specs.Elements.{CanFix, IsFixedTo}
 use Rattle.sym_int.specs.declared.span.Span.{Span}
-use Rattle.sym_check.specs.declared.plan.script.CellPlan.{CellPlan}
-use Rattle.sym_check.specs.ScriptPlans.{ScriptPlan}
-use Rattle.sym_pred.specs.Facts.{FactMap}
 use Rattle.sym_base.specs.Tests.{Truth}
-use Rattle.sym_pred.specs.Meaning as facts
-use Rattle.sym_base.specs.declared.values.value.Value.{Value}
-use Rattle.sym_path.specs.Fitting.{PartFits}
 use Rattle.sym_path.specs.declared.part.Part.{Part}
 use Rattle.sym_path.specs.declared.part.Part.TheVariants as part
 use Rattle.sym_path.specs.declared.form.Form.{Form}
@@ -117,17 +111,3 @@ pub record NumbersNarrowed (c : ℕ) (span : Span) (old new : Path) : Type 0 whe
   pub when : new.when ≡ slice_set old.when c (part.Span span)
   pub one : span.lo ≡ span.hi → NumberIsPutAtEnd c span.lo old.end new.end
   pub more : span.lo <ℤ span.hi → new.end ≡ old.end
-
--- The part of the cell is facts whose states are more than those of these ones.
-abbrev pub NarrowsFacts : FactMap → Option Part → Type 0
-NarrowsFacts new None = ⊥
-NarrowsFacts new (Some (part.Set old)) = ⊥
-NarrowsFacts new (Some (part.Span old)) = ⊥
-NarrowsFacts new (Some (part.Facts old)) =
-    (truth : Truth) (parts : List Value) → facts.Admits truth new parts →
-    facts.Admits truth old parts
-NarrowsFacts new (Some part.Free) = ⊥
-
--- The part is one that the cell of the script with this number may have.
-abbrev pub PartFitsCell : ScriptPlan → ℕ → Part → Type 0
-PartFitsCell p c new = IfSome (slice_get p.cells c) (λ (cp : CellPlan). PartFits p cp new)

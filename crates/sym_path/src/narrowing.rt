@@ -1,7 +1,7 @@
 //! A path's constraint narrowed in one cell, and its forms taken on it, in place.
 ghost use Rattle.std.specs.Prelude.{◌≡◌, ℤ, All, map, slice_get, slice_set};
 ghost use Rattle.std.specs.List.{AllZip};
-ghost use Rattle.sym_path.specs.Narrowing.{with_label, end_with_label, CanPutNumber, CanPutAtEnd, NumberIsPut, NumberIsPutAtEnd, LabelsNarrowed, NumbersNarrowed, GivesWhere, NarrowsLabels, NarrowsNumbers, NarrowsFacts, PartFitsCell};
+ghost use Rattle.sym_path.specs.Narrowing.{with_label, end_with_label, CanPutNumber, CanPutAtEnd, NumberIsPut, NumberIsPutAtEnd, LabelsNarrowed, NumbersNarrowed, GivesWhere, NarrowsLabels, NarrowsNumbers};
 ghost use Rattle.sym_check.specs.ScriptPlans.{script_plan};
 ghost use Rattle.sym_check.specs.WellFormed.{IsWellFormed};
 ghost use Rattle.sym_path.specs.Changing.{GoesOn};
@@ -18,7 +18,6 @@ use sym_base::{Element, Fault, FaultKind, Sequence};
 use sym_check::Plan;
 use sym_enum::{EnumForm, LabelSet};
 use sym_int::Span;
-use sym_pred::Facts;
 
 impl Form {
     /// Puts the label in the place of the enum cell with this number.
@@ -171,20 +170,5 @@ impl Path {
         ensures when { self.new.when ≡ slice_set self.old.when cell (part.Span span.now) }
     {
         self.set_numbers(cell, span);
-    }
-
-    /// Puts facts that say more in the place of those known of a hold cell. What the path gives
-    /// stays the same where the cell's parts give each literal's outcome, and it gives nothing
-    /// elsewhere. It takes no memory.
-    pub fn narrow_facts(&mut self, _plan: &Plan, cell: u16, facts: Facts)
-        requires fits { PathFits (script_plan _plan.now) self.old }
-        requires suits { PartFitsCell (script_plan _plan.now) cell (part.Facts facts) }
-        requires narrower { NarrowsFacts facts (slice_get self.old.when cell) }
-        ensures fits { PathFits (script_plan _plan.now) self.new }
-        ensures gives { GivesWhere self.old cell (part.Facts facts) self.new }
-        ensures when { self.new.when ≡ slice_set self.old.when cell (part.Facts facts) }
-        ensures end { self.new.end ≡ self.old.end }
-    {
-        self.when.set(usize::from(cell), Part::Facts(facts));
     }
 }

@@ -14,7 +14,7 @@ returns-in_ok-longer-clause-fits c =
     let k : ℕ = c.args.cell in
     let known : slice_get old.when k ≡ Some (part.Facts c.in-Some-Facts.facts) = cc in
     let w : c.set.new.self ≡ slice_set old.when k (part.Facts c.in_ok-longer.longer) = let twice = set-set old.when k part.Free (part.Facts c.in_ok-longer.longer) in cc in
-    literal_fits (script_plan c.args._plan.now) k c.in-Some-Facts.facts c.args.literal c.in_ok-longer.longer old new c.requires.suits known c.in_ok-longer.ensures.facts c.in_ok-longer.ensures.admits w refl c.requires.fits
+    literal_fits (script_plan c.args._plan.now) k c.in-Some-Facts.facts c.args.literal c.in_ok-longer.longer old new c.requires.suits known c.in_ok-longer.ensures.facts w refl c.requires.fits
 
 pub returns-in_ok-longer-clause-gives : goal.returns-in_ok-longer-clause-gives
 returns-in_ok-longer-clause-gives c =
