@@ -29,7 +29,7 @@ taken_value number cell span (form.Line own) state t p =
     cc)
 
 -- A form on the span of its cell by another name of its number and of its cell.
-pub on_spans : (f g : ℤ → ℤ) (own other : Option ℕ) (spans : List Span) (after : IntForm) → ((x : ℤ) → f x ≡ g x) → own ≡ other → IsOnSpans f own spans after → IsOnSpans g other spans after
+pub on_spans : (f g : ℤ → ℤ) (own other : Option ℕ) (spans : ℕ → Option Span) (after : IntForm) → ((x : ℤ) → f x ≡ g x) → own ≡ other → IsOnSpans f own spans after → IsOnSpans g other spans after
 on_spans f g own other spans after same e h =
     let number : f ≡ g = λ i x. same x i in
     subst (λ (cell : Option ℕ). IsOnSpans g cell spans after) e (subst (λ (number : ℤ → ℤ). IsOnSpans number own spans after) number h)

@@ -3,7 +3,7 @@ use Rattle.std.specs.Prelude.{◌≡◌, ◌≢◌, ℕ, ℤ, pos, ◌+ℤ◌, �
 use Rattle.sym_base.specs.Limits.{IsNumber}
 use Rattle.sym_base.specs.States.{HoldsInt, number_at}
 use Rattle.sym_base.specs.declared.values.state.Cell.{Cell}
-use Rattle.sym_base.specs.declared.values.state.Cell.TheVariants.{Int}
+use Rattle.sym_base.specs.declared.values.state.Cell.TheVariants.{Enum, Int, Hold, Nums, Words}
 use Rattle.sym_base.specs.declared.values.state.State.{State}
 use Rattle.sym_int.specs.Lines.{form_on, form_cell, form_value}
 use Rattle.sym_int.specs.Points.{HasPoint}
@@ -33,8 +33,11 @@ pub record Covers (context : IntForms) (state : State) : Type 0 where
 
 -- A cell in which an integer cell's number is replaced.
 abbrev pub led_cell : ℤ → Cell → Cell
+led_cell x (Enum label) = Enum label
 led_cell x (Int old) = Int x
-led_cell x cell = cell
+led_cell x (Hold parts) = Hold parts
+led_cell x (Nums numbers) = Nums numbers
+led_cell x (Words words) = Words words
 
 -- The cells of which the integer cells hold their forms' numbers at a state.
 abbrev pub led_cells : State → List IntForm → List Cell → List Cell
@@ -52,21 +55,25 @@ abbrev pub StaysOnSpan : (ℤ → ℤ) → Option Span → Type 0
 StaysOnSpan number None = ⊥
 StaysOnSpan number (Some span) = (x : ℤ) → HasPoint span x → IsNumber (number x)
 
-abbrev pub StaysOn : (ℤ → ℤ) → Option ℕ → List Span → Type 0
+-- The same where `spans` gives the span of each integer cell; a number may depend on no cell.
+abbrev pub StaysOn : (ℤ → ℤ) → Option ℕ → (ℕ → Option Span) → Type 0
 StaysOn number None spans = IsNumber (number (pos 0))
-StaysOn number (Some cell) spans = StaysOnSpan number (slice_get spans cell)
+StaysOn number (Some cell) spans = StaysOnSpan number (spans cell)
 
 -- A line over the form of its cell stays among the numbers of a script on the spans.
-abbrev pub Composes : IntForm → Option IntForm → List Span → Type 0
+abbrev pub Composes : IntForm → Option IntForm → (ℕ → Option Span) → Type 0
 Composes outer None spans = ⊥
 Composes outer (Some inner) spans =
     StaysOn (λ x. form_on outer (form_on inner x)) (form_cell inner) spans
 
--- The condition of a form's way through a context.
+-- The condition under which a form may go over the forms of the integer cells.
+abbrev pub CanGoOver : IntForm → (ℕ → Option IntForm) → (ℕ → Option Span) → Type 0
+CanGoOver (form.Const number) forms spans = Unit {0}
+CanGoOver (form.Line line) forms spans = Composes (form.Line line) (forms line.cell) spans
+
+-- The same of the forms and the spans of a context.
 abbrev pub CanGoThrough : IntForm → IntForms → Type 0
-CanGoThrough (form.Const number) context = Unit {0}
-CanGoThrough (form.Line line) context =
-    Composes (form.Line line) (slice_get context.forms line.cell) context.spans
+CanGoThrough f context = CanGoOver f (slice_get context.forms) (slice_get context.spans)
 
 -- The form is this number at every state.
 abbrev pub IsConstant : ℤ → IntForm → Type 0
@@ -78,22 +85,29 @@ abbrev pub IsOnSpan : (ℤ → ℤ) → ℕ → Option Span → IntForm → Type
 IsOnSpan number cell None after = ⊥
 IsOnSpan number cell (Some span) after = IsTaken number (Some cell) span after
 
-abbrev pub IsOnSpans : (ℤ → ℤ) → Option ℕ → List Span → IntForm → Type 0
+-- The same where `spans` gives the span of each integer cell; a number may depend on no cell.
+abbrev pub IsOnSpans : (ℤ → ℤ) → Option ℕ → (ℕ → Option Span) → IntForm → Type 0
 IsOnSpans number None spans after = IsConstant (number (pos 0)) after
-IsOnSpans number (Some cell) spans after = IsOnSpan number cell (slice_get spans cell) after
+IsOnSpans number (Some cell) spans after = IsOnSpan number cell (spans cell) after
 
 -- The line over the form of its cell, on the span of the cell that this one names.
-abbrev pub IsComposed : IntForm → Option IntForm → List Span → IntForm → Type 0
+abbrev pub IsComposed : IntForm → Option IntForm → (ℕ → Option Span) → IntForm → Type 0
 IsComposed outer None spans after = ⊥
 IsComposed outer (Some inner) spans after =
     IsOnSpans (λ x. form_on outer (form_on inner x)) (form_cell inner) spans after
 
--- What a form becomes through a context: a constant stays, and a line becomes the line over the
--- form of its cell, on the span of the cell that it then names.
+-- What a form becomes over the forms of the integer cells: a constant stays, and a line becomes the
+-- line over the form of its cell, on the span of the cell that it then names.
+abbrev pub GoesOverTo :
+    IntForm → (ℕ → Option IntForm) → (ℕ → Option Span) → IntForm → Type 0
+GoesOverTo (form.Const number) forms spans after = after ≡ form.Const number
+GoesOverTo (form.Line line) forms spans after =
+    IsComposed (form.Line line) (forms line.cell) spans after
+
+-- The same of the forms and the spans of a context.
 abbrev pub GoesThroughTo : IntForm → IntForms → IntForm → Type 0
-GoesThroughTo (form.Const number) context after = after ≡ form.Const number
-GoesThroughTo (form.Line line) context after =
-    IsComposed (form.Line line) (slice_get context.forms line.cell) context.spans after
+GoesThroughTo f context after =
+    GoesOverTo f (slice_get context.forms) (slice_get context.spans) after
 
 -- The condition under which a cell's number may be put into a form.
 abbrev pub CanFix : IntForm → ℕ → ℤ → Type 0

@@ -1,5 +1,5 @@
 //! Integer forms as the elements of list forms.
-ghost use Rattle.std.specs.Prelude.{◌≡◌, ℤ, IfOk};
+ghost use Rattle.std.specs.Prelude.{◌≡◌, ℤ, IfOk, slice_get};
 ghost use Rattle.sym_base.specs.declared.values.state.State.{State as OneState};
 ghost use Rattle.sym_base.specs.declared.values.value.Value.TheVariants.{Num};
 ghost use Rattle.sym_int.specs.Elements.{Covers, InSpans, StaysOn, CanGoThrough, CanFix, GoesThroughTo, IsFixedTo, IsOnSpans, led_to};
@@ -53,8 +53,8 @@ impl IntForms {
 
 /// The form on the span of the cell that it names.
 fn taken_on(wide: &Wide, spans: &Spans) -> IntForm
-    requires { StaysOn (wide_on wide.now) (wide_cell wide.now) spans.now }
-    ensures form { IsOnSpans (wide_on wide.now) (wide_cell wide.now) spans.now result }
+    requires { StaysOn (wide_on wide.now) (wide_cell wide.now) (slice_get spans.now) }
+    ensures form { IsOnSpans (wide_on wide.now) (wide_cell wide.now) (slice_get spans.now) result }
     ensures value { (state : OneState) → InSpans spans.now state →
         form_value result state ≡ wide_value wide.now state }
 {

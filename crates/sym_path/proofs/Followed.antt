@@ -15,7 +15,7 @@ use Rattle.sym_path.specs.declared.part.Part.{Part}
 use Rattle.sym_path.specs.declared.part.Part.TheVariants as part
 use Rattle.sym_path.specs.declared.form.Form.{Form}
 use Rattle.sym_path.specs.declared.form.Form.TheVariants as form
-use Rattle.sym_path.specs.Following.{PartLeft, CopyNeeds, NeedsHere, NeededBelow}
+use Rattle.sym_path.specs.Left.{PartLeft, CopyNeeds, NeedsHere, NeededBelow}
 use Rattle.sym_path.specs.Possible.{LabelMeets, NumberMeets, IsNeeded, IsSaid, IsLeft}
 use Rattle.sym_path.specs.Pulling.{zip_all, label_passes, number_passes, Agrees}
 use Rattle.sym_path.proofs.Possibly.{labels_meet, numbers_meet}

@@ -33,7 +33,7 @@ use Rattle.sym_path.specs.declared.form.Form.TheVariants as form
 use Rattle.sym_path.specs.Admitting.{PartAdmits, Admits}
 use Rattle.sym_path.specs.Fitting.{PartFits, StaysWithin, NumberFits, FormFits}
 use Rattle.sym_path.specs.Fitting as fitting
-use Rattle.sym_path.specs.Following.{PartLeft}
+use Rattle.sym_path.specs.Left.{PartLeft}
 use Rattle.sym_path.specs.Giving.{cell_at, cells_at}
 use Rattle.sym_path.specs.Possible.{Meets, ConstantMeets}
 use Rattle.sym_path.proofs.Lists.{zip_get, zip_get_right, zip_at, zip_from, zip_length, get_within}

@@ -15,7 +15,7 @@ use Rattle.sym_path.specs.declared.part.Part.{Part}
 use Rattle.sym_path.specs.declared.part.Part.TheVariants as part
 use Rattle.sym_path.specs.declared.form.Form.{Form}
 use Rattle.sym_path.specs.declared.form.Form.TheVariants as form
-use Rattle.sym_path.specs.Following.{IsNumberOf, IsSpanOf, IsContext, AddsConstants, CanComeAfter, NumsAfter, FormAfter, AllCanComeAfter, AreAfter, AreNext}
+use Rattle.sym_path.specs.FormsAfter.{IsNumberOf, IsSpanOf, IsContext, AddsConstants, CanComeAfter, NumsAfter, FormAfter, AllCanComeAfter, AreAfter, AreNext}
 use Rattle.sym_path.specs.declared.path.PathEnd.{PathEnd}
 use Rattle.sym_path.specs.declared.path.PathEnd.TheVariants.{Next}
 use Rattle.sym_path.proofs.Lists.{zip_at, zip_from, zip_length, all_at, all_from}

@@ -36,7 +36,7 @@ use Rattle.sym_path.specs.declared.form.Form.{Form}
 use Rattle.sym_path.specs.declared.form.Form.TheVariants as form
 use Rattle.sym_path.specs.Fitting.{Suits, PartFits, StaysWithin, NumberFits, FormFits, FormsFit}
 use Rattle.sym_path.specs.Fitting as fitting
-use Rattle.sym_path.specs.Following.{PartLeft, AreLeft, CanPutAllLeft}
+use Rattle.sym_path.specs.Left.{PartLeft, AreLeft, CanPutAllLeft}
 use Rattle.sym_path.specs.Narrowing.{CanPutNumber}
 use Rattle.sym_path.specs.Taking.{HasOneLabel, HasOneNumber, copied_cell, LabelIsTakenTo, NumberIsTakenTo, IsTakenTo, AreTakenTo, IsTakenOn}
 use Rattle.sym_path.proofs.Fitted.{number_between}

@@ -38,8 +38,9 @@ use Rattle.sym_path.specs.declared.form.Form.TheVariants as form
 use Rattle.sym_path.specs.Admitting.{Admits, PartAdmits}
 use Rattle.sym_path.specs.Fitting.{PartFits, NumberFits, FormFits, FormsFit}
 use Rattle.sym_path.specs.Fitting as fitting
-use Rattle.sym_path.specs.Following.{IsNumberOf, IsSpanOf, IsContext, StaysOnParts, CanLead, IsOnPart, IsOnParts, LedOver, LedTo, IsCopied, IsNums, IsWords, CanComeAfter, NumsAfter, WordsAfter, FormAfter, AllCanComeAfter, AreAfter}
+use Rattle.sym_path.specs.FormsAfter.{IsNumberOf, IsSpanOf, IsContext, part_spans, CanLead, LedTo, IsCopied, IsNums, IsWords, CanComeAfter, NumsAfter, WordsAfter, FormAfter, AllCanComeAfter, AreAfter}
 use Rattle.sym_path.specs.Giving.{cell_at, cells_at, state_at}
+use Rattle.sym_path.specs.Kinds.{number_form_in, span_in}
 use Rattle.sym_path.specs.Taking.{NumberIsTakenTo, IsTakenOn}
 use Rattle.sym_path.proofs.Fitted.{number_between, number_held}
 use Rattle.sym_path.proofs.FollowedStates.{cells_at_get, cells_at-length}
@@ -157,7 +158,7 @@ module _ (truth : Truth) (p : ScriptPlan) (lefts : List Part) (mids : List Form)
           one_span : {t u : Span} → Some (part.Span t) ≡ Some (part.Span u) → t ≡ u
           one_span q = cc
 
-    over_any : (inner r : IntForm) → slice_get mids line.cell ≡ Some (form.Int inner) → NumberFits need.lo need.hi lefts inner → IsOnSpans (λ x. form_on (number.Line line) (form_on inner x)) (form_cell inner) context.spans r → NumberGoes p lefts truth mids lo hi (number.Line line) r
+    over_any : (inner r : IntForm) → slice_get mids line.cell ≡ Some (form.Int inner) → NumberFits need.lo need.hi lefts inner → IsOnSpans (λ x. form_on (number.Line line) (form_on inner x)) (form_cell inner) (slice_get context.spans) r → NumberGoes p lefts truth mids lo hi (number.Line line) r
     over_any (number.Const n) r at fits h = over_constant n.value (number.Const n) r at refl fits h
     over_any (number.Line l) r at fits h =
         let (sp, at_l, inside) = line_span need.lo need.hi (form_on (number.Line l)) lefts l.cell fits in
@@ -165,20 +166,13 @@ module _ (truth : Truth) (p : ScriptPlan) (lefts : List Part) (mids : List Form)
         let taken : IsTaken (λ x. form_on (number.Line line) (form_on (number.Line l) x)) (Some l.cell) sp r = rw there at h in
         over_line l r sp at at_l inside taken
 
-    can_any : IsNumber lo → IsNumber hi → (inner : IntForm) → NumberFits need.lo need.hi lefts inner → StaysOn (λ x. form_on (number.Line line) (form_on inner x)) (form_cell inner) context.spans
-    can_any a b (number.Const n) fits = number_between lo hi (form_on (number.Line line) n.value) a b (range n.value fits)
-    can_any a b (number.Line l) fits =
+    can_any : (spans : ℕ → Option Span) → ((c : ℕ) (sp : Span) → slice_get lefts c ≡ Some (part.Span sp) → spans c ≡ Some sp) → IsNumber lo → IsNumber hi → (inner : IntForm) → NumberFits need.lo need.hi lefts inner → StaysOn (λ x. form_on (number.Line line) (form_on inner x)) (form_cell inner) spans
+    can_any spans known a b (number.Const n) fits = number_between lo hi (form_on (number.Line line) n.value) a b (range n.value fits)
+    can_any spans known a b (number.Line l) fits =
         let (sp, at_l, inside) = line_span need.lo need.hi (form_on (number.Line l)) lefts l.cell fits in
-        let there : slice_get context.spans l.cell ≡ Some sp = span_at l.cell sp at_l in
+        let there : spans l.cell ≡ Some sp = known l.cell sp at_l in
         let all : (x : ℤ) → HasPoint sp x → IsNumber (form_on (number.Line line) (form_on (number.Line l) x)) = λ x q. number_between lo hi (form_on (number.Line line) (form_on (number.Line l) x)) a b (range (form_on (number.Line l) x) (inside x q)) in
         rw there all
-
-    can_any_left : IsNumber lo → IsNumber hi → (inner : IntForm) → NumberFits need.lo need.hi lefts inner → StaysOnParts (λ x. form_on (number.Line line) (form_on inner x)) (form_cell inner) lefts
-    can_any_left a b (number.Const n) fits = number_between lo hi (form_on (number.Line line) n.value) a b (range n.value fits)
-    can_any_left a b (number.Line l) fits =
-        let (sp, at_l, inside) = line_span need.lo need.hi (form_on (number.Line l)) lefts l.cell fits in
-        let all : (x : ℤ) → HasPoint sp x → IsNumber (form_on (number.Line line) (form_on (number.Line l) x)) = λ x q. number_between lo hi (form_on (number.Line line) (form_on (number.Line l) x)) a b (range (form_on (number.Line l) x) (inside x q)) in
-        rw at_l all
 
   number_goes : (lo hi : ℤ) (f r : IntForm) → NumberFits lo hi needs f → GoesThroughTo f context r → NumberGoes p lefts truth mids lo hi f r
   number_goes lo hi (number.Const n) r fits h = subst (λ (k : IntForm). NumberGoes p lefts truth mids lo hi (number.Const n) k) (sym h) (record {
@@ -189,7 +183,7 @@ module _ (truth : Truth) (p : ScriptPlan) (lefts : List Part) (mids : List Form)
   number_goes lo hi (number.Line line) r fits h =
       let (need, at, range) = line_span lo hi (form_on (number.Line line)) needs line.cell fits in
       let (inner, is, there, own) = inner_at line.cell need at in
-      let on : IsOnSpans (λ x. form_on (number.Line line) (form_on inner x)) (form_cell inner) context.spans r = rw there at h in
+      let on : IsOnSpans (λ x. form_on (number.Line line) (form_on inner x)) (form_cell inner) (slice_get context.spans) r = rw there at h in
       over_any lo hi line need range inner r is own on
 
   can_go : (lo hi : ℤ) (f : IntForm) → IsNumber lo → IsNumber hi → NumberFits lo hi needs f → CanGoThrough f context
@@ -197,23 +191,23 @@ module _ (truth : Truth) (p : ScriptPlan) (lefts : List Part) (mids : List Form)
   can_go lo hi (number.Line line) a b fits =
       let (need, at, range) = line_span lo hi (form_on (number.Line line)) needs line.cell fits in
       let (inner, is, there, own) = inner_at line.cell need at in
-      let stays : StaysOn (λ x. form_on (number.Line line) (form_on inner x)) (form_cell inner) context.spans = can_any lo hi line need range a b inner own in
+      let stays : StaysOn (λ x. form_on (number.Line line) (form_on inner x)) (form_cell inner) (slice_get context.spans) = can_any lo hi line need range (slice_get context.spans) span_at a b inner own in
       rw there stays
 
   -- ---- without a context
 
-  on_part : (number : ℤ → ℤ) (c : ℕ) (o : Option Part) (r : IntForm) → slice_get lefts c ≡ o → IsOnPart number c o r → IsOnSpan number c (slice_get context.spans c) r
+  on_part : (number : ℤ → ℤ) (c : ℕ) (o : Option Part) (r : IntForm) → slice_get lefts c ≡ o → IsOnSpan number c (span_in o) r → IsOnSpan number c (slice_get context.spans c) r
   on_part number c (Some (part.Set set)) r e h = absurd h
   on_part number c (Some (part.Span span)) r e h = let there : slice_get context.spans c ≡ Some span = span_at c span e in rw there h
   on_part number c (Some (part.Facts known)) r e h = absurd h
   on_part number c (Some part.Free) r e h = absurd h
   on_part number c None r e h = absurd h
 
-  on_parts : (number : ℤ → ℤ) (o : Option ℕ) (r : IntForm) → IsOnParts number o lefts r → IsOnSpans number o context.spans r
+  on_parts : (number : ℤ → ℤ) (o : Option ℕ) (r : IntForm) → IsOnSpans number o (part_spans lefts) r → IsOnSpans number o (slice_get context.spans) r
   on_parts number None r h = h
   on_parts number (Some c) r h = on_part number c (slice_get lefts c) r refl h
 
-  led_over : (line : Line) (o : Option Form) (r : IntForm) → slice_get mids line.cell ≡ o → LedOver lefts (number.Line line) o r → IsComposed (number.Line line) (slice_get context.forms line.cell) context.spans r
+  led_over : (line : Line) (o : Option Form) (r : IntForm) → slice_get mids line.cell ≡ o → IsComposed (number.Line line) (number_form_in o) (part_spans lefts) r → IsComposed (number.Line line) (slice_get context.forms line.cell) (slice_get context.spans) r
   led_over line (Some (form.Enum f)) r e h = absurd h
   led_over line (Some (form.Int inner)) r e h =
       let (g, at, same) = zip_get IsNumberOf mids context.forms line.cell (form.Int inner) ctx.numbers e in
@@ -233,7 +227,7 @@ module _ (truth : Truth) (p : ScriptPlan) (lefts : List Part) (mids : List Form)
   can_lead lo hi (number.Line line) a b fits =
       let (need, at, range) = line_span lo hi (form_on (number.Line line)) needs line.cell fits in
       let (inner, is, there, own) = inner_at line.cell need at in
-      let stays : StaysOnParts (λ x. form_on (number.Line line) (form_on inner x)) (form_cell inner) lefts = can_any_left lo hi line need range a b inner own in
+      let stays : StaysOn (λ x. form_on (number.Line line) (form_on inner x)) (form_cell inner) (part_spans lefts) = can_any lo hi line need range (part_spans lefts) (λ c sp e. ap span_in e) a b inner own in
       rw is stays
 
   -- ---- copies

@@ -15,7 +15,7 @@ use Rattle.sym_path.specs.declared.part.Part.{Part}
 use Rattle.sym_path.specs.declared.part.Part.TheVariants as part
 use Rattle.sym_path.specs.declared.form.Form.{Form}
 use Rattle.sym_path.specs.declared.form.Form.TheVariants as form
-use Rattle.sym_path.specs.Following.{PartLeft, AreLeft, LeftIsPut, CanPutAllLeft, IsShape, CanNarrow, NarrowedAt}
+use Rattle.sym_path.specs.Left.{PartLeft, AreLeft, LeftIsPut, CanPutAllLeft, IsShape, CanNarrow, NarrowedAt}
 use Rattle.sym_path.specs.Possible.{Meets, LabelMeets, NumberMeets, IsSaid, IsLeft, AllLeft}
 use Rattle.sym_path.specs.Taking.{copied_cell, LabelIsTakenTo, NumberIsTakenTo, IsTakenTo, AreTakenTo, IsTakenOn}
 use Rattle.sym_path.proofs.FollowingTaken.{left_step, own_taken, can_put_left_taken}

@@ -10,7 +10,9 @@ use Rattle.sym_enum.specs.declared.form.EnumForm.TheVariants as label
 use Rattle.sym_pred.specs.declared.form.HoldForm.TheVariants as hold
 use Rattle.sym_path.specs.declared.form.Form.{Form}
 use Rattle.sym_path.specs.declared.form.Form.TheVariants as form
-use Rattle.sym_path.specs.Following.{IsList, IsCopied, Copies, CopiedFrom, NeededFrom, LacksOnly, KeepsNeeded, IsNums, IsWords, CanLeadOver, CanLead, LedOver, LedTo, CanComeAfter, NumsAfter, WordsAfter, FormAfter, KeepsOthers}
+use Rattle.sym_int.specs.Elements.{Composes, IsComposed}
+use Rattle.sym_path.specs.Kinds.{number_form_in}
+use Rattle.sym_path.specs.FormsAfter.{part_spans, IsList, IsCopied, Copies, CopiedFrom, NeededFrom, LacksOnly, KeepsNeeded, IsNums, IsWords, CanLead, LedTo, CanComeAfter, NumsAfter, WordsAfter, FormAfter, KeepsOthers}
 use Rattle.sym_path.specs.declared.part.Part.{Part}
 use Rattle.sym_path.proofs.FollowingTaken.{int_map}
 use Rattle.sym_path.proofs.Lists.{push_cases, set_other}
@@ -126,7 +128,7 @@ module _ (gs start now : List Form) (c : ℕ) (kept : (d : ℕ) (f : Form) → s
   led_same : (lefts : List Part) (line : Line) → CanLead start lefts (number.Line line) → slice_get now line.cell ≡ slice_get start line.cell
   led_same lefts line h = go (slice_get start line.cell) refl h
     where
-      go : (o : Option Form) → slice_get start line.cell ≡ o → CanLeadOver lefts (number.Line line) o → slice_get now line.cell ≡ slice_get start line.cell
+      go : (o : Option Form) → slice_get start line.cell ≡ o → Composes (number.Line line) (number_form_in o) (part_spans lefts) → slice_get now line.cell ≡ slice_get start line.cell
       go None e v = absurd v
       go (Some (form.Enum f)) e v = absurd v
       go (Some (form.Int f)) e v = kept line.cell (form.Int f) e tt ∙ sym e
@@ -136,11 +138,11 @@ module _ (gs start now : List Form) (c : ℕ) (kept : (d : ℕ) (f : Form) → s
 
   can_lead_now : (lefts : List Part) (f : IntForm) → CanLead start lefts f → CanLead now lefts f
   can_lead_now lefts (number.Const n) h = tt
-  can_lead_now lefts (number.Line line) h = subst (λ (o : Option Form). CanLeadOver lefts (number.Line line) o) (sym (led_same lefts line h)) h
+  can_lead_now lefts (number.Line line) h = subst (λ (o : Option Form). Composes (number.Line line) (number_form_in o) (part_spans lefts)) (sym (led_same lefts line h)) h
 
   led_start : (lefts : List Part) (f g : IntForm) → CanLead start lefts f → LedTo now lefts f g → LedTo start lefts f g
   led_start lefts (number.Const n) g h t = t
-  led_start lefts (number.Line line) g h t = subst (λ (o : Option Form). LedOver lefts (number.Line line) o g) (led_same lefts line h) t
+  led_start lefts (number.Line line) g h t = subst (λ (o : Option Form). IsComposed (number.Line line) (number_form_in o) (part_spans lefts) g) (led_same lefts line h) t
 
   here : (d : ℕ) (g : Form) → slice_get gs c ≡ Some g → Copies d g → CopiedFrom gs c d
   here d g at copies = record { at = c; form = g; from = omega arith; has = at; copies = copies }

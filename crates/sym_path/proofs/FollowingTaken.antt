@@ -17,9 +17,10 @@ use Rattle.sym_path.specs.declared.part.Part.{Part}
 use Rattle.sym_path.specs.declared.part.Part.TheVariants as part
 use Rattle.sym_path.specs.declared.form.Form.{Form}
 use Rattle.sym_path.specs.declared.form.Form.TheVariants as form
-use Rattle.sym_path.specs.Following.{LeftIsPut, CanPutLeft}
+use Rattle.sym_path.specs.Left.{LeftIsPut, CanPutLeft}
 use Rattle.sym_path.specs.Narrowing.{label_put, with_label, CanPutNumber, NumberIsPut}
-use Rattle.sym_path.specs.Taking.{HasOneLabel, HasOneNumber, copied_cell, LabelIsTakenTo, NumberIsTakenTo, IsEnumForm, IsIntForm, IsNumsForm, IsTakenTo, AreTakenTo, IsTakenOn}
+use Rattle.sym_path.specs.Kinds.{IsEnumForm, IsIntForm, IsNumsForm}
+use Rattle.sym_path.specs.Taking.{HasOneLabel, HasOneNumber, copied_cell, LabelIsTakenTo, NumberIsTakenTo, IsTakenTo, AreTakenTo, IsTakenOn}
 use Rattle.sym_path.proofs.Lists.{set_same, set_other, zip_at, zip_from, zip_get_right, zip_length, zip_trans, all_from, all_at}
 use Rattle.sym_path.proofs.NarrowedFits.{label_free, number_free}
 

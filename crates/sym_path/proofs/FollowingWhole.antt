@@ -26,7 +26,9 @@ use Rattle.sym_path.specs.declared.path.PathEnd.TheVariants.{Next, Ended}
 use Rattle.sym_path.specs.Admitting.{Admits}
 use Rattle.sym_path.specs.Fitting.{PartFits, NumberFits, FormFits, FormsFit, EndFits, PathFits}
 use Rattle.sym_path.specs.Fitting as fitting
-use Rattle.sym_path.specs.Following.{AreLeft, IsContext, AllCanComeAfter, AreAfter, CanEndAfter, EndsAfter, IsEndAfter, IsFollowed}
+use Rattle.sym_path.specs.Following.{IsEndAfter, IsFollowed}
+use Rattle.sym_path.specs.FormsAfter.{IsContext, AllCanComeAfter, AreAfter, CanEndAfter, EndsAfter}
+use Rattle.sym_path.specs.Left.{AreLeft}
 use Rattle.sym_path.specs.Giving.{state_at}
 use Rattle.sym_path.specs.Possible.{Possible, IsPossiblePair}
 use Rattle.sym_path.specs.Taking.{NumberIsTakenTo, IsTakenTo, AreTakenTo}

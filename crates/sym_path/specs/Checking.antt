@@ -11,13 +11,13 @@ use Rattle.sym_check.specs.ScriptPlans.{ScriptPlan}
 use Rattle.sym_check.specs.Validity.{label_count, AreOfKinds}
 use Rattle.sym_enum.specs.declared.form.EnumForm.{EnumForm}
 use Rattle.sym_enum.specs.declared.form.EnumForm.TheVariants as label
+use Rattle.sym_pred.specs.Facts.{FactMap}
 use Rattle.sym_pred.specs.Literals.{literals}
 use Rattle.sym_pred.specs.declared.form.HoldForm.{HoldForm}
 use Rattle.sym_pred.specs.declared.form.HoldForm.TheVariants as hold
 use Rattle.sym_path.specs.declared.part.Part.{Part}
-use Rattle.sym_path.specs.declared.part.Part.TheVariants as part
 use Rattle.sym_path.specs.declared.form.Form.{Form}
-use Rattle.sym_path.specs.declared.form.Form.TheVariants as form
+use Rattle.sym_path.specs.Kinds.{IsSetPart, IsSpanPart, IsFactsPart, IsFreePart, IsEnumForm, IsIntForm, IsHoldForm, IsNumsForm, IsWordsForm}
 use Rattle.sym_path.specs.Fitting.{FitsEnum, FitsRange, Suits, NumberFits}
 
 -- The first parameters are of these kinds, and the others of the values' kinds.
@@ -29,12 +29,12 @@ pub record AreParameters (enums : List EnumPlan) (kinds params : List KindPlan)
 
 -- What `PartFits` says of a cell and its part.
 abbrev pub FitsPart : ScriptPlan → CellPlan → Part → Type 0
-FitsPart p (plan.Enum of first) (part.Set set) = FitsEnum (label_count p.enums of) set
-FitsPart p (plan.Int lo hi first) (part.Span span) = FitsRange lo hi span
-FitsPart p (plan.Hold kinds first) (part.Facts known) = All (Suits p kinds) (literals known)
-FitsPart p (plan.Nums lo hi) part.Free = Unit {0}
-FitsPart p plan.Words part.Free = Unit {0}
-FitsPart p cell other = ⊥
+FitsPart p (plan.Enum of first) now = IsSetPart (FitsEnum (label_count p.enums of)) now
+FitsPart p (plan.Int lo hi first) now = IsSpanPart (FitsRange lo hi) now
+FitsPart p (plan.Hold kinds first) now =
+    IsFactsPart (λ (known : FactMap). All (Suits p kinds) (literals known)) now
+FitsPart p (plan.Nums lo hi) now = IsFreePart (Unit {0}) now
+FitsPart p plan.Words now = IsFreePart (Unit {0}) now
 
 abbrev pub FitsLabelForm : ScriptPlan → ℕ → EnumForm → Type 0
 FitsLabelForm p of (label.Const l) = l < label_count p.enums of
@@ -46,9 +46,8 @@ FitsHoldForm p kinds (hold.Copy c) = IsHoldCell p.cells c kinds
 
 -- What `FormFits` says of a cell and its form.
 abbrev pub FitsForm : ScriptPlan → List Part → CellPlan → Form → Type 0
-FitsForm p when (plan.Enum of first) (form.Enum f) = FitsLabelForm p of f
-FitsForm p when (plan.Int lo hi first) (form.Int f) = NumberFits lo hi when f
-FitsForm p when (plan.Hold kinds first) (form.Hold f) = FitsHoldForm p kinds f
-FitsForm p when (plan.Nums lo hi) (form.Nums added) = All (NumberFits lo hi when) added
-FitsForm p when plan.Words (form.Words added) = Unit {0}
-FitsForm p when cell other = ⊥
+FitsForm p when (plan.Enum of first) f = IsEnumForm (FitsLabelForm p of) f
+FitsForm p when (plan.Int lo hi first) f = IsIntForm (NumberFits lo hi when) f
+FitsForm p when (plan.Hold kinds first) f = IsHoldForm (FitsHoldForm p kinds) f
+FitsForm p when (plan.Nums lo hi) f = IsNumsForm (All (NumberFits lo hi when)) f
+FitsForm p when plan.Words f = IsWordsForm (λ (added : List (List ℕ)). Unit {0}) f

@@ -1,5 +1,5 @@
 -- The path that admits every valid state and leaves it as it is.
-use Rattle.std.specs.Prelude.{◌≡◌, ℕ, pos, ◌<◌, ◌<ℤ◌, ◌↔◌, IsTrue, List, [], Some, length, slice_get}
+use Rattle.std.specs.Prelude.{◌≡◌, ℕ, ℤ, pos, ◌<◌, ◌<ℤ◌, ◌↔◌, IsTrue, List, [], Some, length, slice_get}
 use Rattle.std.specs.FinMap.{empty}
 use Rattle.sym_base.specs.declared.values.state.State.{State}
 use Rattle.sym_base.specs.declared.values.state.Outcome.TheVariants.{Going}
@@ -15,11 +15,12 @@ use Rattle.sym_enum.specs.declared.label_set.LabelSet.{LabelSet}
 use Rattle.sym_int.specs.declared.form.IntForm.{IntForm}
 use Rattle.sym_int.specs.declared.form.IntForm.TheVariants as number
 use Rattle.sym_int.specs.declared.span.Span.{Span}
+use Rattle.sym_pred.specs.Facts.{FactMap}
+use Rattle.sym_pred.specs.declared.form.HoldForm.{HoldForm}
 use Rattle.sym_pred.specs.declared.form.HoldForm.TheVariants as hold
 use Rattle.sym_path.specs.declared.part.Part.{Part}
-use Rattle.sym_path.specs.declared.part.Part.TheVariants as part
 use Rattle.sym_path.specs.declared.form.Form.{Form}
-use Rattle.sym_path.specs.declared.form.Form.TheVariants as form
+use Rattle.sym_path.specs.Kinds.{IsSetPart, IsSpanPart, IsFactsPart, IsFreePart, IsEnumForm, IsIntForm, IsHoldForm, IsNumsForm, IsWordsForm}
 use Rattle.sym_path.specs.declared.path.PathEnd.{PathEnd}
 use Rattle.sym_path.specs.declared.path.PathEnd.TheVariants.{Next, Ended}
 use Rattle.sym_path.specs.declared.path.Path.{Path}
@@ -38,21 +39,29 @@ IsOwnNumber c span (number.Line line) =
 
 -- All labels of an enum with so many, and the label itself.
 abbrev pub IsWholeEnum : ℕ → ℕ → Part → Form → Type 0
-IsWholeEnum count c (part.Set set) (form.Enum f) =
-    ((l : ℕ) → IsTrue (has_label set l) ↔ (l < count)) × IsOwnLabel c set f
-IsWholeEnum count c p f = ⊥
+IsWholeEnum count c when f = IsSetPart (λ (set : LabelSet). IsEnumForm (λ (own : EnumForm).
+    ((l : ℕ) → IsTrue (has_label set l) ↔ (l < count)) × IsOwnLabel c set own) f) when
+
+-- All numbers of a range, and the number itself.
+abbrev pub IsWholeRange : ℤ → ℤ → ℕ → Part → Form → Type 0
+IsWholeRange lo hi c when f = IsSpanPart (λ (span : Span). IsIntForm (λ (own : IntForm).
+    (span.lo ≡ lo) × (span.hi ≡ hi) × IsOwnNumber c span own) f) when
+
+-- Any parts, and the parts themselves.
+abbrev pub IsWholeHold : ℕ → Part → Form → Type 0
+IsWholeHold c when f = IsFactsPart (λ (known : FactMap). IsHoldForm (λ (own : HoldForm).
+    (known ≡ empty) × (own ≡ hold.Copy c)) f) when
 
 -- All that the cell with this number may hold, as each number of its range, any parts or any list;
 -- and the form that leaves it as it is.
 abbrev pub IsWholeCell : ScriptPlan → ℕ → CellPlan → Part → Form → Type 0
 IsWholeCell p c (plan.Enum of first) when f = IsWholeEnum (label_count p.enums of) c when f
-IsWholeCell p c (plan.Int lo hi first) (part.Span span) (form.Int f) =
-    (span.lo ≡ lo) × (span.hi ≡ hi) × IsOwnNumber c span f
-IsWholeCell p c (plan.Hold kinds first) (part.Facts known) (form.Hold f) =
-    (known ≡ empty) × (f ≡ hold.Copy c)
-IsWholeCell p c (plan.Nums lo hi) part.Free (form.Nums added) = added ≡ []
-IsWholeCell p c plan.Words part.Free (form.Words added) = added ≡ []
-IsWholeCell p c cell when f = ⊥
+IsWholeCell p c (plan.Int lo hi first) when f = IsWholeRange lo hi c when f
+IsWholeCell p c (plan.Hold kinds first) when f = IsWholeHold c when f
+IsWholeCell p c (plan.Nums lo hi) when f =
+    IsFreePart (IsNumsForm (λ (added : List IntForm). added ≡ []) f) when
+IsWholeCell p c plan.Words when f =
+    IsFreePart (IsWordsForm (λ (added : List (List ℕ)). added ≡ []) f) when
 
 -- One part and one form for each of the first cells, and each as above.
 pub record AreWhole (p : ScriptPlan) (count : ℕ) (when : List Part)

@@ -3,10 +3,13 @@ pub mod Changing
 pub mod Checking
 pub mod Fitting
 pub mod Following
+pub mod FormsAfter
 pub mod Giving
 pub mod Identity
 pub mod Joining
 pub mod Joins
+pub mod Kinds
+pub mod Left
 pub mod Narrowing
 pub mod Possible
 pub mod Pulling

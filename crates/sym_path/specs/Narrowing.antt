@@ -19,7 +19,7 @@ use Rattle.sym_path.specs.declared.path.PathEnd.TheVariants.{Next, Ended}
 use Rattle.sym_path.specs.declared.path.Path.{Path}
 use Rattle.sym_path.specs.Admitting.{part_admits}
 use Rattle.sym_path.specs.Giving.{given}
-use Rattle.sym_path.specs.Taking.{IsIntForm, IsNumsForm}
+use Rattle.sym_path.specs.Kinds.{IsIntForm, IsNumsForm}
 
 -- Whether the cell with this number is there and as the part says.
 abbrev pub cell_admitted : Truth → Part → Option Cell → Bool

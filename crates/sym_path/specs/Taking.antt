@@ -10,6 +10,7 @@ use Rattle.sym_int.specs.Elements.{IsConstant}
 use Rattle.sym_int.specs.Lines.{form_on, form_cell}
 use Rattle.sym_int.specs.declared.form.IntForm.{IntForm}
 use Rattle.sym_int.specs.declared.span.Span.{Span}
+use Rattle.sym_path.specs.Kinds.{IsEnumForm, IsIntForm, IsNumsForm}
 use Rattle.sym_path.specs.declared.part.Part.{Part}
 use Rattle.sym_path.specs.declared.part.Part.TheVariants as part
 use Rattle.sym_path.specs.declared.form.Form.{Form}
@@ -43,28 +44,6 @@ pub record NumberIsTakenTo (when : List Part) (f g : IntForm) : Type 0 where
   pub one : (c : ℕ) (x : ℤ) → form_cell f ≡ Some c → HasOneNumber when c x →
       IsConstant (form_on f x) g
   pub more : ((c : ℕ) (x : ℤ) → form_cell f ≡ Some c → HasOneNumber when c x → ⊥) → g ≡ f
-
--- A form of this kind with a property.
-abbrev pub IsEnumForm : (EnumForm → Type 0) → Form → Type 0
-IsEnumForm property (form.Enum f) = property f
-IsEnumForm property (form.Int f) = ⊥
-IsEnumForm property (form.Hold f) = ⊥
-IsEnumForm property (form.Nums added) = ⊥
-IsEnumForm property (form.Words added) = ⊥
-
-abbrev pub IsIntForm : (IntForm → Type 0) → Form → Type 0
-IsIntForm property (form.Enum f) = ⊥
-IsIntForm property (form.Int f) = property f
-IsIntForm property (form.Hold f) = ⊥
-IsIntForm property (form.Nums added) = ⊥
-IsIntForm property (form.Words added) = ⊥
-
-abbrev pub IsNumsForm : (List IntForm → Type 0) → Form → Type 0
-IsNumsForm property (form.Enum f) = ⊥
-IsNumsForm property (form.Int f) = ⊥
-IsNumsForm property (form.Hold f) = ⊥
-IsNumsForm property (form.Nums added) = property added
-IsNumsForm property (form.Words added) = ⊥
 
 -- The second form is the first one on the constraint.
 abbrev pub IsTakenTo : List Part → Form → Form → Type 0

@@ -9,11 +9,13 @@ ghost use Rattle.sym_int.specs.declared.element.IntForms.{IntForms as OneContext
 ghost use Rattle.sym_pred.specs.Facts.{Atom};
 ghost use Rattle.sym_pred.specs.Meaning.{Stands};
 ghost use Rattle.sym_path.specs.Fitting.{PathFits};
-ghost use Rattle.sym_path.specs.Following.{PartLeft, CopyNeeds, NeedsHere, AreLeft, LeftIsPut, CanPutLeft, CanPutAllLeft, IsShape, CanNarrow, NarrowedAt, IsNumberOf, IsSpanOf, IsContext, AddsConstants, StaysOnParts, CanLead, IsOnParts, LedTo, CanComeAfter, FormAfter, NumsAfter, WordsAfter, IsNums, IsWords, IsCopied, Copies, CopiedFrom, LacksOnly, KeepsNeeded, KeepsOthers, AllCanComeAfter, AreAfter, CanEndAfter, EndsAfter, IsFollowed};
+ghost use Rattle.sym_path.specs.Following.{IsFollowed};
+ghost use Rattle.sym_path.specs.FormsAfter.{IsNumberOf, IsSpanOf, IsContext, AddsConstants, part_spans, CanLead, LedTo, CanComeAfter, FormAfter, NumsAfter, WordsAfter, IsNums, IsWords, IsCopied, Copies, CopiedFrom, LacksOnly, KeepsNeeded, KeepsOthers, AllCanComeAfter, AreAfter, CanEndAfter, EndsAfter};
+ghost use Rattle.sym_path.specs.Left.{PartLeft, CopyNeeds, NeedsHere, AreLeft, LeftIsPut, CanPutLeft, CanPutAllLeft, IsShape, CanNarrow, NarrowedAt};
 ghost use Rattle.sym_path.specs.Possible.{IsLeft, IsSaid, AllLeft, IsPossiblePair};
 ghost use Rattle.sym_path.specs.Pulling.{Agrees, HoldAgrees};
 ghost use Rattle.sym_path.specs.Taking.{AreTakenTo, IsTakenOn};
-ghost use Rattle.sym_int.specs.Elements.{CanGoThrough};
+ghost use Rattle.sym_int.specs.Elements.{CanGoThrough, IsOnSpans, StaysOn};
 ghost use Rattle.sym_int.specs.Lines.{form_cell, wide_cell, wide_on};
 ghost use Rattle.sym_path.specs.declared.part.Part.TheVariants as part;
 
@@ -416,8 +418,8 @@ fn words_after(
 
 /// The form on what is left of the cell that it names.
 fn taken_on(wide: &Wide, lefts: &[Part]) -> IntForm
-    requires { StaysOnParts (wide_on wide.now) (wide_cell wide.now) lefts.now }
-    ensures { IsOnParts (wide_on wide.now) (wide_cell wide.now) lefts.now result }
+    requires { StaysOn (wide_on wide.now) (wide_cell wide.now) (part_spans lefts.now) }
+    ensures { IsOnSpans (wide_on wide.now) (wide_cell wide.now) (part_spans lefts.now) result }
 {
     match wide {
         Wide::Const(number) => IntForm::Const(Number {

@@ -5,7 +5,7 @@ use Rattle.sym_path.specs.declared.part.Part.{Part}
 use Rattle.sym_path.specs.declared.form.Form.{Form}
 use Rattle.sym_path.specs.declared.path.PathEnd.{PathEnd}
 use Rattle.sym_path.specs.declared.path.PathEnd.TheVariants.{Next}
-use Rattle.sym_path.specs.Following.{AddsConstants, IsContext, AllCanComeAfter, AreAfter, CanEndAfter, EndsAfter}
+use Rattle.sym_path.specs.FormsAfter.{AddsConstants, IsContext, AllCanComeAfter, AreAfter, CanEndAfter, EndsAfter}
 use Rattle.sym_path.proofs.FollowingConstants.{all_come, next_is}
 use Rattle.sym_path.proofs.following.end_after.Goals as goal
 

@@ -2,7 +2,7 @@
 use Rattle.std.proofs.Common.{◌↔◌, ◌⊎◌, Bool}
 use Rattle.sym_pred.specs.Facts.{Atom}
 use Rattle.sym_pred.specs.Meaning.{Stands}
-use Rattle.sym_path.specs.Following.{NeededBelow}
+use Rattle.sym_path.specs.Left.{NeededBelow}
 use Rattle.sym_path.proofs.following.facts_left.Given as goal
 
 abbrev pub invariant-cells : goal.invariant-cells

@@ -3,7 +3,7 @@ use Rattle.std.specs.Prelude.{IfOk}
 use Rattle.sym_pred.specs.Facts.{Atom, FactMap}
 use Rattle.sym_pred.specs.Meaning.{Stands}
 use Rattle.sym_path.specs.declared.form.Form.{Form}
-use Rattle.sym_path.specs.Following.{NeedsHere}
+use Rattle.sym_path.specs.Left.{NeedsHere}
 use Rattle.sym_path.proofs.following.facts_passed.Goals as goal
 
 pub returns-in-Hold : goal.returns-in-Hold

@@ -1,7 +1,7 @@
 use Rattle.std.proofs.Common.{◌≡◌, Some, length, refl}
 use Rattle.std.proofs.lemmas.Option.{slice_get_read}
 use Rattle.std.specs.Prelude.{slice_get}
-use Rattle.sym_path.specs.Following.{FormAfter}
+use Rattle.sym_path.specs.FormsAfter.{FormAfter}
 use Rattle.sym_path.proofs.FollowingSteps.{push_next, push_length, can_come_now, after_start, kept_next}
 use Rattle.sym_path.proofs.following.forms_after.Goals as goal
 

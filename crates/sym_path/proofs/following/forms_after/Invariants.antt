@@ -1,7 +1,7 @@
 -- What the forms so far become; those that are still needed are there.
 use Rattle.std.proofs.Common.{◌≡◌, ℕ, length, Some}
 use Rattle.std.specs.Prelude.{slice_get}
-use Rattle.sym_path.specs.Following.{FormAfter, NeededFrom}
+use Rattle.sym_path.specs.FormsAfter.{FormAfter, NeededFrom}
 use Rattle.sym_path.specs.declared.form.Form.{Form}
 use Rattle.sym_path.proofs.following.forms_after.Given as goal
 

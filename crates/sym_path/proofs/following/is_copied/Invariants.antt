@@ -2,7 +2,7 @@
 use Rattle.std.proofs.Common.{◌≡◌, ◌≤◌, ◌<◌, ℕ, Some}
 use Rattle.std.specs.Prelude.{slice_get}
 use Rattle.sym_path.specs.declared.form.Form.{Form}
-use Rattle.sym_path.specs.Following.{Copies}
+use Rattle.sym_path.specs.FormsAfter.{Copies}
 use Rattle.sym_path.proofs.following.is_copied.Given as goal
 
 abbrev pub invariant-cells : goal.invariant-cells

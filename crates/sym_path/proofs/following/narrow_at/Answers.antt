@@ -3,7 +3,7 @@ use Rattle.std.specs.Prelude.{slice_get, slice_set}
 use Rattle.sym_path.specs.declared.part.Part.{Part}
 use Rattle.sym_path.specs.declared.part.Part.TheVariants as part
 use Rattle.sym_path.specs.declared.form.Form.{Form}
-use Rattle.sym_path.specs.Following.{PartLeft}
+use Rattle.sym_path.specs.Left.{PartLeft}
 use Rattle.sym_path.proofs.FollowingNarrowed.{set_twice, shape_put}
 use Rattle.sym_path.proofs.following.narrow_at.Goals as goal
 

@@ -7,7 +7,9 @@ use Rattle.sym_path.specs.declared.path.Path.{Path}
 use Rattle.sym_path.specs.declared.path.PathEnd.{PathEnd}
 use Rattle.sym_path.specs.declared.path.PathEnd.TheVariants.{Next}
 use Rattle.sym_path.specs.Fitting.{FormFits, FormsFit, PartFits}
-use Rattle.sym_path.specs.Following.{AreLeft, CanEndAfter, EndsAfter, IsEndAfter, IsFollowed}
+use Rattle.sym_path.specs.Following.{IsEndAfter, IsFollowed}
+use Rattle.sym_path.specs.FormsAfter.{CanEndAfter, EndsAfter}
+use Rattle.sym_path.specs.Left.{AreLeft}
 use Rattle.sym_path.proofs.FollowingFits.{can_put}
 use Rattle.sym_path.proofs.FollowingWhole.{can_end, end_is, path_is, possible_next, forms_fit_next, followed_path}
 use Rattle.sym_path.proofs.Lists.{zip_length}

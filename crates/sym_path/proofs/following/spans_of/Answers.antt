@@ -1,7 +1,7 @@
 use Rattle.std.proofs.Common.{◌≡◌, Some, length, take, refl, sym, subst}
 use Rattle.std.proofs.lemmas.Option.{slice_get_read}
 use Rattle.std.specs.Prelude.{slice_get}
-use Rattle.sym_path.specs.Following.{IsSpanOf}
+use Rattle.sym_path.specs.FormsAfter.{IsSpanOf}
 use Rattle.sym_path.proofs.Lists.{zip_push}
 use Rattle.sym_path.proofs.following.spans_of.Goals as goal
 

@@ -1,7 +1,7 @@
 -- One for each of the cells so far.
 use Rattle.std.proofs.Common.{◌≡◌, length, take}
 use Rattle.std.specs.List.{AllZip}
-use Rattle.sym_path.specs.Following.{IsSpanOf}
+use Rattle.sym_path.specs.FormsAfter.{IsSpanOf}
 use Rattle.sym_path.proofs.following.spans_of.Given as goal
 
 abbrev pub invariant-cells : goal.invariant-cells
