@@ -7,9 +7,15 @@ use std::marker::Model;
 use sym_base::{NoMemory, Sequence};
 
 /// A list of paths. A contract sees the list.
-#[derive(PartialEq, Eq, Drop)]
+#[derive(PartialEq, Eq)]
 pub struct Segment {
     paths: Sequence<Path>,
+}
+
+impl Drop for Segment {
+    fn drop(self) {
+        let Segment { paths: _paths } = self;
+    }
 }
 
 impl Model for Segment {
@@ -48,7 +54,8 @@ impl Segment {
     pub fn into_vec(self) -> Vec<Path>
         ensures { result.items ≡ self }
     {
-        self.paths.into_vec()
+        let Segment { paths } = self;
+        paths.into_vec()
     }
 
     /// An equal segment of its own.
