@@ -36,6 +36,8 @@ use Rattle.sym_path.specs.Fitting as fitting
 use Rattle.sym_path.specs.Left.{PartLeft}
 use Rattle.sym_path.specs.Giving.{cell_at, cells_at}
 use Rattle.sym_path.specs.Possible.{Meets, ConstantMeets}
+use Rattle.sym_path.proofs.PossibleStates
+use Rattle.sym_path.proofs.PossibleStates.{literal_given}
 use Rattle.sym_path.proofs.Lists.{zip_get, zip_get_right, zip_at, zip_from, zip_length, get_within}
 
 -- What a part that is left admits, the old one admits.
@@ -196,45 +198,20 @@ module _ (truth : Truth) (p : ScriptPlan) (when : List Part) (forms : List Form)
   -- The other way round: what is left admits each state that is admitted and of which the path gives
   -- what is needed.
   module _ (before : Admits truth when s) (after : AllZip (PartAdmits truth) needs (cells_at forms s s.cells)) where
-    given_at : (f : Form) (need : Part) → Meets forms needs f need → (x : Cell) × PartAdmits truth need (cell_at f s x)
-    given_at f need m =
-        let (cp, at_c, h) = zip_get_right (FormFits p when) p.cells forms m.cell f each m.has in
-        let (old, at_old, g) = zip_get (PartFits p) p.cells when m.cell cp parts at_c in
-        let (x, at_x, b) = zip_get (PartAdmits truth) when s.cells m.cell old before at_old in
-        (x, zip_at (PartAdmits truth) needs (cells_at forms s s.cells) m.cell need (cell_at f s x) after m.needed (cells_at_get forms s s.cells m.cell f x m.has at_x))
-
     still_admitted : (c : ℕ) (old new : Part) (x : Cell) → slice_get s.cells c ≡ Some x → PartLeft forms needs c old new → PartAdmits truth old x → PartAdmits truth new x
-    still_admitted c (part.Set old) (part.Set new) (cell.Enum l) g h b = (h.1 l).1 (
-      b,
-      λ need m.
-          let same : label_at s c ≡ l = ap cell_label g in
-          subst (λ (i : ℕ). IsTrue (has_label need i)) same (given_at (form.Enum (label.Copy c)) (part.Set need) m).1,
-    )
+    still_admitted c (part.Set old) (part.Set new) (cell.Enum l) g h b = (h.1 l).1 (b, PossibleStates.label_meets truth forms needs s after c l g)
     still_admitted c (part.Set old) (part.Set new) (cell.Int x) g h b = b
     still_admitted c (part.Set old) (part.Set new) (cell.Hold ps) g h b = b
     still_admitted c (part.Set old) (part.Set new) (cell.Nums xs) g h b = b
     still_admitted c (part.Set old) (part.Set new) (cell.Words ts) g h b = b
     still_admitted c (part.Span old) (part.Span new) (cell.Enum l) g h b = b
-    still_admitted c (part.Span old) (part.Span new) (cell.Int x) g h b = (h x).1 (b, λ f need q m. over f need q m)
-      where
-        over : (f : IntForm) (need : Span) → form_cell f ≡ Some c → Meets forms needs (form.Int f) (part.Span need) → HasPoint need (form_on f x)
-        over (number.Const n) need q m = absurd (let z : None ≡ Some c = q in cc)
-        over (number.Line line) need q m =
-            let at : line.cell ≡ c = cc in
-            let same : number_at s line.cell ≡ x = ap (λ k. number_at s k) at ∙ ap cell_number g in
-            subst (λ (y : ℤ). HasPoint need (form_on (number.Line line) y)) same (given_at (form.Int (number.Line line)) (part.Span need) m).1
+    still_admitted c (part.Span old) (part.Span new) (cell.Int x) g h b = (h x).1 (b, PossibleStates.number_meets truth forms needs s after c x g)
     still_admitted c (part.Span old) (part.Span new) (cell.Hold ps) g h b = b
     still_admitted c (part.Span old) (part.Span new) (cell.Nums xs) g h b = b
     still_admitted c (part.Span old) (part.Span new) (cell.Words ts) g h b = b
     still_admitted c (part.Facts old) (part.Facts new) (cell.Enum l) g h b = b
     still_admitted c (part.Facts old) (part.Facts new) (cell.Int x) g h b = b
-    still_admitted c (part.Facts old) (part.Facts new) (cell.Hold ps) g h b = λ atom o st. elim ((h atom o).0 st) [
-      | inl k ↦ b atom o k
-      | inr n ↦
-          let same : parts_at s c ≡ ps = ap cell_parts g in
-          let there : facts.Admits truth n.need (parts_at s c) = (given_at (form.Hold (hold.Copy c)) (part.Facts n.need) n.meets).1 in
-          (subst (λ (qs : List Value). facts.Admits truth n.need qs) same there) atom o n.stands
-    ]
+    still_admitted c (part.Facts old) (part.Facts new) (cell.Hold ps) g h b = λ atom o st. literal_given truth forms needs s after c ps old g b atom o ((h atom o).0 st)
     still_admitted c (part.Facts old) (part.Facts new) (cell.Nums xs) g h b = b
     still_admitted c (part.Facts old) (part.Facts new) (cell.Words ts) g h b = b
     still_admitted c part.Free part.Free x g h b = b

@@ -169,7 +169,7 @@ span_left span (Some left) forms needs c all = (
 
 -- ---- facts
 
-not_itself : (o : Bool) → o ≡ not o → ⊥
+pub not_itself : (o : Bool) → o ≡ not o → ⊥
 not_itself true e = cc
 not_itself false e = cc
 
