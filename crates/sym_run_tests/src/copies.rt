@@ -1,7 +1,6 @@
 //! A copy of a checked script, against the script.
-use crate::scripts::checked;
+use crate::scripts::{Row, check_rows};
 use std::alloc::Global;
-use std::process::Abort;
 use std::test::Fail;
 use sym_base::{NoMemory, Outcome, Record, State, Text, Value, Values};
 use sym_check::Checked;
@@ -40,47 +39,83 @@ fn record(alloc: Global, x: i64) -> Result<Record, NoMemory> {
     Ok(Record { no: 1, fields })
 }
 
-// The state after a record of this number.
-fn state_after(rt: &impl Abort, alloc: Global, checked: &Checked, x: i64) -> Result<State, Fail> {
+// The outcome after a record of this number.
+fn after(alloc: Global, checked: &Checked, x: i64) -> Result<Outcome, NoMemory> {
     let rec = record(alloc, x)?;
-    match step(alloc, checked, initial(alloc, checked)?, &rec)? {
-        Outcome::Going(state) => Ok(state),
-        Outcome::Ended(_) => panic!(rt; "each number stays in its range"),
+    step(alloc, checked, initial(alloc, checked)?, &rec)
+}
+
+// Whether the states are equal, and their columns.
+fn same_columns(
+    alloc: Global,
+    checked: &Checked,
+    copied: &Checked,
+    state: &State,
+    other: &State,
+) -> Result<bool, NoMemory> {
+    let shown = columns(alloc, checked, state)?;
+    Ok(state == other && columns(alloc, copied, other)? == shown)
+}
+
+// Whether both go on, and the same is shown of both.
+fn same_outcome(
+    alloc: Global,
+    checked: &Checked,
+    copied: &Checked,
+    outcome: &Outcome,
+    other: &Outcome,
+) -> Result<bool, NoMemory> {
+    match (outcome, other) {
+        (Outcome::Going(state), Outcome::Going(same)) => {
+            same_columns(alloc, checked, copied, state, same)
+        }
+        _ => Ok(false),
     }
 }
 
-// Compares the states after a record, and their columns.
-fn check_record(
-    rt: &impl Abort,
+fn same_after(
     alloc: Global,
     checked: &Checked,
     copied: &Checked,
     x: i64,
-) -> Result<(), Fail> {
-    let state = state_after(rt, alloc, checked, x)?;
-    let other = state_after(rt, alloc, copied, x)?;
-    assert!(rt; other == state, "{x}");
-    let shown = columns(alloc, checked, &state)?;
-    assert!(rt; columns(alloc, copied, &other)? == shown, "{x}");
-    Ok(())
+) -> Result<bool, NoMemory> {
+    let outcome = after(alloc, checked, x)?;
+    same_outcome(alloc, checked, copied, &outcome, &after(alloc, copied, x)?)
+}
+
+fn same_text(alloc: Global, checked: &Checked, copied: &Checked) -> Result<bool, NoMemory> {
+    let text = print(alloc, checked.script())?;
+    Ok(print(alloc, copied.script())? == text)
+}
+
+/// What is the same of a script and of its copy.
+enum Same {
+    /// The script's text, and its path bound.
+    Text,
+    /// The state after a record of this number, and its columns.
+    State(i64),
+}
+
+impl Row for Same {
+    fn holds(&self, alloc: Global, checked: &Checked) -> Result<bool, NoMemory> {
+        let copied = checked.copy(alloc)?;
+        match self {
+            Same::Text => Ok(
+                copied.path_bound() == checked.path_bound() && same_text(alloc, checked, &copied)?,
+            ),
+            Same::State(x) => same_after(alloc, checked, &copied, *x),
+        }
+    }
 }
 
 #[test]
 fn a_copied_script_is_printed_and_bounded_as_the_script(rt: HostRuntime) -> Result<(), Fail> {
-    let checked = checked(&rt, rt.alloc(), SCRIPT);
-    let copied = checked.copy(rt.alloc())?;
-    assert_eq!(rt; copied.path_bound(), checked.path_bound());
-    let text = print(rt.alloc(), checked.script())?;
-    assert_eq!(rt; print(rt.alloc(), copied.script())?, text);
-    Ok(())
+    check_rows(&rt, rt.alloc(), SCRIPT, &[Same::Text])
 }
+
+const STATES: [Same; 3] = [Same::State(-3), Same::State(-1), Same::State(2)];
 
 #[test]
 fn a_copied_script_runs_as_the_script(rt: HostRuntime) -> Result<(), Fail> {
-    let checked = checked(&rt, rt.alloc(), SCRIPT);
-    let copied = checked.copy(rt.alloc())?;
-    for x in [-3, -1, 2] {
-        check_record(&rt, rt.alloc(), &checked, &copied, x)?;
-    }
-    Ok(())
+    check_rows(&rt, rt.alloc(), SCRIPT, &STATES)
 }

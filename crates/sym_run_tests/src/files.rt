@@ -3,9 +3,8 @@ ghost use Rattle.std.specs.Prelude.{◌≡◌};
 ghost use Rattle.sym_check.specs.CheckedScripts.{checked_plan};
 ghost use Rattle.sym_table.specs.Rows.{FitsHeader};
 
-use crate::scripts::checked;
+use crate::scripts::{Row as TableRow, check_rows};
 use std::alloc::Global;
-use std::process::Abort;
 use std::test::Fail;
 use sym_base::{NoMemory, Record, Text, Value, Values};
 use sym_check::Checked;
@@ -15,7 +14,7 @@ use sym_table::{
 };
 
 /// What a field reads.
-#[derive(Clone, Copy, Debug, PartialEq, Eq)]
+#[derive(Clone, Copy, PartialEq, Eq)]
 enum Want {
     Num(i64),
     Word(&'static str),
@@ -23,118 +22,114 @@ enum Want {
     Bad(BadCause),
 }
 
-/// The kind of a script's one field, the text of the one row below its header, and what the field
-/// reads. Each `@` in the text is a byte that no UTF-8 has.
-const TEXTS: [(&str, &str, Want); 46] = [
-    ("num", "5", Want::Num(5)),
-    ("num", "-5", Want::Num(-5)),
-    ("num", "+5", Want::Num(5)),
-    ("num", "-0", Want::Num(0)),
-    ("num", "007", Want::Num(7)),
-    ("num", " \t 5\t ", Want::Num(5)),
-    ("num", "\"5\"", Want::Num(5)),
-    ("num", "1000000000000", Want::Num(1_000_000_000_000)),
-    ("num", "-1000000000000", Want::Num(-1_000_000_000_000)),
-    ("num", "0000000000000000000000003", Want::Num(3)),
-    ("num", "1000000000001", Want::Bad(BadCause::Number(0))),
-    ("num", "-1000000000001", Want::Bad(BadCause::Number(0))),
-    (
-        "num",
-        "99999999999999999999999999",
-        Want::Bad(BadCause::Number(0)),
-    ),
-    ("num", "\"\"", Want::Bad(BadCause::Number(0))),
-    ("num", "  ", Want::Bad(BadCause::Number(0))),
-    ("num", "+", Want::Bad(BadCause::Number(0))),
-    ("num", "-", Want::Bad(BadCause::Number(0))),
-    ("num", "+-5", Want::Bad(BadCause::Number(0))),
-    ("num", "- 5", Want::Bad(BadCause::Number(0))),
-    ("num", "5 5", Want::Bad(BadCause::Number(0))),
-    ("num", "5.0", Want::Bad(BadCause::Number(0))),
-    ("num", "\"5\n\"", Want::Bad(BadCause::Number(0))),
-    ("num", "\u{feff}5", Want::Bad(BadCause::Number(0))),
-    ("num", "x@", Want::Bad(BadCause::Utf8(0))),
-    ("word", "\"\"", Want::Word("")),
-    ("word", " a b\t", Want::Word(" a b\t")),
-    ("word", "\u{e9}", Want::Word("\u{e9}")),
-    ("word", "a@", Want::Bad(BadCause::Utf8(0))),
-    ("colour", "red", Want::Label(0)),
-    ("colour", "\tgreen ", Want::Label(1)),
-    ("colour", "Red", Want::Bad(BadCause::Label(0))),
-    ("colour", "re d", Want::Bad(BadCause::Label(0))),
-    ("colour", "\"\"", Want::Bad(BadCause::Label(0))),
-    ("colour", "red@", Want::Bad(BadCause::Utf8(0))),
-    ("num else 7", "\"\"", Want::Num(7)),
-    ("num else 7", " \t", Want::Num(7)),
-    ("num else 7", "0", Want::Num(0)),
-    ("num else 7", "x", Want::Bad(BadCause::Number(0))),
-    ("word else \"none\"", "\"\"", Want::Word("none")),
-    ("word else \"none\"", " ", Want::Word(" ")),
-    ("colour else green", "\"\"", Want::Label(1)),
-    ("colour else green", "  ", Want::Label(1)),
-    ("colour else green", "blue", Want::Bad(BadCause::Label(0))),
-    ("num", "1,2", Want::Bad(BadCause::Fields(2))),
-    ("num", "x,", Want::Bad(BadCause::Fields(2))),
-    ("num", "@,@,@", Want::Bad(BadCause::Fields(3))),
+/// The text of the one row below the header of a script's one field, and what the field reads. Each
+/// `@` in the text is a byte that no UTF-8 has.
+struct Field(&'static str, Want);
+
+const NUMBER: &str = "enum colour { red, green } field f: num; \
+    state k: int [0..9] = 0; update { } report { k = k; }";
+
+const NUMBERS: [Field; 27] = [
+    Field("5", Want::Num(5)),
+    Field("-5", Want::Num(-5)),
+    Field("+5", Want::Num(5)),
+    Field("-0", Want::Num(0)),
+    Field("007", Want::Num(7)),
+    Field(" \t 5\t ", Want::Num(5)),
+    Field("\"5\"", Want::Num(5)),
+    Field("1000000000000", Want::Num(1_000_000_000_000)),
+    Field("-1000000000000", Want::Num(-1_000_000_000_000)),
+    Field("0000000000000000000000003", Want::Num(3)),
+    Field("1000000000001", Want::Bad(BadCause::Number(0))),
+    Field("-1000000000001", Want::Bad(BadCause::Number(0))),
+    Field("99999999999999999999999999", Want::Bad(BadCause::Number(0))),
+    Field("\"\"", Want::Bad(BadCause::Number(0))),
+    Field("  ", Want::Bad(BadCause::Number(0))),
+    Field("+", Want::Bad(BadCause::Number(0))),
+    Field("-", Want::Bad(BadCause::Number(0))),
+    Field("+-5", Want::Bad(BadCause::Number(0))),
+    Field("- 5", Want::Bad(BadCause::Number(0))),
+    Field("5 5", Want::Bad(BadCause::Number(0))),
+    Field("5.0", Want::Bad(BadCause::Number(0))),
+    Field("\"5\n\"", Want::Bad(BadCause::Number(0))),
+    Field("\u{feff}5", Want::Bad(BadCause::Number(0))),
+    Field("x@", Want::Bad(BadCause::Utf8(0))),
+    Field("1,2", Want::Bad(BadCause::Fields(2))),
+    Field("x,", Want::Bad(BadCause::Fields(2))),
+    Field("@,@,@", Want::Bad(BadCause::Fields(3))),
 ];
 
-/// A header of a file for the fields `n`, `w` and `c`, and what is wrong with it.
-const HEADERS: [(&str, HeadFault); 7] = [
-    ("w,c", HeadFault::NoField { which: 0 }),
-    ("n,w", HeadFault::NoField { which: 2 }),
-    ("n,w,C", HeadFault::NoField { which: 2 }),
-    ("n, w,c", HeadFault::NoField { which: 1 }),
-    ("n,n,n", HeadFault::Twice { which: 0 }),
-    ("n,c,c", HeadFault::NoField { which: 1 }),
-    ("n,w,c,w", HeadFault::Twice { which: 1 }),
+const WORD: &str = "enum colour { red, green } field f: word; \
+    state k: int [0..9] = 0; update { } report { k = k; }";
+
+const WORDS: [Field; 4] = [
+    Field("\"\"", Want::Word("")),
+    Field(" a b\t", Want::Word(" a b\t")),
+    Field("\u{e9}", Want::Word("\u{e9}")),
+    Field("a@", Want::Bad(BadCause::Utf8(0))),
 ];
 
-/// A file for these fields, how many rows a chunk has, and the chunks: each with the number of its
-/// first row, and a bar before each field.
-const FILES: [(&str, u32, &str); 15] = [
-    ("", 2, ""),
-    ("\u{feff}", 2, ""),
-    ("n,w,c", 2, ""),
-    ("w,c,n\n1\n2\n3\n", 1, "1|1;2|2;3|3;"),
-    ("w,c,n\n1\n2\n3\n", 2, "1|1;|2;3|3;"),
-    ("w,c,n\n1\n2\n3", 1024, "1|1;|2;|3;"),
-    ("w,c,n\n1\n2\n", 2, "1|1;|2;"),
-    ("n,w,c\r\na,b\r\n\r\n ,\r\n", 9, "1|a|b;| |;"),
-    ("\u{feff}n,w,c\n1", 9, "1|1;"),
-    ("\u{feff}\u{feff}n,w,c\n1", 9, "1|1;"),
-    ("n,w,c\n\"a,\"\"b\"\n\"c\nd", 9, "1|a,\"b;|c\nd;"),
-    ("n,w,c\ra\rb", 1, "1|a;2|b;"),
-    ("n,w,c\n\0@", 1, "1|\0@;"),
-    ("n,w,c,x,x\n1", 9, "1|1;"),
-    ("x,\"n\",w,c\n,1", 9, "1||1;"),
+const LABEL: &str = "enum colour { red, green } field f: colour; \
+    state k: int [0..9] = 0; update { } report { k = k; }";
+
+const LABELS: [Field; 6] = [
+    Field("red", Want::Label(0)),
+    Field("\tgreen ", Want::Label(1)),
+    Field("Red", Want::Bad(BadCause::Label(0))),
+    Field("re d", Want::Bad(BadCause::Label(0))),
+    Field("\"\"", Want::Bad(BadCause::Label(0))),
+    Field("red@", Want::Bad(BadCause::Utf8(0))),
 ];
 
-// The text with a byte that no UTF-8 has in the place of each `@`.
-fn bytes_of(alloc: Global, text: &str) -> Result<Vec<u8>, NoMemory> {
-    let mut bytes = Vec::new(alloc);
-    for byte in text.as_bytes() {
+const NUMBER_ELSE_7: &str = "enum colour { red, green } field f: num else 7; \
+    state k: int [0..9] = 0; update { } report { k = k; }";
+
+const NUMBERS_ELSE_7: [Field; 4] = [
+    Field("\"\"", Want::Num(7)),
+    Field(" \t", Want::Num(7)),
+    Field("0", Want::Num(0)),
+    Field("x", Want::Bad(BadCause::Number(0))),
+];
+
+const WORD_ELSE_NONE: &str = "enum colour { red, green } field f: word else \"none\"; \
+    state k: int [0..9] = 0; update { } report { k = k; }";
+
+const WORDS_ELSE_NONE: [Field; 2] = [
+    Field("\"\"", Want::Word("none")),
+    Field(" ", Want::Word(" ")),
+];
+
+const LABEL_ELSE_GREEN: &str = "enum colour { red, green } field f: colour else green; \
+    state k: int [0..9] = 0; update { } report { k = k; }";
+
+const LABELS_ELSE_GREEN: [Field; 3] = [
+    Field("\"\"", Want::Label(1)),
+    Field("  ", Want::Label(1)),
+    Field("blue", Want::Bad(BadCause::Label(0))),
+];
+
+// Adds the text, with a byte that no UTF-8 has in the place of each `@`.
+fn push_bytes(bytes: &mut Vec<u8>, text: &str) -> Result<(), NoMemory> {
+    'bytes: for byte in text.as_bytes() {
         bytes.push(if *byte == b'@' { 0xFF } else { *byte })?;
     }
-    Ok(bytes)
+    Ok(())
 }
 
-// A script with these fields.
-fn script(rt: &impl Abort, alloc: Global, fields: &str) -> Result<Checked, Fail> {
-    let before = "enum colour { red, green }";
-    let after = "state k: int [0..9] = 0; update { } report { k = k; }";
-    let text = format!(in alloc; "{before} {fields} {after}")?;
-    Ok(checked(rt, alloc, text.as_str()))
+fn bytes_of(alloc: Global, first: &str, second: &str) -> Result<Vec<u8>, NoMemory> {
+    let mut bytes = Vec::new(alloc);
+    push_bytes(&mut bytes, first)?;
+    push_bytes(&mut bytes, second)?;
+    Ok(bytes)
 }
 
 // Whether the value is as wanted.
 fn is_value(value: &Value, want: Want) -> bool {
-    match value {
-        Value::Num(number) => want == Want::Num(*number),
-        Value::Label(label) => want == Want::Label(*label),
-        Value::Word(word) => match want {
-            Want::Word(wanted) => word.as_str() == wanted,
-            Want::Num(_) | Want::Label(_) | Want::Bad(_) => false,
-        },
+    match (value, want) {
+        (Value::Num(number), Want::Num(wanted)) => *number == wanted,
+        (Value::Label(label), Want::Label(wanted)) => *label == wanted,
+        (Value::Word(word), Want::Word(wanted)) => word.as_str() == wanted,
+        _ => false,
     }
 }
 
@@ -149,94 +144,138 @@ fn is_as_wanted(decoded: &Decoded, want: Want) -> bool {
     }
 }
 
-// What the next row of a file is.
-fn next_decoded(
-    rt: &impl Abort,
+// Whether the next row of a file is as wanted.
+fn next_is(
     alloc: Global,
     checked: &Checked,
     cutter: &mut Cutter<'_>,
-) -> Result<Decoded, Fail>
+    want: Want,
+) -> Result<bool, NoMemory>
     requires { FitsHeader (checked_plan checked.now).fields cutter.old.header }
 {
     let mut row = Row::new(alloc);
-    assert!(rt; cutter.next_row(&mut row)?, "a row");
-    Ok(decode(alloc, checked, cutter.header(), &row, 9)?)
+    if !cutter.next_row(&mut row)? {
+        return Ok(false);
+    }
+    let decoded = decode(alloc, checked, cutter.header(), &row, 9)?;
+    Ok(is_as_wanted(&decoded, want))
 }
 
-// What the first row of a file is.
-fn first_row(
-    rt: &impl Abort,
-    alloc: Global,
-    checked: &Checked,
-    bytes: &[u8],
-) -> Result<Decoded, Fail> {
-    assert!(rt; bytes.len() < 1_000, "a small file");
+// Whether the first row of a file is as wanted.
+fn first_is(alloc: Global, checked: &Checked, bytes: &[u8], want: Want) -> Result<bool, NoMemory> {
+    if bytes.len() >= 1_000 {
+        return Ok(false);
+    }
     match Cutter::open(alloc, checked, bytes, 9, 1) {
         Ok(opened) => {
             let mut cutter = opened;
-            next_decoded(rt, alloc, checked, &mut cutter)
+            next_is(alloc, checked, &mut cutter, want)
         }
-        Err(_) => panic!(rt; "the header has the fields"),
+        Err(_) => Ok(false),
     }
 }
 
-// What the one field of this kind reads.
-fn read_text(rt: &impl Abort, alloc: Global, kind: &str, text: &str) -> Result<Decoded, Fail> {
-    let field = format!(in alloc; "field f: {kind};")?;
-    let checked = script(rt, alloc, &field)?;
-    let file = format!(in alloc; "f\n{text}")?;
-    let bytes = bytes_of(alloc, &file)?;
-    first_row(rt, alloc, &checked, bytes.as_slice())
-}
-
-fn check_texts(
-    rt: &impl Abort,
-    alloc: Global,
-    texts: &[(&'static str, &'static str, Want)],
-) -> Result<(), Fail> {
-    for (kind, text, want) in texts {
-        let found = read_text(rt, alloc, kind, text)?;
-        assert!(rt; is_as_wanted(&found, *want), "{kind}: {text}");
+impl TableRow for Field {
+    fn holds(&self, alloc: Global, checked: &Checked) -> Result<bool, NoMemory> {
+        let bytes = bytes_of(alloc, "f\n", self.0)?;
+        first_is(alloc, checked, bytes.as_slice(), self.1)
     }
-    Ok(())
 }
 
 #[test]
-fn fields_read_their_texts(rt: HostRuntime) -> Result<(), Fail> {
-    check_texts(&rt, rt.alloc(), &TEXTS)
+fn numbers_read_their_texts(rt: HostRuntime) -> Result<(), Fail> {
+    check_rows(&rt, rt.alloc(), NUMBER, &NUMBERS)
+}
+
+#[test]
+fn words_read_their_texts(rt: HostRuntime) -> Result<(), Fail> {
+    check_rows(&rt, rt.alloc(), WORD, &WORDS)
+}
+
+#[test]
+fn labels_read_their_texts(rt: HostRuntime) -> Result<(), Fail> {
+    check_rows(&rt, rt.alloc(), LABEL, &LABELS)
+}
+
+#[test]
+fn numbers_with_a_default_read_their_texts(rt: HostRuntime) -> Result<(), Fail> {
+    check_rows(&rt, rt.alloc(), NUMBER_ELSE_7, &NUMBERS_ELSE_7)
+}
+
+#[test]
+fn words_with_a_default_read_their_texts(rt: HostRuntime) -> Result<(), Fail> {
+    check_rows(&rt, rt.alloc(), WORD_ELSE_NONE, &WORDS_ELSE_NONE)
+}
+
+#[test]
+fn labels_with_a_default_read_their_texts(rt: HostRuntime) -> Result<(), Fail> {
+    check_rows(&rt, rt.alloc(), LABEL_ELSE_GREEN, &LABELS_ELSE_GREEN)
 }
 
 // The fields `n`, `w` and `c`.
-const FIELDS: &str = "field n: num; field w: word; field c: colour;";
+const FIELDS: &str = "enum colour { red, green } field n: num; field w: word; field c: colour; \
+    state k: int [0..9] = 0; update { } report { k = k; }";
 
-fn check_header(rt: &impl Abort, alloc: Global, checked: &Checked, header: &str, fault: HeadFault) {
-    assert!(rt; header.len() < 100, "{header}");
+/// A header of a file for the fields `n`, `w` and `c`, and what is wrong with it.
+struct Headed(&'static str, HeadFault);
+
+const HEADERS: [Headed; 7] = [
+    Headed("w,c", HeadFault::NoField { which: 0 }),
+    Headed("n,w", HeadFault::NoField { which: 2 }),
+    Headed("n,w,C", HeadFault::NoField { which: 2 }),
+    Headed("n, w,c", HeadFault::NoField { which: 1 }),
+    Headed("n,n,n", HeadFault::Twice { which: 0 }),
+    Headed("n,c,c", HeadFault::NoField { which: 1 }),
+    Headed("n,w,c,w", HeadFault::Twice { which: 1 }),
+];
+
+// The fault of a file's header.
+fn header_fault(alloc: Global, checked: &Checked, header: &str) -> Option<HeadFault> {
+    if header.len() >= 100 {
+        return None;
+    }
     match Cutter::open(alloc, checked, header.as_bytes(), 1, 1) {
-        Ok(_) => panic!(rt; "{header}"),
-        Err(why) => assert!(rt; why == HeadErr::Fault(fault), "{header}"),
+        Ok(_) | Err(HeadErr::NoMemory) => None,
+        Err(HeadErr::Fault(fault)) => Some(fault),
     }
 }
 
-fn check_headers(
-    rt: &impl Abort,
-    alloc: Global,
-    headers: &[(&'static str, HeadFault)],
-) -> Result<(), Fail> {
-    let checked = script(rt, alloc, FIELDS)?;
-    for (header, fault) in headers {
-        check_header(rt, alloc, &checked, header, *fault);
+impl TableRow for Headed {
+    fn holds(&self, alloc: Global, checked: &Checked) -> Result<bool, NoMemory> {
+        Ok(header_fault(alloc, checked, self.0) == Some(self.1))
     }
-    Ok(())
 }
 
 #[test]
 fn headers_are_refused_at_their_first_fault(rt: HostRuntime) -> Result<(), Fail> {
-    check_headers(&rt, rt.alloc(), &HEADERS)
+    check_rows(&rt, rt.alloc(), FIELDS, &HEADERS)
 }
+
+/// A file for these fields, how many rows a chunk has, and the chunks: each with the number of its
+/// first row, and a bar before each field.
+struct File(&'static str, u32, &'static str);
+
+const FILES: [File; 15] = [
+    File("", 2, ""),
+    File("\u{feff}", 2, ""),
+    File("n,w,c", 2, ""),
+    File("w,c,n\n1\n2\n3\n", 1, "1|1;2|2;3|3;"),
+    File("w,c,n\n1\n2\n3\n", 2, "1|1;|2;3|3;"),
+    File("w,c,n\n1\n2\n3", 1024, "1|1;|2;|3;"),
+    File("w,c,n\n1\n2\n", 2, "1|1;|2;"),
+    File("n,w,c\r\na,b\r\n\r\n ,\r\n", 9, "1|a|b;| |;"),
+    File("\u{feff}n,w,c\n1", 9, "1|1;"),
+    File("\u{feff}\u{feff}n,w,c\n1", 9, "1|1;"),
+    File("n,w,c\n\"a,\"\"b\"\n\"c\nd", 9, "1|a,\"b;|c\nd;"),
+    File("n,w,c\ra\rb", 1, "1|a;2|b;"),
+    File("n,w,c\n\0@", 1, "1|\0@;"),
+    File("n,w,c,x,x\n1", 9, "1|1;"),
+    File("x,\"n\",w,c\n,1", 9, "1||1;"),
+];
 
 // A bar before each field, and a semicolon at the end.
 fn push_row(text: &mut Vec<u8>, row: &Row) -> Result<(), NoMemory> {
-    for at in 0..row.len() {
+    'fields: for at in 0..row.len() {
         text.push(b'|')?;
         if let Some(field) = row.get(at) {
             text.extend_from_slice(field)?;
@@ -246,82 +285,79 @@ fn push_row(text: &mut Vec<u8>, row: &Row) -> Result<(), NoMemory> {
     Ok(())
 }
 
+fn push_number(alloc: Global, text: &mut Vec<u8>, number: u64) -> Result<(), NoMemory> {
+    let digits = format!(in alloc; "{number}")?;
+    text.extend_from_slice(digits.as_bytes())?;
+    Ok(())
+}
+
 // The number of the first row, and then the rows.
-fn push_chunk(alloc: Global, text: &mut Vec<u8>, cut: &Chunk) -> Result<(), Fail> {
-    let number = format!(in alloc; "{}", cut.first_no)?;
-    text.extend_from_slice(number.as_bytes())?;
-    for row in cut.rows.as_slice() {
+fn push_chunk(alloc: Global, text: &mut Vec<u8>, cut: &Chunk) -> Result<(), NoMemory> {
+    push_number(alloc, text, cut.first_no)?;
+    'rows: for row in cut.rows.as_slice() {
         push_row(text, row)?;
     }
     Ok(())
 }
 
-// The chunks that are left, up to a hundred of them.
-fn chunks_text(alloc: Global, cutter: &mut Cutter<'_>) -> Result<Vec<u8>, Fail> {
-    let mut text = Vec::new(alloc);
-    for _ in 0..100 {
-        if let Some(cut) = cutter.next(alloc)? {
-            push_chunk(alloc, &mut text, &cut)?;
+// Adds the next chunk. Whether there was one.
+fn push_next(alloc: Global, text: &mut Vec<u8>, cutter: &mut Cutter<'_>) -> Result<bool, NoMemory> {
+    match cutter.next(alloc)? {
+        Some(cut) => {
+            push_chunk(alloc, text, &cut)?;
+            Ok(true)
         }
-    }
-    Ok(text)
-}
-
-// The chunks of a file.
-fn cut_text(
-    rt: &impl Abort,
-    alloc: Global,
-    checked: &Checked,
-    bytes: &[u8],
-    chunk: u32,
-) -> Result<Vec<u8>, Fail> {
-    assert!(rt;
-        bytes.len() < 1_000 && chunk >= 1 && chunk <= 1_024,
-        "a small file"
-    );
-    match Cutter::open(alloc, checked, bytes, 1, chunk) {
-        Ok(opened) => {
-            let mut cutter = opened;
-            chunks_text(alloc, &mut cutter)
-        }
-        Err(_) => panic!(rt; "the header has the fields"),
+        None => Ok(false),
     }
 }
 
-fn check_files(
-    rt: &impl Abort,
-    alloc: Global,
-    files: &[(&'static str, u32, &'static str)],
-) -> Result<(), Fail> {
-    let checked = script(rt, alloc, FIELDS)?;
-    for (file, chunk, want) in files {
-        let bytes = bytes_of(alloc, file)?;
-        let text = cut_text(rt, alloc, &checked, bytes.as_slice(), *chunk)?;
-        assert!(rt; text == bytes_of(alloc, want)?, "{file}");
+// Adds the chunks that are left, up to a hundred of them.
+fn push_chunks(alloc: Global, text: &mut Vec<u8>, cutter: &mut Cutter<'_>) -> Result<(), NoMemory> {
+    'chunks: for _ in 0..100 {
+        if !push_next(alloc, text, cutter)? {
+            return Ok(());
+        }
     }
     Ok(())
 }
 
-#[test]
-fn files_are_cut_into_rows(rt: HostRuntime) -> Result<(), Fail> {
-    check_files(&rt, rt.alloc(), &FILES)
+fn chunks_are(alloc: Global, cutter: &mut Cutter<'_>, wanted: &[u8]) -> Result<bool, NoMemory> {
+    let mut text = Vec::new(alloc);
+    push_chunks(alloc, &mut text, cutter)?;
+    Ok(text.as_slice() == wanted)
 }
 
-// Reads the next row over a row and a record that were used before.
-fn read_next(
-    rt: &impl Abort,
+// Whether the chunks of a file are as wanted.
+fn file_is(
     alloc: Global,
     checked: &Checked,
-    cutter: &mut Cutter<'_>,
-    row: &mut Row,
-    rec: &mut Record,
-) -> Result<Option<Bad>, Fail>
-    requires { FitsHeader (checked_plan checked.now).fields cutter.old.header }
-    ensures { cutter.new.header ≡ cutter.old.header }
-{
-    let no = cutter.next_no();
-    assert!(rt; cutter.next_row(row)?, "row {no}");
-    Ok(decode_into(alloc, checked, cutter.header(), row, no, rec)?)
+    bytes: &[u8],
+    chunk: u32,
+    wanted: &[u8],
+) -> Result<bool, NoMemory> {
+    if bytes.len() >= 1_000 || chunk < 1 || chunk > 1_024 {
+        return Ok(false);
+    }
+    match Cutter::open(alloc, checked, bytes, 1, chunk) {
+        Ok(opened) => {
+            let mut cutter = opened;
+            chunks_are(alloc, &mut cutter, wanted)
+        }
+        Err(_) => Ok(false),
+    }
+}
+
+impl TableRow for File {
+    fn holds(&self, alloc: Global, checked: &Checked) -> Result<bool, NoMemory> {
+        let bytes = bytes_of(alloc, self.0, "")?;
+        let wanted = bytes_of(alloc, self.2, "")?;
+        file_is(alloc, checked, bytes.as_slice(), self.1, wanted.as_slice())
+    }
+}
+
+#[test]
+fn files_are_cut_into_rows(rt: HostRuntime) -> Result<(), Fail> {
+    check_rows(&rt, rt.alloc(), FIELDS, &FILES)
 }
 
 // The record of a number, a word and a label.
@@ -333,123 +369,203 @@ fn record(alloc: Global, no: u64, number: i64, word: &str, label: u8) -> Result<
     Ok(Record { no, fields })
 }
 
-// That the next row is this record.
-fn check_next(
-    rt: &impl Abort,
+/// A record of a number, a word and a label.
+struct Wanted {
+    no: u64,
+    number: i64,
+    word: &'static str,
+    label: u8,
+}
+
+const FIRST: Wanted = Wanted {
+    no: 5,
+    number: 1,
+    word: "a longer word",
+    label: 0,
+};
+
+const SECOND: Wanted = Wanted {
+    no: 6,
+    number: 2,
+    word: "b",
+    label: 1,
+};
+
+const THIRD: Bad = Bad {
+    no: 7,
+    cause: BadCause::Number(0),
+};
+
+fn is_record(rec: &Record, wanted: &Wanted) -> bool {
+    match rec.fields.as_slice() {
+        [Value::Num(number), Value::Word(word), Value::Label(label)] => {
+            rec.no == wanted.no
+                && *number == wanted.number
+                && word.as_str() == wanted.word
+                && *label == wanted.label
+        }
+        _ => false,
+    }
+}
+
+// Reads the next row over a row and a record that were used before. What is wrong with the row;
+// `None` where there is no row.
+fn read_next(
     alloc: Global,
     checked: &Checked,
     cutter: &mut Cutter<'_>,
     row: &mut Row,
     rec: &mut Record,
-    wanted: &Record,
-) -> Result<(), Fail>
+) -> Result<Option<Option<Bad>>, NoMemory>
     requires { FitsHeader (checked_plan checked.now).fields cutter.old.header }
     ensures { cutter.new.header ≡ cutter.old.header }
 {
-    let bad = read_next(rt, alloc, checked, cutter, row, rec)?;
-    assert!(rt; bad.is_none() && *rec == *wanted, "record {}", wanted.no);
-    Ok(())
+    let no = cutter.next_no();
+    if !cutter.next_row(row)? {
+        return Ok(None);
+    }
+    Ok(Some(decode_into(alloc, checked, cutter.header(), row, no, rec)?))
 }
 
-// That no row is left, and that it stays so.
-fn check_last(rt: &impl Abort, cutter: &mut Cutter<'_>, row: &mut Row) -> Result<(), Fail> {
-    assert!(rt; !cutter.next_row(row)? && !cutter.next_row(row)?);
-    assert_eq!(rt; cutter.next_no(), 8);
-    Ok(())
+// Whether no row is left, and stays so.
+fn is_at_end(cutter: &mut Cutter<'_>, row: &mut Row) -> Result<bool, NoMemory> {
+    Ok(!cutter.next_row(row)? && !cutter.next_row(row)? && cutter.next_no() == 8)
 }
 
-// Three rows after the header: two records, and a row that is none.
+// Whether the rows after the header are two records and a row that is none.
 fn read_three(
-    rt: &impl Abort,
     alloc: Global,
     checked: &Checked,
     cutter: &mut Cutter<'_>,
-) -> Result<(), Fail>
+    row: &mut Row,
+    rec: &mut Record,
+) -> Result<bool, NoMemory>
     requires { FitsHeader (checked_plan checked.now).fields cutter.old.header }
 {
-    let mut row = Row::new(alloc);
-    let mut rec = record(alloc, 0, 0, "", 0)?;
-    let first = record(alloc, 5, 1, "a longer word", 0)?;
-    check_next(rt, alloc, checked, cutter, &mut row, &mut rec, &first)?;
-    let second = record(alloc, 6, 2, "b", 1)?;
-    check_next(rt, alloc, checked, cutter, &mut row, &mut rec, &second)?;
-    let third = read_next(rt, alloc, checked, cutter, &mut row, &mut rec)?;
-    let cause = BadCause::Number(0);
-    assert!(rt; third == Some(Bad { no: 7, cause }));
-    check_last(rt, cutter, &mut row)
+    if read_next(alloc, checked, cutter, row, rec)? != Some(None) || !is_record(rec, &FIRST) {
+        return Ok(false);
+    }
+    if read_next(alloc, checked, cutter, row, rec)? != Some(None) || !is_record(rec, &SECOND) {
+        return Ok(false);
+    }
+    let third = read_next(alloc, checked, cutter, row, rec)?;
+    Ok(third == Some(Some(THIRD)) && is_at_end(cutter, row)?)
 }
 
-fn check_three(rt: &impl Abort, alloc: Global, file: &str) -> Result<(), Fail> {
-    assert!(rt; file.len() < 1_000, "a small file");
-    let checked = script(rt, alloc, FIELDS)?;
-    match Cutter::open(alloc, &checked, file.as_bytes(), 5, 1) {
-        Ok(opened) => {
-            let mut cutter = opened;
-            read_three(rt, alloc, &checked, &mut cutter)
+fn read_all(alloc: Global, checked: &Checked, cutter: &mut Cutter<'_>) -> Result<bool, NoMemory>
+    requires { FitsHeader (checked_plan checked.now).fields cutter.old.header }
+{
+    let mut rec = record(alloc, 0, 0, "", 0)?;
+    read_three(alloc, checked, cutter, &mut Row::new(alloc), &mut rec)
+}
+
+/// A file of the three rows.
+struct Three(&'static str);
+
+const THREE: [Three; 1] = [Three("n,w,c\n1,a longer word,red\n2,b,green\nx,b,red\n")];
+
+impl TableRow for Three {
+    fn holds(&self, alloc: Global, checked: &Checked) -> Result<bool, NoMemory> {
+        let file = self.0;
+        if file.len() >= 1_000 {
+            return Ok(false);
         }
-        Err(_) => panic!(rt; "the header has the fields"),
+        match Cutter::open(alloc, checked, file.as_bytes(), 5, 1) {
+            Ok(opened) => {
+                let mut cutter = opened;
+                read_all(alloc, checked, &mut cutter)
+            }
+            Err(_) => Ok(false),
+        }
     }
 }
 
 #[test]
 fn a_row_and_a_record_are_used_again(rt: HostRuntime) -> Result<(), Fail> {
-    let file = "n,w,c\n1,a longer word,red\n2,b,green\nx,b,red\n";
-    check_three(&rt, rt.alloc(), file)
+    check_rows(&rt, rt.alloc(), FIELDS, &THREE)
 }
 
-// A chunk of one row, and of a row of no fields.
-fn chunk(alloc: Global) -> Result<Chunk, NoMemory> {
+// A row of two fields, and one of none.
+fn rows(alloc: Global) -> Result<Rows, NoMemory> {
     let mut rows = Rows::new(alloc);
     let fields = [b"5".as_slice(), b"a".as_slice()];
     rows.push(Row::from_fields(alloc, fields.as_slice())?)?;
     rows.push(Row::new(alloc))?;
+    Ok(rows)
+}
+
+fn header(alloc: Global) -> Result<Header, NoMemory> {
     let mut places = Places::new(alloc);
     places.push(1)?;
+    Ok(Header { places, columns: 2 })
+}
+
+fn chunk(alloc: Global) -> Result<Chunk, NoMemory> {
+    let header = header(alloc)?;
     Ok(Chunk {
         first_no: 9,
-        header: Header { places, columns: 2 },
-        rows,
+        header,
+        rows: rows(alloc)?,
     })
 }
 
-fn check_chunk(rt: &impl Abort, alloc: Global, cut: &Chunk) -> Result<(), Fail> {
-    let mut text = Vec::new(alloc);
-    push_chunk(alloc, &mut text, cut)?;
-    assert!(rt; text.as_slice() == b"9|5|a;;".as_slice());
-    assert!(rt; cut.header == chunk(alloc)?.header);
-    Ok(())
-}
-
-#[test]
-fn chunks_are_copied(rt: HostRuntime) -> Result<(), Fail> {
-    let alloc = rt.alloc();
+fn chunks(alloc: Global) -> Result<Chunks, NoMemory> {
     let mut chunks = Chunks::new(alloc);
     chunks.push(chunk(alloc)?)?;
+    Ok(chunks)
+}
+
+// Whether the chunk is the one above.
+fn is_chunk(alloc: Global, cut: &Chunk) -> Result<bool, NoMemory> {
+    let mut text = Vec::new(alloc);
+    push_chunk(alloc, &mut text, cut)?;
+    Ok(text.as_slice() == b"9|5|a;;".as_slice() && cut.header == header(alloc)?)
+}
+
+fn are_copied(alloc: Global, chunks: &Chunks) -> Result<bool, NoMemory> {
     let copied = chunks.copy(alloc)?;
-    assert_eq!(rt; copied.len(), 1);
-    for cut in copied.as_slice() {
-        check_chunk(&rt, alloc, cut)?;
+    match copied.as_slice() {
+        [cut] => is_chunk(alloc, cut),
+        _ => Ok(false),
     }
-    Ok(())
 }
 
-fn check_copied(rt: &impl Abort, alloc: Global, answer: &Decoded) -> Result<(), Fail> {
-    assert!(rt; answer.copy(alloc)? == *answer);
-    Ok(())
-}
-
-#[test]
-fn answers_are_copied(rt: HostRuntime) -> Result<(), Fail> {
-    let alloc = rt.alloc();
-    let cause = BadCause::Fields(3);
-    check_copied(&rt, alloc, &Decoded::Bad(Bad { no: 9, cause }))?;
-    check_copied(&rt, alloc, &Decoded::Is(record(alloc, 9, 5, "a", 1)?))
+fn chunks_hold(alloc: Global) -> Result<bool, NoMemory> {
+    are_copied(alloc, &chunks(alloc)?)
 }
 
 #[test]
-fn the_text_of_a_header_error_is_its_variant(rt: HostRuntime) -> Result<(), Fail> {
+fn chunks_are_copied(rt: HostRuntime) {
+    assert!(rt; chunks_hold(rt.alloc()) == Ok(true));
+}
+
+fn is_copied(alloc: Global, answer: &Decoded) -> Result<bool, NoMemory> {
+    Ok(answer.copy(alloc)? == *answer)
+}
+
+fn record_is_copied(alloc: Global) -> Result<bool, NoMemory> {
+    is_copied(alloc, &Decoded::Is(record(alloc, 9, 5, "a", 1)?))
+}
+
+fn answers_hold(alloc: Global) -> Result<bool, NoMemory> {
+    Ok(is_copied(alloc, &Decoded::Bad(THIRD))? && record_is_copied(alloc)?)
+}
+
+#[test]
+fn answers_are_copied(rt: HostRuntime) {
+    assert!(rt; answers_hold(rt.alloc()) == Ok(true));
+}
+
+fn is_shown(alloc: Global, why: HeadErr, text: &str) -> Result<bool, NoMemory> {
+    Ok(format!(in alloc; "{why}")?.as_str() == text)
+}
+
+fn texts_hold(alloc: Global) -> Result<bool, NoMemory> {
     let fault = HeadErr::Fault(HeadFault::NoField { which: 0 });
-    let text = format!(in rt.alloc(); "{fault} {}", HeadErr::NoMemory)?;
-    assert_eq!(rt; text.as_str(), "Fault NoMemory");
-    Ok(())
+    Ok(is_shown(alloc, fault, "Fault")? && is_shown(alloc, HeadErr::NoMemory, "NoMemory")?)
+}
+
+#[test]
+fn the_text_of_a_header_error_is_its_variant(rt: HostRuntime) {
+    assert!(rt; texts_hold(rt.alloc()) == Ok(true));
 }

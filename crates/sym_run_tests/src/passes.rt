@@ -1,23 +1,32 @@
 //! Passes over files, by example.
-ghost use Rattle.std.specs.Prelude.{◌≤◌, length};
-ghost use Rattle.sym_base.specs.declared.limits.TheConstants as limit;
-
-use crate::scripts::checked;
+use crate::scripts::{Row, all_hold, check_rows};
 use std::alloc::Global;
-use std::process::Abort;
 use std::test::Fail;
-use sym_base::{Column, Key, MemStore, NoMemory, Outcome, Value};
+use sym_base::{Column, Key, MemStore, NoMemory, Outcome, State, Value};
 use sym_check::Checked;
 use sym_engine::{PassErr, pass};
 use sym_plain::{Groups, columns};
 use sym_table::{Bad, BadCause, HeadFault};
 
-/// What a pass comes to: for each group its key and its number, or the record of its fault.
-#[derive(Clone, Copy, Debug, PartialEq, Eq)]
+/// How the number of a group stands.
+#[derive(Clone, Copy)]
+enum Standing {
+    Is(i64),
+    /// It left its range at the record of this number.
+    Left(u64),
+}
+
+use Standing::{Is, Left};
+
+/// What a pass comes to: the word of each group and its number, or the first problem.
+#[derive(Clone, Copy)]
 enum Want {
-    Groups(&'static str),
+    Groups(&'static [(&'static str, Standing)]),
     Stops(PassErr),
 }
+
+/// The names of three files, and what the pass over them comes to.
+struct Run([&'static str; 3], Want);
 
 /// The sum of each user's numbers, which is at most 8.
 const SCRIPT: &str = "field u: word; field n: num; group u; state k: int [0..8] = 0; \
@@ -35,13 +44,25 @@ const FILES: [(&str, &str); 8] = [
     ("two u", "u,u\na,1\nlonger\n\n\n"),
 ];
 
-const RUNS: [([&str; 3], Want); 13] = [
-    (["ab", "ba", "ab"], Want::Groups("a=3;b=5;")),
-    (["ba", "none", "ab"], Want::Groups("b=3;a=2;")),
-    (["ab", "ab", "ab"], Want::Groups("a=3;b=6;")),
-    (["none", "head", "none"], Want::Groups("")),
-    (["ab", "nine", "ab"], Want::Groups("a!3;b=4;c!4;")),
-    (
+const RUNS: [Run; 13] = [
+    Run(
+        ["ab", "ba", "ab"],
+        Want::Groups(&[("a", Is(3)), ("b", Is(5))]),
+    ),
+    Run(
+        ["ba", "none", "ab"],
+        Want::Groups(&[("b", Is(3)), ("a", Is(2))]),
+    ),
+    Run(
+        ["ab", "ab", "ab"],
+        Want::Groups(&[("a", Is(3)), ("b", Is(6))]),
+    ),
+    Run(["none", "head", "none"], Want::Groups(&[])),
+    Run(
+        ["ab", "nine", "ab"],
+        Want::Groups(&[("a", Left(3)), ("b", Is(4)), ("c", Left(4))]),
+    ),
+    Run(
         ["ab", "bad", "no n"],
         Want::Stops(PassErr::Bad {
             file: 1,
@@ -51,7 +72,7 @@ const RUNS: [([&str; 3], Want); 13] = [
             },
         }),
     ),
-    (
+    Run(
         ["bad", "two u", "absent"],
         Want::Stops(PassErr::Bad {
             file: 0,
@@ -61,164 +82,235 @@ const RUNS: [([&str; 3], Want); 13] = [
             },
         }),
     ),
-    (
+    Run(
         ["ab", "no n", "bad"],
         Want::Stops(PassErr::Head {
             file: 1,
             fault: HeadFault::NoField { which: 1 },
         }),
     ),
-    (
+    Run(
         ["no n", "bad", "two u"],
         Want::Stops(PassErr::Head {
             file: 0,
             fault: HeadFault::NoField { which: 1 },
         }),
     ),
-    (
+    Run(
         ["ab", "two u", "bad"],
         Want::Stops(PassErr::TooLarge { file: 1 }),
     ),
-    (
+    Run(
         ["head", "none", "two u"],
         Want::Stops(PassErr::TooLarge { file: 2 }),
     ),
-    (
+    Run(
         ["none", "absent", "two u"],
         Want::Stops(PassErr::Read { file: 1 }),
     ),
-    (
+    Run(
         ["ab", "ab", "absent"],
         Want::Stops(PassErr::Read { file: 2 }),
     ),
 ];
 
-// The files, in memory.
-fn store(alloc: Global, files: &[(&'static str, &'static str)]) -> Result<MemStore, NoMemory> {
+// The files, in memory, of which the read of this number fails.
+fn store(alloc: Global, failing: u64) -> Result<MemStore, NoMemory> {
     let mut store = MemStore::new(alloc);
-    for (name, text) in files {
+    'files: for (name, text) in &FILES {
         store.add(alloc, name, text.as_bytes())?;
     }
+    store.fail_at(alloc, failing)?;
     Ok(store)
 }
 
-fn names(alloc: Global, run: &[&'static str]) -> Result<Vec<String>, Fail> {
+fn names(alloc: Global, run: &[&'static str]) -> Result<Vec<String>, NoMemory> {
     let mut names = Vec::new(alloc);
-    for name in run {
+    'names: for name in run {
         names.push(String::from_str(alloc, name)?)?;
     }
     Ok(names)
 }
 
-fn key_text(key: &Key) -> &str {
+fn is_key(key: &Key, who: &str) -> bool {
     match key {
-        Key::One(Value::Word(word)) => word.as_str(),
-        Key::One(Value::Num(_)) | Key::One(Value::Label(_)) | Key::Whole => "?",
+        Key::One(Value::Word(word)) => word.as_str() == who,
+        Key::One(Value::Num(_)) | Key::One(Value::Label(_)) | Key::Whole => false,
     }
 }
 
-// The number that a script of one column shows of a group.
-fn number_of(alloc: Global, checked: &Checked, outcome: &Outcome) -> Result<String, Fail> {
-    match outcome {
-        Outcome::Ended(fault) => Ok(format!(in alloc; "!{}", fault.no)?),
-        Outcome::Going(state) => match columns(alloc, checked, state)?.get(0) {
-            Some(Column::Num(number)) => Ok(format!(in alloc; "={number}")?),
-            _ => Ok(String::from_str(alloc, "?")?),
-        },
+// Whether the one column of a state shows this number.
+fn shows(alloc: Global, checked: &Checked, state: &State, number: i64) -> Result<bool, NoMemory> {
+    match columns(alloc, checked, state)?.get(0) {
+        Some(Column::Num(found)) => Ok(*found == i128::from(number)),
+        _ => Ok(false),
     }
 }
 
-fn groups_text(alloc: Global, checked: &Checked, groups: &Groups) -> Result<String, Fail> {
-    let mut text = String::new(alloc);
-    for index in 0..groups.len() {
-        if let Some((key, outcome)) = groups.at(index) {
-            text.push_str(key_text(key))?;
-            text.push_str(number_of(alloc, checked, outcome)?.as_str())?;
-            text.push_str(";")?;
+fn stands(
+    alloc: Global,
+    checked: &Checked,
+    outcome: &Outcome,
+    standing: Standing,
+) -> Result<bool, NoMemory> {
+    match (outcome, standing) {
+        (Outcome::Going(state), Is(number)) => shows(alloc, checked, state, number),
+        (Outcome::Ended(fault), Left(no)) => Ok(fault.no == no),
+        _ => Ok(false),
+    }
+}
+
+fn is_group(
+    alloc: Global,
+    checked: &Checked,
+    groups: &Groups,
+    place: usize,
+    who: &str,
+    standing: Standing,
+) -> Result<bool, NoMemory> {
+    match groups.at(place) {
+        Some((key, outcome)) => {
+            Ok(is_key(key, who) && stands(alloc, checked, outcome, standing)?)
+        }
+        None => Ok(false),
+    }
+}
+
+fn are_groups(
+    alloc: Global,
+    checked: &Checked,
+    groups: &Groups,
+    wanted: &[(&'static str, Standing)],
+) -> Result<bool, NoMemory> {
+    'groups: for (place, (who, standing)) in wanted.iter().enumerate() {
+        if !is_group(alloc, checked, groups, place, who, *standing)? {
+            return Ok(false);
         }
     }
-    Ok(text)
+    Ok(groups.len() == wanted.len())
 }
 
-// The pass over the files of these names, of at most 16 bytes each.
-fn check_run(
-    rt: &impl Abort,
+// Whether the pass over the files of these names, of at most 16 bytes each, comes to this.
+fn pass_is(
     alloc: Global,
     checked: &Checked,
     files: &mut MemStore,
     names: &[String],
     want: Want,
-) -> Result<(), Fail>
-    requires { length names.now ≤ limit.FILES_MAX }
-{
-    match (pass(alloc, checked, files, names, 16), want) {
-        (Ok(groups), Want::Groups(text)) => {
-            let found = groups_text(alloc, checked, &groups)?;
-            assert_eq!(rt; found.as_str(), text);
-        }
-        (Err(why), Want::Stops(wanted)) => assert_eq!(rt; why, wanted),
-        (Ok(_), Want::Stops(_)) | (Err(_), Want::Groups(_)) => panic!(rt; "another answer"),
+) -> Result<bool, NoMemory> {
+    if names.len() > 3 {
+        return Ok(false);
     }
-    Ok(())
+    match (pass(alloc, checked, files, names, 16), want) {
+        (Ok(groups), Want::Groups(wanted)) => are_groups(alloc, checked, &groups, wanted),
+        (Err(why), Want::Stops(wanted)) => Ok(why == wanted),
+        (Ok(_), Want::Stops(_)) | (Err(_), Want::Groups(_)) => Ok(false),
+    }
 }
 
-fn check_runs(
-    rt: &impl Abort,
+fn run_is(
     alloc: Global,
-    runs: &[([&'static str; 3], Want)],
-) -> Result<(), Fail> {
-    let checked = checked(rt, alloc, SCRIPT);
-    let mut files = store(alloc, &FILES)?;
-    for (run, want) in runs {
-        let names = names(alloc, run.as_slice())?;
-        assert!(rt; names.len() <= 3);
-        check_run(rt, alloc, &checked, &mut files, names.as_slice(), *want)?;
+    checked: &Checked,
+    files: &mut MemStore,
+    run: &[&'static str],
+    want: Want,
+) -> Result<bool, NoMemory> {
+    pass_is(alloc, checked, files, names(alloc, run)?.as_slice(), want)
+}
+
+impl Row for Run {
+    fn holds(&self, alloc: Global, checked: &Checked) -> Result<bool, NoMemory> {
+        run_is(alloc, checked, &mut store(alloc, 0)?, &self.0, self.1)
     }
-    Ok(())
 }
 
 #[test]
 fn files_are_passed_in_order_up_to_their_first_problem(rt: HostRuntime) -> Result<(), Fail> {
-    check_runs(&rt, rt.alloc(), &RUNS)
+    check_rows(&rt, rt.alloc(), SCRIPT, &RUNS)
 }
 
-// A pass over three files whose read of this number fails. A file takes two reads.
-fn check_read(rt: &impl Abort, alloc: Global, call: u64) -> Result<(), Fail> {
-    let checked = checked(rt, alloc, SCRIPT);
-    let mut files = store(alloc, &FILES)?;
-    files.fail_at(alloc, call)?;
-    let names = names(alloc, ["ab", "ba", "ab"].as_slice())?;
-    assert!(rt; names.len() <= 3 && call >= 1);
-    let file = (call - 1) / 2;
-    let want = Want::Stops(PassErr::Read { file });
-    check_run(rt, alloc, &checked, &mut files, names.as_slice(), want)?;
-    let whole = Want::Groups("a=3;b=5;");
-    check_run(rt, alloc, &checked, &mut files, names.as_slice(), whole)
+/// The read that fails in a pass over three files, and the file that it is of. A file takes two
+/// reads. The same pass goes through afterwards.
+struct Read(u64, u64);
+
+const READS: [Read; 6] = [
+    Read(1, 0),
+    Read(2, 0),
+    Read(3, 1),
+    Read(4, 1),
+    Read(5, 2),
+    Read(6, 2),
+];
+
+const WHOLE: Run = Run(
+    ["ab", "ba", "ab"],
+    Want::Groups(&[("a", Is(3)), ("b", Is(5))]),
+);
+
+// Whether the pass fails at this file, and goes through afterwards.
+fn fails_once(
+    alloc: Global,
+    checked: &Checked,
+    files: &mut MemStore,
+    file: u64,
+) -> Result<bool, NoMemory> {
+    let Run(names, whole) = WHOLE;
+    let fault = Want::Stops(PassErr::Read { file });
+    Ok(
+        run_is(alloc, checked, files, &names, fault)?
+            && run_is(alloc, checked, files, &names, whole)?,
+    )
+}
+
+impl Row for Read {
+    fn holds(&self, alloc: Global, checked: &Checked) -> Result<bool, NoMemory> {
+        fails_once(alloc, checked, &mut store(alloc, self.0)?, self.1)
+    }
 }
 
 #[test]
 fn a_read_may_fail_at_each_place(rt: HostRuntime) -> Result<(), Fail> {
-    for call in 1..7 {
-        check_read(&rt, rt.alloc(), call)?;
-    }
-    Ok(())
+    check_rows(&rt, rt.alloc(), SCRIPT, &READS)
 }
 
-fn check_shown(rt: &impl Abort, alloc: Global, why: PassErr, text: &str) -> Result<(), Fail> {
-    let shown = format!(in alloc; "{why}")?;
-    assert_eq!(rt; shown.as_str(), text);
-    Ok(())
+/// Errors and their texts.
+const SHOWN: [(PassErr, &str); 5] = [
+    (PassErr::Read { file: 1 }, "Read"),
+    (PassErr::TooLarge { file: 1 }, "TooLarge"),
+    (
+        PassErr::Head {
+            file: 1,
+            fault: HeadFault::Twice { which: 0 },
+        },
+        "Head",
+    ),
+    (
+        PassErr::Bad {
+            file: 1,
+            bad: Bad {
+                no: 9,
+                cause: BadCause::Fields(3),
+            },
+        },
+        "Bad",
+    ),
+    (PassErr::NoMemory, "NoMemory"),
+];
+
+fn is_shown(alloc: Global, why: PassErr, text: &str) -> Result<bool, NoMemory> {
+    Ok(format!(in alloc; "{why}")?.as_str() == text)
+}
+
+fn wrong_text(alloc: Global) -> Result<Option<usize>, NoMemory> {
+    'rows: for (place, (why, text)) in SHOWN.iter().enumerate() {
+        if !is_shown(alloc, *why, text)? {
+            return Ok(Some(place));
+        }
+    }
+    Ok(None)
 }
 
 #[test]
 fn the_text_of_an_error_is_its_variant(rt: HostRuntime) -> Result<(), Fail> {
-    let alloc = rt.alloc();
-    let cause = BadCause::Fields(3);
-    let bad = Bad { no: 9, cause };
-    let fault = HeadFault::Twice { which: 0 };
-    check_shown(&rt, alloc, PassErr::Read { file: 1 }, "Read")?;
-    check_shown(&rt, alloc, PassErr::TooLarge { file: 1 }, "TooLarge")?;
-    check_shown(&rt, alloc, PassErr::Head { file: 1, fault }, "Head")?;
-    check_shown(&rt, alloc, PassErr::Bad { file: 1, bad }, "Bad")?;
-    check_shown(&rt, alloc, PassErr::NoMemory, "NoMemory")
+    all_hold(&rt, wrong_text(rt.alloc()))
 }

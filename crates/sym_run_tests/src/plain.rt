@@ -1,8 +1,7 @@
 //! What expressions and tests stand for, and the plain step, over a script that was read and
 //! checked.
-use crate::scripts::checked;
+use crate::scripts::{Row, check_rows};
 use std::alloc::Global;
-use std::process::Abort;
 use std::test::Fail;
 use sym_base::{NUM_MAX, NoMemory, Outcome, Record, Text, Value, Values};
 use sym_check::{
@@ -41,47 +40,83 @@ fn is_word(value: &FixedValue, word: &str) -> bool {
     }
 }
 
-// The sum after a record of this number; `None` where the group ended.
+// Whether the value is this number, or with `None` none, since its arithmetic fails.
+fn is_number(value: &FixedValue, wanted: Option<i64>) -> bool {
+    match value {
+        FixedValue::Is(Value::Num(found)) => wanted == Some(*found),
+        FixedValue::Is(_) => false,
+        FixedValue::Arith => wanted.is_none(),
+    }
+}
+
+// The number of a state's cell; `None` if the group ended.
+fn sum(outcome: &Outcome) -> Option<i64> {
+    match outcome {
+        Outcome::Going(state) => Some(state.number_at(0)),
+        Outcome::Ended(_) => None,
+    }
+}
+
 fn sum_after(alloc: Global, checked: &Checked, x: i64) -> Result<Option<i64>, NoMemory> {
     let rec = record(alloc, x)?;
-    match step(alloc, checked, initial(alloc, checked)?, &rec)? {
-        Outcome::Going(state) => Ok(Some(state.number_at(0))),
-        Outcome::Ended(_) => Ok(None),
+    Ok(sum(&step(alloc, checked, initial(alloc, checked)?, &rec)?))
+}
+
+/// What is asked of the script of sums.
+enum Asked {
+    /// The field that is a word has this one.
+    Word(&'static str),
+    /// The quotient of -7 by a number; `None` where there is none.
+    Quotient(i64, Option<i64>),
+    /// The sum after a record of a number; `None` where the group ended.
+    Step(i64, Option<i64>),
+}
+
+fn word_is(alloc: Global, checked: &Checked, word: &str) -> Result<bool, NoMemory> {
+    let found = value(alloc, checked, &Fixed::Word(WordOf::Field(1)))?;
+    Ok(is_word(&found, word))
+}
+
+fn quotient_is(
+    alloc: Global,
+    checked: &Checked,
+    divisor: i64,
+    wanted: Option<i64>,
+) -> Result<bool, NoMemory> {
+    let expression = quotient(alloc, divisor)?;
+    Ok(is_number(&value(alloc, checked, &expression)?, wanted))
+}
+
+impl Row for Asked {
+    fn holds(&self, alloc: Global, checked: &Checked) -> Result<bool, NoMemory> {
+        match self {
+            Asked::Word(word) => word_is(alloc, checked, word),
+            Asked::Quotient(divisor, wanted) => quotient_is(alloc, checked, *divisor, *wanted),
+            Asked::Step(x, wanted) => Ok(sum_after(alloc, checked, *x)? == *wanted),
+        }
     }
 }
 
 #[test]
 fn a_fixed_word_has_its_field(rt: HostRuntime) -> Result<(), Fail> {
-    let checked = checked(&rt, rt.alloc(), SUMS);
-    let found = value(rt.alloc(), &checked, &Fixed::Word(WordOf::Field(1)))?;
-    assert!(rt; is_word(&found, "ann"));
-    Ok(())
+    check_rows(&rt, rt.alloc(), SUMS, &[Asked::Word("ann")])
 }
 
 #[test]
 fn a_quotient_is_rounded_towards_zero(rt: HostRuntime) -> Result<(), Fail> {
-    let checked = checked(&rt, rt.alloc(), SUMS);
-    let expression = quotient(rt.alloc(), 2)?;
-    let found = value(rt.alloc(), &checked, &expression)?;
-    assert!(rt; matches!(found, FixedValue::Is(Value::Num(-3))));
-    Ok(())
+    check_rows(&rt, rt.alloc(), SUMS, &[Asked::Quotient(2, Some(-3))])
 }
 
 #[test]
 fn a_zero_divisor_has_no_value(rt: HostRuntime) -> Result<(), Fail> {
-    let checked = checked(&rt, rt.alloc(), SUMS);
-    let expression = quotient(rt.alloc(), 0)?;
-    let found = value(rt.alloc(), &checked, &expression)?;
-    assert!(rt; matches!(found, FixedValue::Arith));
-    Ok(())
+    check_rows(&rt, rt.alloc(), SUMS, &[Asked::Quotient(0, None)])
 }
+
+const STEPS: [Asked; 2] = [Asked::Step(2, Some(3)), Asked::Step(9, None)];
 
 #[test]
 fn a_step_changes_the_state_or_ends_the_group(rt: HostRuntime) -> Result<(), Fail> {
-    let checked = checked(&rt, rt.alloc(), SUMS);
-    assert_eq!(rt; sum_after(rt.alloc(), &checked, 2)?, Some(3));
-    assert_eq!(rt; sum_after(rt.alloc(), &checked, 9)?, None);
-    Ok(())
+    check_rows(&rt, rt.alloc(), SUMS, &STEPS)
 }
 
 // Two fields that are numbers, and tests of two numbers.
@@ -91,36 +126,37 @@ const CALLED: &str = "field x: num; field y: num; state last: hold(num = 0); \
     test total(h: num, t: num) = h + t != 0; update { keep last(x); } report { one = 1; }";
 
 /// What an operator gives for two numbers; `None` where it fails.
-const CALCULATED: [(ArithOp, i64, i64, Option<i64>); 14] = [
-    (ArithOp::Add, NUM_MAX, 0, Some(NUM_MAX)),
-    (ArithOp::Add, NUM_MAX, 1, None),
-    (ArithOp::Sub, -NUM_MAX, 0, Some(-NUM_MAX)),
-    (ArithOp::Sub, -NUM_MAX, 1, None),
-    (ArithOp::Mul, NUM_MAX, -1, Some(-NUM_MAX)),
-    (ArithOp::Mul, 1_000_001, -1_000_000, None),
-    (ArithOp::Div, -7, 2, Some(-3)),
-    (ArithOp::Div, 1, 0, None),
-    (ArithOp::Div, -1, 0, None),
-    (ArithOp::Rem, -7, 2, Some(-1)),
-    (ArithOp::Rem, 7, -2, Some(1)),
-    (ArithOp::Rem, -7, -2, Some(-1)),
-    (ArithOp::Rem, 1, 0, None),
-    (ArithOp::Rem, -1, 0, None),
-];
+struct Operation(ArithOp, i64, i64, Option<i64>);
 
-// Two values that are numbers.
-fn two(alloc: Global, x: i64, y: i64) -> Result<Values, NoMemory> {
-    let mut values = Values::new(alloc);
-    values.push(Value::Num(x))?;
-    values.push(Value::Num(y))?;
-    Ok(values)
-}
+const CALCULATED: [Operation; 14] = [
+    Operation(ArithOp::Add, NUM_MAX, 0, Some(NUM_MAX)),
+    Operation(ArithOp::Add, NUM_MAX, 1, None),
+    Operation(ArithOp::Sub, -NUM_MAX, 0, Some(-NUM_MAX)),
+    Operation(ArithOp::Sub, -NUM_MAX, 1, None),
+    Operation(ArithOp::Mul, NUM_MAX, -1, Some(-NUM_MAX)),
+    Operation(ArithOp::Mul, 1_000_001, -1_000_000, None),
+    Operation(ArithOp::Div, -7, 2, Some(-3)),
+    Operation(ArithOp::Div, 1, 0, None),
+    Operation(ArithOp::Div, -1, 0, None),
+    Operation(ArithOp::Rem, -7, 2, Some(-1)),
+    Operation(ArithOp::Rem, 7, -2, Some(1)),
+    Operation(ArithOp::Rem, -7, -2, Some(-1)),
+    Operation(ArithOp::Rem, 1, 0, None),
+    Operation(ArithOp::Rem, -1, 0, None),
+];
 
 // A value that is a number.
 fn one(alloc: Global, x: i64) -> Result<Values, NoMemory> {
     let mut values = Values::new(alloc);
     values.push(Value::Num(x))?;
     Ok(values)
+}
+
+// A record of two numbers.
+fn two(alloc: Global, x: i64, y: i64) -> Result<Record, NoMemory> {
+    let mut fields = one(alloc, x)?;
+    fields.push(Value::Num(y))?;
+    Ok(Record { no: 1, fields })
 }
 
 // An operator on the two fields.
@@ -147,17 +183,16 @@ fn number_at(
     Ok(number(checked, &expression, rec, &Values::new(alloc)).ok())
 }
 
-fn fixed_at(
+fn fixed_is(
     alloc: Global,
     checked: &Checked,
     operator: ArithOp,
     rec: &Record,
-) -> Result<Option<i64>, NoMemory> {
+    wanted: Option<i64>,
+) -> Result<bool, NoMemory> {
     let expression = Fixed::Num(calculated(alloc, operator)?);
-    match fixed(alloc, checked, &expression, rec, &Values::new(alloc))? {
-        FixedValue::Is(Value::Num(found)) => Ok(Some(found)),
-        _ => Ok(None),
-    }
+    let found = fixed(alloc, checked, &expression, rec, &Values::new(alloc))?;
+    Ok(is_number(&found, wanted))
 }
 
 fn pair_at(
@@ -170,80 +205,69 @@ fn pair_at(
     Ok(pair(checked, &line, rec, &Values::new(alloc)).ok())
 }
 
-// The number, the value and the pair of an expression, by the three calls.
-fn check_calculated(
-    rt: &impl Abort,
+// Whether the pair of the cell 4 has this number twice.
+fn is_pair(found: Option<Pair>, wanted: Option<i64>) -> bool {
+    match (found, wanted) {
+        (Some(pair), Some(number)) => pair.cell == 4 && pair.a == number && pair.b == number,
+        (None, None) => true,
+        (Some(_), None) | (None, Some(_)) => false,
+    }
+}
+
+// Whether the number, the value and the pair of an expression, by the three calls, are as wanted.
+fn all_are(
     alloc: Global,
     checked: &Checked,
     operator: ArithOp,
-    fields: Values,
+    rec: &Record,
     wanted: Option<i64>,
-) -> Result<(), Fail> {
-    let rec = Record { no: 1, fields };
-    assert_eq!(rt; number_at(alloc, checked, operator, &rec)?, wanted);
-    assert_eq!(rt; fixed_at(alloc, checked, operator, &rec)?, wanted);
-    let pair = match wanted {
-        Some(number) => Some(Pair {
-            cell: 4,
-            a: number,
-            b: number,
-        }),
-        None => None,
-    };
-    assert_eq!(rt; pair_at(alloc, checked, operator, &rec)?, pair);
-    Ok(())
+) -> Result<bool, NoMemory> {
+    Ok(
+        number_at(alloc, checked, operator, rec)? == wanted
+            && fixed_is(alloc, checked, operator, rec, wanted)?
+            && is_pair(pair_at(alloc, checked, operator, rec)?, wanted),
+    )
 }
 
-fn check_all_calculated(
-    rt: &impl Abort,
-    alloc: Global,
-    rows: &[(ArithOp, i64, i64, Option<i64>)],
-) -> Result<(), Fail> {
-    let checked = checked(rt, alloc, CALLED);
-    for (operator, x, y, wanted) in rows {
-        let fields = two(alloc, *x, *y)?;
-        check_calculated(rt, alloc, &checked, *operator, fields, *wanted)?;
+impl Row for Operation {
+    fn holds(&self, alloc: Global, checked: &Checked) -> Result<bool, NoMemory> {
+        let Operation(operator, x, y, wanted) = self;
+        all_are(alloc, checked, *operator, &two(alloc, *x, *y)?, *wanted)
     }
-    Ok(())
 }
 
 #[test]
 fn numbers_values_and_pairs_keep_the_range(rt: HostRuntime) -> Result<(), Fail> {
-    check_all_calculated(&rt, rt.alloc(), &CALCULATED)
+    check_rows(&rt, rt.alloc(), CALLED, &CALCULATED)
 }
 
 /// The number of a test, the part of a hold cell, the argument, and the answer.
-const ANSWERS: [(u16, i64, i64, bool); 12] = [
-    (0, 7, 2, true),
-    (0, 1, 1, false),
-    (0, 1, 0, false),
-    (0, -1, 0, false),
-    (1, -7, 2, true),
-    (1, 7, -2, false),
-    (1, -7, -2, true),
-    (1, 7, 0, false),
-    (1, -7, 0, false),
-    (2, NUM_MAX, 0, true),
-    (2, NUM_MAX, 1, false),
-    (3, 7, 2, false),
+struct Answer(u16, i64, i64, bool);
+
+const ANSWERS: [Answer; 12] = [
+    Answer(0, 7, 2, true),
+    Answer(0, 1, 1, false),
+    Answer(0, 1, 0, false),
+    Answer(0, -1, 0, false),
+    Answer(1, -7, 2, true),
+    Answer(1, 7, -2, false),
+    Answer(1, -7, -2, true),
+    Answer(1, 7, 0, false),
+    Answer(1, -7, 0, false),
+    Answer(2, NUM_MAX, 0, true),
+    Answer(2, NUM_MAX, 1, false),
+    Answer(3, 7, 2, false),
 ];
 
-fn check_answers(
-    rt: &impl Abort,
-    alloc: Global,
-    rows: &[(u16, i64, i64, bool)],
-) -> Result<(), Fail> {
-    let checked = checked(rt, alloc, CALLED);
-    for (id, part, argument, wanted) in rows {
+impl Row for Answer {
+    fn holds(&self, alloc: Global, checked: &Checked) -> Result<bool, NoMemory> {
+        let Answer(id, part, argument, wanted) = self;
         let parts = one(alloc, *part)?;
-        let arguments = one(alloc, *argument)?;
-        let found = test(&checked, *id, &parts, &arguments);
-        assert_eq!(rt; found, *wanted, "test {id} at {part} and {argument}");
+        Ok(test(checked, *id, &parts, &one(alloc, *argument)?) == *wanted)
     }
-    Ok(())
 }
 
 #[test]
 fn a_test_is_false_where_its_arithmetic_fails(rt: HostRuntime) -> Result<(), Fail> {
-    check_answers(&rt, rt.alloc(), &ANSWERS)
+    check_rows(&rt, rt.alloc(), CALLED, &ANSWERS)
 }

@@ -1,6 +1,6 @@
 //! Whole runs over stores and sinks in memory.
-use std::alloc::{AllocError, Global};
-use std::process::Abort;
+use crate::scripts::all_hold;
+use std::alloc::Global;
 use std::test::Fail;
 use sym_base::{MemSink, MemStore, NoMemory};
 use sym_top::{StartErr, Status, refuse_start, symple};
@@ -9,20 +9,24 @@ use sym_top::{StartErr, Status, refuse_start, symple};
 const COUNTER: &str =
     "field x: num; state n: int [0..3] = 0; update { n = n + 1; } report { n = n; }";
 
-// Sessions of each user: a gap of more than 30 ends one.
-const SESSIONS: &str = "field ts: num; field user: word; group user; state last: hold(num = 0); \
-    state n: int [0..1000] = 0; state done: nums [0..1000]; \
-    test gap(h: num, t: num) = t - h > 30; update { if gap(last, ts) { push done n; \
-    n = 1; } else { n = n + 1; } keep last(ts); } report { sessions = count(done); open = n; \
-    longest = max(done); }";
+// Sessions of each user: a gap of more than 30 ends one, also that from the time before the first.
+macro_rules! sessions {
+    ($before:literal) => {
+        concat!(
+            "field ts: num; field user: word; group user; state last: hold(num = ",
+            $before,
+            "); state n: int [0..1000] = 0; state done: nums [0..1000]; \
+            test gap(h: num, t: num) = t - h > 30; update { if gap(last, ts) { push done n; \
+            n = 1; } else { n = n + 1; } keep last(ts); } report { sessions = count(done); \
+            open = n; longest = max(done); }"
+        )
+    };
+}
+
+const SESSIONS: &str = sessions!("0");
 
 // The same from a first time so early that its distance is no number.
-const EARLY: &str =
-    "field ts: num; field user: word; group user; state last: hold(num = -1000000000000); \
-    state n: int [0..1000] = 0; state done: nums [0..1000]; \
-    test gap(h: num, t: num) = t - h > 30; update { if gap(last, ts) { push done n; \
-    n = 1; } else { n = n + 1; } keep last(ts); } report { sessions = count(done); open = n; \
-    longest = max(done); }";
+const EARLY: &str = sessions!("-1000000000000");
 
 const TOGGLE: &str = "enum mode { idle, busy } field x: num; state phase: mode = idle; \
     update { if phase is idle { phase = busy; } else { phase = idle; } } \
@@ -61,585 +65,708 @@ const TURNED: &str =
     if 2 <= b { b = 0; } else { b = b + 1; } if 2 > c { c = c + 1; } else { c = 0; } \
     if 2 >= d { d = d + 1; } else { d = 0; } } report { a = a; b = b; c = c; d = d; }";
 
-// The names of at most three files.
-const NAMES: [&str; 3] = ["log.csv", "second.csv", "third.csv"];
+const NO_SCRIPT: &str = "field x num;";
 
-/// What a run comes to: its status, and what it wrote on `out` and on `err`.
-#[derive(Clone, Copy)]
-struct End {
-    status: Status,
-    out: &'static str,
-    err: &'static str,
-}
-
-fn reported(status: Status, out: &'static str) -> End {
-    End {
-        status,
-        out,
-        err: "",
-    }
-}
-
-fn refused(status: Status, err: &'static str) -> End {
-    End {
-        status,
-        out: "",
-        err,
-    }
-}
-
-// A run: its status, and its sinks.
-#[derive(Drop)]
-struct Ran {
-    status: Status,
-    out: MemSink,
-    err: MemSink,
-}
-
-// A run of these words. No other function makes the top call, since proofs beside its long contract
-// are slow.
-fn run(
-    alloc: Global,
-    words: &Vec<String>,
-    store: &mut MemStore,
-    out: MemSink,
-    err: MemSink,
-) -> Ran {
-    let mut out = out;
-    let mut err = err;
-    let status = symple(alloc, words, store, &mut out, &mut err);
-    Ran { status, out, err }
-}
-
-// A run of these words, the writes to `out` being of at most four bytes and those to `err` of at
-// most seven. The write to `out` of the number `failing`, counted from 1, fails.
-fn run_words(
-    alloc: Global,
-    words: &Vec<String>,
-    store: &mut MemStore,
-    failing: u64,
-) -> Result<Ran, NoMemory> {
-    let mut out = MemSink::new(alloc, 4);
-    out.fail_at(alloc, failing)?;
-    Ok(run(alloc, words, store, out, MemSink::new(alloc, 7)))
-}
-
-// Compares what a run came to with what is wanted of it.
-fn check_end(rt: &impl Abort, ran: &Ran, end: End, of: &str) {
-    let found = (ran.status, ran.out.bytes(), ran.err.bytes());
-    let wanted = (end.status, end.out.as_bytes(), end.err.as_bytes());
-    assert_eq!(rt; found, wanted, "{of}");
-}
-
-// Words of their own.
-fn strings(alloc: Global, words: &[&'static str]) -> Result<Vec<String>, AllocError> {
-    let mut strings = Vec::new(alloc);
-    'words: for word in words {
-        strings.push(String::from_str(alloc, word)?)?;
-    }
-    Ok(strings)
-}
-
-// The words of a run over so many files.
-fn words_of(alloc: Global, count: usize) -> Result<Vec<String>, AllocError> {
-    let mut words = strings(alloc, &["run", "count.symple"])?;
-    'names: for name in NAMES.iter().take(count) {
-        words.push(String::from_str(alloc, name)?)?;
-    }
-    Ok(words)
-}
-
-// A store of a script and of files.
-fn store_of(alloc: Global, script: &str, files: &[&str]) -> Result<MemStore, NoMemory> {
-    let mut store = MemStore::new(alloc);
-    store.add(alloc, "count.symple", script.as_bytes())?;
-    'files: for (name, bytes) in NAMES.iter().zip(files.iter()) {
-        store.add(alloc, name, bytes.as_bytes())?;
-    }
-    Ok(store)
-}
-
-// A run of a script over files, the write to `out` of this number failing.
-fn run_files(alloc: Global, script: &str, files: &[&str], failing: u64) -> Result<Ran, Fail> {
-    let mut store = store_of(alloc, script, files)?;
-    let words = words_of(alloc, files.len())?;
-    Ok(run_words(alloc, &words, &mut store, failing)?)
-}
-
-/// A script, the files that it is run over, the status, and the report.
-const REPORTS: [(&str, &[&str], Status, &str); 17] = [
-    (
-        COUNTER,
-        &["x\n5\n5\n5\n5\n5\n"],
-        Status::Faulted,
-        "n\nfault: n overflows at record 4\n--\n",
-    ),
-    (
-        SESSIONS,
-        &["ts,user\n10,a\n20,a\n60,a\n5,b\n61,a\n"],
-        Status::Done,
-        "user | sessions | open | longest\na | 1 | 2 | 2\nb | 0 | 1 | none\n--\n",
-    ),
-    (BY_USER, &["user\n"], Status::Done, "user | n\n--\n"),
-    (
-        BY_USER,
-        &["", "user\nc\na\nb\na\n"],
-        Status::Done,
-        "user | n\nc | 1\na | 2\nb | 1\n--\n",
-    ),
-    (
-        BY_USER,
-        &["user\nc\na\nb\na\n"],
-        Status::Done,
-        "user | n\nc | 1\na | 2\nb | 1\n--\n",
-    ),
-    (
-        BY_USER,
-        &["user\na\n", "user\nb\n", "user\na\nc\n"],
-        Status::Done,
-        "user | n\na | 2\nb | 1\nc | 1\n--\n",
-    ),
-    (
-        MIRROR,
-        &["x\n1\n1\n1\n1\n1\n1\n1\n"],
-        Status::Done,
-        "n\n10\n--\n",
-    ),
-    (TOGGLE, &["x\n1\n1\n1\n"], Status::Done, "phase\nbusy\n--\n"),
-    (
-        SUMS,
-        &["user,x\na,5\na,\n"],
-        Status::Done,
-        "user | n | big\na | 5 | 5000000000000\n--\n",
-    ),
-    (
-        SUMS,
-        &["user,x\na,1000000000000\n"],
-        Status::Done,
-        "user | n | big\na | 1000000000000 | 1000000000000000000000000\n--\n",
-    ),
-    (
-        SUMS,
-        &["user,x\na,1000000000000\na,1\n"],
-        Status::Faulted,
-        "user | n | big\na | fault: n overflows at record 2\n--\n",
-    ),
-    (
-        EARLY,
-        &["ts,user\n1000000000000,a\n"],
-        Status::Done,
-        "user | sessions | open | longest\na | 0 | 1 | none\n--\n",
-    ),
-    (
-        QUOTIENT,
-        &["x\n3\n0\n5\n"],
-        Status::Faulted,
-        "n\nfault: arithmetic at record 2\n--\n",
-    ),
-    (
-        SHOWN,
-        &["user\na\n"],
-        Status::Faulted,
-        "user | q | r | m | k\na | zero divisor | -7 | none | none\n--\n",
-    ),
-    (
-        CALCULATED,
-        &["x\n3\n"],
-        Status::Faulted,
-        "zero | last | fourth | rest\nnone | none | overflow | 0\n--\n",
-    ),
-    (
-        CALCULATED,
-        &["x\n4\n9\n7\n"],
-        Status::Faulted,
-        "zero | last | fourth | rest\nzero divisor | 7 | overflow | 0\n--\n",
-    ),
-    (
-        TURNED,
-        &["x\n0\n0\n0\n0\n0\n"],
-        Status::Done,
-        "a | b | c | d\n1 | 2 | 2 | 1\n--\n",
-    ),
-];
-
-fn check_reports(
-    rt: &impl Abort,
-    alloc: Global,
-    runs: &[(&'static str, &'static [&'static str], Status, &'static str)],
-) -> Result<(), Fail> {
-    'runs: for (script, files, status, out) in runs {
-        let ran = run_files(alloc, script, files, 0)?;
-        check_end(rt, &ran, reported(*status, out), out);
-    }
-    Ok(())
-}
-
-#[test]
-fn runs_write_their_reports(rt: HostRuntime) -> Result<(), Fail> {
-    check_reports(&rt, rt.alloc(), &REPORTS)
-}
-
-#[test]
-fn two_hundred_records_are_doubled(rt: HostRuntime) -> Result<(), Fail> {
-    let mut file = String::from_str(rt.alloc(), "x\n")?;
-    'records: for _ in 0..200 {
-        file.push_str("1\n")?;
-    }
-    let ran = run_files(rt.alloc(), DOUBLE, &[file.as_str()], 0)?;
-    let end = reported(Status::Done, "n\n0\n--\n");
-    check_end(&rt, &ran, end, "200 records");
-    Ok(())
-}
-
-/// A script, the files that it is run over, the status, and the line of the refusal.
-const REFUSALS: [(&str, &[&str], Status, &str); 7] = [
-    (
-        SESSIONS,
-        &["ts,user\n1,a\n2,a\n3,a\n4,a\n1,a,x\n6,a\nt,a\n8,a\n"],
-        Status::Input,
-        "symple: log.csv: record 5: 3 fields\n",
-    ),
-    (
-        SUMS,
-        &["user,x\na,1000000000001\n"],
-        Status::Input,
-        "symple: log.csv: record 1: field x is not a number\n",
-    ),
-    (
-        SUMS,
-        &["user,x\na,1\n", "user,x\nb,2\nb,+\n"],
-        Status::Input,
-        "symple: second.csv: record 3: field x is not a number\n",
-    ),
-    (
-        BY_USER,
-        &["name\na\n"],
-        Status::Input,
-        "symple: log.csv: header: no field user\n",
-    ),
-    (
-        BY_USER,
-        &["user,user\na,b\n"],
-        Status::Input,
-        "symple: log.csv: header: field user twice\n",
-    ),
-    (
-        "field x num;",
-        &["x\n"],
-        Status::Script,
-        "symple: script: unexpected token at byte 8\n",
-    ),
-    (
-        "field x: num; state n: int [3..0] = 0; update { } report { n = n; }",
-        &["x\n"],
-        Status::Script,
-        "symple: script: wrong range at byte 20\n",
-    ),
-];
-
-fn check_refusals(
-    rt: &impl Abort,
-    alloc: Global,
-    runs: &[(&'static str, &'static [&'static str], Status, &'static str)],
-) -> Result<(), Fail> {
-    'runs: for (script, files, status, err) in runs {
-        let ran = run_files(alloc, script, files, 0)?;
-        check_end(rt, &ran, refused(*status, err), err);
-    }
-    Ok(())
-}
-
-#[test]
-fn what_is_refused_is_told(rt: HostRuntime) -> Result<(), Fail> {
-    check_refusals(&rt, rt.alloc(), &REFUSALS)
-}
-
-/// Three files of users.
-const USERS: [&str; 3] = ["user\na\n", "user\nb\n", "user\na\nc\n"];
-
-/// A read that fails in a run over these files, and the line of the refusal. A file takes two
-/// reads, the second of which gives nothing.
-const READS: [(u64, &str); 8] = [
-    (1, "symple: count.symple: read fault\n"),
-    (2, "symple: count.symple: read fault\n"),
-    (3, "symple: log.csv: read fault\n"),
-    (4, "symple: log.csv: read fault\n"),
-    (5, "symple: second.csv: read fault\n"),
-    (6, "symple: second.csv: read fault\n"),
-    (7, "symple: third.csv: read fault\n"),
-    (8, "symple: third.csv: read fault\n"),
-];
-
-fn check_reads(rt: &impl Abort, alloc: Global, reads: &[(u64, &'static str)]) -> Result<(), Fail> {
-    let words = words_of(alloc, 3)?;
-    'reads: for (failing, err) in reads {
-        let mut store = store_of(alloc, BY_USER, &USERS)?;
-        store.fail_at(alloc, *failing)?;
-        let ran = run_words(alloc, &words, &mut store, 0)?;
-        check_end(rt, &ran, refused(Status::ReadFault, err), err);
-    }
-    Ok(())
-}
-
-#[test]
-fn a_failed_read_names_its_file(rt: HostRuntime) -> Result<(), Fail> {
-    check_reads(&rt, rt.alloc(), &READS)
-}
-
-/// A write to `out` that fails in a run over these files, and what the writes before it took.
-const WRITES: [(u64, &str); 8] = [
-    (1, ""),
-    (2, "user"),
-    (3, "user | n"),
-    (4, "user | n\na |"),
-    (5, "user | n\na | 2\nb"),
-    (6, "user | n\na | 2\nb | 1"),
-    (7, "user | n\na | 2\nb | 1\nc |"),
-    (8, "user | n\na | 2\nb | 1\nc | 1\n-"),
-];
-
-// What a run writes whose report is cut off.
-fn unwritten(out: &'static str) -> End {
-    End {
-        status: Status::WriteFault,
-        out,
-        err: "symple: write fault\n",
-    }
-}
-
-fn check_writes(
-    rt: &impl Abort,
-    alloc: Global,
-    writes: &[(u64, &'static str)],
-) -> Result<(), Fail> {
-    'writes: for (failing, out) in writes {
-        let ran = run_files(alloc, BY_USER, &USERS, *failing)?;
-        check_end(rt, &ran, unwritten(out), out);
-    }
-    Ok(())
-}
-
-#[test]
-fn a_failed_write_leaves_a_prefix(rt: HostRuntime) -> Result<(), Fail> {
-    check_writes(&rt, rt.alloc(), &WRITES)
-}
-
-#[test]
-fn a_report_is_whole_where_a_later_write_would_fail(rt: HostRuntime) -> Result<(), Fail> {
-    let ran = run_files(rt.alloc(), BY_USER, &USERS, 9)?;
-    let out = "user | n\na | 2\nb | 1\nc | 1\n--\n";
-    check_end(&rt, &ran, reported(Status::Done, out), out);
-    Ok(())
-}
-
-/// What a faulty command line writes.
-const USAGE: End = End {
-    status: Status::Usage,
-    out: "",
-    err: "symple: usage\n",
-};
-
-/// Words that are no command line.
-const COMMANDS: [&[&str]; 7] = [
-    &[],
-    &["run"],
-    &["run", "script"],
-    &["run", "-s", "file"],
-    &["run", "script", "file", "--form"],
-    &["check", "script", "file"],
-    &["-", "script", "file"],
-];
-
-fn check_commands(
-    rt: &impl Abort,
-    alloc: Global,
-    commands: &[&'static [&'static str]],
-) -> Result<(), Fail> {
-    'commands: for command in commands {
-        let words = strings(alloc, command)?;
-        let mut store = MemStore::new(alloc);
-        let ran = run_words(alloc, &words, &mut store, 0)?;
-        check_end(rt, &ran, USAGE, "words");
-    }
-    Ok(())
-}
-
-#[test]
-fn other_words_are_refused_before_anything_is_read(rt: HostRuntime) -> Result<(), Fail> {
-    check_commands(&rt, rt.alloc(), &COMMANDS)
-}
-
-/// A run that is refused: its words, the script and the files of its store, how many reads it
-/// makes, and its line.
-#[derive(Clone, Copy)]
-struct Stopped {
-    words: &'static [&'static str],
-    script: &'static str,
-    files: &'static [&'static str],
-    reads: u64,
-    line: &'static str,
-}
-
-const STOPPED: [Stopped; 7] = [
-    Stopped {
-        words: &["run", "count.symple"],
-        script: BY_USER,
-        files: &["user\na\n"],
-        reads: 0,
-        line: "symple: usage\n",
-    },
-    Stopped {
-        words: &["run", "count.symple", "log.csv", "-x"],
-        script: BY_USER,
-        files: &["user\na\n"],
-        reads: 0,
-        line: "symple: usage\n",
-    },
-    Stopped {
-        words: &["run", "count.symple", "log.csv", "second.csv"],
-        script: "field x num;",
-        files: &["x\n", "x\n"],
-        reads: 2,
-        line: "symple: script: unexpected token at byte 8\n",
-    },
-    Stopped {
-        words: &["run", "count.symple", "log.csv"],
-        script: "field x: num; state n: int [3..0] = 0; update { } report { n = n; }",
-        files: &["x\n"],
-        reads: 2,
-        line: "symple: script: wrong range at byte 20\n",
-    },
-    Stopped {
-        words: &["run", "count.symple", "log.csv", "second.csv", "third.csv"],
-        script: BY_USER,
-        files: &["name\na\n", "user\na\n", "user\na\n"],
-        reads: 4,
-        line: "symple: log.csv: header: no field user\n",
-    },
-    Stopped {
-        words: &["run", "count.symple", "log.csv", "second.csv", "third.csv"],
-        script: BY_USER,
-        files: &["user\na\n", "user\na,b\n", "user\na\n"],
-        reads: 6,
-        line: "symple: second.csv: record 2: 2 fields\n",
-    },
-    Stopped {
-        words: &["run", "count.symple", "absent.csv", "log.csv"],
-        script: BY_USER,
-        files: &["user\na\n"],
-        reads: 3,
-        line: "symple: absent.csv: read fault\n",
-    },
-];
-
-// What a run of these words tells.
-fn told(alloc: Global, store: &mut MemStore, words: &[&'static str]) -> Result<MemSink, Fail> {
-    let words = strings(alloc, words)?;
-    Ok(run_words(alloc, &words, store, 0)?.err)
-}
-
-// The read that is to fail is the first one after the run, and so the script's of the next run.
-fn check_stopped(rt: &impl Abort, alloc: Global, stopped: Stopped) -> Result<(), Fail> {
-    let mut store = store_of(alloc, stopped.script, stopped.files)?;
-    store.fail_at(alloc, stopped.reads.saturating_add(1))?;
-    let err = told(alloc, &mut store, stopped.words)?;
-    assert_eq!(rt; err.bytes(), stopped.line.as_bytes(), "{}", stopped.line);
-    let err = told(alloc, &mut store, &["run", "count.symple", "log.csv"])?;
-    let line = b"symple: count.symple: read fault\n".as_slice();
-    assert_eq!(rt; err.bytes(), line, "after {}", stopped.line);
-    Ok(())
-}
-
-fn check_all_stopped(rt: &impl Abort, alloc: Global, runs: &[Stopped]) -> Result<(), Fail> {
-    'runs: for stopped in runs {
-        check_stopped(rt, alloc, *stopped)?;
-    }
-    Ok(())
-}
-
-#[test]
-fn nothing_is_read_after_a_refusal(rt: HostRuntime) -> Result<(), Fail> {
-    check_all_stopped(&rt, rt.alloc(), &STOPPED)
-}
-
-// A run over a file without the script's field, which is named this many times.
-fn run_repeated(alloc: Global, names: usize) -> Result<Ran, Fail> {
-    let mut words = words_of(alloc, 0)?;
-    'names: for _ in 0..names {
-        words.push(String::from_str(alloc, "log.csv")?)?;
-    }
-    let mut store = store_of(alloc, BY_USER, &["name\na\n"])?;
-    Ok(run_words(alloc, &words, &mut store, 0)?)
-}
-
-#[test]
-fn as_many_files_are_taken_as_a_run_may_have(rt: HostRuntime) -> Result<(), Fail> {
-    let ran = run_repeated(rt.alloc(), 65_536)?;
-    let line = "symple: log.csv: header: no field user\n";
-    check_end(&rt, &ran, refused(Status::Input, line), "65,536 files");
-    Ok(())
-}
-
-#[test]
-fn one_file_more_is_refused(rt: HostRuntime) -> Result<(), Fail> {
-    let ran = run_repeated(rt.alloc(), 65_537)?;
-    check_end(&rt, &ran, USAGE, "65,537 files");
-    Ok(())
-}
+const NO_RANGE: &str = "field x: num; state n: int [3..0] = 0; update { } report { n = n; }";
 
 // Two fields that are numbers.
 const TWO: &str = "field ts: num; field user from \"User ID\": num; state n: int [0..9] = 0; \
     update { n = n + 1; } report { n = n; }";
 
-/// A write to `err` that fails, and what the writes before it took.
-const LINES: [(u64, &str); 8] = [
-    (1, ""),
-    (2, "symple: "),
-    (3, "symple: second.csv"),
-    (4, "symple: second.csv: record "),
-    (5, "symple: second.csv: record 2"),
-    (6, "symple: second.csv: record 2: field "),
-    (7, "symple: second.csv: record 2: field User ID"),
-    (
-        8,
-        "symple: second.csv: record 2: field User ID is not a number\n",
-    ),
-];
+// A file of 200 records.
+const TWO_HUNDRED: &str = "x\n\
+    1\n1\n1\n1\n1\n1\n1\n1\n1\n1\n1\n1\n1\n1\n1\n1\n1\n1\n1\n1\n1\n1\n1\n1\n1\n\
+    1\n1\n1\n1\n1\n1\n1\n1\n1\n1\n1\n1\n1\n1\n1\n1\n1\n1\n1\n1\n1\n1\n1\n1\n1\n\
+    1\n1\n1\n1\n1\n1\n1\n1\n1\n1\n1\n1\n1\n1\n1\n1\n1\n1\n1\n1\n1\n1\n1\n1\n1\n\
+    1\n1\n1\n1\n1\n1\n1\n1\n1\n1\n1\n1\n1\n1\n1\n1\n1\n1\n1\n1\n1\n1\n1\n1\n1\n\
+    1\n1\n1\n1\n1\n1\n1\n1\n1\n1\n1\n1\n1\n1\n1\n1\n1\n1\n1\n1\n1\n1\n1\n1\n1\n\
+    1\n1\n1\n1\n1\n1\n1\n1\n1\n1\n1\n1\n1\n1\n1\n1\n1\n1\n1\n1\n1\n1\n1\n1\n1\n\
+    1\n1\n1\n1\n1\n1\n1\n1\n1\n1\n1\n1\n1\n1\n1\n1\n1\n1\n1\n1\n1\n1\n1\n1\n1\n\
+    1\n1\n1\n1\n1\n1\n1\n1\n1\n1\n1\n1\n1\n1\n1\n1\n1\n1\n1\n1\n1\n1\n1\n1\n1\n";
 
-// A run that is refused, the write to `err` of this number failing. Each takes all it is given.
-fn run_telling(alloc: Global, failing: u64) -> Result<Ran, Fail> {
-    let files = ["ts,User ID\n1,1\n", "ts,User ID\n2,x\n"];
-    let mut store = store_of(alloc, TWO, &files)?;
-    let words = words_of(alloc, 2)?;
-    let mut err = MemSink::new(alloc, 100);
-    err.fail_at(alloc, failing)?;
-    Ok(run(alloc, &words, &mut store, MemSink::new(alloc, 4), err))
+// The names of at most three files.
+const NAMES: [&str; 3] = ["log.csv", "second.csv", "third.csv"];
+
+const ONE_FILE: &[&str] = &["run", "count.symple", "log.csv"];
+
+const TWO_FILES: &[&str] = &["run", "count.symple", "log.csv", "second.csv"];
+
+const THREE_FILES: &[&str] = &["run", "count.symple", "log.csv", "second.csv", "third.csv"];
+
+/// A run over a store of a script and of files, and what it comes to.
+#[derive(Clone, Copy)]
+struct Run {
+    words: &'static [&'static str],
+    /// How many more times the arguments name the first file.
+    more: usize,
+    script: &'static str,
+    files: &'static [&'static str],
+    /// The read that fails, counted from 1; 0 for none.
+    read: u64,
+    /// The write to `out` that fails. Each takes at most four bytes.
+    write: u64,
+    /// The write to `err` that fails.
+    tell: u64,
+    /// Whether a write to `err` takes all it is given, and not at most seven bytes.
+    tells_whole: bool,
+    status: Status,
+    out: &'static str,
+    err: &'static str,
+    /// Whether the next read is the script's of a later run, and fails.
+    stops: bool,
 }
 
-fn check_lines(rt: &impl Abort, alloc: Global, lines: &[(u64, &'static str)]) -> Result<(), Fail> {
-    'lines: for (failing, err) in lines {
-        let ran = run_telling(alloc, *failing)?;
-        check_end(rt, &ran, refused(Status::Input, err), err);
+const DONE: Run = Run {
+    words: ONE_FILE,
+    more: 0,
+    script: BY_USER,
+    files: &[],
+    read: 0,
+    write: 0,
+    tell: 0,
+    tells_whole: false,
+    status: Status::Done,
+    out: "",
+    err: "",
+    stops: false,
+};
+
+/// A run whose first read fails.
+const UNREAD: Run = Run {
+    read: 1,
+    status: Status::ReadFault,
+    err: "symple: count.symple: read fault\n",
+    ..DONE
+};
+
+fn push_words(
+    alloc: Global,
+    words: &mut Vec<String>,
+    given: &[&'static str],
+) -> Result<(), NoMemory> {
+    'words: for word in given {
+        words.push(String::from_str(alloc, word)?)?;
     }
     Ok(())
 }
 
-#[test]
-fn a_failed_write_ends_the_line(rt: HostRuntime) -> Result<(), Fail> {
-    check_lines(&rt, rt.alloc(), &LINES)
+fn push_more(alloc: Global, words: &mut Vec<String>, more: usize) -> Result<(), NoMemory> {
+    'names: for _ in 0..more {
+        words.push(String::from_str(alloc, "log.csv")?)?;
+    }
+    Ok(())
 }
 
-fn check_start(rt: &impl Abort, alloc: Global, why: StartErr, status: Status, line: &str) {
+fn words_of(alloc: Global, run: &Run) -> Result<Vec<String>, NoMemory> {
+    let mut words = Vec::new(alloc);
+    push_words(alloc, &mut words, run.words)?;
+    push_more(alloc, &mut words, run.more)?;
+    Ok(words)
+}
+
+fn add_files(alloc: Global, store: &mut MemStore, files: &[&str]) -> Result<(), NoMemory> {
+    'files: for (name, bytes) in NAMES.iter().zip(files.iter()) {
+        store.add(alloc, name, bytes.as_bytes())?;
+    }
+    Ok(())
+}
+
+fn store_of(alloc: Global, run: &Run) -> Result<MemStore, NoMemory> {
+    let mut store = MemStore::new(alloc);
+    store.add(alloc, "count.symple", run.script.as_bytes())?;
+    add_files(alloc, &mut store, run.files)?;
+    store.fail_at(alloc, run.read)?;
+    Ok(store)
+}
+
+// The sinks `out` and `err` of a run.
+fn sinks_of(alloc: Global, run: &Run) -> Result<(MemSink, MemSink), NoMemory> {
+    let mut out = MemSink::new(alloc, 4);
+    out.fail_at(alloc, run.write)?;
+    let mut err = MemSink::new(alloc, if run.tells_whole { 100 } else { 7 });
+    err.fail_at(alloc, run.tell)?;
+    Ok((out, err))
+}
+
+// The top call. No other function makes it, since proofs beside its long contract are slow.
+fn call(
+    alloc: Global,
+    words: &Vec<String>,
+    store: &mut MemStore,
+    out: &mut MemSink,
+    err: &mut MemSink,
+) -> Status {
+    symple(alloc, words, store, out, err)
+}
+
+fn is_end(run: &Run, status: Status, out: &MemSink, err: &MemSink) -> bool {
+    status == run.status && out.bytes() == run.out.as_bytes() && err.bytes() == run.err.as_bytes()
+}
+
+// Whether a call with these words comes to what is said of the run.
+fn ends_by(
+    alloc: Global,
+    words: &Vec<String>,
+    store: &mut MemStore,
+    run: &Run,
+) -> Result<bool, NoMemory> {
+    let (mut out, mut err) = sinks_of(alloc, run)?;
+    let status = call(alloc, words, store, &mut out, &mut err);
+    Ok(is_end(run, status, &out, &err))
+}
+
+fn ends(alloc: Global, store: &mut MemStore, run: &Run) -> Result<bool, NoMemory> {
+    ends_by(alloc, &words_of(alloc, run)?, store, run)
+}
+
+fn ends_and_stops(alloc: Global, store: &mut MemStore, run: &Run) -> Result<bool, NoMemory> {
+    Ok(ends(alloc, store, run)? && (!run.stops || ends(alloc, store, &UNREAD)?))
+}
+
+fn holds(alloc: Global, run: &Run) -> Result<bool, NoMemory> {
+    ends_and_stops(alloc, &mut store_of(alloc, run)?, run)
+}
+
+// The place of the first run that comes to something else, counted from 0.
+fn wrong_run(alloc: Global, runs: &[Run]) -> Result<Option<usize>, NoMemory> {
+    'runs: for (place, run) in runs.iter().enumerate() {
+        if !holds(alloc, run)? {
+            return Ok(Some(place));
+        }
+    }
+    Ok(None)
+}
+
+/// Scripts, the files that they are run over, and the reports.
+const REPORTS: [Run; 18] = [
+    Run {
+        script: COUNTER,
+        files: &["x\n5\n5\n5\n5\n5\n"],
+        status: Status::Faulted,
+        out: "n\nfault: n overflows at record 4\n--\n",
+        ..DONE
+    },
+    Run {
+        script: SESSIONS,
+        files: &["ts,user\n10,a\n20,a\n60,a\n5,b\n61,a\n"],
+        out: "user | sessions | open | longest\na | 1 | 2 | 2\nb | 0 | 1 | none\n--\n",
+        ..DONE
+    },
+    Run {
+        script: BY_USER,
+        files: &["user\n"],
+        out: "user | n\n--\n",
+        ..DONE
+    },
+    Run {
+        words: TWO_FILES,
+        script: BY_USER,
+        files: &["", "user\nc\na\nb\na\n"],
+        out: "user | n\nc | 1\na | 2\nb | 1\n--\n",
+        ..DONE
+    },
+    Run {
+        script: BY_USER,
+        files: &["user\nc\na\nb\na\n"],
+        out: "user | n\nc | 1\na | 2\nb | 1\n--\n",
+        ..DONE
+    },
+    Run {
+        words: THREE_FILES,
+        script: BY_USER,
+        files: &["user\na\n", "user\nb\n", "user\na\nc\n"],
+        out: "user | n\na | 2\nb | 1\nc | 1\n--\n",
+        ..DONE
+    },
+    Run {
+        script: MIRROR,
+        files: &["x\n1\n1\n1\n1\n1\n1\n1\n"],
+        out: "n\n10\n--\n",
+        ..DONE
+    },
+    Run {
+        script: TOGGLE,
+        files: &["x\n1\n1\n1\n"],
+        out: "phase\nbusy\n--\n",
+        ..DONE
+    },
+    Run {
+        script: SUMS,
+        files: &["user,x\na,5\na,\n"],
+        out: "user | n | big\na | 5 | 5000000000000\n--\n",
+        ..DONE
+    },
+    Run {
+        script: SUMS,
+        files: &["user,x\na,1000000000000\n"],
+        out: "user | n | big\na | 1000000000000 | 1000000000000000000000000\n--\n",
+        ..DONE
+    },
+    Run {
+        script: SUMS,
+        files: &["user,x\na,1000000000000\na,1\n"],
+        status: Status::Faulted,
+        out: "user | n | big\na | fault: n overflows at record 2\n--\n",
+        ..DONE
+    },
+    Run {
+        script: EARLY,
+        files: &["ts,user\n1000000000000,a\n"],
+        out: "user | sessions | open | longest\na | 0 | 1 | none\n--\n",
+        ..DONE
+    },
+    Run {
+        script: QUOTIENT,
+        files: &["x\n3\n0\n5\n"],
+        status: Status::Faulted,
+        out: "n\nfault: arithmetic at record 2\n--\n",
+        ..DONE
+    },
+    Run {
+        script: SHOWN,
+        files: &["user\na\n"],
+        status: Status::Faulted,
+        out: "user | q | r | m | k\na | zero divisor | -7 | none | none\n--\n",
+        ..DONE
+    },
+    Run {
+        script: CALCULATED,
+        files: &["x\n3\n"],
+        status: Status::Faulted,
+        out: "zero | last | fourth | rest\nnone | none | overflow | 0\n--\n",
+        ..DONE
+    },
+    Run {
+        script: CALCULATED,
+        files: &["x\n4\n9\n7\n"],
+        status: Status::Faulted,
+        out: "zero | last | fourth | rest\nzero divisor | 7 | overflow | 0\n--\n",
+        ..DONE
+    },
+    Run {
+        script: TURNED,
+        files: &["x\n0\n0\n0\n0\n0\n"],
+        out: "a | b | c | d\n1 | 2 | 2 | 1\n--\n",
+        ..DONE
+    },
+    // 200 records are doubled.
+    Run {
+        script: DOUBLE,
+        files: &[TWO_HUNDRED],
+        out: "n\n0\n--\n",
+        ..DONE
+    },
+];
+
+#[test]
+fn runs_write_their_reports(rt: HostRuntime) -> Result<(), Fail> {
+    all_hold(&rt, wrong_run(rt.alloc(), &REPORTS))
+}
+
+/// Scripts, the files that they are run over, and the lines of the refusals.
+const REFUSALS: [Run; 7] = [
+    Run {
+        script: SESSIONS,
+        files: &["ts,user\n1,a\n2,a\n3,a\n4,a\n1,a,x\n6,a\nt,a\n8,a\n"],
+        status: Status::Input,
+        err: "symple: log.csv: record 5: 3 fields\n",
+        ..DONE
+    },
+    Run {
+        script: SUMS,
+        files: &["user,x\na,1000000000001\n"],
+        status: Status::Input,
+        err: "symple: log.csv: record 1: field x is not a number\n",
+        ..DONE
+    },
+    Run {
+        words: TWO_FILES,
+        script: SUMS,
+        files: &["user,x\na,1\n", "user,x\nb,2\nb,+\n"],
+        status: Status::Input,
+        err: "symple: second.csv: record 3: field x is not a number\n",
+        ..DONE
+    },
+    Run {
+        script: BY_USER,
+        files: &["name\na\n"],
+        status: Status::Input,
+        err: "symple: log.csv: header: no field user\n",
+        ..DONE
+    },
+    Run {
+        script: BY_USER,
+        files: &["user,user\na,b\n"],
+        status: Status::Input,
+        err: "symple: log.csv: header: field user twice\n",
+        ..DONE
+    },
+    Run {
+        script: NO_SCRIPT,
+        files: &["x\n"],
+        status: Status::Script,
+        err: "symple: script: unexpected token at byte 8\n",
+        ..DONE
+    },
+    Run {
+        script: NO_RANGE,
+        files: &["x\n"],
+        status: Status::Script,
+        err: "symple: script: wrong range at byte 20\n",
+        ..DONE
+    },
+];
+
+#[test]
+fn what_is_refused_is_told(rt: HostRuntime) -> Result<(), Fail> {
+    all_hold(&rt, wrong_run(rt.alloc(), &REFUSALS))
+}
+
+/// A run over three files of users.
+const USERS: Run = Run {
+    words: THREE_FILES,
+    files: &["user\na\n", "user\nb\n", "user\na\nc\n"],
+    ..DONE
+};
+
+/// A read that fails in a run over these files, and the line of the refusal. A file takes two
+/// reads, the second of which gives nothing.
+const READS: [Run; 8] = [
+    Run {
+        read: 1,
+        status: Status::ReadFault,
+        err: "symple: count.symple: read fault\n",
+        ..USERS
+    },
+    Run {
+        read: 2,
+        status: Status::ReadFault,
+        err: "symple: count.symple: read fault\n",
+        ..USERS
+    },
+    Run {
+        read: 3,
+        status: Status::ReadFault,
+        err: "symple: log.csv: read fault\n",
+        ..USERS
+    },
+    Run {
+        read: 4,
+        status: Status::ReadFault,
+        err: "symple: log.csv: read fault\n",
+        ..USERS
+    },
+    Run {
+        read: 5,
+        status: Status::ReadFault,
+        err: "symple: second.csv: read fault\n",
+        ..USERS
+    },
+    Run {
+        read: 6,
+        status: Status::ReadFault,
+        err: "symple: second.csv: read fault\n",
+        ..USERS
+    },
+    Run {
+        read: 7,
+        status: Status::ReadFault,
+        err: "symple: third.csv: read fault\n",
+        ..USERS
+    },
+    Run {
+        read: 8,
+        status: Status::ReadFault,
+        err: "symple: third.csv: read fault\n",
+        ..USERS
+    },
+];
+
+#[test]
+fn a_failed_read_names_its_file(rt: HostRuntime) -> Result<(), Fail> {
+    all_hold(&rt, wrong_run(rt.alloc(), &READS))
+}
+
+/// A run over these files whose report is cut off.
+const UNWRITTEN: Run = Run {
+    status: Status::WriteFault,
+    err: "symple: write fault\n",
+    ..USERS
+};
+
+/// A write to `out` that fails in a run over these files, and what the writes before it took.
+const WRITES: [Run; 8] = [
+    Run {
+        write: 1,
+        out: "",
+        ..UNWRITTEN
+    },
+    Run {
+        write: 2,
+        out: "user",
+        ..UNWRITTEN
+    },
+    Run {
+        write: 3,
+        out: "user | n",
+        ..UNWRITTEN
+    },
+    Run {
+        write: 4,
+        out: "user | n\na |",
+        ..UNWRITTEN
+    },
+    Run {
+        write: 5,
+        out: "user | n\na | 2\nb",
+        ..UNWRITTEN
+    },
+    Run {
+        write: 6,
+        out: "user | n\na | 2\nb | 1",
+        ..UNWRITTEN
+    },
+    Run {
+        write: 7,
+        out: "user | n\na | 2\nb | 1\nc |",
+        ..UNWRITTEN
+    },
+    Run {
+        write: 8,
+        out: "user | n\na | 2\nb | 1\nc | 1\n-",
+        ..UNWRITTEN
+    },
+];
+
+#[test]
+fn a_failed_write_leaves_a_prefix(rt: HostRuntime) -> Result<(), Fail> {
+    all_hold(&rt, wrong_run(rt.alloc(), &WRITES))
+}
+
+const WRITTEN: [Run; 1] = [Run {
+    write: 9,
+    out: "user | n\na | 2\nb | 1\nc | 1\n--\n",
+    ..USERS
+}];
+
+#[test]
+fn a_report_is_whole_where_a_later_write_would_fail(rt: HostRuntime) -> Result<(), Fail> {
+    all_hold(&rt, wrong_run(rt.alloc(), &WRITTEN))
+}
+
+/// What a faulty command line writes, where the first read would fail.
+const USAGE: Run = Run {
+    read: 1,
+    status: Status::Usage,
+    err: "symple: usage\n",
+    ..DONE
+};
+
+/// Words that are no command line.
+const COMMANDS: [Run; 7] = [
+    Run {
+        words: &[],
+        ..USAGE
+    },
+    Run {
+        words: &["run"],
+        ..USAGE
+    },
+    Run {
+        words: &["run", "script"],
+        ..USAGE
+    },
+    Run {
+        words: &["run", "-s", "file"],
+        ..USAGE
+    },
+    Run {
+        words: &["run", "script", "file", "--form"],
+        ..USAGE
+    },
+    Run {
+        words: &["check", "script", "file"],
+        ..USAGE
+    },
+    Run {
+        words: &["-", "script", "file"],
+        ..USAGE
+    },
+];
+
+#[test]
+fn other_words_are_refused_before_anything_is_read(rt: HostRuntime) -> Result<(), Fail> {
+    all_hold(&rt, wrong_run(rt.alloc(), &COMMANDS))
+}
+
+/// Runs that are refused. The read that is to fail is the first one after the run.
+const STOPPED: [Run; 7] = [
+    Run {
+        words: &["run", "count.symple"],
+        files: &["user\na\n"],
+        read: 1,
+        status: Status::Usage,
+        err: "symple: usage\n",
+        stops: true,
+        ..DONE
+    },
+    Run {
+        words: &["run", "count.symple", "log.csv", "-x"],
+        files: &["user\na\n"],
+        read: 1,
+        status: Status::Usage,
+        err: "symple: usage\n",
+        stops: true,
+        ..DONE
+    },
+    Run {
+        words: TWO_FILES,
+        script: NO_SCRIPT,
+        files: &["x\n", "x\n"],
+        read: 3,
+        status: Status::Script,
+        err: "symple: script: unexpected token at byte 8\n",
+        stops: true,
+        ..DONE
+    },
+    Run {
+        script: NO_RANGE,
+        files: &["x\n"],
+        read: 3,
+        status: Status::Script,
+        err: "symple: script: wrong range at byte 20\n",
+        stops: true,
+        ..DONE
+    },
+    Run {
+        words: THREE_FILES,
+        files: &["name\na\n", "user\na\n", "user\na\n"],
+        read: 5,
+        status: Status::Input,
+        err: "symple: log.csv: header: no field user\n",
+        stops: true,
+        ..DONE
+    },
+    Run {
+        words: THREE_FILES,
+        files: &["user\na\n", "user\na,b\n", "user\na\n"],
+        read: 7,
+        status: Status::Input,
+        err: "symple: second.csv: record 2: 2 fields\n",
+        stops: true,
+        ..DONE
+    },
+    Run {
+        words: &["run", "count.symple", "absent.csv", "log.csv"],
+        files: &["user\na\n"],
+        read: 4,
+        status: Status::ReadFault,
+        err: "symple: absent.csv: read fault\n",
+        stops: true,
+        ..DONE
+    },
+];
+
+#[test]
+fn nothing_is_read_after_a_refusal(rt: HostRuntime) -> Result<(), Fail> {
+    all_hold(&rt, wrong_run(rt.alloc(), &STOPPED))
+}
+
+/// A run over as many files as a run may have, without the script's field.
+const MOST_FILES: [Run; 1] = [Run {
+    more: 65_535,
+    files: &["name\na\n"],
+    status: Status::Input,
+    err: "symple: log.csv: header: no field user\n",
+    ..DONE
+}];
+
+#[test]
+fn as_many_files_are_taken_as_a_run_may_have(rt: HostRuntime) -> Result<(), Fail> {
+    all_hold(&rt, wrong_run(rt.alloc(), &MOST_FILES))
+}
+
+const ONE_FILE_MORE: [Run; 1] = [Run {
+    more: 65_536,
+    files: &["name\na\n"],
+    read: 0,
+    ..USAGE
+}];
+
+#[test]
+fn one_file_more_is_refused(rt: HostRuntime) -> Result<(), Fail> {
+    all_hold(&rt, wrong_run(rt.alloc(), &ONE_FILE_MORE))
+}
+
+/// A run that is refused, of which each write to `err` takes all it is given.
+const REFUSED: Run = Run {
+    words: TWO_FILES,
+    script: TWO,
+    files: &["ts,User ID\n1,1\n", "ts,User ID\n2,x\n"],
+    tells_whole: true,
+    status: Status::Input,
+    ..DONE
+};
+
+/// A write to `err` that fails, and what the writes before it took.
+const LINES: [Run; 8] = [
+    Run {
+        tell: 1,
+        err: "",
+        ..REFUSED
+    },
+    Run {
+        tell: 2,
+        err: "symple: ",
+        ..REFUSED
+    },
+    Run {
+        tell: 3,
+        err: "symple: second.csv",
+        ..REFUSED
+    },
+    Run {
+        tell: 4,
+        err: "symple: second.csv: record ",
+        ..REFUSED
+    },
+    Run {
+        tell: 5,
+        err: "symple: second.csv: record 2",
+        ..REFUSED
+    },
+    Run {
+        tell: 6,
+        err: "symple: second.csv: record 2: field ",
+        ..REFUSED
+    },
+    Run {
+        tell: 7,
+        err: "symple: second.csv: record 2: field User ID",
+        ..REFUSED
+    },
+    Run {
+        tell: 8,
+        err: "symple: second.csv: record 2: field User ID is not a number\n",
+        ..REFUSED
+    },
+];
+
+#[test]
+fn a_failed_write_ends_the_line(rt: HostRuntime) -> Result<(), Fail> {
+    all_hold(&rt, wrong_run(rt.alloc(), &LINES))
+}
+
+fn start_is(alloc: Global, why: StartErr, status: Status, line: &str) -> bool {
     let mut err = MemSink::new(alloc, 100);
-    assert_eq!(rt; refuse_start(&mut err, why), status, "{line}");
-    assert_eq!(rt; err.bytes(), line.as_bytes(), "{line}");
+    refuse_start(&mut err, why) == status && err.bytes() == line.as_bytes()
 }
 
 #[test]
 fn a_process_that_begins_no_run_has_a_line_and_a_status(rt: HostRuntime) {
     let alloc = rt.alloc();
     let line = "symple: usage\n";
-    check_start(&rt, alloc, StartErr::NotUtf8, Status::Usage, line);
+    assert!(rt; start_is(alloc, StartErr::NotUtf8, Status::Usage, line));
     let line = "symple: out of memory\n";
-    check_start(&rt, alloc, StartErr::NoMemory, Status::NoMemory, line);
+    assert!(rt; start_is(alloc, StartErr::NoMemory, Status::NoMemory, line));
 }

@@ -1,7 +1,6 @@
 //! The sequential pass, record by record, against a plain walk over a list of records.
-use crate::scripts::checked;
+use crate::scripts::{Row, all_hold, check_rows};
 use std::alloc::Global;
-use std::process::Abort;
 use std::test::Fail;
 use sym_base::{Fault, FaultKind, Key, NoMemory, Outcome, Record, Text, Value, Values};
 use sym_check::Checked;
@@ -88,32 +87,25 @@ fn stands(outcome: &Outcome, standing: Standing) -> bool {
     }
 }
 
-fn check_group(rt: &impl Abort, groups: &Groups, place: usize, who: &str, standing: Standing) {
+fn is_group(groups: &Groups, place: usize, who: &str, standing: Standing) -> bool {
     match groups.at(place) {
-        Some((key, outcome)) => {
-            assert!(rt;
-                is_key(key, who) && stands(outcome, standing),
-                "group {place}"
-            )
-        }
-        None => panic!(rt; "no group {place}"),
+        Some((key, outcome)) => is_key(key, who) && stands(outcome, standing),
+        None => false,
     }
 }
 
 // Whether the groups are those of a plain walk: the names in order of their first record.
-fn check_groups(rt: &impl Abort, groups: &Groups, moves: &[(i64, &'static str)]) {
+fn is_walk(groups: &Groups, moves: &[(i64, &'static str)]) -> bool {
     let mut place = 0usize;
     'moves: for (at, (_, who)) in moves.iter().enumerate() {
         if is_new(&moves[..at], who) {
-            check_group(rt, groups, place, who, walk(moves, who));
+            if !is_group(groups, place, who, walk(moves, who)) {
+                return false;
+            }
             place = place.wrapping_add(1);
         }
     }
-    assert_eq!(rt; groups.len(), place);
-}
-
-fn sums(rt: &impl Abort, alloc: Global) -> Checked {
-    checked(rt, alloc, SUMS)
+    groups.len() == place
 }
 
 fn record(alloc: Global, no: u64, x: i64, who: &str) -> Result<Record, NoMemory> {
@@ -123,123 +115,135 @@ fn record(alloc: Global, no: u64, x: i64, who: &str) -> Result<Record, NoMemory>
     Ok(Record { no, fields })
 }
 
-// The groups after the record of this number.
-fn fold_one(
-    alloc: Global,
-    checked: &Checked,
-    groups: Groups,
-    no: u64,
-    x: i64,
-    who: &str,
-) -> Result<Groups, NoMemory> {
-    let rec = record(alloc, no, x, who)?;
-    fold(alloc, checked, groups, &rec)
+/// How a record is folded into groups of which there is a copy.
+#[derive(Clone, Copy)]
+enum Way {
+    /// The groups are given away.
+    Given,
+    /// The groups change where they stand.
+    InPlace,
+    /// The copy changes where it stands, and the groups stay.
+    InCopy,
 }
 
-// Folds the records one by one, and walks over those so far after each.
-fn check_fold(
-    rt: &impl Abort,
+/// The groups before a record and after it.
+#[derive(Drop)]
+struct Folded {
+    before: Groups,
+    after: Groups,
+}
+
+fn fold_in_place(
     alloc: Global,
     checked: &Checked,
-    moves: &[(i64, &'static str)],
-) -> Result<(), Fail> {
-    let mut groups = Groups::new(alloc);
-    'moves: for (at, (x, who)) in moves.iter().enumerate() {
-        groups = fold_one(alloc, checked, groups, at as u64 + 1, *x, who)?;
-        check_groups(rt, &groups, &moves[..at + 1]);
+    mut groups: Groups,
+    rec: &Record,
+) -> Result<Groups, NoMemory> {
+    fold_into(alloc, checked, &mut groups, rec)?;
+    Ok(groups)
+}
+
+fn fold_by(
+    alloc: Global,
+    checked: &Checked,
+    way: Way,
+    groups: Groups,
+    rec: &Record,
+) -> Result<Groups, NoMemory> {
+    match way {
+        Way::Given => fold(alloc, checked, groups, rec),
+        Way::InPlace | Way::InCopy => fold_in_place(alloc, checked, groups, rec),
     }
-    Ok(())
+}
+
+fn fold_copied(
+    alloc: Global,
+    checked: &Checked,
+    way: Way,
+    groups: Groups,
+    rec: &Record,
+) -> Result<Folded, NoMemory> {
+    let copied = groups.copy(alloc)?;
+    let (before, old) = match way {
+        Way::Given | Way::InPlace => (copied, groups),
+        Way::InCopy => (groups, copied),
+    };
+    let after = fold_by(alloc, checked, way, old, rec)?;
+    Ok(Folded { before, after })
+}
+
+// The groups after the last of these records, which are those of a plain walk, as those before it
+// are; `None` where they aren't.
+fn next(
+    alloc: Global,
+    checked: &Checked,
+    way: Way,
+    groups: Groups,
+    moves: &[(i64, &'static str)],
+) -> Result<Option<Groups>, NoMemory> {
+    let Some(((x, who), earlier)) = moves.split_last() else {
+        return Ok(None);
+    };
+    let rec = record(alloc, moves.len() as u64, *x, who)?;
+    let Folded { before, after } = fold_copied(alloc, checked, way, groups, &rec)?;
+    if is_walk(&before, earlier) && is_walk(&after, moves) {
+        Ok(Some(after))
+    } else {
+        Ok(None)
+    }
+}
+
+// Whether the groups are those of a plain walk after each record.
+fn is_walk_throughout(
+    alloc: Global,
+    checked: &Checked,
+    way: Way,
+    moves: &[(i64, &'static str)],
+) -> Result<bool, NoMemory> {
+    let mut groups = Groups::new(alloc);
+    'moves: for at in 0..moves.len() {
+        match next(alloc, checked, way, groups, &moves[..at + 1])? {
+            Some(more) => groups = more,
+            None => return Ok(false),
+        }
+    }
+    Ok(true)
+}
+
+impl Row for Way {
+    fn holds(&self, alloc: Global, checked: &Checked) -> Result<bool, NoMemory> {
+        is_walk_throughout(alloc, checked, *self, &MOVES)
+    }
 }
 
 #[test]
 fn fold_is_a_plain_walk(rt: HostRuntime) -> Result<(), Fail> {
-    check_fold(&rt, rt.alloc(), &sums(&rt, rt.alloc()), &MOVES)
-}
-
-// Makes the groups those after the record of this number.
-fn fold_one_into(
-    alloc: Global,
-    checked: &Checked,
-    groups: &mut Groups,
-    no: u64,
-    x: i64,
-    who: &str,
-) -> Result<(), NoMemory> {
-    let rec = record(alloc, no, x, who)?;
-    fold_into(alloc, checked, groups, &rec)
-}
-
-// The same where the groups stand.
-fn check_fold_into(
-    rt: &impl Abort,
-    alloc: Global,
-    checked: &Checked,
-    moves: &[(i64, &'static str)],
-) -> Result<(), Fail> {
-    let mut groups = Groups::new(alloc);
-    'moves: for (at, (x, who)) in moves.iter().enumerate() {
-        fold_one_into(alloc, checked, &mut groups, at as u64 + 1, *x, who)?;
-        check_groups(rt, &groups, &moves[..at + 1]);
-    }
-    Ok(())
+    check_rows(&rt, rt.alloc(), SUMS, &[Way::Given])
 }
 
 #[test]
-fn fold_into_is_a_plain_walk(rt: HostRuntime) -> Result<(), Fail> {
-    check_fold_into(&rt, rt.alloc(), &sums(&rt, rt.alloc()), &MOVES)
-}
-
-// Folds the records into groups of which a copy is made before each.
-fn check_copies(
-    rt: &impl Abort,
-    alloc: Global,
-    checked: &Checked,
-    moves: &[(i64, &'static str)],
-) -> Result<(), Fail> {
-    let mut groups = Groups::new(alloc);
-    'moves: for (at, (x, who)) in moves.iter().enumerate() {
-        let before = groups.copy(alloc)?;
-        fold_one_into(alloc, checked, &mut groups, at as u64 + 1, *x, who)?;
-        check_groups(rt, &before, &moves[..at]);
-    }
-    Ok(())
-}
-
-#[test]
-fn a_copy_of_groups_stays_as_it_is(rt: HostRuntime) -> Result<(), Fail> {
-    check_copies(&rt, rt.alloc(), &sums(&rt, rt.alloc()), &MOVES)
-}
-
-// Folds each record into a copy of the groups before it, which stay.
-fn check_chain(
-    rt: &impl Abort,
-    alloc: Global,
-    checked: &Checked,
-    moves: &[(i64, &'static str)],
-) -> Result<(), Fail> {
-    let mut groups = Groups::new(alloc);
-    'moves: for (at, (x, who)) in moves.iter().enumerate() {
-        let mut copied = groups.copy(alloc)?;
-        fold_one_into(alloc, checked, &mut copied, at as u64 + 1, *x, who)?;
-        check_groups(rt, &groups, &moves[..at]);
-        check_groups(rt, &copied, &moves[..at + 1]);
-        groups = copied;
-    }
-    Ok(())
+fn fold_into_is_a_plain_walk_and_a_copy_stays(rt: HostRuntime) -> Result<(), Fail> {
+    check_rows(&rt, rt.alloc(), SUMS, &[Way::InPlace])
 }
 
 #[test]
 fn a_copy_of_groups_goes_on(rt: HostRuntime) -> Result<(), Fail> {
-    check_chain(&rt, rt.alloc(), &sums(&rt, rt.alloc()), &MOVES)
+    check_rows(&rt, rt.alloc(), SUMS, &[Way::InCopy])
+}
+
+/// A name, which is a record's key.
+struct Named(&'static str);
+
+impl Row for Named {
+    fn holds(&self, alloc: Global, checked: &Checked) -> Result<bool, NoMemory> {
+        let rec = record(alloc, 1, 2, self.0)?;
+        Ok(is_key(&key_of(alloc, checked, &rec)?, self.0))
+    }
 }
 
 #[test]
 fn a_record_has_the_key_of_its_name(rt: HostRuntime) -> Result<(), Fail> {
-    let checked = sums(&rt, rt.alloc());
-    let rec = record(rt.alloc(), 1, 2, "ann")?;
-    let key = key_of(rt.alloc(), &checked, &rec)?;
-    assert!(rt; is_key(&key, "ann"));
-    Ok(())
+    check_rows(&rt, rt.alloc(), SUMS, &[Named("ann")])
 }
 
 /// The number that is a key, and the record at which its group ended, in the order of putting.
@@ -270,27 +274,35 @@ fn is_number_key(key: &Key, number: i64) -> bool {
     }
 }
 
-// That the group at a place has this key, and ended at this record.
-fn check_ended(rt: &impl Abort, groups: &Groups, place: usize, number: i64, no: u64) {
+// Whether the group at a place has this key, and ended at this record.
+fn has_ended(groups: &Groups, place: usize, number: i64, no: u64) -> bool {
     match groups.at(place) {
         Some((key, outcome)) => {
-            let ended = stands(outcome, Standing::Left(no));
-            assert!(rt; is_number_key(key, number) && ended, "group {place}");
+            is_number_key(key, number) && stands(outcome, Standing::Left(no))
         }
-        None => panic!(rt; "no group {place}"),
+        None => false,
     }
 }
 
-fn check_all_ended(rt: &impl Abort, groups: &Groups, rows: &[(i64, u64)]) {
-    assert_eq!(rt; groups.len(), rows.len());
-    for (place, (number, no)) in rows.iter().enumerate() {
-        check_ended(rt, groups, place, *number, *no);
+// The place of the first group that isn't as wanted.
+fn wrong_group(groups: &Groups, rows: &[(i64, u64)]) -> Option<usize> {
+    'rows: for (place, (number, no)) in rows.iter().enumerate() {
+        if !has_ended(groups, place, *number, *no) {
+            return Some(place);
+        }
     }
+    if groups.len() == rows.len() {
+        None
+    } else {
+        Some(rows.len())
+    }
+}
+
+fn wrong_put(alloc: Global) -> Result<Option<usize>, NoMemory> {
+    Ok(wrong_group(&put_all(alloc, &PUT)?, &FOUND))
 }
 
 #[test]
 fn an_outcome_is_put_in_the_place_of_its_keys(rt: HostRuntime) -> Result<(), Fail> {
-    let groups = put_all(rt.alloc(), &PUT)?;
-    check_all_ended(&rt, &groups, &FOUND);
-    Ok(())
+    all_hold(&rt, wrong_put(rt.alloc()))
 }
