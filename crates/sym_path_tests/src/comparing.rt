@@ -1,18 +1,16 @@
 //! What segments give at states, against what the sequential steps give there.
-ghost use Rattle.std.specs.Prelude.{◌≡◌, ◌+◌, ◌↔◌, IfOk, IsTrue};
+ghost use Rattle.std.specs.Prelude.{◌↔◌, IfOk, IfSome, IsTrue};
 ghost use Rattle.sym_check.specs.CheckedScripts.{checked_plan};
 ghost use Rattle.sym_check.specs.Validity.{IsRecord, IsValid, IsValidOutcome};
 ghost use Rattle.sym_path.specs.Fitting.{SegmentFits};
+ghost use Rattle.sym_table.specs.Rows.{FitsHeader};
 
-use crate::setting::{checked, path_of, state_by};
+use crate::setting::{accepted, number, state_by};
 use std::alloc::Global;
-use std::process::Abort;
-use std::test::Fail;
-use sym_base::{Cell, NoMemory, Outcome, Record, State, Text, Value, Values};
+use sym_base::{Cell, NoMemory, Outcome, Record, Sequence, State, Text, Value, Values};
 use sym_check::Checked;
 use sym_enum::EnumForm;
 use sym_explore::{Grown, extend, fresh, fresh_with, grow, grow_with};
-use sym_int::{IntForm, Number};
 use sym_path::{Form, Path, PathEnd, Segment};
 use sym_plain::{Buffers, step};
 use sym_pred::HoldForm;
@@ -44,44 +42,65 @@ pub(crate) struct Case {
 }
 
 /// What was found at the states so far.
-#[derive(Clone, Copy)]
+#[derive(Clone, Copy, PartialEq, Eq)]
 struct Tally {
     faults: usize,
     pushed: usize,
 }
 
-/// The number of the next record.
-fn after(rt: &impl Abort, no: u64) -> u64
-    ensures { result ≡ no + 1 }
+/// The record of the next row; `None` where there is none.
+fn next_record(
+    alloc: Global,
+    checked: &Checked,
+    cutter: &mut Cutter<'_>,
+    no: u64,
+) -> Result<Option<Record>, NoMemory>
+    requires { FitsHeader (checked_plan checked.now).fields cutter.old.header }
+    ensures { IfOk result (λ found. IfSome found (IsRecord (checked_plan checked.now))) }
 {
-    assert!(rt; no < 1_000, "a small number");
-    no + 1
+    let mut row = Row::new(alloc);
+    if !cutter.next_row(&mut row)? {
+        return Ok(None);
+    }
+    match decode(alloc, checked, cutter.header(), &row, no)? {
+        Decoded::Is(record) => Ok(Some(record)),
+        Decoded::Bad(_) => Ok(None),
+    }
+}
+
+/// The record of the first row of a file.
+fn first_record(
+    alloc: Global,
+    checked: &Checked,
+    bytes: &[u8],
+    no: u64,
+) -> Result<Option<Record>, NoMemory>
+    ensures { IfOk result (λ found. IfSome found (IsRecord (checked_plan checked.now))) }
+{
+    if bytes.len() >= 1_000 || no >= 1_000 {
+        return Ok(None);
+    }
+    match Cutter::open(alloc, checked, bytes, no, 1) {
+        Ok(opened) => {
+            let mut cutter = opened;
+            next_record(alloc, checked, &mut cutter, no)
+        }
+        Err(_) => Ok(None),
+    }
 }
 
 /// The record of a line under this header.
 pub(crate) fn record(
-    rt: &impl Abort,
     alloc: Global,
     checked: &Checked,
     header: &str,
     line: &str,
     no: u64,
-) -> Result<Record, Fail>
-    ensures { IfOk result (IsRecord (checked_plan checked.now)) }
+) -> Result<Option<Record>, NoMemory>
+    ensures { IfOk result (λ found. IfSome found (IsRecord (checked_plan checked.now))) }
 {
-    assert!(rt; no < 1_000, "a small number");
     let text = format!(in alloc; "{header}\n{line}")?;
-    assert!(rt; text.len() < 1_000, "a small file");
-    let Ok(opened) = Cutter::open(alloc, checked, text.as_bytes(), no, 1) else {
-        panic!(rt; "the header has the fields");
-    };
-    let mut cutter = opened;
-    let mut row = Row::new(alloc);
-    assert!(rt; cutter.next_row(&mut row)?, "a row");
-    match decode(alloc, checked, cutter.header(), &row, no)? {
-        Decoded::Is(record) => Ok(record),
-        Decoded::Bad(_) => panic!(rt; "{line}"),
-    }
+    first_record(alloc, checked, text.as_bytes(), no)
 }
 
 /// Whether each of the segment's paths fits the script.
@@ -91,72 +110,125 @@ fn fits(checked: &Checked, segment: &Segment) -> bool
     segment.paths().iter().all(|path| path.fits(checked))
 }
 
-/// The segment of one record; the same over memory that other records and scripts have used.
+/// The segment of one record; `None` where it isn't the same over memory that other records and
+/// scripts have used.
 fn first(
-    rt: &impl Abort,
     alloc: Global,
     checked: &Checked,
     rec: &Record,
     used: &mut Buffers,
-) -> Result<Segment, NoMemory>
+) -> Result<Option<Segment>, NoMemory>
     requires { IsRecord (checked_plan checked.now) rec.now }
 {
     let segment = fresh(alloc, checked, rec)?;
-    assert!(rt;
-        fresh_with(alloc, checked, rec, used)? == segment,
-        "the same over used memory"
-    );
-    Ok(segment)
+    if fresh_with(alloc, checked, rec, used)? == segment {
+        Ok(Some(segment))
+    } else {
+        Ok(None)
+    }
 }
 
-/// The segment of one record more; `None` where it would have too many paths.
-fn longer(
-    rt: &impl Abort,
+/// Whether the calls that take a segment of their own give the same.
+fn is_grown(
     alloc: Global,
     checked: &Checked,
     segment: &Segment,
     rec: &Record,
     limit: u32,
     used: &mut Buffers,
-) -> Result<Option<Segment>, NoMemory>
+    grown: &Grown,
+) -> Result<bool, NoMemory>
+    requires segment { SegmentFits (checked_plan checked.now) segment.now }
+    requires rec { IsRecord (checked_plan checked.now) rec.now }
+{
+    Ok(
+        grow(alloc, checked, segment.copy(alloc)?, rec, limit)? == *grown
+            && grow_with(alloc, checked, segment.copy(alloc)?, rec, limit, used)? == *grown,
+    )
+}
+
+/// The segment of one record more; `None` where the calls differ.
+fn longer(
+    alloc: Global,
+    checked: &Checked,
+    segment: &Segment,
+    rec: &Record,
+    limit: u32,
+    used: &mut Buffers,
+) -> Result<Option<Grown>, NoMemory>
     requires { IsRecord (checked_plan checked.now) rec.now }
 {
-    assert!(rt; fits(checked, segment), "the segment fits");
+    if !fits(checked, segment) {
+        return Ok(None);
+    }
     let grown = extend(alloc, checked, segment, rec, limit)?;
-    assert!(rt; grow(alloc, checked, segment.copy(alloc)?, rec, limit)? == grown);
-    let again = grow_with(alloc, checked, segment.copy(alloc)?, rec, limit, used)?;
-    assert!(rt; again == grown, "the same over used memory");
+    if is_grown(alloc, checked, segment, rec, limit, used, &grown)? {
+        Ok(Some(grown))
+    } else {
+        Ok(None)
+    }
+}
+
+/// Adds a segment for the record. Whether the calls gave the same.
+fn begin(
+    alloc: Global,
+    checked: &Checked,
+    segments: &mut Vec<Segment>,
+    rec: &Record,
+    used: &mut Buffers,
+) -> Result<bool, NoMemory>
+    requires { IsRecord (checked_plan checked.now) rec.now }
+{
+    match first(alloc, checked, rec, used)? {
+        Some(segment) => {
+            segments.push(segment)?;
+            Ok(true)
+        }
+        None => Ok(false),
+    }
+}
+
+/// Takes the longer segment in the place of the last one, or adds one for the record where the
+/// longer one has too many paths.
+fn go_on(
+    alloc: Global,
+    checked: &Checked,
+    segments: &mut Vec<Segment>,
+    grown: Grown,
+    rec: &Record,
+    used: &mut Buffers,
+) -> Result<bool, NoMemory>
+    requires { IsRecord (checked_plan checked.now) rec.now }
+{
     match grown {
-        Grown::Fits(found) => Ok(Some(found)),
-        Grown::Over(_found) => Ok(None),
+        Grown::Fits(segment) => {
+            let _last = segments.pop();
+            segments.push(segment)?;
+            Ok(true)
+        }
+        Grown::Over(_found) => begin(alloc, checked, segments, rec, used),
     }
 }
 
 /// Adds a record to the last of the segments, or a segment for it where that one would have too
-/// many paths.
+/// many paths. Whether the calls gave the same.
 fn add(
-    rt: &impl Abort,
     alloc: Global,
     checked: &Checked,
     segments: &mut Vec<Segment>,
     rec: &Record,
     limit: u32,
     used: &mut Buffers,
-) -> Result<(), NoMemory>
+) -> Result<bool, NoMemory>
     requires { IsRecord (checked_plan checked.now) rec.now }
 {
-    let found = match segments.last() {
-        Some(last) => longer(rt, alloc, checked, last, rec, limit, used)?,
-        None => None,
+    let Some(last) = segments.last() else {
+        return begin(alloc, checked, segments, rec, used);
     };
-    match found {
-        Some(segment) => {
-            let _last = segments.pop();
-            segments.push(segment)?;
-        }
-        None => segments.push(first(rt, alloc, checked, rec, used)?)?,
+    match longer(alloc, checked, last, rec, limit, used)? {
+        Some(grown) => go_on(alloc, checked, segments, grown, rec, used),
+        None => Ok(false),
     }
-    Ok(())
 }
 
 /// The records of a script, and the segments that they make.
@@ -166,24 +238,46 @@ struct Exploration {
     segments: Vec<Segment>,
 }
 
-/// The records, which are numbered from 1, and their segments.
-fn explored(
-    rt: &impl Abort,
+fn add_line(
+    alloc: Global,
+    checked: &Checked,
+    case: &Case,
+    line: &str,
+    no: u64,
+    used: &mut Buffers,
+    explored: &mut Exploration,
+) -> Result<bool, NoMemory> {
+    let Some(rec) = record(alloc, checked, case.header, line, no)? else {
+        return Ok(false);
+    };
+    let added = add(
+        alloc,
+        checked,
+        &mut explored.segments,
+        &rec,
+        case.limit,
+        used,
+    )?;
+    explored.records.push(rec)?;
+    Ok(added)
+}
+
+/// Adds the records, which are numbered from 1, and their segments.
+fn add_lines(
     alloc: Global,
     checked: &Checked,
     case: &Case,
     used: &mut Buffers,
-) -> Result<Exploration, Fail> {
-    let mut records = Vec::new(alloc);
-    let mut segments = Vec::new(alloc);
-    let mut no = 0;
+    explored: &mut Exploration,
+) -> Result<bool, NoMemory> {
+    let mut no = 0u64;
     'lines: for line in case.lines.split_whitespace() {
-        no = after(rt, no);
-        let rec = record(rt, alloc, checked, case.header, line, no)?;
-        add(rt, alloc, checked, &mut segments, &rec, case.limit, used)?;
-        records.push(rec)?;
+        no = no.saturating_add(1);
+        if !add_line(alloc, checked, case, line, no, used, explored)? {
+            return Ok(false);
+        }
     }
-    Ok(Exploration { records, segments })
+    Ok(true)
 }
 
 /// What a state comes to by the records, one after the other.
@@ -203,57 +297,72 @@ fn stepped(
     Ok(outcome)
 }
 
-/// The place of the only path that admits the state.
-fn only_path(rt: &impl Abort, checked: &Checked, segment: &Segment, state: &State) -> usize {
+/// The only path that admits the state.
+fn only_path<'a>(checked: &Checked, segment: &'a Segment, state: &State) -> Option<&'a Path> {
     let mut found = None;
-    'paths: for (place, path) in segment.paths().iter().enumerate() {
+    'paths: for path in segment.paths() {
         if path.admits(checked, state) {
-            assert!(rt; found.is_none(), "no other path admits the state");
-            found = Some(place);
+            if found.is_some() {
+                return None;
+            }
+            found = Some(path);
         }
     }
-    let Some(place) = found else {
-        panic!(rt; "a path admits the state");
-    };
-    place
+    found
 }
 
-/// What the only path that admits the state gives there.
+/// What the only path that admits the state gives there; `None` where there isn't one.
 fn given(
-    rt: &impl Abort,
     alloc: Global,
     checked: &Checked,
     segment: &Segment,
     state: &State,
-) -> Result<Outcome, Fail>
+) -> Result<Option<Outcome>, NoMemory>
     requires { IsValid (checked_plan checked.now) state.now }
-    ensures { IfOk result (IsValidOutcome (checked_plan checked.now)) }
+    ensures { IfOk result (λ found. IfSome found (IsValidOutcome (checked_plan checked.now))) }
 {
-    let place = only_path(rt, checked, segment, state);
-    let path = segment.paths().get(place).ok_or("a path")?;
-    assert!(rt; path.fits(checked), "the path fits");
-    assert!(rt; path.admits(checked, state), "the path admits the state");
-    Ok(path.gives(alloc, checked, state)?)
+    let Some(path) = only_path(checked, segment, state) else {
+        return Ok(None);
+    };
+    if !path.fits(checked) || !path.admits(checked, state) {
+        return Ok(None);
+    }
+    Ok(Some(path.gives(alloc, checked, state)?))
+}
+
+/// What an outcome comes to by the segment.
+fn given_next(
+    alloc: Global,
+    checked: &Checked,
+    segment: &Segment,
+    outcome: Outcome,
+) -> Result<Option<Outcome>, NoMemory>
+    requires { IsValidOutcome (checked_plan checked.now) outcome }
+    ensures { IfOk result (λ found. IfSome found (IsValidOutcome (checked_plan checked.now))) }
+{
+    match outcome {
+        Outcome::Going(state) => given(alloc, checked, segment, &state),
+        Outcome::Ended(fault) => Ok(Some(Outcome::Ended(fault))),
+    }
 }
 
 /// What a state comes to by the segments, one after the other.
 fn given_by_all(
-    rt: &impl Abort,
     alloc: Global,
     checked: &Checked,
     segments: &[Segment],
     state: State,
-) -> Result<Outcome, Fail>
+) -> Result<Option<Outcome>, NoMemory>
     requires { IsValid (checked_plan checked.now) state }
 {
     let mut outcome = Outcome::Going(state);
     'segments: for segment in segments {
-        outcome = match outcome {
-            Outcome::Going(state) => given(rt, alloc, checked, segment, &state)?,
-            Outcome::Ended(fault) => Outcome::Ended(fault),
-        };
+        match given_next(alloc, checked, segment, outcome)? {
+            Some(next) => outcome = next,
+            None => return Ok(None),
+        }
     }
-    Ok(outcome)
+    Ok(Some(outcome))
 }
 
 /// A state's number, label and part; a cell of each kind that the script has holds one of them.
@@ -264,32 +373,46 @@ struct Held {
     part: i64,
 }
 
+fn number_parts(alloc: Global, part: i64) -> Result<Values, NoMemory> {
+    let mut parts = Values::new(alloc);
+    parts.push(Value::Num(part))?;
+    Ok(parts)
+}
+
 /// A form that gives a cell what is held, in the place of one of its kind.
-fn constant(alloc: Global, form: &Form, held: Held) -> Result<Form, Fail> {
+fn constant(alloc: Global, form: &Form, held: Held) -> Result<Form, NoMemory> {
     match form {
         Form::Enum(_) => Ok(Form::Enum(EnumForm::Const(held.label))),
-        Form::Int(_) => Ok(Form::Int(IntForm::Const(Number::new(held.number).ok_or("number")?))),
-        Form::Hold(_) => {
-            let mut parts = Values::new(alloc);
-            parts.push(Value::Num(held.part))?;
-            Ok(Form::Hold(HoldForm::Const(parts)))
-        }
+        Form::Int(_) => Ok(Form::Int(number(0, 0, held.number)?)),
+        Form::Hold(_) => Ok(Form::Hold(HoldForm::Const(number_parts(alloc, held.part)?))),
         Form::Nums(_) => Ok(Form::Nums(ListForm::same(alloc))),
         Form::Words(_) => Ok(Form::Words(ListForm::same(alloc))),
     }
 }
 
-/// The path for every state after which each cell holds what is held.
-fn holding(rt: &impl Abort, alloc: Global, checked: &Checked, held: Held) -> Result<Path, Fail> {
-    let Path { when, end } = Path::all(alloc, checked)?;
-    let PathEnd::Next(forms) = end else {
-        panic!(rt; "the path goes on");
-    };
+fn constants(alloc: Global, forms: &[Form], held: Held) -> Result<Vec<Form>, NoMemory> {
     let mut constants = Vec::new(alloc);
-    'forms: for form in forms.as_slice() {
+    'forms: for form in forms {
         constants.push(constant(alloc, form, held)?)?;
     }
-    Ok(path_of(when.into_vec(), constants))
+    Ok(constants)
+}
+
+fn constant_end(alloc: Global, end: &PathEnd, held: Held) -> Result<PathEnd, NoMemory> {
+    match end {
+        PathEnd::Next(forms) => {
+            let constants = constants(alloc, forms.as_slice(), held)?;
+            Ok(PathEnd::Next(Sequence::of(constants)))
+        }
+        PathEnd::Ended(fault) => Ok(PathEnd::Ended(*fault)),
+    }
+}
+
+/// The path for every state after which each cell holds what is held.
+fn holding(alloc: Global, checked: &Checked, held: Held) -> Result<Path, NoMemory> {
+    let mut path = Path::all(alloc, checked)?;
+    path.end = constant_end(alloc, &path.end, held)?;
+    Ok(path)
 }
 
 /// How many elements the lists of a state have.
@@ -320,97 +443,158 @@ fn counted(tally: Tally, outcome: &Outcome) -> Tally {
     }
 }
 
-/// Compares what the segments give at a state with the steps from there.
-fn check_at(
-    rt: &impl Abort,
+/// What is found so far, and this outcome, where it is the wanted one.
+fn counted_if(tally: Tally, outcome: &Outcome, wanted: &Outcome) -> Option<Tally> {
+    if outcome == wanted {
+        Some(counted(tally, outcome))
+    } else {
+        None
+    }
+}
+
+/// Adds what a state comes to; `None` where the segments give other than the steps.
+fn tally_state(
+    alloc: Global,
+    checked: &Checked,
+    explored: &Exploration,
+    state: State,
+    tally: Tally,
+) -> Result<Option<Tally>, NoMemory>
+    requires { IsValid (checked_plan checked.now) state }
+{
+    let wanted = stepped(
+        alloc,
+        checked,
+        explored.records.as_slice(),
+        state.copy(alloc)?,
+    )?;
+    match given_by_all(alloc, checked, explored.segments.as_slice(), state)? {
+        Some(found) => Ok(counted_if(tally, &found, &wanted)),
+        None => Ok(None),
+    }
+}
+
+fn tally_held(
+    alloc: Global,
+    checked: &Checked,
+    explored: &Exploration,
+    held: Held,
+    tally: Tally,
+) -> Result<Option<Tally>, NoMemory> {
+    let path = holding(alloc, checked, held)?;
+    match state_by(alloc, checked, &path)? {
+        Some(state) => tally_state(alloc, checked, explored, state, tally),
+        None => Ok(None),
+    }
+}
+
+fn tally_labels(
     alloc: Global,
     case: &Case,
     checked: &Checked,
     explored: &Exploration,
     held: Held,
-) -> Result<Outcome, Fail> {
-    let path = holding(rt, alloc, checked, held)?;
-    let state = state_by(rt, alloc, checked, &path)?;
-    let segments = explored.segments.as_slice();
-    let found = given_by_all(rt, alloc, checked, segments, state.copy(alloc)?)?;
-    let wanted = stepped(alloc, checked, explored.records.as_slice(), state)?;
-    assert!(rt; found == wanted, "{}", case.script);
-    Ok(found)
+    tally: Tally,
+) -> Result<Option<Tally>, NoMemory> {
+    let mut tally = tally;
+    'labels: for label in 0..case.labels {
+        let held = Held { label, ..held };
+        match tally_held(alloc, checked, explored, held, tally)? {
+            Some(more) => tally = more,
+            None => return Ok(None),
+        }
+    }
+    Ok(Some(tally))
 }
 
-fn check_states(
-    rt: &impl Abort,
+fn tally_numbers(
     alloc: Global,
     case: &Case,
     checked: &Checked,
     explored: &Exploration,
     part: i64,
-    tally: &mut Tally,
-) -> Result<(), Fail> {
+    tally: Tally,
+) -> Result<Option<Tally>, NoMemory> {
+    let mut tally = tally;
     let (first, last) = case.numbers;
     'numbers: for number in first..last {
-        'labels: for label in 0..case.labels {
-            let held = Held {
-                number,
-                label,
-                part,
-            };
-            let outcome = check_at(rt, alloc, case, checked, explored, held)?;
-            *tally = counted(*tally, &outcome);
+        let held = Held {
+            number,
+            label: 0,
+            part,
+        };
+        match tally_labels(alloc, case, checked, explored, held, tally)? {
+            Some(more) => tally = more,
+            None => return Ok(None),
         }
     }
-    Ok(())
+    Ok(Some(tally))
 }
 
-/// Compares how many of something a script has.
-fn check_count(rt: &impl Abort, script: &str, what: &str, found: usize, wanted: usize) {
-    assert_eq!(rt; found, wanted, "{what} of {script}");
-}
-
-/// Compares how many segments there are, and the paths of the last one.
-fn check_sizes(rt: &impl Abort, case: &Case, segments: &[Segment]) {
-    check_count(rt, case.script, "segments", segments.len(), case.segments);
-    let paths = match segments.last() {
-        Some(segment) => segment.paths().len(),
-        None => 0,
-    };
-    check_count(rt, case.script, "paths", paths, case.paths);
-}
-
-fn check_explored(
-    rt: &impl Abort,
+fn tally_parts(
     alloc: Global,
     case: &Case,
     checked: &Checked,
     explored: &Exploration,
-) -> Result<(), Fail> {
-    check_sizes(rt, case, explored.segments.as_slice());
+) -> Result<Option<Tally>, NoMemory> {
     let mut tally = Tally {
         faults: 0,
         pushed: 0,
     };
     'parts: for part in case.parts {
-        check_states(rt, alloc, case, checked, explored, *part, &mut tally)?;
+        match tally_numbers(alloc, case, checked, explored, *part, tally)? {
+            Some(more) => tally = more,
+            None => return Ok(None),
+        }
     }
-    check_count(rt, case.script, "faults", tally.faults, case.faults);
-    check_count(rt, case.script, "elements", tally.pushed, case.pushed);
-    Ok(())
+    Ok(Some(tally))
 }
 
-fn check_records(
-    rt: &impl Abort,
+/// Whether there are as many segments, and paths of the last one, as the case says.
+fn has_sizes(case: &Case, segments: &[Segment]) -> bool {
+    match segments.last() {
+        Some(last) => segments.len() == case.segments && last.paths().len() == case.paths,
+        None => case.segments == 0,
+    }
+}
+
+fn is_explored(
+    alloc: Global,
+    case: &Case,
+    checked: &Checked,
+    explored: &Exploration,
+) -> Result<bool, NoMemory> {
+    let wanted = Tally {
+        faults: case.faults,
+        pushed: case.pushed,
+    };
+    Ok(
+        has_sizes(case, explored.segments.as_slice())
+            && tally_parts(alloc, case, checked, explored)? == Some(wanted),
+    )
+}
+
+fn records_hold(
     alloc: Global,
     case: &Case,
     checked: &Checked,
     used: &mut Buffers,
-) -> Result<(), Fail> {
-    let explored = explored(rt, alloc, checked, case, used)?;
-    check_explored(rt, alloc, case, checked, &explored)
+) -> Result<bool, NoMemory> {
+    let mut explored = Exploration {
+        records: Vec::new(alloc),
+        segments: Vec::new(alloc),
+    };
+    Ok(
+        add_lines(alloc, checked, case, used, &mut explored)?
+            && is_explored(alloc, case, checked, &explored)?,
+    )
 }
 
-fn check_case(rt: &impl Abort, alloc: Global, case: &Case, used: &mut Buffers) -> Result<(), Fail> {
-    let checked = checked(rt, alloc, case.script);
-    check_records(rt, alloc, case, &checked, used)
+fn case_holds(alloc: Global, case: &Case, used: &mut Buffers) -> Result<bool, NoMemory> {
+    match accepted(alloc, case.script) {
+        Some(checked) => records_hold(alloc, case, &checked, used),
+        None => Ok(false),
+    }
 }
 
 /// Memory with values in it that no script has put there.
@@ -423,12 +607,14 @@ fn used_buffers(alloc: Global) -> Result<Buffers, NoMemory> {
     Ok(used)
 }
 
-/// Compares the segments of each script with the steps, and the numbers of what there is. One after
-/// the other uses the same memory.
-pub(crate) fn check_cases(rt: &impl Abort, alloc: Global, cases: &[Case]) -> Result<(), Fail> {
+/// The place of the first case whose segments don't give what the steps give, or whose numbers are
+/// others. One case after the other uses the same memory.
+pub(crate) fn wrong_case(alloc: Global, cases: &[Case]) -> Result<Option<usize>, NoMemory> {
     let mut used = used_buffers(alloc)?;
-    'cases: for case in cases {
-        check_case(rt, alloc, case, &mut used)?;
+    'cases: for (place, case) in cases.iter().enumerate() {
+        if !case_holds(alloc, case, &mut used)? {
+            return Ok(Some(place));
+        }
     }
-    Ok(())
+    Ok(None)
 }

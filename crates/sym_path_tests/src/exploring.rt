@@ -1,10 +1,13 @@
 //! Records explored from an unknown state, against the sequential step at states.
-use crate::comparing::{Case, check_cases, record};
-use crate::setting::checked;
+ghost use Rattle.sym_check.specs.CheckedScripts.{checked_plan};
+ghost use Rattle.sym_check.specs.Validity.{IsRecord};
+
+use crate::comparing::{Case, record, wrong_case};
+use crate::sessions::SESSIONS;
+use crate::setting::{Row, all_hold, check_rows};
 use std::alloc::Global;
-use std::process::Abort;
 use std::test::Fail;
-use sym_base::{Fault, FaultKind};
+use sym_base::{Fault, FaultKind, NoMemory, Record};
 use sym_check::Checked;
 use sym_explore::{Grown, extend, fresh, grow};
 use sym_path::{PathEnd, Segment};
@@ -24,12 +27,6 @@ const ONE: Case = Case {
     faults: 0,
     pushed: 0,
 };
-
-const SESSIONS: &str = "field ts: num; field user: word; group user; \
-    state last: hold(num = 0); state n: int [0..1000] = 0; state done: nums [0..1000]; \
-    test gap(h: num, t: num) = t - h > 30; \
-    update { if gap(last, ts) { push done n; n = 1; } else { n = n + 1; } keep last(ts); } \
-    report { sessions = count(done); open = n; longest = max(done); }";
 
 /// A number doubles 200 times.
 const DOUBLES: Case = Case {
@@ -211,7 +208,7 @@ const CASES: [Case; 18] = [
 
 #[test]
 fn segments_give_what_the_steps_give(rt: HostRuntime) -> Result<(), Fail> {
-    check_cases(&rt, rt.alloc(), &CASES)
+    all_hold(&rt, wrong_case(rt.alloc(), &CASES))
 }
 
 /// Whether some state ends at the record of this number, since its number of records overflows.
@@ -223,34 +220,67 @@ fn ends_at(segment: &Segment, no: u64) -> bool {
     segment.paths().iter().any(|path| path.end == end)
 }
 
-/// Whether the segment of two records fits a limit by both calls, with the same paths.
-fn is_within(rt: &impl Abort, alloc: Global, checked: &Checked, limit: u32) -> Result<bool, Fail> {
-    let first = record(rt, alloc, checked, "ts,user", "60,a", 3)?;
-    let second = record(rt, alloc, checked, "ts,user", "61,a", 5)?;
-    let segment = fresh(alloc, checked, &first)?;
-    let grown = extend(alloc, checked, &segment, &second, limit)?;
-    assert!(rt; grow(alloc, checked, segment, &second, limit)? == grown);
-    assert!(rt; grown.copy(alloc)? == grown);
-    let (is_within, segment) = match grown {
-        Grown::Fits(segment) => (true, segment),
-        Grown::Over(segment) => (false, segment),
-    };
-    assert_eq!(rt; segment.paths().len(), 4);
-    assert!(rt;
-        ends_at(&segment, 3) && ends_at(&segment, 5),
-        "both can overflow"
-    );
-    Ok(is_within)
+/// Whether the segment has the paths of two records, both of which can overflow.
+fn has_both(segment: &Segment) -> bool {
+    segment.paths().len() == 4 && ends_at(segment, 3) && ends_at(segment, 5)
 }
 
-fn check_limits(rt: &impl Abort, alloc: Global, checked: &Checked) -> Result<(), Fail> {
-    assert!(rt; is_within(rt, alloc, checked, 4)?);
-    assert!(rt; !is_within(rt, alloc, checked, 3)?);
-    Ok(())
+fn has_grown(grown: &Grown, fits: bool) -> bool {
+    match grown {
+        Grown::Fits(segment) => fits && has_both(segment),
+        Grown::Over(segment) => !fits && has_both(segment),
+    }
+}
+
+/// Whether the segment of two records fits a limit as it should, by both calls.
+fn grows(
+    alloc: Global,
+    checked: &Checked,
+    first: &Record,
+    second: &Record,
+    limit: &Limit,
+) -> Result<bool, NoMemory>
+    requires first { IsRecord (checked_plan checked.now) first.now }
+    requires second { IsRecord (checked_plan checked.now) second.now }
+{
+    let segment = fresh(alloc, checked, first)?;
+    let grown = extend(alloc, checked, &segment, second, limit.0)?;
+    Ok(
+        has_grown(&grown, limit.1)
+            && grown.copy(alloc)? == grown
+            && grow(alloc, checked, segment, second, limit.0)? == grown,
+    )
+}
+
+fn grows_by(
+    alloc: Global,
+    checked: &Checked,
+    first: &Record,
+    limit: &Limit,
+) -> Result<bool, NoMemory>
+    requires { IsRecord (checked_plan checked.now) first.now }
+{
+    match record(alloc, checked, "ts,user", "61,a", 5)? {
+        Some(second) => grows(alloc, checked, first, &second, limit),
+        None => Ok(false),
+    }
+}
+
+/// A limit, and whether four paths fit it.
+struct Limit(u32, bool);
+
+const LIMITS: [Limit; 2] = [Limit(4, true), Limit(3, false)];
+
+impl Row for Limit {
+    fn holds(&self, alloc: Global, checked: &Checked) -> Result<bool, NoMemory> {
+        match record(alloc, checked, "ts,user", "60,a", 3)? {
+            Some(first) => grows_by(alloc, checked, &first, self),
+            None => Ok(false),
+        }
+    }
 }
 
 #[test]
 fn a_limit_is_the_most_paths_that_fit(rt: HostRuntime) -> Result<(), Fail> {
-    let checked = checked(&rt, rt.alloc(), SESSIONS);
-    check_limits(&rt, rt.alloc(), &checked)
+    check_rows(&rt, rt.alloc(), SESSIONS, &LIMITS)
 }

@@ -1,163 +1,201 @@
 //! Paths that are joined and settled.
+use crate::setting::{all_hold, join_to, number, span};
 use std::alloc::Global;
 use std::test::Fail;
 use sym_base::{Fault, FaultKind, NoMemory, Sequence};
 use sym_enum::{EnumForm, LabelSet};
-use sym_int::{IntForm, Line, Number, Span};
-use sym_path::{Form, Part, Path, PathEnd, join_paths, joinable, settle};
+use sym_path::{Form, Forms, Part, Path, PathEnd, Segment, joinable, settle};
 
-/// What a path says of a cell n: the span from `lo` to `hi`, and after it `a * n + b`, which is the
-/// constant `b` where `a` is 0.
+/// What a path says of its only cell.
 #[derive(Clone, Copy)]
-struct Row {
-    lo: i64,
-    hi: i64,
-    a: i128,
-    b: i64,
+enum Said {
+    /// The span of a number n, and after it `a * n + b` of the last two numbers, which is the
+    /// constant `b` where `a` is 0.
+    Number(i64, i64, i128, i64),
+    /// The span of a number, and the record whose fault ends the group.
+    Fault(i64, i64, u64),
+    /// The one label that it is for, or both, and what it makes of it.
+    Label(Option<u8>, EnumForm),
 }
 
-fn of_row(lo: i64, hi: i64, a: i128, b: i64) -> Row {
-    Row { lo, hi, a, b }
+/// Two paths, and the one that they join to.
+struct Joining(Said, Said, Option<Said>);
+
+fn part(said: Said) -> Result<Part, NoMemory> {
+    match said {
+        Said::Number(lo, hi, _, _) | Said::Fault(lo, hi, _) => Ok(Part::Span(span(lo, hi)?)),
+        Said::Label(Some(label), _) => Ok(Part::Set(LabelSet::one(label))),
+        Said::Label(None, _) => Ok(Part::Set(LabelSet::full(2))),
+    }
 }
 
-/// A path of one cell; `None` where the row has no span or no form.
-fn number_path(alloc: Global, row: Row) -> Result<Option<Path>, NoMemory> {
-    let form = if row.a == 0 {
-        Number::new(row.b).map(|number| IntForm::Const(number))
-    } else {
-        Line::new(0, row.a, row.b as i128).map(|line| IntForm::Line(line))
-    };
-    let (Some(form), Some(span)) = (form, Span::new(row.lo, row.hi)) else {
-        return Ok(None);
-    };
+fn next(alloc: Global, form: Form) -> Result<PathEnd, NoMemory> {
+    let mut forms = Forms::new(alloc);
+    forms.push(form)?;
+    Ok(PathEnd::Next(forms))
+}
+
+fn end(alloc: Global, said: Said) -> Result<PathEnd, NoMemory> {
+    match said {
+        Said::Number(_, _, a, b) => next(alloc, Form::Int(number(0, a, b)?)),
+        Said::Fault(_, _, no) => Ok(PathEnd::Ended(Fault {
+            kind: FaultKind::Arith,
+            no,
+        })),
+        Said::Label(_, form) => next(alloc, Form::Enum(form)),
+    }
+}
+
+fn path(alloc: Global, said: Said) -> Result<Path, NoMemory> {
     let mut when = Sequence::new(alloc);
-    when.push(Part::Span(span))?;
-    let mut forms = Sequence::new(alloc);
-    forms.push(Form::Int(form))?;
-    let end = PathEnd::Next(forms);
-    Ok(Some(Path { when, end }))
-}
-
-/// A path of one enum cell.
-fn label_path(alloc: Global, set: LabelSet, form: EnumForm) -> Result<Path, NoMemory> {
-    let mut when = Sequence::new(alloc);
-    when.push(Part::Set(set))?;
-    let mut forms = Sequence::new(alloc);
-    forms.push(Form::Enum(form))?;
-    let end = PathEnd::Next(forms);
+    when.push(part(said)?)?;
+    let end = end(alloc, said)?;
     Ok(Path { when, end })
 }
 
-fn fault(no: u64) -> PathEnd {
-    PathEnd::Ended(Fault {
-        kind: FaultKind::Arith,
-        no,
-    })
+fn wanted_path(alloc: Global, said: Option<Said>) -> Result<Option<Path>, NoMemory> {
+    match said {
+        Some(said) => Ok(Some(path(alloc, said)?)),
+        None => Ok(None),
+    }
 }
+
+// Whether the second path joins with the first one to the wanted one, where both are given away.
+fn moved_join_to(first: Path, second: Path, wanted: &Option<Path>) -> bool {
+    if !joinable(&second, &first) {
+        return wanted.is_none();
+    }
+    let joined = Some(second.join(first));
+    joined == *wanted
+}
+
+fn join_as_wanted(alloc: Global, row: &Joining, wanted: &Option<Path>) -> Result<bool, NoMemory> {
+    let first = path(alloc, row.0)?;
+    let second = path(alloc, row.1)?;
+    Ok(join_to(alloc, &first, &second, wanted)? && moved_join_to(first, second, wanted))
+}
+
+fn wrong_join(alloc: Global, rows: &[Joining]) -> Result<Option<usize>, NoMemory> {
+    'rows: for (place, row) in rows.iter().enumerate() {
+        if !join_as_wanted(alloc, row, &wanted_path(alloc, row.2)?)? {
+            return Ok(Some(place));
+        }
+    }
+    Ok(None)
+}
+
+const NUMBERS: [Joining; 10] = [
+    Joining(
+        Said::Number(0, 4, 1, 0),
+        Said::Number(5, 10, 1, 0),
+        Some(Said::Number(0, 10, 1, 0)),
+    ),
+    Joining(Said::Number(0, 3, 1, 0), Said::Number(5, 10, 1, 0), None),
+    Joining(
+        Said::Number(3, 3, 0, 3),
+        Said::Number(4, 10, 1, 0),
+        Some(Said::Number(3, 10, 1, 0)),
+    ),
+    Joining(Said::Number(3, 3, 0, 4), Said::Number(4, 10, 1, 0), None),
+    Joining(
+        Said::Number(3, 3, 0, 4),
+        Said::Number(4, 10, 1, 1),
+        Some(Said::Number(3, 10, 1, 1)),
+    ),
+    Joining(
+        Said::Number(3, 3, 0, 3),
+        Said::Number(4, 4, 0, 3),
+        Some(Said::Number(3, 4, 0, 3)),
+    ),
+    Joining(Said::Number(3, 3, 0, 3), Said::Number(4, 4, 0, 4), None),
+    Joining(
+        Said::Number(-2, 1, -2, 1),
+        Said::Number(2, 2, 0, -3),
+        Some(Said::Number(-2, 2, -2, 1)),
+    ),
+    Joining(Said::Number(-2, 1, -2, 1), Said::Number(2, 3, -2, 2), None),
+    Joining(
+        Said::Number(-2, 1, 0, 1),
+        Said::Number(0, 3, 0, 1),
+        Some(Said::Number(-2, 3, 0, 1)),
+    ),
+];
 
 #[test]
 fn numbers_join_where_spans_touch_and_forms_agree(rt: HostRuntime) -> Result<(), Fail> {
-    let alloc = rt.alloc();
-    let rows = [
-        (
-            of_row(0, 4, 1, 0),
-            of_row(5, 10, 1, 0),
-            Some(of_row(0, 10, 1, 0)),
-        ),
-        (of_row(0, 3, 1, 0), of_row(5, 10, 1, 0), None),
-        (
-            of_row(3, 3, 0, 3),
-            of_row(4, 10, 1, 0),
-            Some(of_row(3, 10, 1, 0)),
-        ),
-        (of_row(3, 3, 0, 4), of_row(4, 10, 1, 0), None),
-        (
-            of_row(3, 3, 0, 4),
-            of_row(4, 10, 1, 1),
-            Some(of_row(3, 10, 1, 1)),
-        ),
-        (
-            of_row(3, 3, 0, 3),
-            of_row(4, 4, 0, 3),
-            Some(of_row(3, 4, 0, 3)),
-        ),
-        (of_row(3, 3, 0, 3), of_row(4, 4, 0, 4), None),
-        (
-            of_row(-2, 1, -2, 1),
-            of_row(2, 2, 0, -3),
-            Some(of_row(-2, 2, -2, 1)),
-        ),
-        (of_row(-2, 1, -2, 1), of_row(2, 3, -2, 2), None),
-        (
-            of_row(-2, 1, 0, 1),
-            of_row(0, 3, 0, 1),
-            Some(of_row(-2, 3, 0, 1)),
-        ),
-    ];
-    for (first, second, wanted) in rows {
-        let p = number_path(alloc, first)?.ok_or("first")?;
-        let q = number_path(alloc, second)?.ok_or("second")?;
-        if !joinable(&p, &q) || !joinable(&q, &p) {
-            assert!(rt; !joinable(&p, &q) && !joinable(&q, &p) && wanted.is_none());
-            continue;
-        }
-        let path = number_path(alloc, wanted.ok_or("joined")?)?.ok_or("wanted")?;
-        assert!(rt; join_paths(alloc, &p, &q)? == path);
-        assert!(rt; q.join(p) == path);
-    }
-    Ok(())
+    all_hold(&rt, wrong_join(rt.alloc(), &NUMBERS))
 }
+
+/// Leaves the label as it is.
+const WIDE: Said = Said::Label(None, EnumForm::Copy(0));
+
+const LABELS: [Joining; 4] = [
+    Joining(Said::Label(Some(0), EnumForm::Const(0)), WIDE, Some(WIDE)),
+    Joining(Said::Label(Some(0), EnumForm::Const(1)), WIDE, None),
+    Joining(
+        Said::Label(Some(0), EnumForm::Const(1)),
+        Said::Label(Some(1), EnumForm::Const(1)),
+        Some(Said::Label(None, EnumForm::Const(1))),
+    ),
+    Joining(
+        Said::Label(Some(0), EnumForm::Const(0)),
+        Said::Label(Some(1), EnumForm::Const(1)),
+        None,
+    ),
+];
 
 #[test]
 fn labels_join_where_forms_agree(rt: HostRuntime) -> Result<(), Fail> {
-    let alloc = rt.alloc();
-    let (zero, both) = (LabelSet::one(0), LabelSet::full(2));
-    let copy = EnumForm::Copy(0);
-    let first = label_path(alloc, zero, EnumForm::Const(0))?;
-    let other = label_path(alloc, zero, EnumForm::Const(1))?;
-    let second = label_path(alloc, LabelSet::one(1), EnumForm::Const(1))?;
-    let wide = label_path(alloc, both, copy)?;
-    assert!(rt; joinable(&first, &wide) && joinable(&wide, &first));
-    assert!(rt; !joinable(&other, &wide) && !joinable(&wide, &other));
-    assert!(rt; joinable(&other, &second) && !joinable(&first, &second));
-    let same = label_path(alloc, both, EnumForm::Const(1))?;
-    if joinable(&other, &second) {
-        assert!(rt; other.join(second) == same);
-    }
-    Ok(())
+    all_hold(&rt, wrong_join(rt.alloc(), &LABELS))
 }
+
+const FAULTS: [Joining; 3] = [
+    Joining(Said::Fault(0, 4, 3), Said::Number(5, 9, 1, 0), None),
+    Joining(Said::Fault(0, 4, 3), Said::Fault(5, 9, 4), None),
+    Joining(
+        Said::Fault(0, 4, 3),
+        Said::Fault(5, 9, 3),
+        Some(Said::Fault(0, 9, 3)),
+    ),
+];
 
 #[test]
 fn paths_with_the_same_fault_join(rt: HostRuntime) -> Result<(), Fail> {
-    let alloc = rt.alloc();
-    let mut first = number_path(alloc, of_row(0, 4, 1, 0))?.ok_or("first")?;
-    let mut second = number_path(alloc, of_row(5, 9, 1, 0))?.ok_or("second")?;
-    first.end = fault(3);
-    assert!(rt; !joinable(&first, &second) && !joinable(&second, &first));
-    second.end = fault(4);
-    assert!(rt; !joinable(&first, &second) && !joinable(&second, &first));
-    second.end = fault(3);
-    assert!(rt; joinable(&first, &second) && joinable(&second, &first));
-    Ok(())
+    all_hold(&rt, wrong_join(rt.alloc(), &FAULTS))
+}
+
+const UNSETTLED: [Said; 4] = [
+    Said::Number(0, 0, 0, 0),
+    Said::Number(7, 9, 1, 0),
+    Said::Number(2, 5, 1, 0),
+    Said::Number(1, 1, 0, 1),
+];
+
+fn paths(alloc: Global) -> Result<Vec<Path>, NoMemory> {
+    let mut paths = Vec::new(alloc);
+    'paths: for said in &UNSETTLED {
+        paths.push(path(alloc, *said)?)?;
+    }
+    Ok(paths)
+}
+
+fn has_path(alloc: Global, segment: &Segment, said: Said) -> Result<bool, NoMemory> {
+    Ok(segment.paths().contains(&path(alloc, said)?))
+}
+
+fn is_settled(alloc: Global, segment: &Segment) -> Result<bool, NoMemory> {
+    Ok(
+        segment.paths().len() == 2
+            && has_path(alloc, segment, Said::Number(0, 5, 1, 0))?
+            && has_path(alloc, segment, Said::Number(7, 9, 1, 0))?,
+    )
+}
+
+fn settles(alloc: Global) -> Result<bool, NoMemory> {
+    is_settled(alloc, &settle(alloc, paths(alloc)?)?)
 }
 
 #[test]
-fn a_joined_path_is_tried_against_all_others(rt: HostRuntime) -> Result<(), Fail> {
-    let alloc = rt.alloc();
-    let mut paths = Vec::new(alloc);
-    for row in [
-        of_row(0, 0, 0, 0),
-        of_row(7, 9, 1, 0),
-        of_row(2, 5, 1, 0),
-        of_row(1, 1, 0, 1),
-    ] {
-        paths.push(number_path(alloc, row)?.ok_or("path")?)?;
-    }
-    let segment = settle(alloc, paths)?;
-    assert_eq!(rt; segment.paths().len(), 2);
-    for wanted in [of_row(0, 5, 1, 0), of_row(7, 9, 1, 0)] {
-        let path = number_path(alloc, wanted)?.ok_or("wanted")?;
-        assert!(rt; segment.paths().contains(&path));
-    }
-    Ok(())
+fn a_joined_path_is_tried_against_all_others(rt: HostRuntime) {
+    assert!(rt; settles(rt.alloc()) == Ok(true));
 }

@@ -1,13 +1,14 @@
 //! One path after another, and two paths joined, over cells of every kind.
-use crate::setting::{checked, followed, path_of};
+use crate::setting::{
+    Row, all_hold, check_rows, follows, join_to, number as number_of, path_of, span,
+};
 use std::alloc::Global;
-use std::process::Abort;
 use std::test::Fail;
 use sym_base::{Element, NoMemory, Text, Value, Values};
 use sym_check::Checked;
 use sym_enum::{EnumForm, LabelSet};
-use sym_int::{IntForm, Line, Number, Span};
-use sym_path::{Form, Part, Path, join_paths, joinable};
+use sym_int::IntForm;
+use sym_path::{Form, Part, Path};
 use sym_pred::{Facts, HoldForm, Literal};
 use sym_vector::ListForm;
 
@@ -28,19 +29,25 @@ fn far(alloc: Global, b: i64, outcome: bool) -> Result<Literal, NoMemory> {
 }
 
 /// Which numbers are far from what is held, and which are not, in order.
-fn facts(alloc: Global, numbers: &[(i64, bool)]) -> Result<Facts, Fail> {
+fn facts(alloc: Global, numbers: &[(i64, bool)]) -> Result<Facts, NoMemory> {
     let mut literals = Vec::new(alloc);
     for (b, outcome) in numbers {
         literals.push(far(alloc, *b, *outcome)?)?;
     }
-    Ok(Facts::of(literals).ok_or("facts in order")?)
+    Facts::of(literals).ok_or(NoMemory)
 }
 
 /// The labels, the numbers of n, and the facts of h.
-fn parts(alloc: Global, set: LabelSet, lo: i64, hi: i64, known: Facts) -> Result<Vec<Part>, Fail> {
+fn parts(
+    alloc: Global,
+    set: LabelSet,
+    lo: i64,
+    hi: i64,
+    known: Facts,
+) -> Result<Vec<Part>, NoMemory> {
     let mut parts = Vec::new(alloc);
     parts.push(Part::Set(set))?;
-    parts.push(Part::Span(Span::new(lo, hi).ok_or("span")?))?;
+    parts.push(Part::Span(span(lo, hi)?))?;
     parts.push(Part::Facts(known))?;
     parts.push(Part::Free)?;
     parts.push(Part::Free)?;
@@ -48,11 +55,8 @@ fn parts(alloc: Global, set: LabelSet, lo: i64, hi: i64, known: Facts) -> Result
 }
 
 /// The number `a * n + b`, which is the constant `b` where `a` is 0.
-fn number(a: i128, b: i64) -> Result<IntForm, Fail> {
-    if a == 0 {
-        return Ok(IntForm::Const(Number::new(b).ok_or("number")?));
-    }
-    Ok(IntForm::Line(Line::new(1, a, i128::from(b)).ok_or("line")?))
+fn number(a: i128, b: i64) -> Result<IntForm, NoMemory> {
+    number_of(1, a, b)
 }
 
 fn held(alloc: Global, x: i64) -> Result<HoldForm, NoMemory> {
@@ -97,7 +101,7 @@ fn forms(
 
 /// Copies of the label and of what is held; n is one more, and is pushed twice as large and one
 /// more, and so is a word.
-fn copies(alloc: Global) -> Result<Path, Fail> {
+fn copies(alloc: Global) -> Result<Path, NoMemory> {
     let when = parts(alloc, LabelSet::full(2), 0, 9, facts(alloc, &[(9, true)])?)?;
     let forms = forms(
         alloc,
@@ -111,7 +115,7 @@ fn copies(alloc: Global) -> Result<Path, Fail> {
 }
 
 /// Constants in the place of the label, of n and of what is held.
-fn constants(alloc: Global) -> Result<Path, Fail> {
+fn constants(alloc: Global) -> Result<Path, NoMemory> {
     let when = parts(alloc, LabelSet::full(3), 2, 7, facts(alloc, &[(5, false)])?)?;
     let forms = forms(
         alloc,
@@ -125,7 +129,7 @@ fn constants(alloc: Global) -> Result<Path, Fail> {
 }
 
 /// Needs a label above the first and n in 3 to 6; n becomes `9 - n`, and n and 5 are pushed.
-fn later(alloc: Global) -> Result<Path, Fail> {
+fn later(alloc: Global) -> Result<Path, NoMemory> {
     let (_, upper) = LabelSet::full(3).split(0);
     let when = parts(alloc, upper, 3, 6, facts(alloc, &[(5, false)])?)?;
     let forms = forms(
@@ -141,7 +145,7 @@ fn later(alloc: Global) -> Result<Path, Fail> {
 
 /// The path of copies and then the later one: the label 1 is left of both sets, n lies in 2 to 5,
 /// and both facts are known.
-fn copies_and_later(alloc: Global) -> Result<Path, Fail> {
+fn copies_and_later(alloc: Global) -> Result<Path, NoMemory> {
     let known = facts(alloc, &[(5, false), (9, true)])?;
     let when = parts(alloc, LabelSet::one(1), 2, 5, known)?;
     let forms = forms(
@@ -156,7 +160,12 @@ fn copies_and_later(alloc: Global) -> Result<Path, Fail> {
 }
 
 /// The constants after the copies, which leave n in this span and push this number.
-fn copies_and_constants(alloc: Global, lo: i64, hi: i64, pushed: IntForm) -> Result<Path, Fail> {
+fn copies_and_constants(
+    alloc: Global,
+    lo: i64,
+    hi: i64,
+    pushed: IntForm,
+) -> Result<Path, NoMemory> {
     let known = facts(alloc, &[(5, false), (9, true)])?;
     let when = parts(alloc, LabelSet::full(2), lo, hi, known)?;
     let forms = forms(
@@ -171,7 +180,7 @@ fn copies_and_constants(alloc: Global, lo: i64, hi: i64, pushed: IntForm) -> Res
 }
 
 /// The constants and then copies that add to them.
-fn constants_and_copies(alloc: Global) -> Result<Path, Fail> {
+fn constants_and_copies(alloc: Global) -> Result<Path, NoMemory> {
     let when = parts(alloc, LabelSet::full(3), 2, 7, facts(alloc, &[(5, false)])?)?;
     let forms = forms(
         alloc,
@@ -192,25 +201,25 @@ fn with_part(path: Path, cell: usize, part: Part) -> Path {
 }
 
 /// Copies for what is as far from these numbers as they say.
-fn copies_where(alloc: Global, numbers: &[(i64, bool)]) -> Result<Path, Fail> {
+fn copies_where(alloc: Global, numbers: &[(i64, bool)]) -> Result<Path, NoMemory> {
     let known = facts(alloc, numbers)?;
     Ok(with_part(copies(alloc)?, 2, Part::Facts(known)))
 }
 
-fn copies_from(alloc: Global, lo: i64, hi: i64) -> Result<Path, Fail> {
-    let span = Span::new(lo, hi).ok_or("span")?;
-    Ok(with_part(copies(alloc)?, 1, Part::Span(span)))
+fn copies_from(alloc: Global, lo: i64, hi: i64) -> Result<Path, NoMemory> {
+    let part = Part::Span(span(lo, hi)?);
+    Ok(with_part(copies(alloc)?, 1, part))
 }
 
-fn constants_at(alloc: Global, x: i64) -> Result<Path, Fail> {
-    let span = Span::new(x, x).ok_or("span")?;
-    Ok(with_part(constants(alloc)?, 1, Part::Span(span)))
+fn constants_at(alloc: Global, x: i64) -> Result<Path, NoMemory> {
+    let part = Part::Span(span(x, x)?);
+    Ok(with_part(constants(alloc)?, 1, part))
 }
 
 /// What the copies are for, with what the constants make of it.
-fn replaced(alloc: Global) -> Result<Path, Fail> {
+fn replaced(alloc: Global) -> Result<Path, NoMemory> {
     let mut path = copies(alloc)?;
-    path.end = constants(alloc)?.end;
+    path.end = constants(alloc)?.end.copy(alloc)?;
     Ok(path)
 }
 
@@ -236,7 +245,7 @@ enum Named {
     ConstantsAndCopies,
 }
 
-fn path(alloc: Global, named: Named) -> Result<Path, Fail> {
+fn path(alloc: Global, named: Named) -> Result<Path, NoMemory> {
     match named {
         Named::Copies => copies(alloc),
         Named::CopiesFrom(lo, hi) => copies_from(alloc, lo, hi),
@@ -261,130 +270,108 @@ fn path(alloc: Global, named: Named) -> Result<Path, Fail> {
     }
 }
 
-/// The path of two of the table.
-fn both(
-    rt: &impl Abort,
-    alloc: Global,
-    checked: &Checked,
-    first: Named,
-    second: Named,
-) -> Result<Option<Path>, Fail> {
-    let first = path(alloc, first)?;
-    let second = path(alloc, second)?;
-    Ok(followed(rt, alloc, checked, &first, &second)?)
-}
-
-type Row = (Named, Named, Option<Named>);
-
-/// Compares the path of two with the wanted one.
-fn check_followed(
-    rt: &impl Abort,
-    alloc: Global,
-    checked: &Checked,
-    row: &Row,
-) -> Result<(), Fail> {
-    let found = both(rt, alloc, checked, row.0, row.1)?;
-    match row.2 {
-        Some(named) => assert!(rt; found == Some(path(alloc, named)?)),
-        None => assert!(rt; found.is_none()),
+/// The path of the table that is wanted.
+fn wanted_path(alloc: Global, named: Option<Named>) -> Result<Option<Path>, NoMemory> {
+    match named {
+        Some(named) => Ok(Some(path(alloc, named)?)),
+        None => Ok(None),
     }
-    Ok(())
-}
-
-fn check_all_followed(rt: &impl Abort, alloc: Global, rows: &[Row]) -> Result<(), Fail> {
-    let script = checked(rt, alloc, KINDS);
-    'rows: for row in rows {
-        check_followed(rt, alloc, &script, row)?;
-    }
-    Ok(())
 }
 
 /// Two paths, and the path of one and then the other; `None` where the second can't come.
-const FOLLOWED: [Row; 9] = [
-    (Named::Copies, Named::Later, Some(Named::CopiesAndLater)),
-    (
+struct Follows(Named, Named, Option<Named>);
+
+const FOLLOWED: [Follows; 9] = [
+    Follows(Named::Copies, Named::Later, Some(Named::CopiesAndLater)),
+    Follows(
         Named::Copies,
         Named::Constants,
         Some(Named::CopiesAndConstants(1, 6, 2, 1)),
     ),
-    (
+    Follows(
         Named::Constants,
         Named::CopiesUpTo9,
         Some(Named::ConstantsAndCopies),
     ),
     // An only number stands in the pushed numbers.
-    (
+    Follows(
         Named::Copies,
         Named::ConstantsAt(10),
         Some(Named::CopiesAndConstants(9, 9, 0, 19)),
     ),
-    (
+    Follows(
         Named::Copies,
         Named::ConstantsAt(5),
         Some(Named::CopiesAndConstants(4, 4, 0, 9)),
     ),
     // 9 isn't far from the 6 that the constants hold.
-    (Named::Constants, Named::Copies, None),
-    (Named::Copies, Named::CopiesAgainst, None),
-    (Named::Copies, Named::ConstantsOfHigh, None),
-    (Named::Constants, Named::ConstantsOfHigh, None),
+    Follows(Named::Constants, Named::Copies, None),
+    Follows(Named::Copies, Named::CopiesAgainst, None),
+    Follows(Named::Copies, Named::ConstantsOfHigh, None),
+    Follows(Named::Constants, Named::ConstantsOfHigh, None),
 ];
+
+fn comes_to(
+    alloc: Global,
+    checked: &Checked,
+    row: &Follows,
+    wanted: &Option<Path>,
+) -> Result<bool, NoMemory> {
+    let first = path(alloc, row.0)?;
+    follows(alloc, checked, &first, &path(alloc, row.1)?, wanted)
+}
+
+impl Row for Follows {
+    fn holds(&self, alloc: Global, checked: &Checked) -> Result<bool, NoMemory> {
+        comes_to(alloc, checked, self, &wanted_path(alloc, self.2)?)
+    }
+}
 
 #[test]
 fn paths_follow_over_cells_of_each_kind(rt: HostRuntime) -> Result<(), Fail> {
-    check_all_followed(&rt, rt.alloc(), &FOLLOWED)
-}
-
-/// Joins the paths, both ways round.
-fn is_joined(alloc: Global, p: &Path, q: &Path, wanted: &Path) -> Result<bool, NoMemory> {
-    if !joinable(p, q) || !joinable(q, p) {
-        return Ok(false);
-    }
-    Ok(join_paths(alloc, p, q)? == *wanted && join_paths(alloc, q, p)? == *wanted)
-}
-
-/// Compares the joined path with the wanted one.
-fn check_joined(rt: &impl Abort, alloc: Global, row: &Row) -> Result<(), Fail> {
-    let p = path(alloc, row.0)?;
-    let q = path(alloc, row.1)?;
-    match row.2 {
-        Some(named) => assert!(rt; is_joined(alloc, &p, &q, &path(alloc, named)?)?),
-        None => assert!(rt; !joinable(&p, &q) && !joinable(&q, &p)),
-    }
-    Ok(())
-}
-
-fn check_all_joined(rt: &impl Abort, alloc: Global, rows: &[Row]) -> Result<(), Fail> {
-    'rows: for row in rows {
-        check_joined(rt, alloc, row)?;
-    }
-    Ok(())
+    check_rows(&rt, rt.alloc(), KINDS, &FOLLOWED)
 }
 
 /// Two paths, and the path that they join to.
-const JOINED: [Row; 6] = [
-    (
+struct Joins(Named, Named, Option<Named>);
+
+const JOINED: [Joins; 6] = [
+    Joins(
         Named::CopiesFrom(0, 5),
         Named::CopiesFrom(6, 9),
         Some(Named::Copies),
     ),
-    (
+    Joins(
         Named::Copies,
         Named::CopiesAgainst,
         Some(Named::CopiesOfAllFacts),
     ),
-    (
+    Joins(
         Named::Copies,
         Named::CopiesOfAllLabels,
         Some(Named::CopiesOfAllLabels),
     ),
     // Two cells that differ keep paths apart, and so do other numbers and words.
-    (Named::CopiesFrom(0, 5), Named::CopiesAgainst, None),
-    (Named::CopiesOfAllLabels, Named::CopiesFrom(6, 9), None),
-    (Named::Copies, Named::Replaced, None),
+    Joins(Named::CopiesFrom(0, 5), Named::CopiesAgainst, None),
+    Joins(Named::CopiesOfAllLabels, Named::CopiesFrom(6, 9), None),
+    Joins(Named::Copies, Named::Replaced, None),
 ];
+
+fn are_joined(alloc: Global, row: &Joins, wanted: &Option<Path>) -> Result<bool, NoMemory> {
+    let first = path(alloc, row.0)?;
+    join_to(alloc, &first, &path(alloc, row.1)?, wanted)
+}
+
+fn wrong_join(alloc: Global) -> Result<Option<usize>, NoMemory> {
+    'rows: for (place, row) in JOINED.iter().enumerate() {
+        if !are_joined(alloc, row, &wanted_path(alloc, row.2)?)? {
+            return Ok(Some(place));
+        }
+    }
+    Ok(None)
+}
 
 #[test]
 fn paths_join_in_a_cell_of_each_kind(rt: HostRuntime) -> Result<(), Fail> {
-    check_all_joined(&rt, rt.alloc(), &JOINED)
+    all_hold(&rt, wrong_join(rt.alloc()))
 }

@@ -1,162 +1,139 @@
 //! One path after another, over a cell n from 0 to 10.
-use crate::setting::{checked, followed};
+use crate::setting::{Row, check_rows, follows, number, span};
 use std::alloc::Global;
-use std::process::Abort;
 use std::test::Fail;
-use sym_base::{Fault, FaultKind, Sequence};
+use sym_base::{Fault, FaultKind, NoMemory, Sequence};
 use sym_check::Checked;
-use sym_int::{IntForm, Line, Number, Span};
-use sym_path::{Form, Part, Path, PathEnd};
+use sym_path::{Form, Forms, Part, Path, PathEnd};
 
 const COUNTER: &str = "field x: num; state n: int [0..10] = 0; update { } report { n = n; }";
 
 /// A span of n, and what n is after the path.
 #[derive(Clone, Copy)]
-enum Row {
+enum Said {
     /// `a * n + b` of the last two numbers, which is the constant `b` where `a` is 0.
     Next(i64, i64, i128, i64),
     /// n overflows at record 2.
     Over(i64, i64),
 }
 
-fn form(a: i128, b: i64) -> Result<IntForm, Fail> {
-    if a == 0 {
-        return Ok(IntForm::Const(Number::new(b).ok_or("number")?));
-    }
-    Ok(IntForm::Line(Line::new(0, a, i128::from(b)).ok_or("line")?))
+fn forms(alloc: Global, a: i128, b: i64) -> Result<Forms, NoMemory> {
+    let mut forms = Sequence::new(alloc);
+    forms.push(Form::Int(number(0, a, b)?))?;
+    Ok(forms)
 }
 
-fn end(alloc: Global, row: Row) -> Result<PathEnd, Fail> {
-    match row {
-        Row::Next(_, _, a, b) => {
-            let mut forms = Sequence::new(alloc);
-            forms.push(Form::Int(form(a, b)?))?;
-            Ok(PathEnd::Next(forms))
-        }
-        Row::Over(_, _) => Ok(PathEnd::Ended(Fault {
+fn end(alloc: Global, said: Said) -> Result<PathEnd, NoMemory> {
+    match said {
+        Said::Next(_, _, a, b) => Ok(PathEnd::Next(forms(alloc, a, b)?)),
+        Said::Over(_, _) => Ok(PathEnd::Ended(Fault {
             kind: FaultKind::Over(0),
             no: 2,
         })),
     }
 }
 
-fn path(alloc: Global, row: Row) -> Result<Path, Fail> {
-    let (lo, hi) = match row {
-        Row::Next(lo, hi, _, _) => (lo, hi),
-        Row::Over(lo, hi) => (lo, hi),
+fn path(alloc: Global, said: Said) -> Result<Path, NoMemory> {
+    let (lo, hi) = match said {
+        Said::Next(lo, hi, _, _) => (lo, hi),
+        Said::Over(lo, hi) => (lo, hi),
     };
     let mut when = Sequence::new(alloc);
-    when.push(Part::Span(Span::new(lo, hi).ok_or("span")?))?;
-    let end = end(alloc, row)?;
+    when.push(Part::Span(span(lo, hi)?))?;
+    let end = end(alloc, said)?;
     Ok(Path { when, end })
 }
 
-/// One row, one that comes after it, and the row of both.
-type Pair = (Row, Row, Option<Row>);
+fn wanted_path(alloc: Global, said: Option<Said>) -> Result<Option<Path>, NoMemory> {
+    match said {
+        Some(said) => Ok(Some(path(alloc, said)?)),
+        None => Ok(None),
+    }
+}
 
-/// The path of both.
-fn both(
-    rt: &impl Abort,
+/// One path, one that comes after it, and the path of both.
+struct Pair(Said, Said, Option<Said>);
+
+fn comes_to(
     alloc: Global,
     checked: &Checked,
-    first: Row,
-    second: Row,
-) -> Result<Option<Path>, Fail> {
-    let first = path(alloc, first)?;
-    let second = path(alloc, second)?;
-    Ok(followed(rt, alloc, checked, &first, &second)?)
+    pair: &Pair,
+    wanted: &Option<Path>,
+) -> Result<bool, NoMemory> {
+    let first = path(alloc, pair.0)?;
+    follows(alloc, checked, &first, &path(alloc, pair.1)?, wanted)
 }
 
-fn check_pair(rt: &impl Abort, alloc: Global, checked: &Checked, pair: &Pair) -> Result<(), Fail> {
-    let found = both(rt, alloc, checked, pair.0, pair.1)?;
-    match pair.2 {
-        Some(row) => assert!(rt; found == Some(path(alloc, row)?)),
-        None => assert!(rt; found.is_none()),
+impl Row for Pair {
+    fn holds(&self, alloc: Global, checked: &Checked) -> Result<bool, NoMemory> {
+        comes_to(alloc, checked, self, &wanted_path(alloc, self.2)?)
     }
-    Ok(())
-}
-
-fn check_pairs(rt: &impl Abort, alloc: Global, pairs: &[Pair]) -> Result<(), Fail> {
-    let script = checked(rt, alloc, COUNTER);
-    'pairs: for pair in pairs {
-        check_pair(rt, alloc, &script, pair)?;
-    }
-    Ok(())
 }
 
 /// One more where n is at most 2.
-const MORE: Row = Row::Next(0, 2, 1, 1);
+const MORE: Said = Said::Next(0, 2, 1, 1);
 /// n stays 0.
-const ZERO: Row = Row::Next(0, 0, 0, 0);
+const ZERO: Said = Said::Next(0, 0, 0, 0);
 /// An overflow where n is 3.
-const OVER: Row = Row::Over(3, 3);
+const OVER: Said = Said::Over(3, 3);
 
 const PAIRS: [Pair; 5] = [
-    (MORE, MORE, Some(Row::Next(0, 1, 1, 2))),
-    (MORE, OVER, Some(Row::Over(2, 2))),
-    (ZERO, OVER, None),
-    (ZERO, Row::Next(3, 3, 0, 3), None),
-    (OVER, ZERO, None),
+    Pair(MORE, MORE, Some(Said::Next(0, 1, 1, 2))),
+    Pair(MORE, OVER, Some(Said::Over(2, 2))),
+    Pair(ZERO, OVER, None),
+    Pair(ZERO, Said::Next(3, 3, 0, 3), None),
+    Pair(OVER, ZERO, None),
 ];
 
 #[test]
 fn a_path_after_another_is_for_what_the_other_leaves(rt: HostRuntime) -> Result<(), Fail> {
-    check_pairs(&rt, rt.alloc(), &PAIRS)
-}
-
-/// Compares whether the path of the row fits with what is wanted.
-fn check_fits(
-    rt: &impl Abort,
-    alloc: Global,
-    checked: &Checked,
-    row: Row,
-    wanted: bool,
-) -> Result<(), Fail> {
-    let path = path(alloc, row)?;
-    assert!(rt; path.fits(checked) == wanted);
-    Ok(())
-}
-
-fn check_all_fit(rt: &impl Abort, alloc: Global, rows: &[Row], wanted: bool) -> Result<(), Fail> {
-    let script = checked(rt, alloc, COUNTER);
-    'rows: for row in rows {
-        check_fits(rt, alloc, &script, *row, wanted)?;
-    }
-    Ok(())
+    check_rows(&rt, rt.alloc(), COUNTER, &PAIRS)
 }
 
 /// n itself.
-const SAME: Row = Row::Next(0, 10, 1, 0);
+const SAME: Said = Said::Next(0, 10, 1, 0);
 
-const FITTING: [Row; 4] = [
-    SAME,
-    Row::Over(0, 10),
-    Row::Next(0, 9, 1, 1),
-    Row::Next(0, 10, -1, 10),
+/// A path, and whether it fits.
+struct Fitting(Said, bool);
+
+const FITTING: [Fitting; 10] = [
+    Fitting(SAME, true),
+    Fitting(Said::Over(0, 10), true),
+    Fitting(Said::Next(0, 9, 1, 1), true),
+    Fitting(Said::Next(0, 10, -1, 10), true),
+    // Past the range of n, and forms that aren't taken on their constraint.
+    Fitting(Said::Next(0, 10, 1, 1), false),
+    Fitting(Said::Next(0, 10, -1, 9), false),
+    Fitting(Said::Next(0, 11, 0, 0), false),
+    Fitting(Said::Next(-1, 3, 0, 0), false),
+    Fitting(Said::Next(3, 3, 1, 0), false),
+    Fitting(Said::Next(3, 4, 0, 11), false),
 ];
 
-/// Past the range of n, and forms that aren't taken on their constraint.
-const OTHERS: [Row; 6] = [
-    Row::Next(0, 10, 1, 1),
-    Row::Next(0, 10, -1, 9),
-    Row::Next(0, 11, 0, 0),
-    Row::Next(-1, 3, 0, 0),
-    Row::Next(3, 3, 1, 0),
-    Row::Next(3, 4, 0, 11),
-];
+impl Row for Fitting {
+    fn holds(&self, alloc: Global, checked: &Checked) -> Result<bool, NoMemory> {
+        Ok(path(alloc, self.0)?.fits(checked) == self.1)
+    }
+}
 
 #[test]
 fn a_path_that_fits_is_within_its_cells(rt: HostRuntime) -> Result<(), Fail> {
-    check_all_fit(&rt, rt.alloc(), &FITTING, true)?;
-    check_all_fit(&rt, rt.alloc(), &OTHERS, false)
+    check_rows(&rt, rt.alloc(), COUNTER, &FITTING)
+}
+
+/// The path of all states.
+struct All(Said);
+
+const ALL: [All; 1] = [All(SAME)];
+
+impl Row for All {
+    fn holds(&self, alloc: Global, checked: &Checked) -> Result<bool, NoMemory> {
+        let all = Path::all(alloc, checked)?;
+        Ok(all.fits(checked) && all == path(alloc, self.0)?)
+    }
 }
 
 #[test]
 fn the_path_of_all_states_is_the_number_itself(rt: HostRuntime) -> Result<(), Fail> {
-    let alloc = rt.alloc();
-    let script = checked(&rt, alloc, COUNTER);
-    let all = Path::all(alloc, &script)?;
-    assert!(rt; all.fits(&script));
-    assert!(rt; all == path(alloc, SAME)?);
-    Ok(())
+    check_rows(&rt, rt.alloc(), COUNTER, &ALL)
 }

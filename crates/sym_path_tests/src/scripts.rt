@@ -1,6 +1,7 @@
 //! Scripts over fifty records, from all states of a small range.
-use crate::comparing::{Case, check_cases};
-use std::process::Abort;
+use crate::comparing::{Case, wrong_case};
+use crate::sessions::SHORT_SESSIONS;
+use crate::setting::all_hold;
 use std::test::Fail;
 
 const NUMBERS: &str = "1 2 3 4 5 6 7 8 9 10 11 12 13 14 15 16 17 18 19 20 21 22 23 24 25 26 27 \
@@ -25,11 +26,7 @@ const CHANGES: &str = "a,3 a,-1 a, a,-4 a,2 a,2 a, a,5 a,1 a,-2 a,-9 a, a,-3 a,1
     a,-3 a, a,7 a,-2 a,-1 a, a,-5 a,2 a,2 a,-13 a,6";
 
 const SESSIONS: Case = Case {
-    script: "field ts: num; field user: word; group user; \
-        state last: hold(num = 0); state n: int [0..12] = 0; state done: nums [0..12]; \
-        test gap(h: num, t: num) = t - h > 30; \
-        update { if gap(last, ts) { push done n; n = 1; } else { n = n + 1; } keep last(ts); } \
-        report { sessions = count(done); open = n; longest = max(done); }",
+    script: SHORT_SESSIONS,
     header: "ts,user",
     lines: VISITS,
     limit: 64,
@@ -168,17 +165,19 @@ const CASES: [Case; 12] = [
     },
 ];
 
+fn has_fifty(cases: &[Case]) -> bool {
+    'cases: for case in cases {
+        if case.lines.split_whitespace().count() != 50 {
+            return false;
+        }
+    }
+    true
+}
+
 #[test]
 fn fifty_records_give_what_their_steps_give(rt: HostRuntime) -> Result<(), Fail> {
-    'cases: for case in &CASES {
-        assert_eq!(rt;
-            case.lines.split_whitespace().count(),
-            50,
-            "{}",
-            case.script
-        );
-    }
-    check_cases(&rt, rt.alloc(), &CASES)
+    assert!(rt; has_fifty(&CASES));
+    all_hold(&rt, wrong_case(rt.alloc(), &CASES))
 }
 
 /// Each of the tests may be true or false of the parts, and a word says which were true.
@@ -205,5 +204,5 @@ const TESTS: Case = Case {
 
 #[test]
 fn ten_tests_of_a_cell_make_all_their_paths(rt: HostRuntime) -> Result<(), Fail> {
-    check_cases(&rt, rt.alloc(), &[TESTS])
+    all_hold(&rt, wrong_case(rt.alloc(), &[TESTS]))
 }

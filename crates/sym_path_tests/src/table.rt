@@ -1,12 +1,11 @@
 //! Pairs of small paths of a number n and a label, against a plain walk over all states.
-use crate::setting::{checked, path_of};
+use crate::setting::{Row, check_rows, number as form_of, path_of};
 use std::alloc::Global;
-use std::process::Abort;
 use std::test::Fail;
 use sym_base::{Fault, FaultKind, NoMemory};
 use sym_check::Checked;
 use sym_enum::{EnumForm, LabelSet};
-use sym_int::{IntForm, Line, Number, Span};
+use sym_int::{IntForm, Span};
 use sym_path::{Form, Part, Path, PathEnd, follow, join_paths, joinable, possible};
 
 const SMALL: &str =
@@ -74,14 +73,9 @@ fn given_by_two(first: &Path, second: &Path, x: i64, label: u8) -> Option<Point>
     }
 }
 
-/// Compares the path of two at a number with what they give there. Whether they give something.
-fn check_both_at(
-    rt: &impl Abort,
-    first: &Path,
-    second: &Path,
-    both: &Option<Path>,
-    x: i64,
-) -> bool {
+/// Whether the two paths give something at a number; `None` where the path of both gives other
+/// than they do.
+fn give_at(first: &Path, second: &Path, both: &Option<Path>, x: i64) -> Option<bool> {
     let mut some = false;
     'labels: for label in 0..2 {
         let wanted = given_by_two(first, second, x, label);
@@ -89,31 +83,37 @@ fn check_both_at(
             Some(path) => given(path, x, label),
             None => None,
         };
-        assert!(rt; found == wanted);
+        if found != wanted {
+            return None;
+        }
         some = some || wanted.is_some();
     }
-    some
+    Some(some)
 }
 
-/// Compares `possible` and `follow` with the walk.
-fn check_followed(
-    rt: &impl Abort,
+/// The same at all numbers.
+fn give(first: &Path, second: &Path, both: &Option<Path>) -> Option<bool> {
+    let mut some = false;
+    'numbers: for x in -3..4 {
+        let here = give_at(first, second, both, x)?;
+        some = some || here;
+    }
+    Some(some)
+}
+
+/// Whether `possible` and `follow` are as the walk.
+fn is_followed(
     alloc: Global,
     checked: &Checked,
     first: &Path,
     second: &Path,
-) -> Result<(), NoMemory> {
-    assert!(rt; first.fits(checked));
-    assert!(rt; second.fits(checked));
-    let both = follow(alloc, checked, first, second)?;
-    let mut some = false;
-    'numbers: for x in -3..4 {
-        let here = check_both_at(rt, first, second, &both, x);
-        some = some || here;
+) -> Result<bool, NoMemory> {
+    if !first.fits(checked) || !second.fits(checked) {
+        return Ok(false);
     }
-    assert!(rt; both.is_some() == some);
-    assert!(rt; possible(checked, first, second) == some);
-    Ok(())
+    let both = follow(alloc, checked, first, second)?;
+    let some = Some(possible(checked, first, second));
+    Ok(give(first, second, &both) == some && Some(both.is_some()) == some)
 }
 
 /// Whether the first path makes what the second one makes wherever the second one is for the
@@ -146,34 +146,35 @@ fn are_beside(first: &Path, second: &Path) -> bool {
     }
 }
 
-/// Compares the joined path at a number with what either gives there.
-fn check_joined_at(rt: &impl Abort, first: &Path, second: &Path, joined: &Path, x: i64) {
+/// Whether the joined path gives at a number what either gives there.
+fn is_joined_at(first: &Path, second: &Path, joined: &Path, x: i64) -> bool {
+    let mut same = true;
     'labels: for label in 0..2 {
         let wanted = match given(first, x, label) {
             Some(point) => Some(point),
             None => given(second, x, label),
         };
-        assert!(rt; given(joined, x, label) == wanted);
+        same = same && given(joined, x, label) == wanted;
     }
+    same
 }
 
-/// Compares `joinable` and `join_paths` with the walk.
-fn check_joined(
-    rt: &impl Abort,
-    alloc: Global,
-    first: &Path,
-    second: &Path,
-) -> Result<(), NoMemory> {
+fn is_join(first: &Path, second: &Path, joined: &Path) -> bool {
+    let mut same = true;
+    'numbers: for x in -3..4 {
+        same = same && is_joined_at(first, second, joined, x);
+    }
+    same
+}
+
+/// Whether `joinable` and `join_paths` are as the walk.
+fn joins(alloc: Global, first: &Path, second: &Path) -> Result<bool, NoMemory> {
     let wanted = are_beside(first, second) && (agrees(first, second) || agrees(second, first));
-    assert!(rt; joinable(first, second) == wanted);
     if !joinable(first, second) {
-        return Ok(());
+        return Ok(!wanted);
     }
     let joined = join_paths(alloc, first, second)?;
-    'numbers: for x in -3..4 {
-        check_joined_at(rt, first, second, &joined, x);
-    }
-    Ok(())
+    Ok(wanted && is_join(first, second, &joined))
 }
 
 fn small_path(
@@ -222,14 +223,10 @@ fn push_numbers(
     paths: &mut Vec<Path>,
     span: Span,
     set: LabelSet,
-    a: i64,
-) -> Result<(), Fail> {
+    a: i128,
+) -> Result<(), NoMemory> {
     'offsets: for b in [-2, -1, 0, 1, 2] {
-        let form = if a == 0 {
-            IntForm::Const(Number::new(b).ok_or("number")?)
-        } else {
-            IntForm::Line(Line::new(0, i128::from(a), i128::from(b)).ok_or("line")?)
-        };
+        let form = form_of(0, a, b)?;
         push_labels(alloc, checked, paths, span, set, form)?;
     }
     Ok(())
@@ -242,12 +239,11 @@ fn push_constraint(
     paths: &mut Vec<Path>,
     span: Span,
     set: LabelSet,
-) -> Result<(), Fail> {
+) -> Result<(), NoMemory> {
     'slopes: for a in [-2, -1, 0, 1, 2] {
         push_numbers(alloc, checked, paths, span, set, a)?;
     }
-    let none = Number::new(0).ok_or("number")?;
-    let mut path = small_path(alloc, span, set, IntForm::Const(none), EnumForm::Const(0))?;
+    let mut path = small_path(alloc, span, set, form_of(0, 0, 0)?, EnumForm::Const(0))?;
     path.end = PathEnd::Ended(Fault {
         kind: FaultKind::Over(0),
         no: 4,
@@ -262,7 +258,7 @@ fn push_span(
     checked: &Checked,
     paths: &mut Vec<Path>,
     span: Span,
-) -> Result<(), Fail> {
+) -> Result<(), NoMemory> {
     'sets: for set in [LabelSet::one(0), LabelSet::one(1), LabelSet::full(2)] {
         push_constraint(alloc, checked, paths, span, set)?;
     }
@@ -270,7 +266,7 @@ fn push_span(
 }
 
 /// All small paths that fit the script.
-fn small_paths(alloc: Global, checked: &Checked) -> Result<Vec<Path>, Fail> {
+fn small_paths(alloc: Global, checked: &Checked) -> Result<Vec<Path>, NoMemory> {
     let mut paths = Vec::new(alloc);
     let numbers = [-3, -2, -1, 0, 1, 2, 3];
     'low: for lo in numbers {
@@ -283,63 +279,78 @@ fn small_paths(alloc: Global, checked: &Checked) -> Result<Vec<Path>, Fail> {
     Ok(paths)
 }
 
-fn check_second_followed(
-    rt: &impl Abort,
+fn is_followed_by_all(
     alloc: Global,
     checked: &Checked,
     paths: &[Path],
     first: &Path,
-) -> Result<(), NoMemory> {
+) -> Result<bool, NoMemory> {
     'second: for second in paths {
-        check_followed(rt, alloc, checked, first, second)?;
+        if !is_followed(alloc, checked, first, second)? {
+            return Ok(false);
+        }
     }
-    Ok(())
+    Ok(true)
 }
 
-fn check_all_followed(
-    rt: &impl Abort,
+fn all_are_followed(alloc: Global, checked: &Checked, paths: &[Path]) -> Result<bool, NoMemory> {
+    'first: for first in paths {
+        if !is_followed_by_all(alloc, checked, paths, first)? {
+            return Ok(false);
+        }
+    }
+    Ok(true)
+}
+
+fn joins_all(alloc: Global, paths: &[Path], first: &Path) -> Result<bool, NoMemory> {
+    'second: for second in paths {
+        if !joins(alloc, first, second)? {
+            return Ok(false);
+        }
+    }
+    Ok(true)
+}
+
+fn all_join(alloc: Global, paths: &[Path]) -> Result<bool, NoMemory> {
+    'first: for first in paths {
+        if !joins_all(alloc, paths, first)? {
+            return Ok(false);
+        }
+    }
+    Ok(true)
+}
+
+/// What is tried of each two small paths.
+enum Tried {
+    Followed,
+    Joined,
+}
+
+fn are_tried(
     alloc: Global,
     checked: &Checked,
     paths: &[Path],
-) -> Result<(), NoMemory> {
-    'first: for first in paths {
-        check_second_followed(rt, alloc, checked, paths, first)?;
+    tried: &Tried,
+) -> Result<bool, NoMemory> {
+    match tried {
+        Tried::Followed => all_are_followed(alloc, checked, paths),
+        Tried::Joined => all_join(alloc, paths),
     }
-    Ok(())
+}
+
+impl Row for Tried {
+    fn holds(&self, alloc: Global, checked: &Checked) -> Result<bool, NoMemory> {
+        let paths = small_paths(alloc, checked)?;
+        Ok(paths.len() == 2_352 && are_tried(alloc, checked, paths.as_slice(), self)?)
+    }
 }
 
 #[test]
 fn small_paths_follow_as_a_walk_does(rt: HostRuntime) -> Result<(), Fail> {
-    let alloc = rt.alloc();
-    let checked = checked(&rt, alloc, SMALL);
-    let paths = small_paths(alloc, &checked)?;
-    assert!(rt; paths.len() == 2_352);
-    Ok(check_all_followed(&rt, alloc, &checked, paths.as_slice())?)
-}
-
-fn check_second_joined(
-    rt: &impl Abort,
-    alloc: Global,
-    paths: &[Path],
-    first: &Path,
-) -> Result<(), NoMemory> {
-    'second: for second in paths {
-        check_joined(rt, alloc, first, second)?;
-    }
-    Ok(())
-}
-
-fn check_all_joined(rt: &impl Abort, alloc: Global, paths: &[Path]) -> Result<(), NoMemory> {
-    'first: for first in paths {
-        check_second_joined(rt, alloc, paths, first)?;
-    }
-    Ok(())
+    check_rows(&rt, rt.alloc(), SMALL, &[Tried::Followed])
 }
 
 #[test]
 fn small_paths_join_as_a_walk_does(rt: HostRuntime) -> Result<(), Fail> {
-    let alloc = rt.alloc();
-    let checked = checked(&rt, alloc, SMALL);
-    let paths = small_paths(alloc, &checked)?;
-    Ok(check_all_joined(&rt, alloc, paths.as_slice())?)
+    check_rows(&rt, rt.alloc(), SMALL, &[Tried::Joined])
 }
