@@ -27,6 +27,7 @@ pub mod Narrowed
 pub mod NarrowedEnds
 pub mod NarrowedFits
 pub mod OnlyOutcomes
+pub mod PairCounts
 pub mod PossibleStates
 pub mod Possibly
 pub mod Pulled

@@ -11,6 +11,7 @@ pub mod Joins
 pub mod Kinds
 pub mod Left
 pub mod Narrowing
+pub mod Pairs
 pub mod Possible
 pub mod Pulling
 pub mod Settling

@@ -15,6 +15,7 @@ ghost use Rattle.sym_path.specs.Standing.{EndsAmong, StandsFor, GivesExactly};
 pub mod changing;
 pub mod following;
 pub mod giving;
+pub mod pairs;
 pub mod settling;
 
 /// The test that computes says whether a constraint admits a state.

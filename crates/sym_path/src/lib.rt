@@ -4,6 +4,7 @@
 
 mod admitting;
 mod changing;
+mod counting;
 mod fitting;
 mod following;
 mod form;
@@ -20,6 +21,7 @@ mod segment;
 mod settling;
 mod suiting;
 
+pub use counting::pairs;
 pub use following::follow;
 pub use form::{Form, Forms};
 pub use joining::{join_paths, joinable};

@@ -1,0 +1,185 @@
+-- Numbers of pairs: there is one, it is that of both parts where a list is cut, and it isn't large.
+use Rattle.std.proofs.Common.{◌≡◌, ◌≤◌, ◌+◌, ◌*◌, ◌↔◌, ℕ, zero, suc, Bool, true, false, cond, List, [], ◌∷◌, ◌++◌, map, length, refl, sym, ap, ◌∙◌, subst, arith}
+use Rattle.std.proofs.lemmas.Grind.{flat_map-append}
+use Rattle.std.proofs.lemmas.List.Sums.{count_by-le-length, sum_by-append, sum_by-cons}
+use Rattle.std.specs.List.{AllZip, count_by, flat_map}
+use Rattle.std.specs.Prelude.{IsTrue, Some, slice_get, take}
+use Rattle.sym_base.specs.Tests.{Truth}
+use Rattle.sym_path.specs.declared.path.PathEnd.{PathEnd}
+use Rattle.sym_path.specs.declared.path.PathEnd.TheVariants.{Next, Ended}
+use Rattle.sym_path.specs.declared.path.Path.{Path}
+use Rattle.sym_path.specs.Changing.{GoesOn}
+use Rattle.sym_path.specs.Pairs.{AreFollowers, ArePairs, IsAnswer, each_with, has_ended, is_ended}
+use Rattle.sym_path.specs.Possible.{IsPossiblePair}
+use Rattle.sym_path.proofs.Lists.{take_get, zip_length}
+
+-- ---- counts
+
+abbrev yes : List Bool → ℕ
+yes answers = count_by (λ (answer : Bool). answer) answers
+
+pub count_both : {A : Type 0} (test : A → Bool) (xs ys : List A) → count_by test (xs ++ ys) ≡ count_by test xs + count_by test ys
+count_both test xs ys = sum_by-append (λ x. cond (test x) 1 0) xs ys
+
+pub count_first : {A : Type 0} (test : A → Bool) (x : A) (xs : List A) → count_by test (x ∷ xs) ≡ cond (test x) 1 0 + count_by test xs
+count_first test x xs = sum_by-cons (λ y. cond (test y) 1 0) x xs
+
+pub zip_join : {A B : Type 0} (R : A → B → Type 0) (xs vs : List A) (ys ws : List B) → AllZip R xs ys → AllZip R vs ws → AllZip R (xs ++ vs) (ys ++ ws)
+zip_join R [] vs [] ws h k = k
+zip_join R [] vs (y ∷ ys) ws h k = absurd h
+zip_join R (x ∷ xs) vs [] ws h k = absurd h
+zip_join R (x ∷ xs) vs (y ∷ ys) ws h k = (h.0, zip_join R xs vs ys ws h.1 k)
+
+-- ---- lists that are cut
+
+pub pairs_both : (truth : Truth) (first rest right : List Path) (m n : ℕ) → ArePairs truth first right m → ArePairs truth rest right n → ArePairs truth (first ++ rest) right (m + n)
+pairs_both truth first rest right m n a b = record {
+  answers = a.answers ++ b.answers;
+  decided = subst (λ (pairs : List (Path × Path)). AllZip (IsAnswer truth) pairs (a.answers ++ b.answers)) (sym (flat_map-append (λ (p : Path). map (λ (q : Path). (p, q)) right) first rest))
+      (zip_join (IsAnswer truth) (each_with first right) (each_with rest right) a.answers b.answers a.decided b.decided);
+  sum =
+      let ended = count_both has_ended first rest in
+      let possible = count_both (λ (answer : Bool). answer) a.answers b.answers in
+      let x = a.sum in
+      let y = b.sum in
+      omega (arith, ended, possible);
+}
+
+pub no_pairs : (truth : Truth) (right : List Path) → ArePairs truth [] right 0
+no_pairs truth right = record { answers = []; decided = tt; sum = refl }
+
+-- ---- one number
+
+same_answer : {P : Type 0} (a b : Bool) → (IsTrue a ↔ P) → (IsTrue b ↔ P) → a ≡ b
+same_answer true true h k = refl
+same_answer true false h k = sym (k.1 (h.0 refl))
+same_answer false true h k = h.1 (k.0 refl)
+same_answer false false h k = refl
+
+same_answers : (truth : Truth) (pairs : List (Path × Path)) (xs ys : List Bool) → AllZip (IsAnswer truth) pairs xs → AllZip (IsAnswer truth) pairs ys → xs ≡ ys
+same_answers truth [] [] [] h k = refl
+same_answers truth [] [] (y ∷ ys) h k = absurd k
+same_answers truth [] (x ∷ xs) ys h k = absurd h
+same_answers truth (p ∷ pairs) [] ys h k = absurd h
+same_answers truth (p ∷ pairs) (x ∷ xs) [] h k = absurd k
+same_answers truth (p ∷ pairs) (x ∷ xs) (y ∷ ys) h k =
+    let first : x ≡ y = same_answer x y h.0 k.0 in
+    let rest : xs ≡ ys = same_answers truth pairs xs ys h.1 k.1 in
+    λ i. first i ∷ rest i
+
+pub pairs_same : (truth : Truth) (left right : List Path) (m n : ℕ) → ArePairs truth left right m → ArePairs truth left right n → m ≡ n
+pairs_same truth left right m n a b =
+    a.sum ∙ ap (λ (answers : List Bool). count_by has_ended left + yes answers) (same_answers truth (each_with left right) a.answers b.answers a.decided b.decided) ∙ sym b.sum
+
+-- ---- few
+
+length_map : {A B : Type 0} (f : A → B) (xs : List A) → length (map f xs) ≡ length xs
+length_map f [] = refl
+length_map f (x ∷ xs) = ap suc (length_map f xs)
+
+pub length_both : {A : Type 0} (xs ys : List A) → length (xs ++ ys) ≡ length xs + length ys
+length_both [] ys = omega arith
+length_both (x ∷ xs) ys = let rest = length_both xs ys in omega (arith, rest)
+
+each_with-length : (left right : List Path) → length (each_with left right) ≡ length left * length right
+each_with-length [] right = omega arith
+each_with-length (p ∷ left) right =
+    let rest = each_with-length left right in
+    let here = length_map {B = Path × Path} (λ (q : Path). (p, q)) right in
+    let both = length_both (map (λ (q : Path). (p, q)) right) (each_with left right) in
+    omega (arith, rest, here, both)
+
+pub pairs_few : (truth : Truth) (left right : List Path) (n : ℕ) → ArePairs truth left right n → n ≤ length left + length left * length right
+pairs_few truth left right n a =
+    let ended = count_by-le-length has_ended left in
+    let possible = count_by-le-length (λ (answer : Bool). answer) a.answers in
+    let lengths : length left * length right ≡ length a.answers = sym (each_with-length left right) ∙ zip_length (IsAnswer truth) (each_with left right) a.answers a.decided in
+    let sum = a.sum in
+    omega (arith, ended, possible, lengths)
+
+-- ---- one path
+
+each_beside : (truth : Truth) (path : Path) (others : List Path) (answers : List Bool) → AllZip (λ (next : Path) (answer : Bool). IsAnswer truth (path, next) answer) others answers → AllZip (IsAnswer truth) (map (λ (q : Path). (path, q)) others ++ []) answers
+each_beside truth path [] [] h = tt
+each_beside truth path [] (x ∷ xs) h = absurd h
+each_beside truth path (q ∷ others) [] h = absurd h
+each_beside truth path (q ∷ others) (x ∷ xs) h = (h.0, each_beside truth path others xs h.1)
+
+-- A path that goes on has as many pairs as others can come after it,
+pub going_pairs : (truth : Truth) (path : Path) (others : List Path) (n : ℕ) → is_ended path.end ≡ false → AreFollowers truth path others n → ArePairs truth (path ∷ []) others n
+going_pairs truth path others n goes a = record {
+  answers = a.answers;
+  decided = each_beside truth path others a.answers a.decided;
+  sum =
+      let none : count_by has_ended (path ∷ []) ≡ 0 = count_first has_ended path [] ∙ ap (λ (b : Bool). cond b 1 0 + 0) goes in
+      let sum = a.sum in
+      omega (arith, none);
+}
+
+none_of : List Path → List Bool
+none_of [] = []
+none_of (q ∷ others) = false ∷ none_of others
+
+none-count : (others : List Path) → yes (none_of others) ≡ 0
+unfolding none_of
+none-count [] = refl
+none-count (q ∷ others) =
+    let first = count_first (λ (answer : Bool). answer) false (none_of others) in
+    let rest = none-count others in
+    omega (arith, first, rest)
+
+none_possible : (truth : Truth) (path : Path) (others : List Path) → ((q : Path) → IsPossiblePair truth path q → ⊥) → AllZip (λ (next : Path) (answer : Bool). IsAnswer truth (path, next) answer) others (none_of others)
+unfolding none_of
+none_possible truth path [] none = tt
+none_possible truth path (q ∷ others) none = ((λ e. absurd (cc), λ h. absurd (none q h)), none_possible truth path others none)
+
+-- and one that has ended has one.
+pub ended_pairs : (truth : Truth) (path : Path) (others : List Path) → is_ended path.end ≡ true → ((q : Path) → IsPossiblePair truth path q → ⊥) → ArePairs truth (path ∷ []) others 1
+ended_pairs truth path others ended none = record {
+  answers = none_of others;
+  decided = each_beside truth path others (none_of others) (none_possible truth path others none);
+  sum =
+      let one : count_by has_ended (path ∷ []) ≡ 1 = count_first has_ended path [] ∙ ap (λ (b : Bool). cond b 1 0 + 0) ended in
+      let zero = none-count others in
+      omega (arith, one, zero);
+}
+
+-- ---- as they are counted
+
+-- One other more.
+pub followers_more : (truth : Truth) (path next : Path) (others : List Path) (n : ℕ) (b : Bool) → (IsTrue b ↔ IsPossiblePair truth path next) → AreFollowers truth path others n → AreFollowers truth path (others ++ next ∷ []) (n + cond b 1 0)
+followers_more truth path next others n b h a = record {
+  answers = a.answers ++ b ∷ [];
+  decided = zip_join (λ (q : Path) (answer : Bool). IsAnswer truth (path, q) answer) others (next ∷ []) a.answers (b ∷ []) a.decided (h, tt);
+  sum =
+      let both = count_both (λ (answer : Bool). answer) a.answers (b ∷ []) in
+      let one = count_first (λ (answer : Bool). answer) b [] in
+      let sum = a.sum in
+      omega (arith, both, one);
+}
+
+-- One path more.
+pub pairs_more : (truth : Truth) (left right : List Path) (i : ℕ) (path : Path) (m n : ℕ) → slice_get left i ≡ Some path → ArePairs truth (take i left) right m → ArePairs truth (path ∷ []) right n → ArePairs truth (take (i + 1) left) right (m + n)
+pairs_more truth left right i path m n at a b = subst (λ (ps : List Path). ArePairs truth ps right (m + n)) (sym (take_get left i path at)) (pairs_both truth (take i left) (path ∷ []) right m n a b)
+
+pub followers_next : (truth : Truth) (path next : Path) (others : List Path) (i m n : ℕ) (b : Bool) → slice_get others i ≡ Some next → (IsTrue b ↔ IsPossiblePair truth path next) → n ≡ m + cond b 1 0 → AreFollowers truth path (take i others) m → AreFollowers truth path (take (i + 1) others) n
+followers_next truth path next others i m n b at h sum a =
+    subst (λ (k : ℕ). AreFollowers truth path (take (i + 1) others) k) (sym sum)
+    (subst (λ (ps : List Path). AreFollowers truth path ps (m + cond b 1 0)) (sym (take_get others i next at)) (followers_more truth path next (take i others) m b h a))
+
+-- ---- ends
+
+pub not_ended : (end : PathEnd) → GoesOn end → is_ended end ≡ false
+not_ended (Next forms) h = refl
+not_ended (Ended fault) h = absurd h
+
+pub ended : (end : PathEnd) → (GoesOn end → ⊥) → is_ended end ≡ true
+ended (Next forms) h = absurd (h tt)
+ended (Ended fault) h = refl
+
+pub none_follow : (truth : Truth) (path : Path) → (GoesOn path.end → ⊥) → (q : Path) → IsPossiblePair truth path q → ⊥
+none_follow truth path none q h = go path.end none h
+  where
+    go : (end : PathEnd) → (GoesOn end → ⊥) → IsPossiblePair truth (record path { end = end }) q → ⊥
+    go (Next forms) none h = none tt
+    go (Ended fault) none h = h

@@ -1,0 +1,18 @@
+//! Numbers of pairs.
+ghost use Rattle.std.specs.Prelude.{◌≡◌, ◌≤◌, ◌+◌, ◌*◌, ℕ, List, length};
+ghost use Rattle.sym_base.specs.Tests.{Truth};
+ghost use Rattle.sym_path.specs.declared.path.Path.{Path as OnePath};
+ghost use Rattle.sym_path.specs.Pairs.{ArePairs};
+
+/// Two segments have one number of pairs.
+pub fn pairs_are_one_number()
+    ensures { (truth : Truth) (left right : List OnePath) (m n : ℕ) →
+        ArePairs truth left right m → ArePairs truth left right n → m ≡ n }
+{}
+
+/// Each path of the left has at most one pair with each of the right, or one alone where it has
+/// ended.
+pub fn pairs_are_few()
+    ensures { (truth : Truth) (left right : List OnePath) (n : ℕ) →
+        ArePairs truth left right n → n ≤ length left + length left * length right }
+{}
