@@ -2,6 +2,7 @@ pub mod AddedLiterals
 mod Admits
 pub mod Changed
 pub mod Checks
+pub mod Composed
 pub mod Decided
 mod Examples
 pub mod Fitted

@@ -1,6 +1,7 @@
 pub mod Admitting
 pub mod Changing
 pub mod Checking
+pub mod Composing
 pub mod Fitting
 pub mod Following
 pub mod FormsAfter

@@ -4,6 +4,7 @@
 
 mod admitting;
 mod changing;
+mod composing;
 mod counting;
 mod fitting;
 mod following;
@@ -21,6 +22,7 @@ mod segment;
 mod settling;
 mod suiting;
 
+pub use composing::compose;
 pub use counting::pairs;
 pub use following::follow;
 pub use form::{Form, Forms};

@@ -1,0 +1,64 @@
+-- Two segments in one: the paths of the first and then of the second.
+use Rattle.std.specs.Prelude.{◌≡◌, ◌⊎◌, List, [], ◌∷◌, ◌++◌}
+use Rattle.sym_base.specs.declared.values.record.Record.{Record}
+use Rattle.sym_check.specs.Conditions.{test_truth}
+use Rattle.sym_check.specs.ScriptPlans.{ScriptPlan}
+use Rattle.sym_path.specs.declared.path.PathEnd.{PathEnd}
+use Rattle.sym_path.specs.declared.path.PathEnd.TheVariants.{Next, Ended}
+use Rattle.sym_path.specs.declared.path.Path.{Path}
+use Rattle.sym_path.specs.Fitting.{SegmentFits}
+use Rattle.sym_path.specs.Following.{IsFollowed}
+use Rattle.sym_path.specs.Joining.{IsSettled}
+use Rattle.sym_path.specs.Pairs.{HasAtMostPairs}
+use Rattle.sym_path.specs.Possible.{IsPossiblePair}
+use Rattle.sym_path.specs.Standing.{StandsFor}
+
+-- The segment is the composition of two: it is settled, fits the script, has at most as many paths
+-- as the two have pairs, and stands for the records of the first one and then those of the second,
+-- whatever these are.
+pub record IsComposition (p : ScriptPlan) (left right segment : List Path) : Type 0 where
+  pub settled : IsSettled segment
+  pub fits : SegmentFits p segment
+  pub few : HasAtMostPairs (test_truth p.tests) left right segment
+  pub stands : (first rest : List Record) → StandsFor p first left → StandsFor p rest right →
+      StandsFor p (first ++ rest) segment
+
+-- The paths of one path and then each of others that can come after it, in order.
+abbrev pub AreFollowed : ScriptPlan → Path → List Path → List Path → Type 0
+AreFollowed p first [] paths = paths ≡ []
+AreFollowed p first (next ∷ others) paths =
+    ((both : Path) × (rest : List Path) × (paths ≡ both ∷ rest)
+    × IsPossiblePair (test_truth p.tests) first next × IsFollowed p first next both
+    × AreFollowed p first others rest)
+    ⊎ ((IsPossiblePair (test_truth p.tests) first next → ⊥) × AreFollowed p first others paths)
+
+-- The same of a path with this end; one that has ended stays as it is.
+abbrev pub GoesOnTo : ScriptPlan → PathEnd → Path → List Path → List Path → Type 0
+GoesOnTo p (Next forms) first others paths = AreFollowed p first others paths
+GoesOnTo p (Ended fault) first others paths = paths ≡ first ∷ []
+
+-- The same of each path of a list, in order.
+abbrev pub AreComposed : ScriptPlan → List Path → List Path → List Path → Type 0
+AreComposed p [] right paths = paths ≡ []
+AreComposed p (path ∷ left) right paths =
+    (first : List Path) × (rest : List Path) × (paths ≡ first ++ rest)
+    × GoesOnTo p path.end path right first × AreComposed p left right rest
+
+-- A list of paths grows by the path of one and then another, where that can come after it.
+abbrev pub GrowsBy : ScriptPlan → Path → Path → List Path → List Path → Type 0
+GrowsBy p first next old new =
+    ((both : Path) × (new ≡ old ++ both ∷ [])
+    × IsPossiblePair (test_truth p.tests) first next × IsFollowed p first next both)
+    ⊎ ((IsPossiblePair (test_truth p.tests) first next → ⊥) × (new ≡ old))
+
+-- It grows by the paths of one and then each of others that can come after it.
+pub record GrowsByAll (p : ScriptPlan) (first : Path) (others old new : List Path) : Type 0 where
+  pub paths : List Path
+  pub is : new ≡ old ++ paths
+  pub are : AreFollowed p first others paths
+
+-- The same of a path that may have ended.
+pub record GrowsByPath (p : ScriptPlan) (path : Path) (others old new : List Path) : Type 0 where
+  pub paths : List Path
+  pub is : new ≡ old ++ paths
+  pub are : GoesOnTo p path.end path others paths
