@@ -221,7 +221,7 @@ fn ends_at(segment: &Segment, no: u64) -> bool {
 }
 
 /// Whether the segment has the paths of two records, both of which can overflow.
-fn has_both(segment: &Segment) -> bool {
+pub(crate) fn has_both(segment: &Segment) -> bool {
     segment.paths().len() == 4 && ends_at(segment, 3) && ends_at(segment, 5)
 }
 

@@ -4,6 +4,8 @@
 #[cfg(test)]
 mod comparing;
 #[cfg(test)]
+mod composing;
+#[cfg(test)]
 mod copies;
 #[cfg(test)]
 mod exploring;
