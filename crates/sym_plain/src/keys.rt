@@ -20,13 +20,19 @@ fn copy_value(alloc: Global, value: Option<&Value>) -> Result<Value, NoMemory>
 fn set_one(alloc: Global, key: &mut Key, value: Option<&Value>) -> Result<(), NoMemory>
     ensures { OnOk result (key.new ≡ Key.One (field_value (option_copied value.entry))) }
 {
-    if let Some(Value::Word(word)) = value {
-        if let Key::One(Value::Word(text)) = key {
-            return text.set(word.as_str());
+    match key {
+        Key::One(held) => match value {
+            Some(value) => held.copy_from(alloc, value),
+            None => {
+                held.set_num(0);
+                Ok(())
+            }
+        },
+        Key::Whole => {
+            *key = Key::One(copy_value(alloc, value)?);
+            Ok(())
         }
     }
-    *key = Key::One(copy_value(alloc, value)?);
-    Ok(())
 }
 
 /// Makes the key that of the record's group, over the memory that it has. After an `Err` it is

@@ -1,5 +1,5 @@
 //! One field of a record.
-ghost use Rattle.std.specs.Prelude.{◌≡◌, IfSome, OnOk, option_copied, option_map};
+ghost use Rattle.std.specs.Prelude.{◌≡◌, IfSome, option_copied, option_map};
 ghost use Rattle.std.specs.List.{All};
 ghost use Rattle.sym_check.specs.WellFormed.{IsEnum};
 ghost use Rattle.sym_table.specs.Decoding.{Leaves};
@@ -12,39 +12,8 @@ use crate::reading::number::number_in;
 use crate::reading::stop::Stop;
 use std::alloc::Global;
 use std::str;
-use sym_base::{NoMemory, Text, Value};
+use sym_base::Value;
 use sym_check::{EnumPlan, FieldPlan, KindPlan, enum_labels};
-
-// Makes the value this word, over the memory that it has.
-#[inline(always)]
-fn set_word(alloc: Global, value: &mut Value, word: &str) -> Result<(), NoMemory>
-    ensures { OnOk result (value.new ≡ Value.Word word.now) }
-{
-    match value {
-        Value::Word(text) => text.set(word),
-        Value::Num(_) | Value::Label(_) => {
-            *value = Value::Word(Text::from_str(alloc, word)?);
-            Ok(())
-        }
-    }
-}
-
-// Makes the value another one, over the memory that it has.
-fn set_value(alloc: Global, value: &mut Value, other: &Value) -> Result<(), NoMemory>
-    ensures { OnOk result (value.new ≡ other.now) }
-{
-    match other {
-        Value::Word(word) => set_word(alloc, value, word.as_str()),
-        Value::Num(number) => {
-            value.set_num(*number);
-            Ok(())
-        }
-        Value::Label(label) => {
-            *value = Value::Label(*label);
-            Ok(())
-        }
-    }
-}
 
 fn text_of(kind: KindPlan, bytes: &[u8]) -> &[u8]
     ensures { result.now ≡ text_of kind bytes.now }
@@ -89,7 +58,7 @@ fn set_said(
             Some(number) => value.set_num(number),
             None => return Err(Stop::Cause(BadCause::Number(which))),
         },
-        KindPlan::Word => set_word(alloc, value, text)?,
+        KindPlan::Word => value.set_word(alloc, text)?,
         KindPlan::Label(of) => {
             match label_in(enum_labels(enums, of), without_blanks(text.as_bytes())) {
                 Some(label) => *value = Value::Label(label),
@@ -125,7 +94,7 @@ fn read_text(
     match str::from_utf8(bytes) {
         Ok(text) => match default_for(field, bytes) {
             Some(default) => {
-                set_value(alloc, value, default)?;
+                value.copy_from(alloc, default)?;
                 Ok(())
             }
             None => set_said(alloc, enums, which, field.kind, text, value),
