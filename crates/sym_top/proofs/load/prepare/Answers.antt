@@ -24,8 +24,8 @@ returns-in-Ok-report_files-clause-ready g c =
     (subst (λ h. Reports program rules h names c.in-Ok-report_files.report) c.in-Ok.ensures.same
     c.in-Ok-report_files.ensures.ready)
 
-pub returns-in-Err-report_files-clause-stopped : goal.returns-in-Err-report_files-clause-stopped
-returns-in-Err-report_files-clause-stopped g c =
+pub returns-clause-stopped : goal.returns-clause-stopped
+returns-clause-stopped g c =
     let program = checked_program c.in-Ok.checked in
     let rules = file_rules (command_seen c.in-Some.command) in
     let names = map string_bytes c.in-Some.command.files.now in
