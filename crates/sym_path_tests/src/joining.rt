@@ -24,7 +24,8 @@ struct Joining(Said, Said, Option<Said>);
 fn part(said: Said) -> Result<Part, NoMemory> {
     match said {
         Said::Number(lo, hi, _, _) | Said::Fault(lo, hi, _) => Ok(Part::Span(span(lo, hi)?)),
-        Said::Label(Some(label), _) => Ok(Part::Set(LabelSet::one(label))),
+        Said::Label(Some(label), _) if label < 32 => Ok(Part::Set(LabelSet::one(label))),
+        Said::Label(Some(_), _) => Err(NoMemory),
         Said::Label(None, _) => Ok(Part::Set(LabelSet::full(2))),
     }
 }

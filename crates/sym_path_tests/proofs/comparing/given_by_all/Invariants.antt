@@ -4,4 +4,4 @@ use Rattle.sym_check.specs.Validity.{IsValidOutcome}
 use Rattle.sym_path_tests.proofs.comparing.given_by_all.Given as goal
 
 abbrev pub invariant-segments : goal.invariant-segments
-invariant-segments g l = IsValidOutcome (checked_plan l.checked) l.outcome
+invariant-segments l = IsValidOutcome (checked_plan l.checked) l.outcome
