@@ -32,12 +32,12 @@ AreFollowed p first (next ∷ others) paths =
     × AreFollowed p first others rest)
     ⊎ ((IsPossiblePair (test_truth p.tests) first next → ⊥) × AreFollowed p first others paths)
 
--- The same of a path with this end; one that has ended stays as it is.
+-- The paths that a path with this end and then others come to: one that has ended stays as it is.
 abbrev pub GoesOnTo : ScriptPlan → PathEnd → Path → List Path → List Path → Type 0
 GoesOnTo p (Next forms) first others paths = AreFollowed p first others paths
 GoesOnTo p (Ended fault) first others paths = paths ≡ first ∷ []
 
--- The same of each path of a list, in order.
+-- The paths that each path of a list and then others come to, in order.
 abbrev pub AreComposed : ScriptPlan → List Path → List Path → List Path → Type 0
 AreComposed p [] right paths = paths ≡ []
 AreComposed p (path ∷ left) right paths =
@@ -51,13 +51,13 @@ GrowsBy p first next old new =
     × IsPossiblePair (test_truth p.tests) first next × IsFollowed p first next both)
     ⊎ ((IsPossiblePair (test_truth p.tests) first next → ⊥) × (new ≡ old))
 
--- It grows by the paths of one and then each of others that can come after it.
+-- A list of paths grows by the paths of one and then each of others that can come after it.
 pub record GrowsByAll (p : ScriptPlan) (first : Path) (others old new : List Path) : Type 0 where
   pub paths : List Path
   pub is : new ≡ old ++ paths
   pub are : AreFollowed p first others paths
 
--- The same of a path that may have ended.
+-- A list of paths grows by the paths that one, which may have ended, and then others come to.
 pub record GrowsByPath (p : ScriptPlan) (path : Path) (others old new : List Path) : Type 0 where
   pub paths : List Path
   pub is : new ≡ old ++ paths

@@ -132,8 +132,8 @@ CanComeAfter forms lefts context c (form.Nums added) =
     IsNums (slice_get forms c) × All (λ f. CanGoThrough f context) added
 CanComeAfter forms lefts context c (form.Words added) = IsWords (slice_get forms c)
 
--- Numbers that begin with the first ones, after which come the added ones, each as it is through the
--- context.
+-- Numbers that begin with the first ones, after which come the added ones, each as it is through
+-- the context.
 abbrev pub AddsNums : IntForms → List IntForm → List IntForm → List IntForm → Type 0
 AddsNums context added first new =
     (take (length first) new ≡ first)

@@ -1,6 +1,6 @@
 -- How many pairs two segments have: paths of the first one that have ended, and paths of the second
 -- one after paths of the first.
-use Rattle.std.specs.Prelude.{◌≡◌, ℕ, ◌+◌, ◌≤◌, ◌<◌, ◌↔◌, Bool, true, false, IsTrue, List, map, length}
+use Rattle.std.specs.Prelude.{◌≡◌, ℕ, ◌+◌, ◌≤◌, ◌↔◌, Bool, true, false, IsTrue, List, map, length}
 use Rattle.std.specs.List.{AllZip, count_by, flat_map}
 use Rattle.sym_base.specs.Tests.{Truth}
 use Rattle.sym_path.specs.declared.path.PathEnd.{PathEnd}
@@ -33,7 +33,8 @@ pub record ArePairs (truth : Truth) (left right : List Path) (n : ℕ) : Type 0 
 -- The number of the others that can come after a path.
 pub record AreFollowers (truth : Truth) (path : Path) (others : List Path) (n : ℕ) : Type 0 where
   pub answers : List Bool
-  pub decided : AllZip (λ (next : Path) (answer : Bool). IsAnswer truth (path, next) answer) others answers
+  pub decided : AllZip (λ (next : Path) (answer : Bool). IsAnswer truth (path, next) answer)
+      others answers
   pub sum : n ≡ count_by (λ (answer : Bool). answer) answers
 
 -- There is this number of pairs, and there are no more paths.
@@ -41,9 +42,3 @@ pub record HasAtMostPairs (truth : Truth) (left right paths : List Path) : Type 
   pub pairs : ℕ
   pub are : ArePairs truth left right pairs
   pub few : length paths ≤ pairs
-
--- There is this number of pairs, and it is greater than the limit.
-pub record HasMorePairs (truth : Truth) (limit : ℕ) (left right : List Path) : Type 0 where
-  pub pairs : ℕ
-  pub are : ArePairs truth left right pairs
-  pub more : limit < pairs

@@ -136,7 +136,8 @@ pub fn compose(
 }
 
 impl Segment {
-    /// `compose` of a segment that is given away: its paths are moved. After an `Err` it is dropped.
+    /// `compose` of a segment that is given away: its paths are moved. After an `Err` it is
+    /// dropped.
     pub fn composed_with(
         self,
         alloc: Global,

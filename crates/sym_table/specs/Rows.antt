@@ -24,8 +24,8 @@ pub record FitsHeader (fields : List FieldPlan) (header : Header) : Type 0 where
   pub count : length header.places ≡ length fields
   pub places : All (λ place. place < header.columns) header.places
 
--- The header of the chunk has the column of each field; its rows are no more than a chunk may have,
--- and so are their numbers.
+-- The header of the chunk has a position for each field, each below its width; the rows are no more
+-- than a chunk may have, and their numbers no greater than a record's may be.
 pub record FitsChunk (fields : List FieldPlan) (cut : Chunk) : Type 0 where
   pub header : FitsHeader fields cut.header
   pub number : cut.first_no ≤ 2 ^ 63

@@ -18,7 +18,7 @@ use Rattle.sym_top.specs.declared.refusal.Refusal.TheVariants as refusal
 use Rattle.sym_top.specs.declared.report.Report.{Report}
 use Rattle.sym_top.specs.declared.status.Status.{Status}
 use Rattle.sym_top.specs.declared.status.Status.TheVariants as status
-use Rattle.sym_top.specs.Commands.{Names, name_at, names_of}
+use Rattle.sym_top.specs.Commands.{FileNames, name_at, names_of}
 use Rattle.sym_top.specs.Ends.{End, Refused, Reported, Held, IsEnd, usage, no_program, problem, report, IsWhole, status_of}
 use Rattle.sym_top.specs.EndReading.{command_end}
 use Rattle.sym_top.specs.Loading.{Ready, Stops, failure_line}
@@ -97,12 +97,12 @@ stop-refuses call out err failure result s status_is untouched told = record {
   line = subst (Tells err) s.line told;
 }
 
-cut-line : (names others : Names) (headers : List (List ℕ)) (out : Sunk) (text : List ℕ) (why : Refusal) →
+cut-line : (names others : FileNames) (headers : List (List ℕ)) (out : Sunk) (text : List ℕ) (why : Refusal) →
     WriteFails out text why → line_of names [] why ≡ line_of others headers why
 cut-line names others headers out text _ (failed prefix rose) = refl
 cut-line names others headers out text _ (short prefix rose) = refl
 
-pub cut-refuses : (call : Call) (names : Names) (out err : Sunk) (made : Report) (why : Refusal) (result : Status) → Ready call made →
+pub cut-refuses : (call : Call) (names : FileNames) (out err : Sunk) (made : Report) (why : Refusal) (result : Status) → Ready call made →
     result ≡ status_of_refusal why → WriteFails out made.text.items why → Tells err (line_of names [] why) →
     Refuses call out err result
 cut-refuses call names out err made why result ready status_is fails told = record {

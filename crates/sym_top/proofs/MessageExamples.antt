@@ -9,11 +9,11 @@ use Rattle.sym_table.specs.declared.header.HeadFault.TheVariants as head
 use Rattle.sym_top.specs.declared.refusal.Place.TheVariants as place
 use Rattle.sym_top.specs.declared.refusal.Refusal.TheVariants as refusal
 use Rattle.sym_top.specs.declared.refusal.ScriptFault.TheVariants as fault
-use Rattle.sym_top.specs.Commands.{Names}
+use Rattle.sym_top.specs.Commands.{FileNames}
 use Rattle.sym_top.specs.Messages.{line_of}
 
 -- A command over two files of records, of a script with two fields.
-names : Names
+names : FileNames
 names = record { script = Some (codes "s.symple"); files = codes "a.csv" ∷ codes "b.csv" ∷ [] }
 
 headers : List (List ℕ)

@@ -30,7 +30,7 @@ use Rattle.sym_top.specs.declared.refusal.Refusal.TheVariants as refusal
 use Rattle.sym_top.specs.declared.report.Report.{Report}
 use Rattle.sym_top.specs.declared.status.Status.TheVariants as status
 use Rattle.sym_top.specs.declared.commands.Command.{Command as CommandRead}
-use Rattle.sym_top.specs.Commands.{Names, command_of, file_rules, name_at, names_of}
+use Rattle.sym_top.specs.Commands.{FileNames, command_of, file_rules, name_at, names_of}
 use Rattle.sym_top.specs.Ends.{Held, IsTextOf, report_in, usage, no_program, problem, report, report_of}
 use Rattle.sym_top.specs.Loading.{MayRefuse, Loads, Unloads, refused, unread, no_memory, Reports, StopsFiles, stops, Ready, Stops}
 use Rattle.sym_top.specs.Messages.{headers_of, line_of}
@@ -147,7 +147,7 @@ fails-by out text sink_error.NoMemory prefix bad full = promise.short prefix (fu
 -- A call that asks for no command.
 pub usage-stops : (call : Call) → command_of call.asked ≡ None → Stops call (record { why = refusal.Usage; command = None; checked = None })
 usage-stops call asked =
-    let P : Names → Type 0 = λ names. MayScript call.holds names.script [] × MayAll call.holds names.files [] in
+    let P : FileNames → Type 0 = λ names. MayScript call.holds names.script [] × MayAll call.holds names.files [] in
     record {
       held = record { script = []; files = [] };
       may = subst P (sym (ap names_of asked)) (refl, tt);
@@ -163,13 +163,13 @@ module _ (call : Call) (read : CommandRead) (asked : command_of call.asked ≡ S
   may-by : (held : Held) → May (call.holds (command_seen read).script) held.script → MayAll call.holds (command_seen read).files held.files →
       MayHold call held
   may-by held script files =
-      let P : Names → Type 0 = λ names. MayScript call.holds names.script held.script × MayAll call.holds names.files held.files in
+      let P : FileNames → Type 0 = λ names. MayScript call.holds names.script held.script × MayAll call.holds names.files held.files in
       subst P (sym names-known) (script, files)
 
   script-failed : Rose (call.before (command_seen read).script) (call.after (command_seen read).script) → ReadFailed call place.Script
   script-failed rose = record {
     name = (command_seen read).script;
-    named = ap (λ (names : Names). name_at names place.Script) names-known;
+    named = ap (λ (names : FileNames). name_at names place.Script) names-known;
     rose = rose;
   }
 
@@ -177,7 +177,7 @@ module _ (call : Call) (read : CommandRead) (asked : command_of call.asked ≡ S
       ReadFailed call (place.File number)
   file-failed number name named rose = record {
     name = name;
-    named = ap (λ (names : Names). name_at names (place.File number)) names-known ∙ named;
+    named = ap (λ (names : FileNames). name_at names (place.File number)) names-known ∙ named;
     rose = rose;
   }
 

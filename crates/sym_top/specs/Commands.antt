@@ -51,21 +51,21 @@ command_of asked = command_in asked.words
 
 -- The names of the files that a command reads: of its script, where it has one, and of its files of
 -- records, in order.
-pub record Names : Type 0 where
+pub record FileNames : Type 0 where
   pub script : Option (List ℕ)
   pub files : List (List ℕ)
 
-abbrev pub names_of : Option Command → Names
+abbrev pub names_of : Option Command → FileNames
 names_of None = record { script = None; files = [] }
 names_of (Some command) = record { script = Some command.script; files = command.files }
 
 -- The name of the file at this place.
-abbrev pub name_at : Names → Place → Option (List ℕ)
+abbrev pub name_at : FileNames → Place → Option (List ℕ)
 name_at names place.Script = names.script
 name_at names (place.File number) = slice_get names.files number
 
 -- The same, empty where there is no such file.
-abbrev pub file_name : Names → Place → List ℕ
+abbrev pub file_name : FileNames → Place → List ℕ
 file_name names at = unwrap_or (name_at names at) []
 
 -- How a command reads its files of records.

@@ -1,5 +1,5 @@
--- The end of a call, as a relation between what it is asked and the bytes of the files that it reads.
--- The rows are those of one sequential pass, by the SYMPLE paper (SOSP 2015). Causes, statuses,
+-- The end of a call, as a relation between what it is asked and the bytes of the files that it
+-- reads. The rows are those of one sequential pass, by the SYMPLE paper (SOSP 2015). Causes, statuses,
 -- limits and their order are this project's profile.
 use Rattle.std.specs.Prelude.{◌≡◌, ℕ, if◌then◌else◌, List, [], map, None, Some}
 use Rattle.sym_base.specs.declared.values.record.Record.{Record}

@@ -15,7 +15,7 @@ use Rattle.sym_top.specs.declared.refusal.Refusal.TheVariants as refusal
 use Rattle.sym_top.specs.declared.report.Report.{Report}
 use Rattle.sym_top.specs.declared.commands.Command.{Command as CommandRead}
 use Rattle.sym_top.specs.declared.load.Failure.{Failure}
-use Rattle.sym_top.specs.Commands.{Names, names_of}
+use Rattle.sym_top.specs.Commands.{FileNames, names_of}
 use Rattle.sym_top.specs.Ends.{Held, IsTextOf, report_of, status_of}
 use Rattle.sym_top.specs.Messages.{headers_of, line_of}
 use Rattle.sym_top.specs.Programs.{Program, IsProgram, IsNoProgram, headers_in}
@@ -76,7 +76,7 @@ known_headers None = []
 known_headers (Some checked) = headers_of (checked_plan checked).fields
 
 -- The names of the files of a command that was read.
-abbrev pub known_names : Option CommandRead → Names
+abbrev pub known_names : Option CommandRead → FileNames
 known_names command = names_of (option_map command_seen command)
 
 -- The line of a failure, by the command and the script that it carries.

@@ -14,7 +14,7 @@ use Rattle.sym_top.specs.declared.refusal.Refusal.{Refusal}
 use Rattle.sym_top.specs.declared.refusal.Refusal.TheVariants as refusal
 use Rattle.sym_top.specs.declared.refusal.ScriptFault.{ScriptFault}
 use Rattle.sym_top.specs.declared.refusal.ScriptFault.TheVariants as fault
-use Rattle.sym_top.specs.Commands.{Names, file_name}
+use Rattle.sym_top.specs.Commands.{FileNames, file_name}
 
 -- The header texts of a script's fields.
 abbrev pub headers_of : List FieldPlan → List (List ℕ)
@@ -67,7 +67,7 @@ cause_text headers (cause.Utf8 which) =
     codes "field " ++ header_text headers which ++ codes " is not UTF-8"
 
 -- What a line says of a refusal.
-abbrev pub refusal_text : Names → List (List ℕ) → Refusal → List ℕ
+abbrev pub refusal_text : FileNames → List (List ℕ) → Refusal → List ℕ
 refusal_text names headers refusal.Usage = codes "usage"
 refusal_text names headers (refusal.Script what at) =
     codes "script: " ++ fault_text what ++ codes " at byte " ++ decimal at
@@ -85,5 +85,5 @@ refusal_text names headers refusal.NoMemory = codes "out of memory"
 
 -- The line of a refusal, of a command that reads the files of these names, and of a script whose
 -- fields have these header texts.
-abbrev pub line_of : Names → List (List ℕ) → Refusal → List ℕ
+abbrev pub line_of : FileNames → List (List ℕ) → Refusal → List ℕ
 line_of names headers why = codes "symple: " ++ refusal_text names headers why ++ codes "\n"

@@ -11,7 +11,7 @@ use Rattle.sym_top.specs.declared.refusal.Refusal.{Refusal}
 use Rattle.sym_top.specs.declared.refusal.Refusal.TheVariants as refusal
 use Rattle.sym_top.specs.declared.status.Status.{Status}
 use Rattle.sym_top.specs.declared.status.Status.TheVariants as status
-use Rattle.sym_top.specs.Commands.{Asked, Command, Names, command_of, file_rules, name_at, names_of}
+use Rattle.sym_top.specs.Commands.{Asked, Command, FileNames, command_of, file_rules, name_at, names_of}
 use Rattle.sym_top.specs.Ends.{End, Refused, Held, IsEnd, IsTextOf, IsWhole, status_of}
 use Rattle.sym_top.specs.Messages.{line_of}
 use Rattle.sym_top.specs.Programs.{Program, IsProgram, headers_in}
@@ -40,7 +40,7 @@ abbrev pub IsUsage : Call → Type 0
 IsUsage call = command_of call.asked ≡ None
 
 -- The names of the files that the call reads.
-abbrev pub call_names : Call → Names
+abbrev pub call_names : Call → FileNames
 call_names call = names_of (command_of call.asked)
 
 -- The bytes that a script may have; none where none is named.

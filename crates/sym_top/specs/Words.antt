@@ -3,8 +3,8 @@ use Rattle.std.specs.Prelude.{map, Option}
 use Rattle.std.specs.Option.{option_map}
 use Rattle.std.specs.String.{string_bytes}
 use Rattle.sym_top.specs.declared.commands.Command.{Command as CommandRead}
-use Rattle.sym_top.specs.declared.commands.Names.{Names as NamesRead}
-use Rattle.sym_top.specs.Commands.{Command, Names}
+use Rattle.sym_top.specs.declared.commands.FileNames.{FileNames as NamesRead}
+use Rattle.sym_top.specs.Commands.{Command, FileNames}
 
 abbrev pub command_seen : CommandRead → Command
 command_seen command = record {
@@ -13,7 +13,7 @@ command_seen command = record {
   max_bytes = command.max_bytes;
 }
 
-abbrev pub names_seen : NamesRead → Names
+abbrev pub names_seen : NamesRead → FileNames
 names_seen names = record {
   script = option_map (λ script. script.now) names.script;
   files = map string_bytes names.files.now;

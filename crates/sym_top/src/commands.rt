@@ -21,7 +21,7 @@ pub struct Command<'a> {
 
 /// The names of the files that a command reads.
 #[derive(Clone, Copy)]
-pub struct Names<'a> {
+pub struct FileNames<'a> {
     pub script: Option<&'a str>,
     pub files: &'a [String],
 }
@@ -72,15 +72,15 @@ pub fn read_words(words: &[String]) -> Option<Command<'_>>
 }
 
 /// The names of the files that the command reads; none where there is no command.
-pub fn names_of<'a>(command: &Option<Command<'a>>) -> Names<'a>
+pub fn names_of<'a>(command: &Option<Command<'a>>) -> FileNames<'a>
     ensures { names_seen result ≡ names_of_command (option_map command_seen command.now) }
 {
     match command {
-        Some(command) => Names {
+        Some(command) => FileNames {
             script: Some(command.script),
             files: command.files,
         },
-        None => Names {
+        None => FileNames {
             script: None,
             files: &[],
         },
@@ -88,7 +88,7 @@ pub fn names_of<'a>(command: &Option<Command<'a>>) -> Names<'a>
 }
 
 /// The name of the file at this place, empty where there is none.
-pub fn file_name<'a>(names: &Names<'a>, place: Place) -> &'a str
+pub fn file_name<'a>(names: &FileNames<'a>, place: Place) -> &'a str
     ensures { result.now ≡ file_name_in (names_seen names.now) place }
 {
     match place {

@@ -7,7 +7,7 @@ ghost use Rattle.sym_top.specs.Refusals.{start_refusal as refusal_of_start, stat
 ghost use Rattle.sym_top.specs.Telling.{Later, Tells, sunk};
 ghost use Rattle.sym_top.specs.Words.{names_seen};
 
-use crate::commands::{Names, file_name, names_of};
+use crate::commands::{FileNames, file_name, names_of};
 use crate::refusal::{Place, Refusal, ScriptFault, StartErr, start_refusal};
 use crate::status::Status;
 use itoa::Buffer;
@@ -226,7 +226,7 @@ fn tell_field<'a, E: Sink>(err: &mut E, file: &'a str, no: u64, name: &'a str, a
 /// Writes the line of a refusal to `err`: of a command that reads the files of these names, and of
 /// a script with these fields, of which there are none where no script was accepted. It takes no
 /// memory, and a failure of `err` ends the line.
-pub fn tell<E: Sink>(err: &mut E, names: &Names<'_>, fields: &[FieldPlan], why: Refusal)
+pub fn tell<E: Sink>(err: &mut E, names: &FileNames<'_>, fields: &[FieldPlan], why: Refusal)
     ensures told { Tells (sunk E.written E.faults E.short err.old err.new)
         (line_of (names_seen names.now) (headers_of fields.now) why) }
     ensures later { Later (sunk E.written E.faults E.short err.old err.new) }

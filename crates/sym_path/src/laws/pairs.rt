@@ -10,8 +10,7 @@ pub fn pairs_are_one_number()
         ArePairs truth left right m → ArePairs truth left right n → m ≡ n }
 {}
 
-/// Each path of the left has at most one pair with each of the right, or one alone where it has
-/// ended.
+/// There are no more pairs than paths of the left and pairs of a path of each together.
 pub fn pairs_are_few()
     ensures { (truth : Truth) (left right : List OnePath) (n : ℕ) →
         ArePairs truth left right n → n ≤ length left + length left * length right }
