@@ -45,7 +45,7 @@ pub fn columns(alloc: Global, checked: &Checked, state: &State) -> Result<Column
 }
 
 /// The key of a record's group: `Whole` where the script has no group line, else `One` of the
-/// named field's value.
+/// named field's value. For callers who look a group up: folding finds the key itself.
 pub fn key_of(alloc: Global, checked: &Checked, rec: &Record) -> Result<Key, NoMemory>
     ensures { IfOk result (λ k. k ≡ key_of (checked_plan checked.now) rec.now) }
 {
@@ -55,7 +55,8 @@ pub fn key_of(alloc: Global, checked: &Checked, rec: &Record) -> Result<Key, NoM
 /// The groups after one record more: the record's group makes its next step, a new group goes last
 /// with one step from the initial state, and all others stay. A group that has ended stays as it
 /// is. The record's key is written over the one that was looked up last, a new group gets a copy of
-/// it, and the state of a group that is there is changed where it lies.
+/// it, and the state of a group that is there is changed where it lies. For callers who give groups
+/// away: the program folds where they lie, by `fold_into`.
 pub fn fold(
     alloc: Global,
     checked: &Checked,

@@ -157,7 +157,8 @@ impl Groups {
     }
 
     /// The groups with this outcome for the key: it takes the place of the key's outcome, and a
-    /// new key goes last. After an `Err` the groups, the key and the outcome are dropped.
+    /// new key goes last. After an `Err` the groups, the key and the outcome are dropped. For
+    /// callers who have an outcome from elsewhere: the program's groups come from records.
     pub fn put(self, _alloc: Global, key: Key, outcome: Outcome) -> Result<Groups, NoMemory>
         ensures { IfOk result (λ g. g ≡ put self key outcome) }
     {

@@ -166,7 +166,8 @@ impl<'a> Cutter<'a> {
 
     /// The next chunk: as many rows as a chunk has, or the fewer that are left. `None` exactly
     /// where no row is left. A chunk fits each script that the header fits. After an `Err` each
-    /// later call answers one.
+    /// later call answers one. For callers who take many rows at once: the program takes one at a
+    /// time, by `next_row`.
     pub fn next(&mut self, alloc: Global) -> Result<Option<Chunk>, NoMemory>
         ensures cuts { Cuts self.old self.new result }
         ensures fits { (fields : List OneField) → FitsHeader fields self.old.header →

@@ -117,7 +117,8 @@ pub fn decode_into(
     decode_by(alloc, checked.plan(), header, row, no, into)
 }
 
-/// Decodes a row: the record with the number `no`, or the first rule that the row breaks.
+/// Decodes a row: the record with the number `no`, or the first rule that the row breaks. For
+/// callers who keep the record: the program decodes over one record, by `decode_into`.
 pub fn decode(
     alloc: Global,
     checked: &Checked,
