@@ -23,7 +23,7 @@ use Rattle.sym_path.specs.declared.path.Path.{Path}
 use Rattle.sym_path.specs.declared.path.PathEnd.{PathEnd}
 use Rattle.sym_path.specs.declared.path.PathEnd.TheVariants.{Next, Ended}
 use Rattle.sym_path.specs.Admitting.{Admits, admits}
-use Rattle.sym_path.specs.Composing.{AreComposed, AreFollowed, GoesOnTo, GrowsBy, GrowsByAll, GrowsByPath, IsComposition}
+use Rattle.sym_path.specs.Composing.{AreComposed, AreFollowed, GoesOnTo, GrowsBy, GrowsByAll, GrowsByPath, IsComposition, given_after, given_by_both}
 use Rattle.sym_path.specs.Fitting.{PathFits, SegmentFits}
 use Rattle.sym_path.specs.Following.{AdmitsOutcome, IsFollowed}
 use Rattle.sym_path.specs.Giving.{IsOnlyOutcome, end_at, given, outcomes, state_at}
@@ -45,11 +45,6 @@ outcomes_both truth [] ys s = refl
 outcomes_both truth (x ∷ xs) ys s =
     ap (λ (os : List Outcome). given truth x s ++ os) (outcomes_both truth xs ys s)
     ∙ sym (append_assoc (given truth x s) (outcomes truth xs s) (outcomes truth ys s))
-
--- What paths give of an outcome: of a state what they give there, and a fault stays.
-abbrev given_after : Truth → List Path → Outcome → List Outcome
-given_after truth right (Going s) = outcomes truth right s
-given_after truth right (outcome.Ended fault) = outcome.Ended fault ∷ []
 
 -- ---- one path and then others
 
@@ -274,6 +269,10 @@ composition p left right paths segment l r h w = record {
   fits = w.reduced.fits p (composed_fit p left right paths l r h);
   few = record { pairs = length paths; are = composed_pairs p left right paths h; few = w.reduced.few };
   stands = λ first rest a b. settled_stand p (first ++ rest) paths segment (composed_stand p first rest left right paths h a b) w;
+  gives = λ s few.
+      let truth : Truth = test_truth p.tests in
+      let same : outcomes truth paths s ≡ given_by_both truth left right s = composed_give p left right paths s h in
+      w.reduced.same truth s (omega (arith, ap length same, few)) ∙ same;
 }
 
 -- ---- as they are made

@@ -1,6 +1,12 @@
 -- Two segments in one: the paths of the first and then of the second.
-use Rattle.std.specs.Prelude.{◌≡◌, ◌⊎◌, List, [], ◌∷◌, ◌++◌}
+use Rattle.std.specs.Prelude.{◌≡◌, ◌≤◌, ◌⊎◌, List, [], ◌∷◌, ◌++◌, length}
+use Rattle.std.specs.List.{flat_map}
 use Rattle.sym_base.specs.declared.values.record.Record.{Record}
+use Rattle.sym_base.specs.declared.values.state.State.{State}
+use Rattle.sym_base.specs.declared.values.state.Outcome.{Outcome}
+use Rattle.sym_base.specs.declared.values.state.Outcome.TheVariants.{Going}
+use Rattle.sym_base.specs.declared.values.state.Outcome.TheVariants as outcome
+use Rattle.sym_base.specs.Tests.{Truth}
 use Rattle.sym_check.specs.Conditions.{test_truth}
 use Rattle.sym_check.specs.ScriptPlans.{ScriptPlan}
 use Rattle.sym_path.specs.declared.path.PathEnd.{PathEnd}
@@ -8,20 +14,32 @@ use Rattle.sym_path.specs.declared.path.PathEnd.TheVariants.{Next, Ended}
 use Rattle.sym_path.specs.declared.path.Path.{Path}
 use Rattle.sym_path.specs.Fitting.{SegmentFits}
 use Rattle.sym_path.specs.Following.{IsFollowed}
+use Rattle.sym_path.specs.Giving.{outcomes}
 use Rattle.sym_path.specs.Joining.{IsSettled}
 use Rattle.sym_path.specs.Pairs.{HasAtMostPairs}
 use Rattle.sym_path.specs.Possible.{IsPossiblePair}
 use Rattle.sym_path.specs.Standing.{StandsFor}
 
+-- What paths give of an outcome: of a state what they give there, and a fault stays.
+abbrev pub given_after : Truth → List Path → Outcome → List Outcome
+given_after truth paths (Going s) = outcomes truth paths s
+given_after truth paths (outcome.Ended fault) = outcome.Ended fault ∷ []
+
+-- What the paths of one segment give at a state, and then those of another give of each outcome.
+abbrev pub given_by_both : Truth → List Path → List Path → State → List Outcome
+given_by_both truth left right s = flat_map (given_after truth right) (outcomes truth left s)
+
 -- The segment is the composition of two: it is settled, fits the script, has at most as many paths
 -- as the two have pairs, and stands for the records of the first one and then those of the second,
--- whatever these are.
+-- whatever these are. At a state of which the two in turn give at most one outcome, it gives that.
 pub record IsComposition (p : ScriptPlan) (left right segment : List Path) : Type 0 where
   pub settled : IsSettled segment
   pub fits : SegmentFits p segment
   pub few : HasAtMostPairs (test_truth p.tests) left right segment
   pub stands : (first rest : List Record) → StandsFor p first left → StandsFor p rest right →
       StandsFor p (first ++ rest) segment
+  pub gives : (s : State) → length (given_by_both (test_truth p.tests) left right s) ≤ 1 →
+      outcomes (test_truth p.tests) segment s ≡ given_by_both (test_truth p.tests) left right s
 
 -- The paths of one path and then each of others that can come after it, in order.
 abbrev pub AreFollowed : ScriptPlan → Path → List Path → List Path → Type 0

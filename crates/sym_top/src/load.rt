@@ -4,7 +4,7 @@ ghost use Rattle.std.specs.String.{string_bytes};
 ghost use Rattle.sym_base.specs.declared.limits.TheConstants as limit;
 ghost use Rattle.sym_top.specs.Loading.{MayRefuse, Loads, Unloads, Ready, Stops};
 ghost use Rattle.sym_top.specs.Programs.{IsProgram, checked_program};
-ghost use Rattle.sym_top.specs.Promises.{called};
+ghost use Rattle.sym_top.specs.Promises.{called, IsUsage};
 
 use crate::commands::{Command, read_words};
 use crate::refusal::{Place, Refusal, check_refusal, parse_refusal, read_refusal};
@@ -68,6 +68,9 @@ pub fn prepare<'a, F: Store>(
     ensures stopped { let words = map string_bytes words.now in
         let call = called F.holds F.faults words files.old files.new in
         IfErr result (Stops call) }
+    ensures unread { let words = map string_bytes words.now in
+        let call = called F.holds F.faults words files.old files.new in
+        IsUsage call → files.new ≡ files.old }
     ensures same { F.holds files.new ≡ F.holds files.old }
     ensures later { (other : List ℕ) → F.faults files.old other ≤ F.faults files.new other }
 {

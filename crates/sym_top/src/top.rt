@@ -69,6 +69,9 @@ fn run<F: Store, O: Sink, E: Sink>(
         let out = sunk O.written O.faults O.short out.old out.new in
         let err = sunk E.written E.faults E.short err.old err.new in
         IsRefused result → Refuses call out err result }
+    ensures unread { let words = map string_bytes words.now.items in
+        let call = called F.holds F.faults words files.old files.new in
+        IsUsage call → files.new ≡ files.old }
     ensures unwritten { IsUnwritten result → out.new ≡ out.old }
     ensures memory { result ≡ Status.NoMemory →
         (out.new ≡ out.old) ⊎ Short (sunk O.written O.faults O.short out.old out.new) }
@@ -134,6 +137,9 @@ pub fn symple<F: Store, O: Sink, E: Sink>(
     ensures no_command { let words = map string_bytes words.now.items in
         let call = called F.holds F.faults words files.old files.new in
         IsUsage call → (result ≡ Status.Usage) ⊎ (result ≡ Status.NoMemory) }
+    ensures unread { let words = map string_bytes words.now.items in
+        let call = called F.holds F.faults words files.old files.new in
+        IsUsage call → files.new ≡ files.old }
     ensures unwritten { IsUnwritten result → out.new ≡ out.old }
     ensures memory { result ≡ Status.NoMemory →
         (out.new ≡ out.old) ⊎ Short (sunk O.written O.faults O.short out.old out.new) }
