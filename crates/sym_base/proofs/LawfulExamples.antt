@@ -116,8 +116,8 @@ abbrev smallest : ScriptTree
 smallest = record {
   enums = [];
   fields = record { name = named (codes "x"); header = None; kind = kind.Num; default = None } ∷ [];
-  group = None;
-  states = record { name = named (codes "n"); cell = cell.Int (pos 0) (pos 3) (pos 0) } ∷ [];
+  group = [];
+  states = record { name = named (codes "n"); cell = cell.Int (pos 0) (pos 3) (pos 0) false } ∷ [];
   tests = [];
   update = Done;
   columns = record { name = named (codes "n"); value = Named (named (codes "n")) } ∷ [];
@@ -130,6 +130,7 @@ smallest-lawful = record {
   enums = refl;
   field_count = refl;
   fields = refl;
+  group_count = lit≤ tt;
   group = refl;
   cell_count = refl;
   cells = refl;

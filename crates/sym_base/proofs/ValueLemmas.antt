@@ -94,5 +94,12 @@ value_eq-Decides x y = search rules
 pub values_eq-Decides : (xs ys : List Value) → Decides (pointwise (equality.ghosts).eq xs ys) (xs ≡ ys)
 values_eq-Decides = pointwise_decides value_eq-Decides
 
+abbrev key_with : List Value → Key
+key_with values = record { values = values }
+
 pub key_eq-Decides : (k l : Key) → Decides ((key_equality.ghosts).eq k l) (k ≡ l)
-key_eq-Decides k l = search rules
+key_eq-Decides k l =
+    let values = values_eq-Decides k.values l.values in (
+      λ h. ap key_with (values.0 h),
+      λ e. values.1 (ap (λ (key : Key). key.values) e),
+    )

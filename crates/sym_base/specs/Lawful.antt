@@ -15,7 +15,7 @@ use Rattle.sym_base.specs.declared.tree.declaration.CellDecl.{CellDecl}
 use Rattle.sym_base.specs.declared.tree.declaration.CellDecl.TheVariants as cell
 use Rattle.sym_base.specs.declared.tree.declaration.StateDecl.{StateDecl}
 use Rattle.sym_base.specs.declared.tree.declaration.Param.{Param}
-use Rattle.sym_base.specs.Limits.{max_enums, max_labels, max_fields, max_cells, max_tests, max_parameters, max_parts, max_statements, max_depth, max_operands, max_columns}
+use Rattle.sym_base.specs.Limits.{max_enums, max_labels, max_fields, max_group_fields, max_cells, max_tests, max_parameters, max_parts, max_statements, max_depth, max_operands, max_columns}
 use Rattle.sym_base.specs.Names.{is_name}
 use Rattle.sym_base.specs.Limits.{num_max, is_number}
 use Rattle.sym_base.specs.Sizes.{expr_depth, operand_count, stmts_depth, stmts_count}
@@ -64,8 +64,8 @@ abbrev pub is_lawful_part : Part → Bool
 is_lawful_part d = is_lawful_kind d.kind && is_lawful_literal d.first
 
 abbrev pub is_lawful_cell : CellDecl → Bool
-is_lawful_cell (cell.Int lo hi first) = is_number lo && is_number hi && is_number first
-is_lawful_cell (cell.Nums lo hi) = is_number lo && is_number hi
+is_lawful_cell (cell.Int lo hi first clamp) = is_number lo && is_number hi && is_number first
+is_lawful_cell (cell.Nums lo hi clamp) = is_number lo && is_number hi
 is_lawful_cell cell.Words = true
 is_lawful_cell (cell.Hold parts) =
     is_between 1 max_parts (length parts) && list_all is_lawful_part parts
@@ -138,7 +138,8 @@ pub record IsLawful (s : ScriptTree) : Type 0 where
   pub enums : list_all is_lawful_enum s.enums ≡ true
   pub field_count : is_between 1 max_fields (length s.fields) ≡ true
   pub fields : list_all is_lawful_field s.fields ≡ true
-  pub group : is_absent_or is_lawful_name s.group ≡ true
+  pub group_count : length s.group ≤ max_group_fields
+  pub group : list_all is_lawful_name s.group ≡ true
   pub cell_count : is_between 1 max_cells (length s.states) ≡ true
   pub cells : list_all is_lawful_state s.states ≡ true
   pub test_count : length s.tests ≤ max_tests

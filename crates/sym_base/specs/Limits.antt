@@ -25,6 +25,10 @@ max_labels = limit.LABELS_MAX
 abbrev pub max_fields : ℕ
 max_fields = limit.FIELDS_MAX
 
+-- Fields of the group line.
+abbrev pub max_group_fields : ℕ
+max_group_fields = limit.GROUP_FIELDS_MAX
+
 abbrev pub max_cells : ℕ
 max_cells = limit.CELLS_MAX
 

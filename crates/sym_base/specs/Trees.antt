@@ -1,5 +1,5 @@
 -- The syntax tree as plain data: what a contract sees of a tree whose parts are boxed.
-use Rattle.std.specs.Prelude.{ℕ, ℤ, List, [], ◌∷◌, Option, map}
+use Rattle.std.specs.Prelude.{ℕ, ℤ, List, [], ◌∷◌, map}
 use Rattle.sym_base.specs.declared.tree.name.Name.{Name}
 use Rattle.sym_base.specs.declared.tree.expression.BinOp.{BinOp}
 use Rattle.sym_base.specs.declared.tree.expression.Expr.{Expr}
@@ -95,7 +95,7 @@ column_tree d = record { name = d.name; value = expr_tree d.value }
 pub record ScriptTree : Type 0 where
   pub enums : List EnumDecl
   pub fields : List FieldDecl
-  pub group : Option Name
+  pub group : List Name
   pub states : List StateDecl
   pub tests : List TestTree
   pub update : StmtsTree

@@ -32,6 +32,9 @@ pub const LABELS_MAX: usize = 32;
 /// The most fields of a record.
 pub const FIELDS_MAX: usize = 32;
 
+/// The most fields of the group line.
+pub const GROUP_FIELDS_MAX: usize = 3;
+
 /// The most cells of a state.
 pub const CELLS_MAX: usize = 32;
 

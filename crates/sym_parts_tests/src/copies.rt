@@ -86,9 +86,10 @@ fn columns_are_copied(alloc: Global, columns: &Columns) -> Result<bool, NoMemory
 
 #[test]
 fn keys_are_copied(rt: HostRuntime) -> Result<(), Fail> {
-    let key = Key::One(Value::Word(word(rt.alloc())?));
+    let key = Key {
+        values: values(rt.alloc())?,
+    };
     assert!(rt; key_is_copied(rt.alloc(), &key)?);
-    assert!(rt; key_is_copied(rt.alloc(), &Key::Whole)?);
     Ok(())
 }
 
@@ -116,10 +117,10 @@ fn columns_of_reports_are_copied(rt: HostRuntime) -> Result<(), Fail> {
     Ok(())
 }
 
-fn labels(alloc: Global) -> Result<Names, NoMemory> {
-    let mut labels = Names::new(alloc);
-    labels.push(name(alloc)?)?;
-    Ok(labels)
+fn names(alloc: Global) -> Result<Names, NoMemory> {
+    let mut names = Names::new(alloc);
+    names.push(name(alloc)?)?;
+    Ok(names)
 }
 
 // A part of each kind.
@@ -151,8 +152,13 @@ fn states(alloc: Global) -> Result<StateDecls, NoMemory> {
             lo: -1,
             hi: 1,
             first: 0,
+            clamp: true,
         },
-        CellDecl::Nums { lo: 0, hi: 9 },
+        CellDecl::Nums {
+            lo: 0,
+            hi: 9,
+            clamp: false,
+        },
         CellDecl::Words,
         CellDecl::Hold(parts(alloc)?),
         CellDecl::Enum {
@@ -208,7 +214,7 @@ fn script(alloc: Global) -> Result<Script, NoMemory> {
     let mut enums = EnumDecls::new(alloc);
     enums.push(EnumDecl {
         name: name(alloc)?,
-        labels: labels(alloc)?,
+        labels: names(alloc)?,
     })?;
     let mut fields = FieldDecls::new(alloc);
     fields.push(FieldDecl {
@@ -236,7 +242,7 @@ fn script(alloc: Global) -> Result<Script, NoMemory> {
     Ok(Script {
         enums,
         fields,
-        group: Some(name(alloc)?),
+        group: names(alloc)?,
         states: states(alloc)?,
         tests,
         update: update(alloc)?,

@@ -104,11 +104,25 @@ impl Drop for Part {
 /// What a cell holds, and what it holds at first. Ranges have both ends in them.
 #[derive(PartialEq, Eq)]
 pub enum CellDecl {
-    Int { lo: i64, hi: i64, first: i64 },
-    Nums { lo: i64, hi: i64 },
+    Int {
+        lo: i64,
+        hi: i64,
+        first: i64,
+        /// Whether a number outside the range becomes the nearest end, in place of a fault.
+        clamp: bool,
+    },
+    Nums {
+        lo: i64,
+        hi: i64,
+        /// The same, of a number that is pushed.
+        clamp: bool,
+    },
     Words,
     Hold(Parts),
-    Enum { of: Name, first: Name },
+    Enum {
+        of: Name,
+        first: Name,
+    },
 }
 
 impl Drop for CellDecl {
@@ -118,8 +132,13 @@ impl Drop for CellDecl {
                 lo: _,
                 hi: _,
                 first: _,
+                clamp: _,
             } => {}
-            CellDecl::Nums { lo: _, hi: _ } => {}
+            CellDecl::Nums {
+                lo: _,
+                hi: _,
+                clamp: _,
+            } => {}
             CellDecl::Words => {}
             CellDecl::Hold(_held) => {}
             CellDecl::Enum {
@@ -329,12 +348,22 @@ impl CellDecl {
         ensures { IfOk result (λ d. d ≡ self.now) }
     {
         match self {
-            CellDecl::Int { lo, hi, first } => Ok(CellDecl::Int {
+            CellDecl::Int {
+                lo,
+                hi,
+                first,
+                clamp,
+            } => Ok(CellDecl::Int {
                 lo: *lo,
                 hi: *hi,
                 first: *first,
+                clamp: *clamp,
             }),
-            CellDecl::Nums { lo, hi } => Ok(CellDecl::Nums { lo: *lo, hi: *hi }),
+            CellDecl::Nums { lo, hi, clamp } => Ok(CellDecl::Nums {
+                lo: *lo,
+                hi: *hi,
+                clamp: *clamp,
+            }),
             CellDecl::Words => Ok(CellDecl::Words),
             CellDecl::Hold(parts) => Ok(CellDecl::Hold(parts.copy(alloc)?)),
             CellDecl::Enum { of, first } => {

@@ -3,7 +3,7 @@ ghost use Rattle.std.specs.Prelude.{◌≡◌, IfOk};
 ghost use Rattle.sym_base.specs.Trees.{script_tree};
 
 use crate::tree::declaration::{ColumnDecls, EnumDecls, FieldDecls, StateDecls, TestDecls};
-use crate::tree::name::Name;
+use crate::tree::name::Names;
 use crate::tree::statement::Stmts;
 use crate::values::memory::NoMemory;
 use std::alloc::Global;
@@ -12,8 +12,9 @@ use std::alloc::Global;
 pub struct Script {
     pub enums: EnumDecls,
     pub fields: FieldDecls,
-    /// The field whose values tell groups apart; without one all records are of one group.
-    pub group: Option<Name>,
+    /// The fields whose values tell groups apart, in the line's order; without a group line there
+    /// are none, and all records are of one group.
+    pub group: Names,
     pub states: StateDecls,
     pub tests: TestDecls,
     pub update: Stmts,
@@ -34,15 +35,6 @@ impl Drop for Script {
     }
 }
 
-fn copy_group(alloc: Global, group: &Option<Name>) -> Result<Option<Name>, NoMemory>
-    ensures { IfOk result (λ g. g ≡ group.now) }
-{
-    match group {
-        Some(name) => Ok(Some(name.copy(alloc)?)),
-        None => Ok(None),
-    }
-}
-
 impl Script {
     /// An equal script of its own.
     pub fn copy(&self, alloc: Global) -> Result<Script, NoMemory>
@@ -50,7 +42,7 @@ impl Script {
     {
         let enums = self.enums.copy(alloc)?;
         let fields = self.fields.copy(alloc)?;
-        let group = copy_group(alloc, &self.group)?;
+        let group = self.group.copy(alloc)?;
         let states = self.states.copy(alloc)?;
         let tests = self.tests.copy(alloc)?;
         let update = self.update.copy(alloc)?;

@@ -1,11 +1,14 @@
 //! The one list type of plain values.
 ghost use Rattle.std.specs.Prelude.{◌≡◌, ◌↔◌, ◌<◌, ◌++◌, ◌∷◌, [], IsSome, IfOk, OnOk, OnErr, length, slice_get, slice_set, option_copied, ◌==◌, refl};
 ghost use Rattle.std.specs.Option.{option_copied_mut};
+ghost use Rattle.std.specs.Hash as fed;
+ghost use Rattle.std.specs.Hash.{items_Alike};
 ghost use Rattle.std.specs.Cmp.Lexicographic.{pointwise, lists_equiv, lists_per, slice_cmp, slice_partial_cmp, lists_total, lists_ties, lists_agrees, lists_po};
 
 use crate::values::memory::NoMemory;
 use std::alloc::Global;
 use std::cmp::Ordering;
+use std::hash::{Hash, Hasher};
 use std::marker::Model;
 use std::mem;
 
@@ -202,5 +205,15 @@ impl<T: Ord> Ord for Sequence<T> {
 
     fn cmp(&self, other: &Sequence<T>) -> Ordering {
         self.items.cmp(&other.items)
+    }
+}
+
+impl<T: Hash> Hash for Sequence<T> {
+    ghost hash_input = { fed.slice T.hash_input };
+
+    ghost respects_eq = { (items_Alike (record { fed = T.respects_eq })).fed };
+
+    fn hash<H: Hasher>(&self, state: &mut H) {
+        self.items.hash(state);
     }
 }

@@ -36,19 +36,14 @@ pub type Nums = Sequence<i64>;
 
 /// What tells one group of records from another.
 #[derive(PartialEq, Eq, Hash)]
-pub enum Key {
-    /// All records are of one group.
-    Whole,
-    /// The records whose group field has this value.
-    One(Value),
+pub struct Key {
+    /// The values of the fields of the group line, in the line's order; none without a group line.
+    pub values: Values,
 }
 
 impl Drop for Key {
     fn drop(self) {
-        match self {
-            Key::Whole => {}
-            Key::One(_held) => {}
-        }
+        let Key { values: _values } = self;
     }
 }
 
@@ -122,9 +117,14 @@ impl Key {
     pub fn copy(&self, alloc: Global) -> Result<Key, NoMemory>
         ensures { IfOk result (λ k. k ≡ self.now) }
     {
-        match self {
-            Key::Whole => Ok(Key::Whole),
-            Key::One(value) => Ok(Key::One(value.copy(alloc)?)),
-        }
+        Ok(Key {
+            values: self.values.copy(alloc)?,
+        })
+    }
+}
+
+impl Plain for Key {
+    fn copied(&self, alloc: Global) -> Result<Key, NoMemory> {
+        self.copy(alloc)
     }
 }
