@@ -38,6 +38,7 @@ some limit.Statements = omega arith
 some limit.Depth = omega arith
 some limit.Operands = omega arith
 some limit.Columns = omega arith
+some limit.GroupFields = omega arith
 
 abbrev answered : ScriptTree → Result ScriptTree ParseErr
 answered tree = Ok tree

@@ -4,6 +4,7 @@ use Rattle.std.proofs.lemmas.List.{append-nil}
 use Rattle.sym_base.specs.declared.tree.name.Name.{Name as NameRecord}
 use Rattle.sym_base.specs.declared.tree.declaration.Literal.{Literal}
 use Rattle.sym_base.specs.declared.tree.declaration.Part.{Part}
+use Rattle.sym_base.specs.declared.tree.declaration.CellDecl.{CellDecl}
 use Rattle.sym_base.specs.declared.tree.declaration.CellDecl.TheVariants as cell
 use Rattle.sym_lex.specs.declared.keyword.Keyword.{Keyword}
 use Rattle.sym_lex.specs.declared.keyword.Keyword.TheVariants as keyword
@@ -14,9 +15,9 @@ use Rattle.sym_parse.specs.declared.error.LimitKind.TheVariants as limit
 use Rattle.sym_parse.specs.Lexemes.{Terminal, Name, Number, Str, Word, Sign, Lexeme, IsKeyword, IsSign, IsName}
 use Rattle.sym_parse.specs.Steps.{Input, Parser, ◌>>=◌, next, next_of, passed, word_of, sign_of, is_this_word, is_this_sign, sees_word, sees_sign, sees_name, sees_text, name, repeated, separated}
 use Rattle.sym_parse.specs.Syntax.Declarations as syntax
-use Rattle.sym_parse.specs.Syntax.Declarations.{AreItems, AreFurther, AreAtMost, AreSome, AreSeparated, IsOneName, IsNum, IsLiteral, IsKind, IsEnum, IsHeader, IsDefault, IsField, IsGroup, IsRange, IsPart, IsCell, IsState, IsParam, IsTest, IsColumn}
+use Rattle.sym_parse.specs.Syntax.Declarations.{AreItems, AreFurther, AreAtMost, AreSome, AreSeparated, IsOneName, IsNum, IsLiteral, IsKind, IsEnum, IsHeader, IsDefault, IsField, IsGroup, IsRange, IsPart, IsClamp, IsCell, IsState, IsParam, IsTest, IsColumn}
 use Rattle.sym_parse.specs.Parsing.Expressions.{expression}
-use Rattle.sym_parse.specs.Parsing.Declarations.{num, literal_value, begins_kind, kind_ref, header, default_value, field, group, range, part, param, labels, enum_decl, parts, int_cell, nums_cell, hold_cell, label_cell, cell_decl, state, params, test_decl, column}
+use Rattle.sym_parse.specs.Parsing.Declarations.{num, literal_value, begins_kind, kind_ref, header, default_value, field, group, range, clamp, part, param, names, enum_decl, parts, int_cell, nums_cell, hold_cell, label_cell, cell_decl, state, params, test_decl, column}
 use Rattle.sym_parse.proofs.Reaching.{at, yes, no, sees-word, sees-sign, sees-word-as, sees-sign-as, sees-name-as, sees-text-as, passes, stands, word-goes, sign-goes, name-goes, number-goes, text-goes}
 use Rattle.sym_parse.proofs.ExpressionsComplete.{expression-reads}
 use Rattle.sym_parse.proofs.StatementsComplete.{semicolon-loose}
@@ -134,11 +135,10 @@ unfolding default_value
 default-reads _ rest _ st syntax.none e = no (sees_word keyword.Else (at rest st 0)) _ _ (word-in keyword.Else rest st 0 ∙ e)
 default-reads _ rest _ st (syntax.given {xs} {v} w a p) e = rw (sees-word w (xs ++ rest) st 0 keyword.Else a, passes w (xs ++ rest) st 0, literal-reads xs rest v st p) refl
 
-pub group-reads : (ls rest : List Lexeme) (g : Option NameRecord) (st : ℕ) → IsGroup ls g → NoWord keyword.Group rest → group (at (ls ++ rest) st 0) ≡ Ok (g, at rest st 0)
-unfolding group
-group-reads _ rest _ st syntax.none e = no (sees_word keyword.Group (at rest st 0)) _ _ (word-in keyword.Group rest st 0 ∙ e)
-group-reads _ rest _ st (syntax.group {n} w l z a b c) e =
-    rw (sees-word w (l ∷ z ∷ rest) st 0 keyword.Group a, passes w (l ∷ z ∷ rest) st 0, name-goes l (z ∷ rest) st 0 n b, sign-goes z rest st 0 symbol.Semicolon c) refl
+clamp-reads : (ls rest : List Lexeme) (c : Bool) (st : ℕ) → IsClamp ls c → NoWord keyword.Clamp rest → clamp (at (ls ++ rest) st 0) ≡ Ok (c, at rest st 0)
+unfolding clamp
+clamp-reads _ rest _ st syntax.none e = no (sees_word keyword.Clamp (at rest st 0)) _ _ (word-in keyword.Clamp rest st 0 ∙ e)
+clamp-reads _ rest _ st (syntax.clamp w a) e = rw (sees-word w rest st 0 keyword.Clamp a, passes w rest st 0) refl
 
 pub field-reads : Reads field IsField
 unfolding field
@@ -183,26 +183,44 @@ param-reads _ rest _ st (syntax.param {n} {xs} {k} l colon a b p) =
 
 module _ (most : LimitKind → ℕ) where
   pub enum-reads : Reads (enum_decl most) (IsEnum most)
-  unfolding enum_decl labels
-  enum-reads _ rest _ st (syntax.declared {n} {xs} {labels = names} w l begin end a b c p z) =
+  unfolding enum_decl names
+  enum-reads _ rest _ st (syntax.declared {n} {xs} {labels} w l begin end a b c p z) =
       let tail : List Lexeme = (xs ++ end ∷ []) ++ rest in
-      let inside : labels most (at tail st 0) ≡ Ok (names, at (end ∷ rest) st 0) =
-      ap (λ (m : List Lexeme). labels most (at m st 0)) (append_assoc xs (end ∷ []) rest)
-      ∙ separated-reads limit.Labels sees_name name IsOneName one-name-reads (most limit.Labels) xs (end ∷ rest) names st p (no-sign-as symbol.Comma end rest (Sign symbol.CloseBrace) z refl) in
+      let inside : names most limit.Labels (at tail st 0) ≡ Ok (labels, at (end ∷ rest) st 0) =
+      ap (λ (m : List Lexeme). names most limit.Labels (at m st 0)) (append_assoc xs (end ∷ []) rest)
+      ∙ separated-reads limit.Labels sees_name name IsOneName one-name-reads (most limit.Labels) xs (end ∷ rest) labels st p (no-sign-as symbol.Comma end rest (Sign symbol.CloseBrace) z refl) in
       rw (word-goes w (l ∷ begin ∷ tail) st 0 keyword.Enum a, name-goes l (begin ∷ tail) st 0 n b, sign-goes begin tail st 0 symbol.OpenBrace c, inside, sign-goes end rest st 0 symbol.CloseBrace z) refl
 
-  int-reads : (w equals : Lexeme) (xs ys rest : List Lexeme) (r : ℤ × ℤ) (first : ℤ) (st : ℕ) → IsKeyword keyword.Int w → IsRange xs r → IsSign symbol.Assign equals → IsNum ys first →
-      int_cell most (at (w ∷ ((xs ++ equals ∷ ys) ++ rest)) st 0) ≡ Ok (cell.Int r.0 r.1 first, at rest st 0)
-  unfolding int_cell
-  int-reads w equals xs ys rest r first st a p b q =
-      let tail : List Lexeme = (xs ++ equals ∷ ys) ++ rest in
-      let ranged : range (at tail st 0) ≡ Ok (r, at (equals ∷ (ys ++ rest)) st 0) =
-      ap (λ (m : List Lexeme). range (at m st 0)) (append_assoc xs (equals ∷ ys) rest) ∙ range-reads xs (equals ∷ (ys ++ rest)) r st p in
-      rw (word-goes w tail st 0 keyword.Int a, ranged, sign-goes equals (ys ++ rest) st 0 symbol.Assign b, num-reads ys rest first st q) refl
+  pub group-reads : (ls rest : List Lexeme) (g : List NameRecord) (st : ℕ) → IsGroup most ls g → NoWord keyword.Group rest → group most (at (ls ++ rest) st 0) ≡ Ok (g, at rest st 0)
+  unfolding group names
+  group-reads _ rest _ st syntax.none e = no (sees_word keyword.Group (at rest st 0)) _ _ (word-in keyword.Group rest st 0 ∙ e)
+  group-reads _ rest _ st (syntax.group {xs} {names = fields} w end a p z) e =
+      let tail : List Lexeme = (xs ++ end ∷ []) ++ rest in
+      let inside : names most limit.GroupFields (at tail st 0) ≡ Ok (fields, at (end ∷ rest) st 0) =
+      ap (λ (m : List Lexeme). names most limit.GroupFields (at m st 0)) (append_assoc xs (end ∷ []) rest)
+      ∙ separated-reads limit.GroupFields sees_name name IsOneName one-name-reads (most limit.GroupFields) xs (end ∷ rest) fields st p (no-sign-as symbol.Comma end rest (Sign symbol.Semicolon) z refl) in
+      rw (sees-word w tail st 0 keyword.Group a, passes w tail st 0, inside, sign-goes end rest st 0 symbol.Semicolon z) refl
 
-  nums-reads : (w : Lexeme) (xs rest : List Lexeme) (r : ℤ × ℤ) (st : ℕ) → IsKeyword keyword.Nums w → IsRange xs r → nums_cell most (at (w ∷ (xs ++ rest)) st 0) ≡ Ok (cell.Nums r.0 r.1, at rest st 0)
+  int-reads : (w equals : Lexeme) (xs ys zs rest : List Lexeme) (r : ℤ × ℤ) (first : ℤ) (c : Bool) (st : ℕ) → IsKeyword keyword.Int w → IsRange xs r → IsSign symbol.Assign equals → IsNum ys first → IsClamp zs c → NoWord keyword.Clamp rest →
+      int_cell most (at (w ∷ ((xs ++ equals ∷ (ys ++ zs)) ++ rest)) st 0) ≡ Ok (cell.Int r.0 r.1 first c, at rest st 0)
+  unfolding int_cell
+  int-reads w equals xs ys zs rest r first c st a p b q m e =
+      let tail : List Lexeme = (xs ++ equals ∷ (ys ++ zs)) ++ rest in
+      let after : List Lexeme = (ys ++ zs) ++ rest in
+      let ranged : range (at tail st 0) ≡ Ok (r, at (equals ∷ after) st 0) =
+      ap (λ (n : List Lexeme). range (at n st 0)) (append_assoc xs (equals ∷ (ys ++ zs)) rest) ∙ range-reads xs (equals ∷ after) r st p in
+      let number : num (at after st 0) ≡ Ok (first, at (zs ++ rest) st 0) =
+      ap (λ (n : List Lexeme). num (at n st 0)) (append_assoc ys zs rest) ∙ num-reads ys (zs ++ rest) first st q in
+      rw (word-goes w tail st 0 keyword.Int a, ranged, sign-goes equals after st 0 symbol.Assign b, number, clamp-reads zs rest c st m e) refl
+
+  nums-reads : (w : Lexeme) (xs ys rest : List Lexeme) (r : ℤ × ℤ) (c : Bool) (st : ℕ) → IsKeyword keyword.Nums w → IsRange xs r → IsClamp ys c → NoWord keyword.Clamp rest →
+      nums_cell most (at (w ∷ ((xs ++ ys) ++ rest)) st 0) ≡ Ok (cell.Nums r.0 r.1 c, at rest st 0)
   unfolding nums_cell
-  nums-reads w xs rest r st a p = rw (word-goes w (xs ++ rest) st 0 keyword.Nums a, range-reads xs rest r st p) refl
+  nums-reads w xs ys rest r c st a p m e =
+      let tail : List Lexeme = (xs ++ ys) ++ rest in
+      let ranged : range (at tail st 0) ≡ Ok (r, at (ys ++ rest) st 0) =
+      ap (λ (n : List Lexeme). range (at n st 0)) (append_assoc xs ys rest) ∙ range-reads xs (ys ++ rest) r st p in
+      rw (word-goes w tail st 0 keyword.Nums a, ranged, clamp-reads ys rest c st m e) refl
 
   hold-reads : (w begin end : Lexeme) (xs rest : List Lexeme) (ps : List Part) (st : ℕ) → IsKeyword keyword.Hold w → IsSign symbol.OpenParen begin → AreSeparated (most limit.Parts) IsPart xs ps → IsSign symbol.CloseParen end →
       hold_cell most (at (w ∷ begin ∷ ((xs ++ end ∷ []) ++ rest)) st 0) ≡ Ok (cell.Hold ps, at rest st 0)
@@ -219,23 +237,24 @@ module _ (most : LimitKind → ℕ) where
   unfolding label_cell
   label-reads l equals m rest of first st a b c = rw (name-goes l (equals ∷ m ∷ rest) st 0 of a, sign-goes equals (m ∷ rest) st 0 symbol.Assign b, name-goes m rest st 0 first c) refl
 
-  cell-reads : Reads (cell_decl most) (IsCell most)
+  cell-reads : (ls rest : List Lexeme) (c : CellDecl) (st : ℕ) → IsCell most ls c → NoWord keyword.Clamp rest → cell_decl most (at (ls ++ rest) st 0) ≡ Ok (c, at rest st 0)
   unfolding cell_decl
-  cell-reads _ rest _ st (syntax.int {xs} {ys} {r} {first} w equals a p b q) =
-      let tail : List Lexeme = (xs ++ equals ∷ ys) ++ rest in
-      yes (sees_word keyword.Int (at (w ∷ tail) st 0)) _ _ (sees-word w tail st 0 keyword.Int a) ∙ int-reads w equals xs ys rest r first st a p b q
-  cell-reads _ rest _ st (syntax.nums {xs} {r} w a p) =
-      no (sees_word keyword.Int (at (w ∷ (xs ++ rest)) st 0)) _ _ (sees-word-as w (xs ++ rest) st 0 keyword.Int (Word keyword.Nums) a)
-      ∙ yes (sees_word keyword.Nums (at (w ∷ (xs ++ rest)) st 0)) _ _ (sees-word w (xs ++ rest) st 0 keyword.Nums a) ∙ nums-reads w xs rest r st a p
-  cell-reads _ rest _ st (syntax.words w a) =
+  cell-reads _ rest _ st (syntax.int {xs} {ys} {zs} {r} {first} {clamp = c} w equals a p b q m) e =
+      let tail : List Lexeme = (xs ++ equals ∷ (ys ++ zs)) ++ rest in
+      yes (sees_word keyword.Int (at (w ∷ tail) st 0)) _ _ (sees-word w tail st 0 keyword.Int a) ∙ int-reads w equals xs ys zs rest r first c st a p b q m e
+  cell-reads _ rest _ st (syntax.nums {xs} {ys} {r} {clamp = c} w a p m) e =
+      let tail : List Lexeme = (xs ++ ys) ++ rest in
+      no (sees_word keyword.Int (at (w ∷ tail) st 0)) _ _ (sees-word-as w tail st 0 keyword.Int (Word keyword.Nums) a)
+      ∙ yes (sees_word keyword.Nums (at (w ∷ tail) st 0)) _ _ (sees-word w tail st 0 keyword.Nums a) ∙ nums-reads w xs ys rest r c st a p m e
+  cell-reads _ rest _ st (syntax.words w a) e =
       rw (sees-word-as w rest st 0 keyword.Int (Word keyword.Words) a, sees-word-as w rest st 0 keyword.Nums (Word keyword.Words) a, sees-word w rest st 0 keyword.Words a, passes w rest st 0) refl
-  cell-reads _ rest _ st (syntax.hold {xs} {parts = ps} w begin end a b p z) =
+  cell-reads _ rest _ st (syntax.hold {xs} {parts = ps} w begin end a b p z) e =
       let tail : List Lexeme = begin ∷ ((xs ++ end ∷ []) ++ rest) in
       no (sees_word keyword.Int (at (w ∷ tail) st 0)) _ _ (sees-word-as w tail st 0 keyword.Int (Word keyword.Hold) a)
       ∙ no (sees_word keyword.Nums (at (w ∷ tail) st 0)) _ _ (sees-word-as w tail st 0 keyword.Nums (Word keyword.Hold) a)
       ∙ no (sees_word keyword.Words (at (w ∷ tail) st 0)) _ _ (sees-word-as w tail st 0 keyword.Words (Word keyword.Hold) a)
       ∙ yes (sees_word keyword.Hold (at (w ∷ tail) st 0)) _ _ (sees-word w tail st 0 keyword.Hold a) ∙ hold-reads w begin end xs rest ps st a b p z
-  cell-reads _ rest _ st (syntax.label {of} {first} l equals m a b c) =
+  cell-reads _ rest _ st (syntax.label {of} {first} l equals m a b c) e =
       let tail : List Lexeme = equals ∷ m ∷ rest in
       no (sees_word keyword.Int (at (l ∷ tail) st 0)) _ _ (sees-word-as l tail st 0 keyword.Int (Name of.text) a.text)
       ∙ no (sees_word keyword.Nums (at (l ∷ tail) st 0)) _ _ (sees-word-as l tail st 0 keyword.Nums (Name of.text) a.text)
@@ -247,7 +266,7 @@ module _ (most : LimitKind → ℕ) where
   state-reads _ rest _ st (syntax.declared {n} {xs} {c} w l colon end a b d p z) =
       let tail : List Lexeme = (xs ++ end ∷ []) ++ rest in
       let inside : cell_decl most (at tail st 0) ≡ Ok (c, at (end ∷ rest) st 0) =
-      ap (λ (m : List Lexeme). cell_decl most (at m st 0)) (append_assoc xs (end ∷ []) rest) ∙ cell-reads xs (end ∷ rest) c st p in
+      ap (λ (m : List Lexeme). cell_decl most (at m st 0)) (append_assoc xs (end ∷ []) rest) ∙ cell-reads xs (end ∷ rest) c st p (no-word-as keyword.Clamp end rest (Sign symbol.Semicolon) z refl) in
       rw (word-goes w (l ∷ colon ∷ tail) st 0 keyword.State a, name-goes l (colon ∷ tail) st 0 n b, sign-goes colon tail st 0 symbol.Colon d, inside, sign-goes end rest st 0 symbol.Semicolon z) refl
 
   pub test-reads : Reads (test_decl most) (IsTest most)

@@ -1,5 +1,5 @@
 -- What is read as a declaration or as a list of items is that.
-use Rattle.std.proofs.Common.{◌≡◌, ℕ, zero, suc, ◌+◌, ◌-◌, ◌≤◌, ℤ, neg_ℤ, Bool, List, [], ◌∷◌, ◌++◌, length, Option, None, Some, Ok, refl, ap, sym, ◌∙◌, subst, arith, append_assoc, length-append}
+use Rattle.std.proofs.Common.{◌≡◌, ℕ, zero, suc, ◌+◌, ◌-◌, ◌≤◌, ℤ, neg_ℤ, Bool, true, false, List, [], ◌∷◌, ◌++◌, length, Option, None, Some, Ok, refl, ap, sym, ◌∙◌, subst, arith, append_assoc, length-append}
 use Rattle.std.proofs.lemmas.List.{append-nil}
 use Rattle.sym_base.specs.declared.tree.name.Name.{Name as NameRecord}
 use Rattle.sym_base.specs.declared.tree.declaration.EnumDecl.{EnumDecl}
@@ -21,9 +21,9 @@ use Rattle.sym_parse.specs.declared.error.LimitKind.TheVariants as limit
 use Rattle.sym_parse.specs.Lexemes.{Lexeme}
 use Rattle.sym_parse.specs.Steps.{Input, Parser, ◌>>=◌, full, refuse, place, passed, sees_word, sees_sign, sees_name, sees_text, word, sign, name, number, text, repeated, separated}
 use Rattle.sym_parse.specs.Syntax.Declarations as syntax
-use Rattle.sym_parse.specs.Syntax.Declarations.{AreItems, AreFurther, AreAtMost, AreSome, AreSeparated, IsOneName, IsNum, IsLiteral, IsKind, IsEnum, IsHeader, IsDefault, IsField, IsGroup, IsRange, IsPart, IsCell, IsState, IsParam, IsTest, IsColumn}
+use Rattle.sym_parse.specs.Syntax.Declarations.{AreItems, AreFurther, AreAtMost, AreSome, AreSeparated, IsOneName, IsNum, IsLiteral, IsKind, IsEnum, IsHeader, IsDefault, IsField, IsGroup, IsRange, IsPart, IsClamp, IsCell, IsState, IsParam, IsTest, IsColumn}
 use Rattle.sym_parse.specs.Parsing.Expressions.{expression}
-use Rattle.sym_parse.specs.Parsing.Declarations.{num, literal_value, begins_kind, kind_ref, header, default_value, field, group, range, part, param, labels, enum_decl, parts, int_cell, nums_cell, hold_cell, label_cell, cell_decl, state, params, test_decl, column}
+use Rattle.sym_parse.specs.Parsing.Declarations.{num, literal_value, begins_kind, kind_ref, header, default_value, field, group, range, clamp, part, param, names, enum_decl, parts, int_cell, nums_cell, hold_cell, label_cell, cell_decl, state, params, test_decl, column}
 use Rattle.sym_parse.proofs.Taking.{ended, ok_parts, after, by_test, tail_of, bump-word, bump-sign, word-ok, sign-ok, name-ok, number-ok, text-ok, Took, took_along}
 use Rattle.sym_parse.proofs.ExpressionsFound.{expression-found, joins, closes, place-is}
 
@@ -232,19 +232,14 @@ default-found i j d e =
     (record { taken = w.lexeme ∷ l.taken; splits = w.splits ∙ ap (λ (r : List Lexeme). w.lexeme ∷ r) l.splits; means = syntax.given w.lexeme w.is l.means }))
     (λ t f. took_along IsDefault i i j None d f (record { taken = []; splits = refl; means = syntax.none }))
 
-pub group-found : (i j : Input) (g : Option NameRecord) → group i ≡ Ok (g, j) → Took IsGroup i g j
-unfolding group
-group-found i j g e =
-    by_test (sees_word keyword.Group i) _ (Ok (None, i)) (Ok (g, j)) (Took IsGroup i g j) e
+clamp-found : (i j : Input) (c : Bool) → clamp i ≡ Ok (c, j) → Took IsClamp i c j
+unfolding clamp
+clamp-found i j c e =
+    by_test (sees_word keyword.Clamp i) _ (Ok (false, i)) (Ok (c, j)) (Took IsClamp i c j) e
     (λ t f.
-    let w = bump-word keyword.Group i t in
-    let a = after (name (passed i)) _ g j f in
-    let l = name-ok (passed i) a.input a.value a.first in
-    let b = after (sign symbol.Semicolon a.input) _ g j a.rest in
-    let z = sign-ok symbol.Semicolon a.input b.input b.value b.first in
-    took_along IsGroup i b.input j (Some a.value) g b.rest
-    (record { taken = w.lexeme ∷ l.lexeme ∷ z.lexeme ∷ []; splits = tail_of w.splits (tail_of l.splits z.splits); means = syntax.group w.lexeme l.lexeme z.lexeme w.is l.is z.is }))
-    (λ t f. took_along IsGroup i i j None g f (record { taken = []; splits = refl; means = syntax.none }))
+    let w = bump-word keyword.Clamp i t in
+    took_along IsClamp i (passed i) j true c f (record { taken = w.lexeme ∷ []; splits = w.splits; means = syntax.clamp w.lexeme w.is }))
+    (λ t f. took_along IsClamp i i j false c f (record { taken = []; splits = refl; means = syntax.none }))
 
 pub field-found : (i j : Input) (d : FieldDecl) → field i ≡ Ok (d, j) → Took IsField i d j
 unfolding field
@@ -333,7 +328,7 @@ param-found i j p e =
 
 module _ (most : LimitKind → ℕ) (some : (k : LimitKind) → 1 ≤ most k) where
   pub enum-found : (i j : Input) (d : EnumDecl) → enum_decl most i ≡ Ok (d, j) → Took (IsEnum most) i d j
-  unfolding enum_decl labels
+  unfolding enum_decl names
   enum-found i j d e =
       let a = after (word keyword.Enum i) _ d j e in
       let w = word-ok keyword.Enum i a.input a.value a.first in
@@ -341,7 +336,7 @@ module _ (most : LimitKind → ℕ) (some : (k : LimitKind) → 1 ≤ most k) wh
       let n = name-ok a.input b.input b.value b.first in
       let c = after (sign symbol.OpenBrace b.input) _ d j b.rest in
       let o = sign-ok symbol.OpenBrace b.input c.input c.value c.first in
-      let f = after (labels most c.input) _ d j c.rest in
+      let f = after (names most limit.Labels c.input) _ d j c.rest in
       let ls = separated-found limit.Labels sees_name name IsOneName one-name-found (most limit.Labels) c.input f.input f.value (some limit.Labels) f.first in
       let g = after (sign symbol.CloseBrace f.input) _ d j f.rest in
       let z = sign-ok symbol.CloseBrace f.input g.input g.value g.first in
@@ -352,6 +347,21 @@ module _ (most : LimitKind → ℕ) (some : (k : LimitKind) → 1 ≤ most k) wh
         splits = tail_of w.splits (tail_of n.splits (tail_of o.splits tail));
         means = syntax.declared w.lexeme n.lexeme o.lexeme z.lexeme w.is n.is o.is ls.means z.is;
       })
+
+  pub group-found : (i j : Input) (g : List NameRecord) → group most i ≡ Ok (g, j) → Took (IsGroup most) i g j
+  unfolding group names
+  group-found i j g e =
+      by_test (sees_word keyword.Group i) _ (Ok ([], i)) (Ok (g, j)) (Took (IsGroup most) i g j) e
+      (λ t f.
+      let w = bump-word keyword.Group i t in
+      let a = after (names most limit.GroupFields (passed i)) _ g j f in
+      let ns = separated-found limit.GroupFields sees_name name IsOneName one-name-found (most limit.GroupFields) (passed i) a.input a.value (some limit.GroupFields) a.first in
+      let b = after (sign symbol.Semicolon a.input) _ g j a.rest in
+      let z = sign-ok symbol.Semicolon a.input b.input b.value b.first in
+      let tail : (passed i).rest ≡ (ns.taken ++ z.lexeme ∷ []) ++ b.input.rest = closes ns.taken z.lexeme (passed i).rest a.input.rest b.input.rest ns.splits z.splits in
+      took_along (IsGroup most) i b.input j a.value g b.rest
+      (record { taken = w.lexeme ∷ (ns.taken ++ z.lexeme ∷ []); splits = tail_of w.splits tail; means = syntax.group w.lexeme z.lexeme w.is ns.means z.is }))
+      (λ t f. took_along (IsGroup most) i i j [] g f (record { taken = []; splits = refl; means = syntax.none }))
 
   int-found : (i j : Input) (c : CellDecl) → int_cell most i ≡ Ok (c, j) → Took (IsCell most) i c j
   unfolding int_cell
@@ -364,12 +374,15 @@ module _ (most : LimitKind → ℕ) (some : (k : LimitKind) → 1 ≤ most k) wh
       let q = sign-ok symbol.Assign b.input c.input c.value c.first in
       let d = after (num c.input) _ x j c.rest in
       let n = num-found c.input d.input d.value d.first in
-      let tail : a.input.rest ≡ (r.taken ++ q.lexeme ∷ n.taken) ++ d.input.rest = joins r.taken n.taken q.lexeme a.input.rest b.input.rest c.input.rest d.input.rest r.splits q.splits n.splits in
-      took_along (IsCell most) i d.input j (cell.Int b.value.0 b.value.1 d.value) x d.rest
+      let f = after (clamp d.input) _ x j d.rest in
+      let m = clamp-found d.input f.input f.value f.first in
+      let number : c.input.rest ≡ (n.taken ++ m.taken) ++ f.input.rest = follows n.taken m.taken c.input.rest d.input.rest f.input.rest n.splits m.splits in
+      let tail : a.input.rest ≡ (r.taken ++ q.lexeme ∷ (n.taken ++ m.taken)) ++ f.input.rest = joins r.taken (n.taken ++ m.taken) q.lexeme a.input.rest b.input.rest c.input.rest f.input.rest r.splits q.splits number in
+      took_along (IsCell most) i f.input j (cell.Int b.value.0 b.value.1 d.value f.value) x f.rest
       (record {
-        taken = w.lexeme ∷ (r.taken ++ q.lexeme ∷ n.taken);
-        splits = w.splits ∙ ap (λ (m : List Lexeme). w.lexeme ∷ m) tail;
-        means = syntax.int w.lexeme q.lexeme w.is r.means q.is n.means;
+        taken = w.lexeme ∷ (r.taken ++ q.lexeme ∷ (n.taken ++ m.taken));
+        splits = tail_of w.splits tail;
+        means = syntax.int w.lexeme q.lexeme w.is r.means q.is n.means m.means;
       })
 
   nums-found : (i j : Input) (c : CellDecl) → nums_cell most i ≡ Ok (c, j) → Took (IsCell most) i c j
@@ -379,11 +392,13 @@ module _ (most : LimitKind → ℕ) (some : (k : LimitKind) → 1 ≤ most k) wh
       let w = word-ok keyword.Nums i a.input a.value a.first in
       let b = after (range a.input) _ x j a.rest in
       let r = range-found a.input b.input b.value b.first in
-      took_along (IsCell most) i b.input j (cell.Nums b.value.0 b.value.1) x b.rest
+      let c = after (clamp b.input) _ x j b.rest in
+      let m = clamp-found b.input c.input c.value c.first in
+      took_along (IsCell most) i c.input j (cell.Nums b.value.0 b.value.1 c.value) x c.rest
       (record {
-        taken = w.lexeme ∷ r.taken;
-        splits = w.splits ∙ ap (λ (m : List Lexeme). w.lexeme ∷ m) r.splits;
-        means = syntax.nums w.lexeme w.is r.means;
+        taken = w.lexeme ∷ (r.taken ++ m.taken);
+        splits = tail_of w.splits (follows r.taken m.taken a.input.rest b.input.rest c.input.rest r.splits m.splits);
+        means = syntax.nums w.lexeme w.is r.means m.means;
       })
 
   hold-found : (i j : Input) (c : CellDecl) → hold_cell most i ≡ Ok (c, j) → Took (IsCell most) i c j

@@ -11,7 +11,7 @@ use Rattle.sym_parse.specs.declared.error.LimitKind.TheVariants as limit
 use Rattle.sym_parse.specs.declared.stop.Stop.TheVariants as stop
 use Rattle.sym_parse.specs.Steps.{Input, next, place, name_of, is_there, named, sees_word, sees_name, name}
 use Rattle.sym_parse.specs.Parsing.Expressions.{expression}
-use Rattle.sym_parse.specs.Parsing.Declarations.{num, literal_value, begins_kind, kind_ref, header, default_value, field, group, range, part, param, labels, enum_decl, parts, int_cell, nums_cell, hold_cell, label_cell, cell_decl, state, params, test_decl, column}
+use Rattle.sym_parse.specs.Parsing.Declarations.{num, literal_value, begins_kind, kind_ref, header, default_value, field, group, range, clamp, part, param, names, enum_decl, parts, int_cell, nums_cell, hold_cell, label_cell, cell_decl, state, params, test_decl, column}
 use Rattle.sym_parse.specs.Parsing.Scripts.{enums, fields, states, tests, columns, report, script}
 use Rattle.sym_parse.proofs.Keeping.{Keeps, Even, then-keeps, choose-keeps, pure-keeps, sees-word-even, sees-sign-even, sees-name-even, sees-text-even, here-keeps, bump-keeps, word-keeps, sign-keeps, name-keeps, number-keeps, text-keeps, done-keeps, repeated-keeps, separated-keeps}
 use Rattle.sym_parse.proofs.KeepingExpressions.{expression-keeps}
@@ -50,9 +50,9 @@ unfolding field
 field-keeps = then-keeps (word-keeps keyword.Field) (λ u. then-keeps name-keeps (λ n. then-keeps header-keeps (λ h. then-keeps (sign-keeps symbol.Colon) (λ v.
     then-keeps kind-keeps (λ k. then-keeps default-keeps (λ d. then-keeps (sign-keeps symbol.Semicolon) (λ w. pure-keeps (record { name = n; header = h; kind = k; default = d }))))))))
 
-group-keeps : Keeps group group
-unfolding group
-group-keeps = choose-keeps (sees-word-even keyword.Group) (then-keeps bump-keeps (λ u. then-keeps name-keeps (λ n. then-keeps (sign-keeps symbol.Semicolon) (λ v. pure-keeps (Some n))))) (pure-keeps None)
+clamp-keeps : Keeps clamp clamp
+unfolding clamp
+clamp-keeps = choose-keeps (sees-word-even keyword.Clamp) (then-keeps bump-keeps (λ u. pure-keeps true)) (pure-keeps false)
 
 range-keeps : Keeps range range
 unfolding range
@@ -98,14 +98,18 @@ module _ (m n : LimitKind → ℕ) (wider : (k : LimitKind) → m k ≤ n k) whe
   less-one : (k : LimitKind) → m k - 1 ≤ n k - 1
   less-one k = omega (arith, wider k)
 
-  labels-keeps : Keeps (labels m) (labels n)
-  unfolding labels
-  labels-keeps = then-keeps name-keeps (λ x. separated-keeps limit.Labels sees_name sees-name-even name name name-keeps name-none (m limit.Labels - 1) (n limit.Labels - 1) (less-one limit.Labels) (x ∷ []))
+  names-keeps : (which : LimitKind) → Keeps (names m which) (names n which)
+  unfolding names
+  names-keeps which = then-keeps name-keeps (λ x. separated-keeps which sees_name sees-name-even name name name-keeps name-none (m which - 1) (n which - 1) (less-one which) (x ∷ []))
+
+  group-keeps : Keeps (group m) (group n)
+  unfolding group
+  group-keeps = choose-keeps (sees-word-even keyword.Group) (then-keeps bump-keeps (λ u. then-keeps (names-keeps limit.GroupFields) (λ ns. then-keeps (sign-keeps symbol.Semicolon) (λ v. pure-keeps ns)))) (pure-keeps [])
 
   enum-keeps : Keeps (enum_decl m) (enum_decl n)
   unfolding enum_decl
   enum-keeps = then-keeps (word-keeps keyword.Enum) (λ u. then-keeps name-keeps (λ x. then-keeps (sign-keeps symbol.OpenBrace) (λ v.
-      then-keeps labels-keeps (λ ls. then-keeps (sign-keeps symbol.CloseBrace) (λ w. pure-keeps (record { name = x; labels = ls }))))))
+      then-keeps (names-keeps limit.Labels) (λ ls. then-keeps (sign-keeps symbol.CloseBrace) (λ w. pure-keeps (record { name = x; labels = ls }))))))
 
   parts-keeps : Keeps (parts m) (parts n)
   unfolding parts
@@ -113,11 +117,11 @@ module _ (m n : LimitKind → ℕ) (wider : (k : LimitKind) → m k ≤ n k) whe
 
   int-keeps : Keeps (int_cell m) (int_cell n)
   unfolding int_cell
-  int-keeps = then-keeps (word-keeps keyword.Int) (λ u. then-keeps range-keeps (λ r. then-keeps (sign-keeps symbol.Assign) (λ v. then-keeps num-keeps (λ first. pure-keeps (cell.Int r.0 r.1 first)))))
+  int-keeps = then-keeps (word-keeps keyword.Int) (λ u. then-keeps range-keeps (λ r. then-keeps (sign-keeps symbol.Assign) (λ v. then-keeps num-keeps (λ first. then-keeps clamp-keeps (λ c. pure-keeps (cell.Int r.0 r.1 first c))))))
 
   nums-keeps : Keeps (nums_cell m) (nums_cell n)
   unfolding nums_cell
-  nums-keeps = then-keeps (word-keeps keyword.Nums) (λ u. then-keeps range-keeps (λ r. pure-keeps (cell.Nums r.0 r.1)))
+  nums-keeps = then-keeps (word-keeps keyword.Nums) (λ u. then-keeps range-keeps (λ r. then-keeps clamp-keeps (λ c. pure-keeps (cell.Nums r.0 r.1 c))))
 
   hold-keeps : Keeps (hold_cell m) (hold_cell n)
   unfolding hold_cell

@@ -13,7 +13,7 @@ use Rattle.sym_base.specs.declared.tree.declaration.CellDecl.{CellDecl}
 use Rattle.sym_base.specs.declared.tree.declaration.StateDecl.{StateDecl}
 use Rattle.sym_base.specs.declared.tree.declaration.Param.{Param}
 use Rattle.sym_base.specs.Lawful.{IsLawful, is_between, is_lawful_name, is_lawful_text, is_unsigned, is_lawful_kind, is_lawful_literal, is_absent_or, is_lawful_enum, is_lawful_field, is_lawful_part, is_lawful_cell, is_lawful_state, is_lawful_param, is_lawful_expr, is_lawful_test, is_lawful_column, is_lawful_stmt, are_lawful_stmts, are_lawful_exprs, has_some}
-use Rattle.sym_base.specs.Limits.{max_labels, max_parts, max_parameters, max_depth, num_max, is_number}
+use Rattle.sym_base.specs.Limits.{max_labels, max_group_fields, max_parts, max_parameters, max_depth, num_max, is_number}
 use Rattle.sym_base.specs.Names.{is_name}
 use Rattle.sym_base.specs.Sizes.{expr_depth, stmt_depth, stmts_depth, stmts_count}
 use Rattle.sym_base.specs.Trees.{StmtTree, StmtsTree, TestTree, ColumnTree, ScriptTree}
@@ -182,10 +182,6 @@ default-lawful : (ls : List Lexeme) (d : Option Literal) → AllSuit ls → IsDe
 default-lawful _ _ s items.none = refl
 default-lawful _ _ s (items.given {xs} {v} w a p) = literal-lawful xs v (rest-suits w xs s) p
 
-group-lawful : (ls : List Lexeme) (g : Option NameRecord) → AllSuit ls → IsGroup ls g → is_absent_or is_lawful_name g ≡ true
-group-lawful _ _ s items.none = refl
-group-lawful _ _ s (items.group {n} w l z a b c) = name-lawful l n b (first-suits l (z ∷ []) (rest-suits w (l ∷ z ∷ []) s))
-
 field-lawful : (ls : List Lexeme) (d : FieldDecl) → AllSuit ls → IsField ls d → is_lawful_field d ≡ true
 field-lawful _ _ s (items.declared {n} {hs} {ks} {ds} {header = h} {k} {default = d} w l colon end a b hp c kp dp z) =
     let s1 = rest-suits w (l ∷ (hs ++ colon ∷ (ks ++ (ds ++ end ∷ [])))) s in
@@ -221,12 +217,24 @@ enum-lawful _ _ s (items.declared {n} {xs} {labels} w l begin end a b c p z) =
     let g = separated-lawful IsOneName is_lawful_name one-name max_labels xs labels t.0 p in
     join (is_name n.text && is_between 1 max_labels (length labels)) (list_all is_lawful_name labels) (join (is_name n.text) (is_between 1 max_labels (length labels)) named g.between) g.lawful
 
+group-lawful : (ls : List Lexeme) (g : List NameRecord) → AllSuit ls → IsGroup most ls g → (length g ≤ max_group_fields) × (list_all is_lawful_name g ≡ true)
+group-lawful _ _ s items.none = (omega arith, refl)
+group-lawful _ _ s (items.group {xs} {names} w end a p z) =
+    let t = apart xs (end ∷ []) (rest-suits w (xs ++ end ∷ []) s) in
+    let g = separated-lawful IsOneName is_lawful_name one-name max_group_fields xs names t.0 p in
+    let few = (both (nat_le 1 (length names)) (nat_le (length names) max_group_fields) g.between).1 in
+    (grind (arith, nat_tests), g.lawful)
+
 cell-lawful : (ls : List Lexeme) (c : CellDecl) → AllSuit ls → IsCell most ls c → is_lawful_cell c ≡ true
-cell-lawful _ _ s (items.int {xs} {ys} {r} {first} w equals a p b q) =
-    let t = apart xs (equals ∷ ys) (rest-suits w (xs ++ equals ∷ ys) s) in
+cell-lawful _ _ s (items.int {xs} {ys} {zs} {r} {first} w equals a p b q m) =
+    let t = apart xs (equals ∷ (ys ++ zs)) (rest-suits w (xs ++ equals ∷ (ys ++ zs)) s) in
+    let u = apart ys zs (rest-suits equals (ys ++ zs) t.1) in
     let g = range-lawful xs r t.0 p in
-    join (is_number r.0 && is_number r.1) (is_number first) (join (is_number r.0) (is_number r.1) g.0 g.1) (num-lawful ys first (rest-suits equals ys t.1) q)
-cell-lawful _ _ s (items.nums {xs} {r} w a p) = let g = range-lawful xs r (rest-suits w xs s) p in join (is_number r.0) (is_number r.1) g.0 g.1
+    join (is_number r.0 && is_number r.1) (is_number first) (join (is_number r.0) (is_number r.1) g.0 g.1) (num-lawful ys first u.0 q)
+cell-lawful _ _ s (items.nums {xs} {ys} {r} w a p m) =
+    let t = apart xs ys (rest-suits w (xs ++ ys) s) in
+    let g = range-lawful xs r t.0 p in
+    join (is_number r.0) (is_number r.1) g.0 g.1
 cell-lawful _ _ s (items.words w a) = refl
 cell-lawful _ _ s (items.hold {xs} {parts} w begin end a b p z) =
     let t = apart xs (end ∷ []) (rest-suits begin (xs ++ end ∷ []) (rest-suits w (begin ∷ (xs ++ end ∷ [])) s)) in
@@ -291,7 +299,8 @@ script-lawful _ _ s (scripts.script {es} {fs} {gs} {ss} {ts} {us} {rs} {enums} {
       enums = ge.1;
       field_count = gf.between;
       fields = gf.lawful;
-      group = gg;
+      group_count = gg.0;
+      group = gg.1;
       cell_count = gc.between;
       cells = gc.lawful;
       test_count = gt.0;

@@ -1,5 +1,5 @@
 -- A script is read where its tokens stand.
-use Rattle.std.proofs.Common.{◌≡◌, ℕ, true, false, List, [], ◌∷◌, ◌++◌, Option, Some, Ok, refl, ap, sym, ◌∙◌, append_assoc}
+use Rattle.std.proofs.Common.{◌≡◌, ℕ, true, false, List, [], ◌∷◌, ◌++◌, Some, Ok, refl, ap, sym, ◌∙◌, append_assoc}
 use Rattle.std.proofs.lemmas.List.{append-nil}
 use Rattle.sym_base.specs.declared.tree.name.Name.{Name as NameRecord}
 use Rattle.sym_base.specs.declared.tree.declaration.EnumDecl.{EnumDecl}
@@ -59,10 +59,10 @@ any-other : {A : Type 0} (k other after : Keyword) (most : ℕ) (P : List Lexeme
     AreAtMost most P ls xs → Begins after rest → is_this_word other (word_of (Some (Word k))) ≡ false → is_this_word other (word_of (Some (Word after))) ≡ false → NoWord other (ls ++ rest)
 any-other k other after most P each ls rest xs (items.any are few) b e f = items-other k other after P each ls rest xs are b e f
 
-group-other : (other : Keyword) (ls rest : List Lexeme) (g : Option NameRecord) → IsGroup ls g → Begins keyword.State rest → is_this_word other (word_of (Some (Word keyword.Group))) ≡ false →
+group-other : (most : LimitKind → ℕ) (other : Keyword) (ls rest : List Lexeme) (g : List NameRecord) → IsGroup most ls g → Begins keyword.State rest → is_this_word other (word_of (Some (Word keyword.Group))) ≡ false →
     is_this_word other (word_of (Some (Word keyword.State))) ≡ false → NoWord other (ls ++ rest)
-group-other other _ rest _ items.none b e f = no-word-of other keyword.State rest b f
-group-other other _ rest _ (items.group {n} w l z a c d) b e f = no-word-as other w (l ∷ z ∷ rest) (Word keyword.Group) a e
+group-other most other _ rest _ items.none b e f = no-word-of other keyword.State rest b f
+group-other most other _ rest _ (items.group {xs} w end a p z) b e f = no-word-as other w ((xs ++ end ∷ []) ++ rest) (Word keyword.Group) a e
 
 done-goes : (st : ℕ) → done (at [] st 0) ≡ Ok (tt, at [] st 0)
 unfolding done is_done next
@@ -108,8 +108,8 @@ module _ (most : LimitKind → ℕ) where
       let enums-read = any-reads limit.Enums (sees_word keyword.Enum) (enum_decl most) (IsEnum most) (enum-reads most) (λ ls rest x st p. begins-seen keyword.Enum ls rest st (enum-begins ls x p)) (most limit.Enums) es r2 a 0 p
       (word-in keyword.Enum r2 0 0 ∙ begins-other keyword.Field keyword.Enum fs r3 field-first refl) in
       let fields-read = some-reads limit.Fields (sees_word keyword.Field) field IsField field-reads (λ ls rest x st p. begins-seen keyword.Field ls rest st (field-begins ls x p)) (most limit.Fields) fs r3 b 0 q
-      (word-in keyword.Field r3 0 0 ∙ group-other keyword.Field gs r4 c r (begins-more keyword.State ss r5 state-first) refl refl) in
-      let group-read = group-reads gs r4 c 0 r (begins-other keyword.State keyword.Group ss r5 state-first refl) in
+      (word-in keyword.Field r3 0 0 ∙ group-other most keyword.Field gs r4 c r (begins-more keyword.State ss r5 state-first) refl refl) in
+      let group-read = group-reads most gs r4 c 0 r (begins-other keyword.State keyword.Group ss r5 state-first refl) in
       let states-read = some-reads limit.Cells (sees_word keyword.State) (state most) (IsState most) (state-reads most) (λ ls rest x st p. begins-seen keyword.State ls rest st (state-begins ls x p)) (most limit.Cells) ss r5 d 0 u
       (word-in keyword.State r5 0 0 ∙ any-other keyword.Test keyword.State keyword.Update (most limit.Tests) (IsTest most) test-begins ts r6 e v (begins-more keyword.Update us rs update-first) refl refl) in
       let tests-read = any-reads limit.Tests (sees_word keyword.Test) (test_decl most) (IsTest most) (test-reads most) (λ ls rest x st p. begins-seen keyword.Test ls rest st (test-begins ls x p)) (most limit.Tests) ts r6 e 0 v

@@ -65,8 +65,8 @@ module _ (most : LimitKind → ℕ) (some : (k : LimitKind) → 1 ≤ most k) wh
       let es = any-found limit.Enums (sees_word keyword.Enum) (enum_decl most) (IsEnum most) (enum-found most some) (most limit.Enums) (start ls) a.input a.value a.first in
       let b = after (fields most a.input) _ s j a.rest in
       let fs = some-found limit.Fields (sees_word keyword.Field) field IsField field-found (most limit.Fields) a.input b.input b.value (some limit.Fields) b.first in
-      let c = after (group b.input) _ s j b.rest in
-      let g = group-found b.input c.input c.value c.first in
+      let c = after (group most b.input) _ s j b.rest in
+      let g = group-found most some b.input c.input c.value c.first in
       let d = after (states most c.input) _ s j c.rest in
       let ss = some-found limit.Cells (sees_word keyword.State) (state most) (IsState most) (state-found most some) (most limit.Cells) c.input d.input d.value (some limit.Cells) d.first in
       let e = after (tests most d.input) _ s j d.rest in

@@ -73,8 +73,8 @@ abbrev pub bare_part : Part → Part
 bare_part d = record { kind = bare_kind d.kind; first = bare_literal d.first }
 
 abbrev pub bare_cell : CellDecl → CellDecl
-bare_cell (cell.Int lo hi first) = cell.Int lo hi first
-bare_cell (cell.Nums lo hi) = cell.Nums lo hi
+bare_cell (cell.Int lo hi first clamp) = cell.Int lo hi first clamp
+bare_cell (cell.Nums lo hi clamp) = cell.Nums lo hi clamp
 bare_cell cell.Words = cell.Words
 bare_cell (cell.Hold parts) = cell.Hold (map bare_part parts)
 bare_cell (cell.Enum of first) = cell.Enum (bare_name of) (bare_name first)
@@ -99,7 +99,7 @@ abbrev pub bare_script : ScriptTree → ScriptTree
 bare_script s = record {
   enums = map bare_enum s.enums;
   fields = map bare_field s.fields;
-  group = option_map bare_name s.group;
+  group = map bare_name s.group;
   states = map bare_state s.states;
   tests = map bare_test s.tests;
   update = bare_stmts s.update;

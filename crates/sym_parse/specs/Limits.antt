@@ -1,6 +1,6 @@
 -- The limit of each kind.
 use Rattle.std.specs.Prelude.{ℕ}
-use Rattle.sym_base.specs.Limits.{max_enums, max_labels, max_fields, max_cells, max_tests, max_parameters, max_parts, max_statements, max_depth, max_operands, max_columns}
+use Rattle.sym_base.specs.Limits.{max_enums, max_labels, max_fields, max_cells, max_tests, max_parameters, max_parts, max_statements, max_depth, max_operands, max_columns, max_group_fields}
 use Rattle.sym_parse.specs.declared.error.LimitKind.{LimitKind}
 use Rattle.sym_parse.specs.declared.error.LimitKind.TheVariants as limit
 
@@ -17,3 +17,4 @@ most limit.Statements = max_statements
 most limit.Depth = max_depth
 most limit.Operands = max_operands
 most limit.Columns = max_columns
+most limit.GroupFields = max_group_fields

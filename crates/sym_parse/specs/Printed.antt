@@ -115,21 +115,26 @@ field_text d =
     codes "field " ++ (name_text d.name ++ (header_text d.header
     ++ (codes ": " ++ (kind_text d.kind ++ (default_text d.default ++ codes ";\n")))))
 
-abbrev pub group_text : Option Name → List ℕ
-group_text None = []
-group_text (Some name) = codes "group " ++ (name_text name ++ codes ";\n")
+-- No line without fields.
+abbrev pub group_text : List Name → List ℕ
+group_text [] = []
+group_text (first ∷ rest) = codes "group " ++ (listed name_text (first ∷ rest) ++ codes ";\n")
 
 unfoldable pub range_text : ℤ → ℤ → List ℕ
 range_text lo hi =
     codes "[" ++ (signed_decimal lo ++ (codes ".." ++ (signed_decimal hi ++ codes "]")))
 
+unfoldable pub clamp_text : Bool → List ℕ
+clamp_text true = codes " clamp"
+clamp_text false = []
+
 abbrev pub part_text : Part → List ℕ
 part_text d = kind_text d.kind ++ (codes " = " ++ literal_text d.first)
 
 abbrev pub cell_text : CellDecl → List ℕ
-cell_text (cell.Int lo hi first) =
-    codes "int " ++ (range_text lo hi ++ (codes " = " ++ signed_decimal first))
-cell_text (cell.Nums lo hi) = codes "nums " ++ range_text lo hi
+cell_text (cell.Int lo hi first clamp) =
+    codes "int " ++ (range_text lo hi ++ (codes " = " ++ (signed_decimal first ++ clamp_text clamp)))
+cell_text (cell.Nums lo hi clamp) = codes "nums " ++ (range_text lo hi ++ clamp_text clamp)
 cell_text cell.Words = codes "words"
 cell_text (cell.Hold parts) = codes "hold(" ++ (listed part_text parts ++ codes ")")
 cell_text (cell.Enum of first) = name_text of ++ (codes " = " ++ name_text first)

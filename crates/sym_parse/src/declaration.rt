@@ -1,5 +1,5 @@
 //! Declarations and the columns of the report.
-ghost use Rattle.std.specs.Prelude.{◌≡◌, ◌-◌, ◌<◌, ◌≤◌, ◌≤ℤ◌, pos, length, map, IfOk, OnOk, vec_len};
+ghost use Rattle.std.specs.Prelude.{◌≡◌, ◌-◌, ◌<◌, ◌≤◌, ◌≤ℤ◌, pos, length, map, Ok, IfOk, OnOk, vec_len};
 ghost use Rattle.std.specs.Bool.{OnTrue};
 ghost use Rattle.sym_base.specs.Trees.{column_tree, test_tree};
 ghost use Rattle.sym_parse.specs.declared.error.LimitKind.TheVariants as limit;
@@ -15,7 +15,7 @@ use crate::state::Cursor;
 use crate::stop::Stop;
 use std::alloc::Global;
 use sym_base::{
-    CellDecl, ColumnDecl, DEPTH_MAX, EnumDecl, FieldDecl, KindRef, LABELS_MAX, Literal, Name,
+    CellDecl, ColumnDecl, DEPTH_MAX, EnumDecl, FieldDecl, KindRef, Literal, Name, Names,
     PARAMETERS_MAX, PARTS_MAX, Param, Part, Sequence, StateDecl, TestDecl, Text,
 };
 use sym_lex::{Keyword, Symbol};
@@ -79,13 +79,14 @@ fn kind(alloc: Global, cursor: &mut Cursor<'_>) -> Result<KindRef, Stop>
 
 /// `, NAME` as often as a comma stands next.
 #[tactic(auto, using(crate::proofs::Lists::separated_goes))]
-fn labels_from(
+fn names_from(
     alloc: Global,
     cursor: &mut Cursor<'_>,
+    which: LimitKind,
     mut found: Vec<Name>,
 ) -> Result<Vec<Name>, Stop>
     ensures reads { Parses (λ v. v.items)
-        (separated limit.Labels sees_name steps.name (LABELS_MAX - length found.items) found.items
+        (separated which sees_name steps.name (most which - length found.items) found.items
         (input cursor.old)) result (input cursor.new) }
     ensures shorter { OnOk result (length cursor.new.rest.now ≤ length cursor.old.rest.now) }
 {
@@ -93,23 +94,23 @@ fn labels_from(
         return Ok(found);
     }
     cursor.bump();
-    cursor.one_more(found.len(), LABELS_MAX, LimitKind::Labels, cursor.is_name())?;
-    let label = cursor.name(alloc)?;
-    found.push(label)?;
-    labels_from(alloc, cursor, found)
+    cursor.one_more(found.len(), which.most(), which, cursor.is_name())?;
+    let name = cursor.name(alloc)?;
+    found.push(name)?;
+    names_from(alloc, cursor, which, found)
 }
 
-/// `NAME {, NAME}`
-#[tactic(auto, unfolding(crate::specs::Parsing::Declarations::labels))]
-fn labels(alloc: Global, cursor: &mut Cursor<'_>) -> Result<Vec<Name>, Stop>
-    ensures reads { Parses (λ v. v.items) (spec.labels most (input cursor.old))
+/// `NAME {, NAME}`, which are counted as this kind.
+#[tactic(auto, unfolding(crate::specs::Parsing::Declarations::names))]
+fn names(alloc: Global, cursor: &mut Cursor<'_>, which: LimitKind) -> Result<Vec<Name>, Stop>
+    ensures reads { Parses (λ v. v.items) (spec.names most which (input cursor.old))
         result (input cursor.new) }
     ensures shorter { OnOk result (length cursor.new.rest.now < length cursor.old.rest.now) }
 {
     let mut found = Vec::new(alloc);
     let first = cursor.name(alloc)?;
     found.push(first)?;
-    labels_from(alloc, cursor, found)
+    names_from(alloc, cursor, which, found)
 }
 
 /// `enum NAME { NAME {, NAME} }`
@@ -122,7 +123,7 @@ pub fn enum_decl(alloc: Global, cursor: &mut Cursor<'_>) -> Result<EnumDecl, Sto
     cursor.word(Keyword::Enum)?;
     let name = cursor.name(alloc)?;
     cursor.sign(Symbol::OpenBrace)?;
-    let labels = Sequence::of(labels(alloc, cursor)?);
+    let labels = Sequence::of(names(alloc, cursor, LimitKind::Labels)?);
     cursor.sign(Symbol::CloseBrace)?;
     Ok(EnumDecl { name, labels })
 }
@@ -175,19 +176,19 @@ pub fn field(alloc: Global, cursor: &mut Cursor<'_>) -> Result<FieldDecl, Stop>
     })
 }
 
-/// `group NAME ;`, or nothing.
+/// `group NAME {, NAME} ;`, or nothing.
 #[tactic(auto, unfolding(crate::specs::Parsing::Declarations::group))]
-pub fn group(alloc: Global, cursor: &mut Cursor<'_>) -> Result<Option<Name>, Stop>
-    ensures reads { Parses (λ g. g) (spec.group (input cursor.old)) result (input cursor.new) }
+pub fn group(alloc: Global, cursor: &mut Cursor<'_>) -> Result<Names, Stop>
+    ensures reads { Parses (λ g. g) (spec.group most (input cursor.old)) result (input cursor.new) }
     ensures shorter { OnOk result (length cursor.new.rest.now ≤ length cursor.old.rest.now) }
 {
     if !cursor.is_word(Keyword::Group) {
-        return Ok(None);
+        return Ok(Sequence::new(alloc));
     }
     cursor.bump();
-    let name = cursor.name(alloc)?;
+    let names = Sequence::of(names(alloc, cursor, LimitKind::GroupFields)?);
     cursor.sign(Symbol::Semicolon)?;
-    Ok(Some(name))
+    Ok(names)
 }
 
 /// `[ num .. num ]`
@@ -203,6 +204,19 @@ fn range(cursor: &mut Cursor<'_>) -> Result<(i64, i64), Stop>
     let hi = num(cursor)?;
     cursor.sign(Symbol::CloseBracket)?;
     Ok((lo, hi))
+}
+
+/// Whether `clamp` stands next, which is taken.
+#[tactic(auto, unfolding(crate::specs::Parsing::Declarations::clamp))]
+fn clamp(cursor: &mut Cursor<'_>) -> bool
+    ensures reads { spec.clamp (input cursor.old) ≡ Ok (result, input cursor.new) }
+    ensures shorter { length cursor.new.rest.now ≤ length cursor.old.rest.now }
+{
+    if !cursor.is_word(Keyword::Clamp) {
+        return false;
+    }
+    cursor.bump();
+    true
 }
 
 /// `kind = literal`
@@ -267,7 +281,13 @@ fn int_cell(cursor: &mut Cursor<'_>) -> Result<CellDecl, Stop>
     let (lo, hi) = range(cursor)?;
     cursor.sign(Symbol::Assign)?;
     let first = num(cursor)?;
-    Ok(CellDecl::Int { lo, hi, first })
+    let clamp = clamp(cursor);
+    Ok(CellDecl::Int {
+        lo,
+        hi,
+        first,
+        clamp,
+    })
 }
 
 #[tactic(auto, unfolding(crate::specs::Parsing::Declarations::nums_cell))]
@@ -278,7 +298,8 @@ fn nums_cell(cursor: &mut Cursor<'_>) -> Result<CellDecl, Stop>
 {
     cursor.word(Keyword::Nums)?;
     let (lo, hi) = range(cursor)?;
-    Ok(CellDecl::Nums { lo, hi })
+    let clamp = clamp(cursor);
+    Ok(CellDecl::Nums { lo, hi, clamp })
 }
 
 #[tactic(auto, unfolding(crate::specs::Parsing::Declarations::hold_cell))]

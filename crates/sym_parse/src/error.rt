@@ -1,5 +1,11 @@
 //! Why a text is refused.
+ghost use Rattle.std.specs.Prelude.{◌≡◌};
+ghost use Rattle.sym_parse.specs.Limits.{most};
 
+use sym_base::{
+    CELLS_MAX, COLUMNS_MAX, DEPTH_MAX, ENUMS_MAX, FIELDS_MAX, GROUP_FIELDS_MAX, LABELS_MAX,
+    OPERANDS_MAX, PARAMETERS_MAX, PARTS_MAX, STATEMENTS_MAX, TESTS_MAX,
+};
 use sym_lex::LexFault;
 use thiserror::Error;
 
@@ -29,6 +35,30 @@ pub enum LimitKind {
     Operands,
     /// The columns of the report.
     Columns,
+    /// The fields of the group line.
+    GroupFields,
+}
+
+impl LimitKind {
+    // The most of this kind.
+    pub(crate) fn most(self) -> usize
+        ensures { result ≡ most self }
+    {
+        match self {
+            LimitKind::Enums => ENUMS_MAX,
+            LimitKind::Labels => LABELS_MAX,
+            LimitKind::Fields => FIELDS_MAX,
+            LimitKind::Cells => CELLS_MAX,
+            LimitKind::Tests => TESTS_MAX,
+            LimitKind::Parameters => PARAMETERS_MAX,
+            LimitKind::Parts => PARTS_MAX,
+            LimitKind::Statements => STATEMENTS_MAX,
+            LimitKind::Depth => DEPTH_MAX,
+            LimitKind::Operands => OPERANDS_MAX,
+            LimitKind::Columns => COLUMNS_MAX,
+            LimitKind::GroupFields => GROUP_FIELDS_MAX,
+        }
+    }
 }
 
 /// Why `parse` gives no script. Places count bytes from 0.

@@ -1,5 +1,5 @@
 -- The pieces of declarations, and of a whole script, read as those, places aside.
-use Rattle.std.proofs.Common.{◌≡◌, ℕ, suc, ◌+◌, ◌≤◌, ◌<◌, ℤ, pos, negsuc, Bool, true, ◌&&◌, nat_le, List, [], ◌∷◌, ◌++◌, map, length, Option, None, Some, refl, sym, ◌∙◌, ap, subst, arith}
+use Rattle.std.proofs.Common.{◌≡◌, ℕ, suc, ◌+◌, ◌≤◌, ◌<◌, ℤ, pos, negsuc, Bool, true, false, ◌&&◌, nat_le, List, [], ◌∷◌, ◌++◌, map, length, Option, None, Some, refl, sym, ◌∙◌, ap, subst, arith}
 use Rattle.std.proofs.lemmas.Bool.Decides.{nat_tests}
 use Rattle.std.proofs.lemmas.List.{append-nil}
 use Rattle.std.specs.List.{flat_map, list_all}
@@ -17,7 +17,7 @@ use Rattle.sym_base.specs.declared.tree.declaration.CellDecl.TheVariants as cell
 use Rattle.sym_base.specs.declared.tree.declaration.StateDecl.{StateDecl}
 use Rattle.sym_base.specs.declared.tree.declaration.Param.{Param}
 use Rattle.sym_base.specs.Lawful.{IsLawful, is_between, is_lawful_name, is_lawful_enum, is_lawful_field, is_lawful_state, is_lawful_cell, is_lawful_part, is_lawful_param, is_lawful_test, is_lawful_column, is_lawful_expr}
-use Rattle.sym_base.specs.Limits.{max_labels, max_parts, max_parameters, max_depth, max_enums, max_tests, max_statements, max_fields, max_cells, max_columns}
+use Rattle.sym_base.specs.Limits.{max_labels, max_group_fields, max_parts, max_parameters, max_depth, max_enums, max_tests, max_statements, max_fields, max_cells, max_columns}
 use Rattle.sym_base.specs.Sizes.{expr_depth}
 use Rattle.sym_base.specs.Trees.{ScriptTree, TestTree, ColumnTree, StmtsTree}
 use Rattle.sym_lex.specs.declared.keyword.Keyword.TheVariants as keyword
@@ -26,9 +26,9 @@ use Rattle.sym_lex.specs.Terminals.{Number, Str}
 use Rattle.sym_parse.specs.Bare.{bare_name, bare_expr, bare_kind, bare_literal, bare_enum, bare_field, bare_part, bare_cell, bare_state, bare_param, bare_test, bare_column, bare_stmts, bare_script}
 use Rattle.sym_parse.specs.Lexemes.{Lexeme}
 use Rattle.sym_parse.specs.Limits.{most}
-use Rattle.sym_parse.specs.Syntax.Declarations.{AreItems, AreAtMost, AreFurther, AreSome, AreSeparated, IsOneName, IsNum, IsLiteral, IsKind, IsEnum, IsHeader, IsDefault, IsField, IsGroup, IsRange, IsPart, IsCell, IsState, IsParam, IsTest, IsColumn}
+use Rattle.sym_parse.specs.Syntax.Declarations.{AreItems, AreAtMost, AreFurther, AreSome, AreSeparated, IsOneName, IsNum, IsLiteral, IsKind, IsEnum, IsHeader, IsDefault, IsField, IsGroup, IsRange, IsClamp, IsPart, IsCell, IsState, IsParam, IsTest, IsColumn}
 use Rattle.sym_parse.specs.Syntax.Scripts.{IsUpdate, IsReport, IsScript}
-use Rattle.sym_parse.proofs.Printout.Pieces.{Piece, Space, Break, sign, expr, further, listed, one_name, num, kind_of, literal_of, enum_of, header_of, default_of, field_of, group_of, range, part_of, cell_of, state_of, param_of, test_of, column_of, block, stmts, update_of, report_of, script, lexemes}
+use Rattle.sym_parse.proofs.Printout.Pieces.{Piece, Space, Break, sign, expr, further, listed, one_name, num, kind_of, literal_of, enum_of, header_of, default_of, field_of, group_of, range, clamp_of, part_of, cell_of, state_of, param_of, test_of, column_of, block, stmts, update_of, report_of, script, lexemes}
 use Rattle.sym_parse.proofs.Printout.Unplaced.{few-items, few-statements}
 use Rattle.sym_parse.proofs.Printout.Placing.{in_turn, key, mark, named, placed_name}
 use Rattle.sym_parse.proofs.Printout.ExpressionsBack.{Like, both}
@@ -40,8 +40,14 @@ some-of least most n h = let t = (both (nat_le (suc least) n) (nat_le n most) h)
 bounded : (least most n : ℕ) → is_between least most n ≡ true → n ≤ most
 bounded least most n h = within n most (both (nat_le least n) (nat_le n most) h).1
 
+some-few : (most n : ℕ) → 0 < n → n ≤ most → is_between 1 most n ≡ true
+some-few most n some few =
+    let least : nat_le 1 n ≡ true = grind (arith, nat_tests) in
+    let largest : nat_le n most ≡ true = grind (arith, nat_tests) in
+    rw (least, largest) refl
+
 -- A script whose parts are equal.
-script-same : {es es' : List EnumDecl} {fs fs' : List FieldDecl} {g g' : Option NameRecord} {ss ss' : List StateDecl} {ts ts' : List TestTree} {u u' : StmtsTree} {cs cs' : List ColumnTree} →
+script-same : {es es' : List EnumDecl} {fs fs' : List FieldDecl} {g g' : List NameRecord} {ss ss' : List StateDecl} {ts ts' : List TestTree} {u u' : StmtsTree} {cs cs' : List ColumnTree} →
     es ≡ es' → fs ≡ fs' → g ≡ g' → ss ≡ ss' → ts ≡ ts' → u ≡ u' → cs ≡ cs' →
     (let x : ScriptTree = record { enums = es; fields = fs; group = g; states = ss; tests = ts; update = u; columns = cs } in x)
     ≡ record { enums = es'; fields = fs'; group = g'; states = ss'; tests = ts'; update = u'; columns = cs' }
@@ -182,13 +188,17 @@ module _ (place : ℕ → ℕ) where
             ∙ ap (λ v. let e : FieldDecl = record { name = bare_name d.name; header = d.header; kind = bare_kind d.kind; default = v } in e) y.same;
       })))
 
-  group-reads : (v : Option NameRecord) (k : ℕ) → Like IsGroup (option_map bare_name) (lexemes place k (group_of v)) v
-  group-reads None k = record { tree = None; reads = IsGroup.none; same = refl }
-  group-reads (Some n) k = record {
-    tree = Some (placed_name place (k + 1) n);
-    reads = IsGroup.group (key place k keyword.Group) (named place (k + 1) n) (mark place (k + 1 + 1) symbol.Semicolon) refl (record { text = refl; place = refl }) refl;
-    same = refl;
-  }
+  group-reads : (ns : List NameRecord) → list_all is_lawful_name ns ≡ true → length ns ≤ max_group_fields → (k : ℕ) → Like (IsGroup most) (map bare_name) (lexemes place k (group_of ns)) ns
+  group-reads [] h few k = record { tree = []; reads = IsGroup.none; same = refl }
+  group-reads (n ∷ ns) h few k =
+      in_turn place (k + 1) (listed one_name (n ∷ ns)) (sign symbol.Semicolon ∷ Break ∷ [])
+      (λ ls. Like (IsGroup most) (map bare_name) (key place k keyword.Group ∷ ls) (n ∷ ns))
+      (λ j. let names = separated-reads one_name IsOneName bare_name is_lawful_name name-reads max_group_fields (n ∷ ns) h (some-few max_group_fields (length (n ∷ ns)) (omega arith) few) (k + 1) in
+      record {
+        tree = names.tree;
+        reads = IsGroup.group (key place k keyword.Group) (mark place j symbol.Semicolon) refl names.reads refl;
+        same = names.same;
+      })
 
   range-reads : (lo hi : ℤ) (k : ℕ) → IsRange (lexemes place k (range lo hi)) (lo, hi)
   range-reads lo hi k =
@@ -198,6 +208,10 @@ module _ (place : ℕ → ℕ) where
       (λ ls. IsRange (mark place k symbol.OpenBracket ∷ (lexemes place (k + 1) (num lo) ++ mark place j symbol.DotDot ∷ ls)) (lo, hi))
       (λ i. IsRange.range (mark place k symbol.OpenBracket) (mark place j symbol.DotDot) (mark place i symbol.CloseBracket)
       refl (num-reads lo (k + 1)) refl (num-reads hi (j + 1)) refl))
+
+  clamp-reads : (clamp : Bool) (k : ℕ) → IsClamp (lexemes place k (clamp_of clamp)) clamp
+  clamp-reads true k = IsClamp.clamp (key place k keyword.Clamp) refl
+  clamp-reads false k = IsClamp.none
 
   part-reads : (d : Part) → is_lawful_part d ≡ true → (k : ℕ) → Like IsPart bare_part (lexemes place k (part_of d)) d
   part-reads d h k =
@@ -213,16 +227,20 @@ module _ (place : ℕ → ℕ) where
       })
 
   cell-reads : (c : CellDecl) → is_lawful_cell c ≡ true → (k : ℕ) → Like (IsCell most) bare_cell (lexemes place k (cell_of c)) c
-  cell-reads (cell.Int lo hi first) h k =
-      in_turn place (k + 1) (range lo hi) (Space ∷ sign symbol.Assign ∷ Space ∷ num first)
-      (λ ls. Like (IsCell most) bare_cell (key place k keyword.Int ∷ ls) (cell.Int lo hi first))
-      (λ j. record {
-        tree = cell.Int lo hi first;
-        reads = IsCell.int (key place k keyword.Int) (mark place j symbol.Assign) refl (range-reads lo hi (k + 1)) refl (num-reads first (j + 1));
+  cell-reads (cell.Int lo hi first clamp) h k =
+      in_turn place (k + 1) (range lo hi) (Space ∷ sign symbol.Assign ∷ Space ∷ (num first ++ clamp_of clamp))
+      (λ ls. Like (IsCell most) bare_cell (key place k keyword.Int ∷ ls) (cell.Int lo hi first clamp))
+      (λ j. in_turn place (j + 1) (num first) (clamp_of clamp)
+      (λ ls. Like (IsCell most) bare_cell (key place k keyword.Int ∷ (lexemes place (k + 1) (range lo hi) ++ mark place j symbol.Assign ∷ ls)) (cell.Int lo hi first clamp))
+      (λ i. record {
+        tree = cell.Int lo hi first clamp;
+        reads = IsCell.int (key place k keyword.Int) (mark place j symbol.Assign) refl (range-reads lo hi (k + 1)) refl (num-reads first (j + 1)) (clamp-reads clamp i);
         same = refl;
-      })
-  cell-reads (cell.Nums lo hi) h k =
-      record { tree = cell.Nums lo hi; reads = IsCell.nums (key place k keyword.Nums) refl (range-reads lo hi (k + 1)); same = refl }
+      }))
+  cell-reads (cell.Nums lo hi clamp) h k =
+      in_turn place (k + 1) (range lo hi) (clamp_of clamp)
+      (λ ls. Like (IsCell most) bare_cell (key place k keyword.Nums ∷ ls) (cell.Nums lo hi clamp))
+      (λ j. record { tree = cell.Nums lo hi clamp; reads = IsCell.nums (key place k keyword.Nums) refl (range-reads lo hi (k + 1)) (clamp-reads clamp j); same = refl })
   cell-reads cell.Words h k = record { tree = cell.Words; reads = IsCell.words (key place k keyword.Words) refl; same = refl }
   cell-reads (cell.Hold parts) h k =
       let facts = both (is_between 1 max_parts (length parts)) (list_all is_lawful_part parts) h in
@@ -340,7 +358,7 @@ module _ (place : ℕ → ℕ) where
       (λ f.
       let es = few-read enum_of (IsEnum most) bare_enum is_lawful_enum enum-reads max_enums s.enums h.enums h.enum_count 0 in
       let fs = some-read field_of IsField bare_field is_lawful_field field-reads max_fields s.fields h.fields h.field_count a in
-      let gs = group-reads s.group b in
+      let gs = group-reads s.group h.group h.group_count b in
       let ss = some-read state_of (IsState most) bare_state is_lawful_state state-reads max_cells s.states h.cells h.cell_count c in
       let ts = few-read test_of (IsTest most) bare_test is_lawful_test test-reads max_tests s.tests h.tests h.test_count d in
       let us = update-reads s h e in

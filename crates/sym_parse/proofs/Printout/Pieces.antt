@@ -167,21 +167,26 @@ field_of d =
     word keyword.Field ∷ Space ∷ name d.name ∷ (header_of d.header ++ sign symbol.Colon ∷ Space
     ∷ (kind_of d.kind ++ (default_of d.default ++ sign symbol.Semicolon ∷ Break ∷ [])))
 
-abbrev pub group_of : Option NameRecord → List Piece
-group_of None = []
-group_of (Some n) = word keyword.Group ∷ Space ∷ name n ∷ sign symbol.Semicolon ∷ Break ∷ []
+abbrev pub group_of : List NameRecord → List Piece
+group_of [] = []
+group_of (first ∷ rest) =
+    word keyword.Group ∷ Space ∷ (listed one_name (first ∷ rest) ++ sign symbol.Semicolon ∷ Break ∷ [])
 
 abbrev pub range : ℤ → ℤ → List Piece
 range lo hi =
     sign symbol.OpenBracket ∷ (num lo ++ sign symbol.DotDot ∷ (num hi ++ sign symbol.CloseBracket ∷ []))
 
+abbrev pub clamp_of : Bool → List Piece
+clamp_of true = Space ∷ word keyword.Clamp ∷ []
+clamp_of false = []
+
 abbrev pub part_of : Part → List Piece
 part_of d = kind_of d.kind ++ Space ∷ sign symbol.Assign ∷ Space ∷ literal_of d.first
 
 abbrev pub cell_of : CellDecl → List Piece
-cell_of (cell.Int lo hi first) =
-    word keyword.Int ∷ Space ∷ (range lo hi ++ Space ∷ sign symbol.Assign ∷ Space ∷ num first)
-cell_of (cell.Nums lo hi) = word keyword.Nums ∷ Space ∷ range lo hi
+cell_of (cell.Int lo hi first clamp) =
+    word keyword.Int ∷ Space ∷ (range lo hi ++ Space ∷ sign symbol.Assign ∷ Space ∷ (num first ++ clamp_of clamp))
+cell_of (cell.Nums lo hi clamp) = word keyword.Nums ∷ Space ∷ (range lo hi ++ clamp_of clamp)
 cell_of cell.Words = word keyword.Words ∷ []
 cell_of (cell.Hold parts) =
     word keyword.Hold ∷ sign symbol.OpenParen ∷ (listed part_of parts ++ sign symbol.CloseParen ∷ [])

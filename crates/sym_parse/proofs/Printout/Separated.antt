@@ -27,7 +27,7 @@ use Rattle.sym_lex.specs.declared.symbol.Symbol.TheVariants as symbol
 use Rattle.sym_lex.specs.Terminals.{Terminal, Name, Number, Str, Word, Sign}
 use Rattle.sym_lex.proofs.Spelling.{may_grow}
 use Rattle.sym_parse.specs.Printed.{is_if, is_empty}
-use Rattle.sym_parse.proofs.Printout.Pieces.{Piece, Token, Space, Break, Indent, sign, op_terminal, enclosed, operand, expr, exprs, further_exprs, further, listed, one_name, num, kind_of, literal_of, enum_of, header_of, default_of, field_of, group_of, range, part_of, cell_of, state_of, param_of, test_of, column_of, block, stmt, else_of, stmts, update_of, report_of, script}
+use Rattle.sym_parse.proofs.Printout.Pieces.{Piece, Token, Space, Break, Indent, sign, op_terminal, enclosed, operand, expr, exprs, further_exprs, further, listed, one_name, num, kind_of, literal_of, enum_of, header_of, default_of, field_of, group_of, range, clamp_of, part_of, cell_of, state_of, param_of, test_of, column_of, block, stmt, else_of, stmts, update_of, report_of, script}
 use Rattle.sym_parse.proofs.Printout.ExpressionsBack.{both}
 use Rattle.sym_parse.proofs.Printout.StatementsBack.{all-leaves-of, leaves-of}
 
@@ -230,14 +230,19 @@ field-ends d h rest f =
     let first = opens-after (header_of d.header) Y rest (header-opens d.header front.1) refl second in
     join3 (is_name d.name.text) _ _ front.0 first.0 first.1
 
-group-ends : (v : Option NameRecord) → is_absent_or is_lawful_name v ≡ true → Ends (group_of v)
-group-ends None l rest f = f
-group-ends (Some n) l rest f = join (is_name n.text) (fits rest) l f
+group-ends : (v : List NameRecord) → list_all is_lawful_name v ≡ true → Ends (group_of v)
+group-ends [] l rest f = f
+group-ends (n ∷ ns) l rest f =
+    after (listed one_name (n ∷ ns)) (sign symbol.Semicolon ∷ Break ∷ []) rest (items-closed one_name is_lawful_name one-closed (n ∷ ns) l) refl f
 
 range-closed : (lo hi : ℤ) → is_number lo ≡ true → is_number hi ≡ true → Closed (range lo hi)
 range-closed lo hi p q rest s f =
     after (num lo) (sign symbol.DotDot ∷ (num hi ++ sign symbol.CloseBracket ∷ [])) rest (num-closed lo p) refl
     (after (num hi) (sign symbol.CloseBracket ∷ []) rest (num-closed hi q) refl f)
+
+clamp-opens : (clamp : Bool) → Opens (clamp_of clamp)
+clamp-opens true rest s f = (refl, join (is_soft rest) (fits rest) s f)
+clamp-opens false rest s f = (s, f)
 
 part-closed : (d : Part) → is_lawful_part d ≡ true → Closed (part_of d)
 part-closed d h rest s f =
@@ -245,13 +250,16 @@ part-closed d h rest s f =
     after (kind_of d.kind) (Space ∷ sign symbol.Assign ∷ Space ∷ literal_of d.first) rest (kind-closed d.kind parts.0) refl (literal-closed d.first parts.1 rest s f)
 
 cell-closed : (c : CellDecl) → is_lawful_cell c ≡ true → Closed (cell_of c)
-cell-closed (cell.Int lo hi first) h rest s f =
+cell-closed (cell.Int lo hi first clamp) h rest s f =
     let parts = both (is_number lo && is_number hi) (is_number first) h in
     let ends = both (is_number lo) (is_number hi) parts.0 in
-    after (range lo hi) (Space ∷ sign symbol.Assign ∷ Space ∷ num first) rest (range-closed lo hi ends.0 ends.1) refl (num-closed first parts.1 rest s f)
-cell-closed (cell.Nums lo hi) h rest s f =
+    let last = clamp-opens clamp rest s f in
+    after (range lo hi) (Space ∷ sign symbol.Assign ∷ Space ∷ (num first ++ clamp_of clamp)) rest (range-closed lo hi ends.0 ends.1) refl
+    (after (num first) (clamp_of clamp) rest (num-closed first parts.1) last.0 last.1)
+cell-closed (cell.Nums lo hi clamp) h rest s f =
     let ends = both (is_number lo) (is_number hi) h in
-    range-closed lo hi ends.0 ends.1 rest s f
+    let last = clamp-opens clamp rest s f in
+    after (range lo hi) (clamp_of clamp) rest (range-closed lo hi ends.0 ends.1) last.0 last.1
 cell-closed cell.Words h rest s f = join (is_soft rest) (fits rest) s f
 cell-closed (cell.Hold parts) h rest s f =
     after (listed part_of parts) (sign symbol.CloseParen ∷ []) rest (items-closed part_of is_lawful_part part-closed parts (both (is_between 1 max_parts (length parts)) (list_all is_lawful_part parts) h).1) refl f

@@ -23,7 +23,7 @@ use Rattle.sym_base.specs.Precedence.{needs_parentheses, left_level, right_level
 use Rattle.sym_lex.specs.declared.symbol.Symbol.TheVariants as symbol
 use Rattle.sym_lex.specs.Quoting.{quoted}
 use Rattle.sym_parse.specs.Printed as printed
-use Rattle.sym_parse.proofs.Printout.Pieces.{Piece, Token, Space, Break, Indent, terminal_text, piece_text, text, sign, op_terminal, enclosed, operand, expr, exprs, further_exprs, further, listed, one_name, num, kind_of, literal_of, enum_of, header_of, default_of, field_of, group_of, range, part_of, cell_of, state_of, param_of, test_of, column_of, block, stmt, else_of, stmts, update_of, report_of, script}
+use Rattle.sym_parse.proofs.Printout.Pieces.{Piece, Token, Space, Break, Indent, terminal_text, piece_text, text, sign, op_terminal, enclosed, operand, expr, exprs, further_exprs, further, listed, one_name, num, kind_of, literal_of, enum_of, header_of, default_of, field_of, group_of, range, clamp_of, part_of, cell_of, state_of, param_of, test_of, column_of, block, stmt, else_of, stmts, update_of, report_of, script}
 
 -- Pieces before pieces.
 pub joined : (a b : List Piece) {x y : List ℕ} → text a ≡ x → text b ≡ y → text (a ++ b) ≡ x ++ y
@@ -120,9 +120,11 @@ field-text d =
     (joined (kind_of d.kind) _ (kind-text d.kind)
     (joined (default_of d.default) (sign symbol.Semicolon ∷ Break ∷ []) (default-text d.default) refl))))
 
-group-text : (g : Option NameRecord) → text (group_of g) ≡ printed.group_text g
-group-text None = refl
-group-text (Some n) = refl
+group-text : (g : List NameRecord) → text (group_of g) ≡ printed.group_text g
+group-text [] = refl
+group-text (n ∷ ns) =
+    ap (λ t. codes "group " ++ t)
+    (joined (listed one_name (n ∷ ns)) (sign symbol.Semicolon ∷ Break ∷ []) (listed-text one_name printed.name_text name-text (n ∷ ns)) refl)
 
 range-text : (lo hi : ℤ) → text (range lo hi) ≡ printed.range_text lo hi
 unfolding printed.range_text
@@ -130,16 +132,22 @@ range-text lo hi =
     ap (λ t. 91 ∷ t) (joined (num lo) (sign symbol.DotDot ∷ (num hi ++ sign symbol.CloseBracket ∷ [])) (num-text lo)
     (ap (λ t. codes ".." ++ t) (joined (num hi) (sign symbol.CloseBracket ∷ []) (num-text hi) refl)))
 
+clamp-text : (clamp : Bool) → text (clamp_of clamp) ≡ printed.clamp_text clamp
+unfolding printed.clamp_text
+clamp-text true = refl
+clamp-text false = refl
+
 part-text : (d : Part) → text (part_of d) ≡ printed.part_text d
 part-text d =
     joined (kind_of d.kind) (Space ∷ sign symbol.Assign ∷ Space ∷ literal_of d.first) (kind-text d.kind)
     (ap (λ t. codes " = " ++ t) (literal-text d.first))
 
 cell-text : (c : CellDecl) → text (cell_of c) ≡ printed.cell_text c
-cell-text (cell.Int lo hi first) =
+cell-text (cell.Int lo hi first clamp) =
     ap (λ t. codes "int " ++ t)
-    (joined (range lo hi) (Space ∷ sign symbol.Assign ∷ Space ∷ num first) (range-text lo hi) (ap (λ t. codes " = " ++ t) (num-text first)))
-cell-text (cell.Nums lo hi) = ap (λ t. codes "nums " ++ t) (range-text lo hi)
+    (joined (range lo hi) (Space ∷ sign symbol.Assign ∷ Space ∷ (num first ++ clamp_of clamp)) (range-text lo hi)
+    (ap (λ t. codes " = " ++ t) (joined (num first) (clamp_of clamp) (num-text first) (clamp-text clamp))))
+cell-text (cell.Nums lo hi clamp) = ap (λ t. codes "nums " ++ t) (joined (range lo hi) (clamp_of clamp) (range-text lo hi) (clamp-text clamp))
 cell-text cell.Words = refl
 cell-text (cell.Hold parts) =
     ap (λ t. codes "hold(" ++ t)

@@ -1,5 +1,5 @@
 -- Declarations and the report's columns.
-use Rattle.std.specs.Prelude.{ℕ, ◌-◌, ℤ, neg_ℤ, Bool, ◌||◌, List, [], ◌∷◌, Option, None, Some}
+use Rattle.std.specs.Prelude.{ℕ, ◌-◌, ℤ, neg_ℤ, Bool, true, false, ◌||◌, List, [], ◌∷◌, Option, None, Some}
 use Rattle.sym_base.specs.declared.tree.name.Name.{Name}
 use Rattle.sym_base.specs.declared.tree.declaration.EnumDecl.{EnumDecl}
 use Rattle.sym_base.specs.declared.tree.declaration.FieldDecl.{FieldDecl}
@@ -63,13 +63,6 @@ field = do
   sign symbol.Semicolon
   pure (record { name = n; header = h; kind = k; default = d })
 
--- group = "group" NAME ";", or none
-unfoldable pub group : Parser (Option Name)
-group =
-    choose (sees_word keyword.Group)
-    (do bump; n ← name; sign symbol.Semicolon; pure (Some n))
-    (pure None)
-
 -- range = "[" num ".." num "]"
 unfoldable pub range : Parser (ℤ × ℤ)
 range = do
@@ -79,6 +72,10 @@ range = do
   hi ← num
   sign symbol.CloseBracket
   pure (lo, hi)
+
+-- ["clamp"], and whether it is there
+unfoldable pub clamp : Parser Bool
+clamp = choose (sees_word keyword.Clamp) (bump >> pure true) (pure false)
 
 -- kind "=" literal
 unfoldable pub part : Parser Part
@@ -98,10 +95,10 @@ param = do
 
 module _ (most : LimitKind → ℕ) where
   -- NAME {"," NAME}
-  unfoldable pub labels : Parser (List Name)
-  labels = do
+  unfoldable pub names : LimitKind → Parser (List Name)
+  names which = do
     n ← name
-    separated limit.Labels sees_name name (most limit.Labels - 1) (n ∷ [])
+    separated which sees_name name (most which - 1) (n ∷ [])
 
   -- enum = "enum" NAME "{" NAME {"," NAME} "}"
   unfoldable pub enum_decl : Parser EnumDecl
@@ -109,9 +106,16 @@ module _ (most : LimitKind → ℕ) where
     word keyword.Enum
     n ← name
     sign symbol.OpenBrace
-    ls ← labels
+    ls ← names limit.Labels
     sign symbol.CloseBrace
     pure (record { name = n; labels = ls })
+
+  -- group = "group" NAME {"," NAME} ";", or none
+  unfoldable pub group : Parser (List Name)
+  group =
+      choose (sees_word keyword.Group)
+      (do bump; ns ← names limit.GroupFields; sign symbol.Semicolon; pure ns)
+      (pure [])
 
   -- kind "=" literal {"," kind "=" literal}
   unfoldable pub parts : Parser (List Part)
@@ -125,13 +129,15 @@ module _ (most : LimitKind → ℕ) where
     r ← range
     sign symbol.Assign
     first ← num
-    pure (cell.Int r.0 r.1 first)
+    c ← clamp
+    pure (cell.Int r.0 r.1 first c)
 
   unfoldable pub nums_cell : Parser CellDecl
   nums_cell = do
     word keyword.Nums
     r ← range
-    pure (cell.Nums r.0 r.1)
+    c ← clamp
+    pure (cell.Nums r.0 r.1 c)
 
   unfoldable pub hold_cell : Parser CellDecl
   hold_cell = do
@@ -148,7 +154,7 @@ module _ (most : LimitKind → ℕ) where
     first ← name
     pure (cell.Enum of first)
 
-  -- cell = "int" range "=" num | "nums" range | "words"
+  -- cell = "int" range "=" num ["clamp"] | "nums" range ["clamp"] | "words"
   --      | "hold" "(" kind "=" literal {"," kind "=" literal} ")" | NAME "=" NAME
   unfoldable pub cell_decl : Parser CellDecl
   cell_decl =

@@ -54,7 +54,7 @@ module _ (most : LimitKind → ℕ) where
   script = do
     es ← enums
     fs ← fields
-    g ← group
+    g ← group most
     ss ← states
     ts ← tests
     u ← update most

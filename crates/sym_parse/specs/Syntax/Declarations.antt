@@ -1,5 +1,5 @@
 -- Declarations, the report's columns, and their parts.
-use Rattle.std.specs.Prelude.{ℕ, ◌≤◌, ℤ, neg_ℤ, List, [], ◌∷◌, ◌++◌, length, Option, None, Some}
+use Rattle.std.specs.Prelude.{ℕ, ◌≤◌, ℤ, neg_ℤ, Bool, true, false, List, [], ◌∷◌, ◌++◌, length, Option, None, Some}
 use Rattle.sym_base.specs.declared.tree.name.Name.{Name}
 use Rattle.sym_base.specs.declared.tree.declaration.EnumDecl.{EnumDecl}
 use Rattle.sym_base.specs.declared.tree.declaration.FieldDecl.{FieldDecl}
@@ -99,18 +99,17 @@ pub data IsField : List Lexeme → FieldDecl → Type 0 where
       IsField (w ∷ l ∷ (hs ++ colon ∷ (ks ++ (ds ++ end ∷ []))))
       (record { name = n; header = header; kind = k; default = default })
 
--- group = "group" NAME ";"
-pub data IsGroup : List Lexeme → Option Name → Type 0 where
-  none : IsGroup [] None
-  group : {n : Name} (w l end : Lexeme) → IsKeyword keyword.Group w → IsName n l →
-      IsSign symbol.Semicolon end → IsGroup (w ∷ l ∷ end ∷ []) (Some n)
-
 -- range = "[" num ".." num "]"
 pub data IsRange : List Lexeme → ℤ × ℤ → Type 0 where
   range : {lo hi : ℤ} {xs ys : List Lexeme} (begin dots end : Lexeme) →
       IsSign symbol.OpenBracket begin → IsNum xs lo → IsSign symbol.DotDot dots → IsNum ys hi →
       IsSign symbol.CloseBracket end →
       IsRange (begin ∷ (xs ++ dots ∷ (ys ++ end ∷ []))) (lo, hi)
+
+-- ["clamp"], and whether it is there
+pub data IsClamp : List Lexeme → Bool → Type 0 where
+  none : IsClamp [] false
+  clamp : (w : Lexeme) → IsKeyword keyword.Clamp w → IsClamp (w ∷ []) true
 
 -- kind "=" literal
 pub data IsPart : List Lexeme → Part → Type 0 where
@@ -133,14 +132,23 @@ module _ (most : LimitKind → ℕ) where
         AreSeparated (most limit.Labels) IsOneName xs labels → IsSign symbol.CloseBrace end →
         IsEnum (w ∷ l ∷ begin ∷ (xs ++ end ∷ [])) (record { name = n; labels = labels })
 
-  -- cell = "int" range "=" num | "nums" range | "words"
+  -- group = "group" NAME {"," NAME} ";", or none
+  pub data IsGroup : List Lexeme → List Name → Type 0 where
+    none : IsGroup [] []
+    group : {xs : List Lexeme} {names : List Name} (w end : Lexeme) → IsKeyword keyword.Group w →
+        AreSeparated (most limit.GroupFields) IsOneName xs names → IsSign symbol.Semicolon end →
+        IsGroup (w ∷ (xs ++ end ∷ [])) names
+
+  -- cell = "int" range "=" num ["clamp"] | "nums" range ["clamp"] | "words"
   --      | "hold" "(" kind "=" literal {"," kind "=" literal} ")" | NAME "=" NAME
   pub data IsCell : List Lexeme → CellDecl → Type 0 where
-    int : {xs ys : List Lexeme} {r : ℤ × ℤ} {first : ℤ} (w equals : Lexeme) →
+    int : {xs ys zs : List Lexeme} {r : ℤ × ℤ} {first : ℤ} {clamp : Bool} (w equals : Lexeme) →
         IsKeyword keyword.Int w → IsRange xs r → IsSign symbol.Assign equals → IsNum ys first →
-        IsCell (w ∷ (xs ++ equals ∷ ys)) (cell.Int r.0 r.1 first)
-    nums : {xs : List Lexeme} {r : ℤ × ℤ} (w : Lexeme) → IsKeyword keyword.Nums w → IsRange xs r →
-        IsCell (w ∷ xs) (cell.Nums r.0 r.1)
+        IsClamp zs clamp →
+        IsCell (w ∷ (xs ++ equals ∷ (ys ++ zs))) (cell.Int r.0 r.1 first clamp)
+    nums : {xs ys : List Lexeme} {r : ℤ × ℤ} {clamp : Bool} (w : Lexeme) →
+        IsKeyword keyword.Nums w → IsRange xs r → IsClamp ys clamp →
+        IsCell (w ∷ (xs ++ ys)) (cell.Nums r.0 r.1 clamp)
     words : (w : Lexeme) → IsKeyword keyword.Words w → IsCell (w ∷ []) cell.Words
     hold : {xs : List Lexeme} {parts : List Part} (w begin end : Lexeme) →
         IsKeyword keyword.Hold w → IsSign symbol.OpenParen begin →

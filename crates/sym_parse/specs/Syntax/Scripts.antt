@@ -1,5 +1,5 @@
 -- Whole scripts.
-use Rattle.std.specs.Prelude.{ℕ, ◌≤◌, List, [], ◌∷◌, ◌++◌, Option}
+use Rattle.std.specs.Prelude.{ℕ, ◌≤◌, List, [], ◌∷◌, ◌++◌}
 use Rattle.sym_base.specs.declared.tree.name.Name.{Name}
 use Rattle.sym_base.specs.declared.tree.declaration.EnumDecl.{EnumDecl}
 use Rattle.sym_base.specs.declared.tree.declaration.FieldDecl.{FieldDecl}
@@ -33,11 +33,11 @@ module _ (most : LimitKind → ℕ) where
   -- script = {enum} field {field} [group] state {state} {test} update report
   pub data IsScript : List Lexeme → ScriptTree → Type 0 where
     script : {es fs gs ss ts us rs : List Lexeme} {enums : List EnumDecl} {fields : List FieldDecl}
-        {group : Option Name} {states : List StateDecl} {tests : List TestTree} {update : StmtsTree}
+        {group : List Name} {states : List StateDecl} {tests : List TestTree} {update : StmtsTree}
         {columns : List ColumnTree} →
         AreAtMost (most limit.Enums) (IsEnum most) es enums →
         AreSome (most limit.Fields) IsField fs fields →
-        IsGroup gs group → AreSome (most limit.Cells) (IsState most) ss states →
+        IsGroup most gs group → AreSome (most limit.Cells) (IsState most) ss states →
         AreAtMost (most limit.Tests) (IsTest most) ts tests → IsUpdate us update →
         IsReport rs columns →
         IsScript (es ++ (fs ++ (gs ++ (ss ++ (ts ++ (us ++ rs))))))

@@ -1,7 +1,7 @@
 //! Declarations and columns.
 ghost use Rattle.std.specs.Prelude.{◌≡◌, ◌++◌, OnOk};
 ghost use Rattle.sym_base.specs.Trees.{test_tree, column_tree};
-ghost use Rattle.sym_parse.specs.Printed.{cell_text, column_text, default_text, enum_text, field_text, group_text, header_text, kind_text, literal_text, param_text, part_text, range_text, state_text, test_text};
+ghost use Rattle.sym_parse.specs.Printed.{cell_text, clamp_text, column_text, default_text, enum_text, field_text, group_text, header_text, kind_text, literal_text, param_text, part_text, range_text, state_text, test_text};
 
 use crate::printing::expression::print_expr;
 use crate::printing::item::{Item, print_listed};
@@ -81,15 +81,15 @@ impl Item for FieldDecl {
     }
 }
 
-/// Appends the line of the field whose values tell groups apart, where there is one.
-pub fn print_group(out: &mut Vec<u8>, group: &Option<Name>) -> Result<(), NoMemory>
+/// Appends the line of the fields whose values tell groups apart, where there are some.
+pub fn print_group(out: &mut Vec<u8>, group: &[Name]) -> Result<(), NoMemory>
     ensures { OnOk result (out.new.items ≡ out.old.items ++ group_text group.now) }
 {
     match group {
-        None => Ok(()),
-        Some(name) => {
+        [] => Ok(()),
+        [_, ..] => {
             put(out, b"group ")?;
-            name.print(out)?;
+            print_listed(out, group)?;
             put(out, b";\n")
         }
     }
@@ -106,6 +106,13 @@ fn print_range(out: &mut Vec<u8>, lo: i64, hi: i64) -> Result<(), NoMemory>
     put(out, b"]")
 }
 
+#[tactic(auto, unfolding(crate::specs::Printed::clamp_text))]
+fn print_clamp(out: &mut Vec<u8>, clamp: bool) -> Result<(), NoMemory>
+    ensures { OnOk result (out.new.items ≡ out.old.items ++ clamp_text clamp) }
+{
+    if clamp { put(out, b" clamp") } else { Ok(()) }
+}
+
 impl Item for Part {
     ghost text = { part_text };
 
@@ -120,15 +127,22 @@ fn print_cell(out: &mut Vec<u8>, cell: &CellDecl) -> Result<(), NoMemory>
     ensures { OnOk result (out.new.items ≡ out.old.items ++ cell_text cell.now) }
 {
     match cell {
-        CellDecl::Int { lo, hi, first } => {
+        CellDecl::Int {
+            lo,
+            hi,
+            first,
+            clamp,
+        } => {
             put(out, b"int ")?;
             print_range(out, *lo, *hi)?;
             put(out, b" = ")?;
-            put_number(out, *first)
+            put_number(out, *first)?;
+            print_clamp(out, *clamp)
         }
-        CellDecl::Nums { lo, hi } => {
+        CellDecl::Nums { lo, hi, clamp } => {
             put(out, b"nums ")?;
-            print_range(out, *lo, *hi)
+            print_range(out, *lo, *hi)?;
+            print_clamp(out, *clamp)
         }
         CellDecl::Words => put(out, b"words"),
         CellDecl::Hold(parts) => {

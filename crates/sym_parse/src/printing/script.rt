@@ -57,7 +57,7 @@ fn print_script(alloc: Global, script: &Script) -> Result<Vec<u8>, NoMemory>
     let mut out = Vec::new(alloc);
     print_all(&mut out, script.enums.as_slice())?;
     print_all(&mut out, script.fields.as_slice())?;
-    print_group(&mut out, &script.group)?;
+    print_group(&mut out, script.group.as_slice())?;
     print_all(&mut out, script.states.as_slice())?;
     print_tests(&mut out, script.tests.as_slice())?;
     print_update(&mut out, &script.update)?;
