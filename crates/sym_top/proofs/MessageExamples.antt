@@ -127,6 +127,11 @@ limit_of_columns : line_of names headers (refusal.Script (fault.Limit limit.Colu
 unfolding digits
 limit_of_columns = refl
 
+limit_of_group_fields : line_of names headers (refusal.Script (fault.Limit limit.GroupFields) 71)
+    ≡ codes "symple: script: limit of group fields at byte 71\n"
+unfolding digits
+limit_of_group_fields = refl
+
 branchy : line_of names headers (refusal.Branchy 1025)
     ≡ codes "symple: script: 1025 paths\n"
 unfolding digits

@@ -36,6 +36,7 @@ limit_text limit.Statements = codes "statements"
 limit_text limit.Depth = codes "depth"
 limit_text limit.Operands = codes "operands"
 limit_text limit.Columns = codes "columns"
+limit_text limit.GroupFields = codes "group fields"
 
 abbrev pub fault_text : ScriptFault → List ℕ
 fault_text fault.BadByte = codes "bad byte"

@@ -56,6 +56,7 @@ fn limit_text(kind: LimitKind) -> &'static str
         LimitKind::Depth => "limit of depth",
         LimitKind::Operands => "limit of operands",
         LimitKind::Columns => "limit of columns",
+        LimitKind::GroupFields => "limit of group fields",
     }
 }
 
