@@ -24,7 +24,7 @@ fn cells_have_names_of_their_own(rt: HostRuntime) -> Result<(), Fail> {
 }
 
 /// A range has numbers, and a first value lies in it.
-const RANGES: [(&str, Wanted); 17] = [
+const RANGES: [(&str, Wanted); 23] = [
     ("state n: int [0..3] = 0;", Wanted::Paths(1)),
     ("state n: int [0..3] = 3;", Wanted::Paths(1)),
     ("state n: int [3..3] = 3;", Wanted::Paths(1)),
@@ -45,6 +45,13 @@ const RANGES: [(&str, Wanted); 17] = [
     ("state @n: nums [-1..-2];", Wanted::Range),
     ("state n: words; state @k: int [3..0] = 0;", Wanted::Range),
     ("state @n: int [3..0] = 0; state n: words;", Wanted::Range),
+    // The same of cells that clamp.
+    ("state n: int [0..3] = 3 clamp;", Wanted::Paths(1)),
+    ("state n: nums [0..0] clamp;", Wanted::Paths(1)),
+    ("state @n: int [0..3] = 4 clamp;", Wanted::Range),
+    ("state @n: int [1..3] = 0 clamp;", Wanted::Range),
+    ("state @n: int [3..0] = 3 clamp;", Wanted::Range),
+    ("state @n: nums [1..0] clamp;", Wanted::Range),
 ];
 
 #[test]

@@ -82,14 +82,28 @@ fn fields_have_names_kinds_and_values(rt: HostRuntime) -> Result<(), Fail> {
     check_rows(&rt, rt.alloc(), &FIELD_FRAME, &FIELDS)
 }
 
-/// The group line names a field.
-const GROUPS: [(&str, Wanted); 6] = [
+/// The group line names fields, none of them twice.
+const GROUPS: [(&str, Wanted); 16] = [
     ("field x: num; group x;", Wanted::Paths(1)),
     ("field x: num; field y: mode; group y;", Wanted::Paths(1)),
     ("field x: num; group @y;", Wanted::Name),
     ("field x: num; group @n;", Wanted::Name),
     ("field x: num; group @mode;", Wanted::Kind),
     ("field x: num; group @idle;", Wanted::Kind),
+    (
+        "field x: num; field y: mode; field z: word; group z, x, y;",
+        Wanted::Paths(1),
+    ),
+    ("field x: num; field y: num; group x, y;", Wanted::Paths(1)),
+    ("field x: num; group x, @x;", Wanted::Twice),
+    ("field x: num; field y: num; group x, y, @x;", Wanted::Twice),
+    ("field x: num; field y: num; group x, @x, y;", Wanted::Twice),
+    ("field x: num; group x, @y;", Wanted::Name),
+    ("field x: num; group x, @mode;", Wanted::Kind),
+    // The first fault of the line.
+    ("field x: num; group x, @x, y;", Wanted::Twice),
+    ("field x: num; group @y, x, x;", Wanted::Name),
+    ("field x: num; group @idle, idle;", Wanted::Kind),
 ];
 
 #[test]

@@ -5,7 +5,7 @@ use sym_lex::LexFault;
 use sym_parse::{LimitKind, ParseErr, parse};
 
 /// Texts that no sentence of the grammar begins with, and the place up to which one does.
-const UNEXPECTED: [(&str, u32); 36] = [
+const UNEXPECTED: [(&str, u32); 43] = [
     ("", 0),
     ("field x num;", 8),
     ("field x: num;", 13),
@@ -28,6 +28,34 @@ const UNEXPECTED: [(&str, u32); 36] = [
         18,
     ),
     ("field x: num; group x; update { } report { n = n; }", 23),
+    (
+        "field x: num; group ; state n: words; update { } report { n = n; }",
+        20,
+    ),
+    (
+        "field x: num; group x, ; state n: words; update { } report { n = n; }",
+        23,
+    ),
+    (
+        "field x: num; group x x; state n: words; update { } report { n = n; }",
+        22,
+    ),
+    (
+        "field x: num; state n: int [0..3] clamp = 0; update { } report { n = n; }",
+        34,
+    ),
+    (
+        "field x: num; state n: int [0..3] = 0 clamp clamp; update { } report { n = n; }",
+        44,
+    ),
+    (
+        "field x: num; state n: words clamp; update { } report { n = n; }",
+        29,
+    ),
+    (
+        "field x: num; state n: hold(num = 0) clamp; update { } report { n = n; }",
+        37,
+    ),
     (
         "field x: num; state n: hold(num = 0; update { } report { n = n; }",
         35,
@@ -142,7 +170,7 @@ struct Counted {
     at: u32,
 }
 
-const COUNTED: [Counted; 19] = [
+const COUNTED: [Counted; 20] = [
     Counted {
         which: LimitKind::Enums,
         before: "",
@@ -333,6 +361,16 @@ const COUNTED: [Counted; 19] = [
         fits: 31,
         at: 274,
     },
+    Counted {
+        which: LimitKind::GroupFields,
+        before: "field a: num; field b: num; field c: num; field d: num; group a, b, c",
+        unit: ", d",
+        middle: "",
+        close: "",
+        after: "; state n: words; update { } report { n = n; }",
+        fits: 0,
+        at: 71,
+    },
 ];
 
 fn answer_to(alloc: Global, rt: &impl Abort, text: &str) -> Option<ParseErr> {
@@ -396,7 +434,7 @@ fn stops_where_a_number_is_passed(rt: HostRuntime) -> Result<(), Fail> {
 fn is_separated(which: LimitKind) -> bool {
     matches!(
         which,
-        LimitKind::Labels | LimitKind::Parameters | LimitKind::Parts
+        LimitKind::Labels | LimitKind::Parameters | LimitKind::Parts | LimitKind::GroupFields
     )
 }
 

@@ -2,8 +2,9 @@
 use crate::rows::{UPDATE, Wanted, check_rows};
 use std::test::Fail;
 
-/// Paths of statements: an assignment to an integer cell and a number pushed may overflow.
-const STATEMENTS: [(&str, Wanted); 22] = [
+/// Paths of statements: an assignment to an integer cell and a number pushed may overflow, and end
+/// at either end of the range where the cell clamps.
+const STATEMENTS: [(&str, Wanted); 31] = [
     ("", Wanted::Paths(1)),
     ("let z = 1;", Wanted::Paths(1)),
     ("phase = busy; phase = earlier;", Wanted::Paths(1)),
@@ -31,6 +32,21 @@ const STATEMENTS: [(&str, Wanted); 22] = [
     (
         "if n < 3 { if k < 3 { n = 1; } else { n = 2; } }",
         Wanted::Paths(7),
+    ),
+    ("capped = 1;", Wanted::Paths(3)),
+    ("push caps 1;", Wanted::Paths(3)),
+    ("capped = 1; push caps 1;", Wanted::Paths(9)),
+    ("capped = 1; n = 1;", Wanted::Paths(9)),
+    ("n = 1; capped = 1;", Wanted::Paths(5)),
+    ("capped = 1; if n < 3 { }", Wanted::Paths(6)),
+    ("if n < 3 { capped = 1; }", Wanted::Paths(4)),
+    (
+        "if n == 3 { capped = 1; } else { push caps 1; }",
+        Wanted::Paths(9),
+    ),
+    (
+        "capped = 1; capped = 1; capped = 1; capped = 1; capped = 1; capped = 1; capped = 1;",
+        Wanted::Branchy(2187),
     ),
 ];
 

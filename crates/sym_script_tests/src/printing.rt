@@ -53,13 +53,31 @@ const OPERATORS: [(&str, u8); 14] = [
 const COMPARISON: u8 = 3;
 
 /// Scripts as they are read, and as they are printed.
-const SCRIPTS: [(&str, &str); 11] = [
+const SCRIPTS: [(&str, &str); 12] = [
     (
         "field x: num; state n: int [0..3] = 0; update { n = n + 1; } report { n = n; }",
         "field x: num;\n\
          state n: int [0..3] = 0;\n\
          update {\n\
          \x20 n = n + 1;\n\
+         }\n\
+         report {\n\
+         \x20 n = n;\n\
+         }\n",
+    ),
+    (
+        "field user: word; field day: word; field x: num; group user,day , x ;\n\
+         state n: int [-3..3] = -0 clamp; state xs: nums [0..9]\nclamp ;\n\
+         update { n = n + x; push xs x; } report { n = n; }",
+        "field user: word;\n\
+         field day: word;\n\
+         field x: num;\n\
+         group user, day, x;\n\
+         state n: int [-3..3] = 0 clamp;\n\
+         state xs: nums [0..9] clamp;\n\
+         update {\n\
+         \x20 n = n + x;\n\
+         \x20 push xs x;\n\
          }\n\
          report {\n\
          \x20 n = n;\n\

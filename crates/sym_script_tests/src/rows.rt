@@ -47,6 +47,7 @@ pub const UPDATE: Frame = Frame {
         state phase: mode = idle; state earlier: mode = idle; state pitch: tone = low; \
         state h: hold(num = 0); state g: hold(num = 0); state v: hold(word = \"\"); \
         state w: hold(word = \"\", mode = idle); state xs: nums [0..9]; state ws: words; \
+        state capped: int [0..9] = 0 clamp; state caps: nums [0..9] clamp; \
         test far(a: num, b: num) = b - a > 3; \
         test near(a: num, b: num, c: mode) = a == b and c is busy; \
         test calm(a: word, b: mode) = b is idle; test same(a: word) = a == \"a\"; \

@@ -4,9 +4,13 @@ use std::test::Fail;
 use sym_check::CheckErr;
 
 /// Scripts that are accepted, with their path bounds.
-const ACCEPTED: [(&str, u32); 11] = [
+const ACCEPTED: [(&str, u32); 12] = [
     (
         "field x: num; state n: int [0..3] = 0; update { n = n + 1; } report { n = n; }",
+        3,
+    ),
+    (
+        "field x: num; state n: int [0..3] = 0 clamp; update { n = n + 1; } report { n = n; }",
         3,
     ),
     (
@@ -85,7 +89,7 @@ fn examples_are_accepted_with_their_bounds(rt: HostRuntime) {
 }
 
 /// Scripts that are refused, with places as numbers.
-const REFUSED: [(&str, CheckErr); 8] = [
+const REFUSED: [(&str, CheckErr); 9] = [
     (
         "field x: num; state n: int [0..3] = 0; update { n = n * n; } report { n = n; }",
         CheckErr::NotLinear { at: 54 },
@@ -118,6 +122,10 @@ const REFUSED: [(&str, CheckErr); 8] = [
         "field x: num; state n: int [3..0] = 0; update { n = n + 1; } report { n = n; }",
         CheckErr::Range { at: 20 },
     ),
+    (
+        "field a: num; group a, a; state n: words; update { } report { n = n; }",
+        CheckErr::Twice { at: 23 },
+    ),
 ];
 
 #[test]
@@ -128,7 +136,7 @@ fn scripts_are_refused_at_their_places(rt: HostRuntime) {
 }
 
 /// Scripts with two faults or more: the first in the text is the answer.
-const ORDERED: [(&str, Wanted); 14] = [
+const ORDERED: [(&str, Wanted); 15] = [
     (
         "enum a { b, @b } field x: kind; state n: words; update { } report { n = n; }",
         Wanted::Twice,
@@ -140,6 +148,10 @@ const ORDERED: [(&str, Wanted); 14] = [
     (
         "field x: num; group @y; state n: int [3..0] = 0; update { } report { n = n; }",
         Wanted::Name,
+    ),
+    (
+        "field x: num; group x, @x; state n: int [3..0] = 0; update { } report { n = n; }",
+        Wanted::Twice,
     ),
     (
         "field x: num; state @n: int [3..0] = 0; test t(x: num) = x; update { } report { n = n; }",
