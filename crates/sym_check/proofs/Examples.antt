@@ -157,31 +157,35 @@ ends_by_arithmetic : step dividing (Going (initial dividing)) (five 2) ≡ Ended
 ends_by_arithmetic = refl
 
 -- Path bounds.
-counter_paths : path_bound counter.update ≡ 3
+counter_paths : path_bound counter ≡ 3
 counter_paths = refl
 
-session_paths : path_bound sessions.update ≡ 8
+session_paths : path_bound sessions ≡ 8
 session_paths = refl
+
+-- The counter with another update.
+abbrev updated : DosPlan → ScriptPlan
+updated update = record counter { update = update }
 
 abbrev toggles : ℕ → DosPlan
 toggles zero = End
 toggles (suc n) = Then (If (CellIs 0 (label.Lit 0)) (Then (SetEnum 0 (label.Lit 1)) End) End) (toggles n)
 
-ten_toggles : path_bound (toggles 10) ≡ 1024
+ten_toggles : path_bound (updated (toggles 10)) ≡ 1024
 ten_toggles = refl
 
-eleven_toggles : path_bound (toggles 11) ≡ 2048
+eleven_toggles : path_bound (updated (toggles 11)) ≡ 2048
 eleven_toggles = refl
 
-thirty_toggles : path_bound (toggles 30) ≡ 1000000
+thirty_toggles : path_bound (updated (toggles 30)) ≡ 1000000
 thirty_toggles = refl
 
 -- One of four labels: true in four ways, false in one.
-four_labels : path_bound (Then (If (Or (Or (Or (CellIs 0 (label.Lit 0)) (CellIs 0 (label.Lit 1))) (CellIs 0 (label.Lit 2))) (CellIs 0 (label.Lit 3))) (Then (SetEnum 0 (label.Lit 4)) End) End) End) ≡ 5
+four_labels : path_bound (updated (Then (If (Or (Or (Or (CellIs 0 (label.Lit 0)) (CellIs 0 (label.Lit 1))) (CellIs 0 (label.Lit 2))) (CellIs 0 (label.Lit 3))) (Then (SetEnum 0 (label.Lit 4)) End) End) End)) ≡ 5
 four_labels = refl
 
 -- A fixed condition cuts nothing.
-purchases : path_bound
+purchases : path_bound (updated
     (Then
     (If
     (LabelIs (label.Field 0) (label.Lit 1))
@@ -194,6 +198,6 @@ purchases : path_bound
     (Then (PushNum 2 (line.OfNum (fixed.Field 1))) (Then (SetEnum 0 (label.Lit 0)) End)))
     End)
     End))
-    End)
+    End))
     ≡ 7
 purchases = refl

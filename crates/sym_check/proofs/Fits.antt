@@ -1,6 +1,6 @@
 -- What fits a well-formed plan: the key of a record, a valid state, and the outcome of a step.
 use Rattle.std.proofs.Common.{◌≡◌, refl, ℕ, ℤ, Bool, true, false, List, [], ◌∷◌, ◌++◌, Option, Some, None, Result, Ok, Err}
-use Rattle.std.specs.Prelude.{slice_get, if◌then◌else◌, IfSome, IfErr, IsSomeAnd}
+use Rattle.std.specs.Prelude.{slice_get, if◌then◌else◌, IfSome, IfErr}
 use Rattle.std.specs.List.{AllZip}
 use Rattle.sym_base.specs.declared.values.value.Value.{Value}
 use Rattle.sym_base.specs.declared.values.value.Key.TheVariants.{Whole, One}
@@ -23,15 +23,16 @@ use Rattle.sym_check.specs.LineValues.{term_number}
 use Rattle.sym_check.specs.Conditions.{truth, test_truth}
 use Rattle.sym_check.specs.DoPlans.{DoPlan, DosPlan}
 use Rattle.sym_check.specs.ScriptPlans.{ScriptPlan}
-use Rattle.sym_base.specs.States.{nums_at, with_cell}
-use Rattle.sym_check.specs.Updates.{in_range, or_fault, stored, environment, environment_after, do_step, dos_step, at_record, step}
+use Rattle.sym_base.specs.States.{with_cell}
+use Rattle.sym_check.specs.Updates.{or_fault, with_int, with_pushed, stored, environment, environment_after, do_step, dos_step, at_record, step}
 use Rattle.sym_check.specs.Groups.{field_value, key_by, key_of}
 use Rattle.sym_check.specs.Validity.{IsOfKind, AreOfKinds, field_kinds, IsRecord, IsKeyOf, IsKey, IsValidCell, IsValid, IsValidOutcome}
 use Rattle.sym_check.specs.Validity as valid
-use Rattle.sym_check.specs.Fitting.{FitsCell, FitsState, HasRange, FitsFault, FitsOutcome}
+use Rattle.sym_check.specs.Fitting.{FitsCell, FitsState, FitsFault, FitsOutcome}
 use Rattle.sym_check.specs.Fitting as fitting
 use Rattle.sym_check.specs.WellFormed.{Kinds, IsDo, IsDos, IsWellFormed, known_kinds}
 use Rattle.sym_check.specs.WellFormed as well
+use Rattle.sym_check.proofs.KeptNumbers.{stored_fits}
 use Rattle.sym_check.proofs.ZippedLists.{zip_get}
 
 -- The value of the group field is of its kind.
@@ -70,13 +71,6 @@ calculated_fits : {A : Type 0} (p : ScriptPlan) (f : A → Result State FaultKin
 calculated_fits p f (Ok x) h = h x
 calculated_fits p f (Err e) h = tt
 
-stored_fits : (p : ScriptPlan) (s : State) (c : ℕ) (content : Cell) (x : ℤ) → FitsFault p (fault.Over c) → IfErr (stored p c content x s) (FitsFault p)
-stored_fits p s c content x h = go (in_range (slice_get p.cells c) x)
-  where
-    go : (b : Bool) → IfErr (if b then Ok (with_cell s c content) else Err (fault.Over c)) (FitsFault p)
-    go true = tt
-    go false = h
-
 followed_fits : (p : ScriptPlan) (f : State → Result State FaultKind) (r : Result State FaultKind) → IfErr r (FitsFault p) → ((s : State) → IfErr (f s) (FitsFault p)) → IfErr (and_then f r) (FitsFault p)
 followed_fits p f (Ok s) h k = k s
 followed_fits p f (Err e) h k = h
@@ -89,14 +83,14 @@ mutual
   do_fits : (p : ScriptPlan) (k later : Kinds) (d : DoPlan) → IsDo p k d later → (v : Environment) (s : State) → IfErr (do_step p v d s) (FitsFault p)
   do_fits p _ _ _ (well.let_value k n last e free t) v s = calculated_fits p (λ (x : Value). Ok s) (fixed_value v e) (λ x. tt)
   do_fits p _ _ _ (well.set_int k c t w u) v s =
-      calculated_fits p (λ (x : ℤ). stored p c (cell.Int x) x s) (term_number v t s) (λ x. stored_fits p s c (cell.Int x) x (rw w.is tt))
+      calculated_fits p (λ (x : ℤ). stored p c (with_int c) x s) (term_number v t s) (λ x. stored_fits p s c (with_int c) x (rw w.is refl))
   do_fits p _ _ _ (well.set_enum k c l w) v s = tt
   do_fits p _ _ _ (well.copy_enum k c d w) v s = tt
   do_fits p _ _ _ (well.keep k c es w) v s = calculated_fits p (λ (xs : List Value). Ok (with_cell s c (cell.Hold xs))) (fixed_values v es) (λ xs. tt)
   do_fits p _ _ _ (well.keep_from k c d w) v s = tt
   do_fits p _ _ _ (well.push_num k c t w u) v s =
-      calculated_fits p (λ (x : ℤ). stored p c (cell.Nums (nums_at s c ++ x ∷ [])) x s) (term_number v t s)
-      (λ x. stored_fits p s c (cell.Nums (nums_at s c ++ x ∷ [])) x (rw w.is tt))
+      calculated_fits p (λ (x : ℤ). stored p c (with_pushed c) x s) (term_number v t s)
+      (λ x. stored_fits p s c (with_pushed c) x (rw w.is refl))
   do_fits p _ _ _ (well.push_word k c w u t) v s = tt
   do_fits p _ _ _ (well.branch k c a b t ta tb) v s =
       calculated_fits p (λ (x : Bool). if x then dos_step p v a s else dos_step p v b s) (truth (test_truth p.tests) v c s)

@@ -14,6 +14,7 @@ pub mod BlocksNamed
 pub mod AcceptedPlans
 mod Examples
 mod ZippedLists
+mod KeptNumbers
 pub mod ValidSteps
 mod TestAnswers
 pub mod PlanLaws

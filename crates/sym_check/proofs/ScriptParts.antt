@@ -36,16 +36,16 @@ few_decides : (n : ℕ) → Decides (nat_le n limit.PATHS_MAX) (n ≤ limit.PATH
 few_decides n = (leb-true n limit.PATHS_MAX, le-leb n limit.PATHS_MAX)
 
 abbrev Few : ScriptPlan → ScriptPlan → Type 0
-Few p q = (path_bound p.update ≤ limit.PATHS_MAX) × (p ≡ q)
+Few p q = (path_bound p ≤ limit.PATHS_MAX) × (p ≡ q)
 
 abbrev Many : ScriptPlan → CheckErr → Type 0
-Many p f = (limit.PATHS_MAX < path_bound p.update) × (broken.Branchy (path_bound p.update) ≡ f)
+Many p f = (limit.PATHS_MAX < path_bound p) × (broken.Branchy (path_bound p) ≡ f)
 
 bounded_agrees : (p : ScriptPlan) → Agrees (Few p) (Many p) (bounded p)
 bounded_agrees p =
-    where_true (nat_le (path_bound p.update) limit.PATHS_MAX) (few_decides (path_bound p.update))
-    (λ few. only_value p (few, refl) (λ q i. i.1) (λ f b. too_few (path_bound p.update) limit.PATHS_MAX few b.0))
-    (λ none. only_fault (broken.Branchy (path_bound p.update)) (many (path_bound p.update) limit.PATHS_MAX none, refl) (λ f b. b.1) (λ q i. none i.0))
+    where_true (nat_le (path_bound p) limit.PATHS_MAX) (few_decides (path_bound p))
+    (λ few. only_value p (few, refl) (λ q i. i.1) (λ f b. too_few (path_bound p) limit.PATHS_MAX few b.0))
+    (λ none. only_fault (broken.Branchy (path_bound p)) (many (path_bound p) limit.PATHS_MAX none, refl) (λ f b. b.1) (λ q i. none i.0))
   where
     too_few : (a b : ℕ) → a ≤ b → b < a → ⊥
     too_few a b h k = omega arith

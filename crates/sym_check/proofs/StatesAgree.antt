@@ -26,7 +26,7 @@ use Rattle.sym_check.specs.declared.elaborate.scope.Meaning.{Meaning}
 use Rattle.sym_check.specs.declared.elaborate.scope.Meaning.TheVariants as meaning
 use Rattle.sym_check.specs.Scopes.{Scope, entry, Stands, IsFree}
 use Rattle.sym_check.specs.InOrder.{Each, FirstBroken, Planned}
-use Rattle.sym_check.specs.Validity.{InRange}
+use Rattle.sym_check.specs.Ranges.{InRange}
 use Rattle.sym_check.specs.Declarations.{unfinished, IsKindOf, IsLiteral, IsDefault, IsLabelDecl, IsEnumDecl, IsFieldDecl, AreParts, IsCellDecl, IsStateDecl}
 use Rattle.sym_check.specs.Declarations as is
 use Rattle.sym_check.specs.BreaksDeclarations.{BreaksKind, BreaksLiteral, BreaksLabel, BreaksEnum, BreaksField, BreaksParts, BreaksCell, BreaksState}

@@ -39,12 +39,14 @@ use Rattle.sym_check.specs.LinePlans as line
 use Rattle.sym_check.specs.declared.evaluate.pairs.Pair.{Pair}
 use Rattle.sym_check.specs.LineValues.{pair, pair_within, term_number}
 use Rattle.sym_check.specs.Conditions.{truth, test_truth}
-use Rattle.sym_check.specs.Updates.{first_cell, initial, in_range, or_fault, stored, environment, with_local, with_result, environment_after, do_step, dos_step, at_record, step}
-use Rattle.sym_check.specs.Validity.{label_count, IsOfKind, AreOfKinds, field_kinds, IsRecord, InRange, IsValidCell, IsValid, IsValidOutcome}
+use Rattle.sym_check.specs.Ranges.{InRange, landed}
+use Rattle.sym_check.specs.Updates.{first_cell, initial, or_fault, with_int, with_pushed, stored, environment, with_local, with_result, environment_after, do_step, dos_step, at_record, step}
+use Rattle.sym_check.specs.Validity.{label_count, IsOfKind, AreOfKinds, field_kinds, IsRecord, IsValidCell, IsValid, IsValidOutcome}
 use Rattle.sym_check.specs.Validity as valid
 use Rattle.sym_check.specs.WellFormed.{Kinds, IsKnown, IsNum, IsLabel, IsFixed, IsLine, IsKept, with_kind, IsDo, IsDos, IsCell, IsWellFormed, known_kinds}
 use Rattle.sym_check.specs.CellKinds as kinds_of
 use Rattle.sym_check.specs.WellFormed as well
+use Rattle.sym_check.proofs.KeptNumbers.{int_landed, nums_landed, stored_in}
 use Rattle.sym_check.proofs.ZippedLists.{zip_get, zip_set, zip_append, zip_replicate}
 
 within_is : (z x : ℤ) → within z ≡ Ok x → IsNumber x
@@ -180,9 +182,6 @@ more_known enums k v n last x h t =
 put_is : (p : ScriptPlan) (s : State) (c : ℕ) (wanted : CellPlan) (content : Cell) → IsValid p s → slice_get p.cells c ≡ Some wanted → IsValidCell p.enums wanted content → IsValid p (with_cell s c content)
 put_is p s c wanted content h e t = zip_set (IsValidCell p.enums) p.cells s.cells c wanted content h e t
 
-in_range_is : (lo hi x : ℤ) → (int_le lo x && int_le x hi) ≡ true → InRange lo hi x
-in_range_is lo hi x e = grind (arith, ints, e)
-
 -- What is done with a value, where there is one.
 calculated_valid : {A : Type 0} (P : State → Type 0) (f : A → Result State FaultKind) (r : Result A Arith) → ((x : A) → r ≡ Ok x → IfOk (f x) P) → IfOk (and_then f (or_fault r)) P
 calculated_valid P f (Ok x) goes = goes x refl
@@ -192,14 +191,6 @@ calculated_valid P f (Err e) goes = tt
 followed_valid : (P Q : State → Type 0) (f : State → Result State FaultKind) (r : Result State FaultKind) → IfOk r Q → ((s : State) → Q s → IfOk (f s) P) → IfOk (and_then f r) P
 followed_valid P Q f (Ok s) h goes = goes s h
 followed_valid P Q f (Err e) h goes = tt
-
--- A number is stored only in its range.
-stored_valid : (p : ScriptPlan) (P : State → Type 0) (s : State) (c : ℕ) (content : Cell) (x : ℤ) → (in_range (slice_get p.cells c) x ≡ true → P (with_cell s c content)) → IfOk (stored p c content x s) P
-stored_valid p P s c content x step = go (in_range (slice_get p.cells c) x) refl
-  where
-    go : (b : Bool) → in_range (slice_get p.cells c) x ≡ b → IfOk (if b then Ok (with_cell s c content) else Err (fault.Over c)) P
-    go true e = step e
-    go false e = tt
 
 -- The cell of a state that is valid beside an integer cell of the plan, and so on.
 label_held : (p : ScriptPlan) (s : State) (c enum : ℕ) → IsValid p s → kinds_of.IsEnumCell p.cells c enum → label_at s c < label_count p.enums enum
@@ -247,58 +238,58 @@ ends_known p k v h (Ok s) i = record { state = i; known = h }
 ends_known p k v h (Err e) i = tt
 
 mutual
-  do_valid : (p : ScriptPlan) (k later : Kinds) (d : DoPlan) → IsDo p k d later → (v : Environment) (s : State) → IsKnown p.enums k v → IsValid p s → IfOk (do_step p v d s) (Goes p later (environment_after v d))
-  do_valid p _ _ _ (well.let_value k n last e free t) v s h i =
+  do_valid : (p : ScriptPlan) → All (IsCell p.enums) p.cells → (k later : Kinds) (d : DoPlan) → IsDo p k d later → (v : Environment) (s : State) → IsKnown p.enums k v → IsValid p s → IfOk (do_step p v d s) (Goes p later (environment_after v d))
+  do_valid p well_formed _ _ _ (well.let_value k n last e free t) v s h i =
       calculated_valid (Goes p (with_kind k n last) (with_result v n (fixed_value v e))) (λ (x : Value). Ok s) (fixed_value v e)
       (λ x is. record { state = i; known = rw is (more_known p.enums k v n last x h (fixed_is p.enums k v h last e x t is)) })
-  do_valid p _ _ _ (well.set_int k c t w u) v s h i =
-      calculated_valid (Goes p k v) (λ (x : ℤ). stored p c (cell.Int x) x s) (term_number v t s)
-      (λ x is. stored_valid p (Goes p k v) s c (cell.Int x) x
-      (λ fits. record {
-        state = put_is p s c (plan.Int w.lo w.hi w.first) (cell.Int x) i w.is (valid.int w.lo w.hi w.first x (in_range_is w.lo w.hi x (rw w.is at fits)));
+  do_valid p well_formed _ _ _ (well.set_int k c t w u) v s h i =
+      calculated_valid (Goes p k v) (λ (x : ℤ). stored p c (with_int c) x s) (term_number v t s)
+      (λ x is. stored_in p (Goes p k v) s c (with_int c) x
+      (λ y lands. record {
+        state = put_is p s c (plan.Int w.lo w.hi w.first) (cell.Int y) i w.is (valid.int w.lo w.hi w.first y (int_landed p.enums p.cells c x y well_formed w lands));
         known = h;
       }))
-  do_valid p _ _ _ (well.set_enum k c l w) v s h i = record {
+  do_valid p well_formed _ _ _ (well.set_enum k c l w) v s h i = record {
     state = put_is p s c (plan.Enum w.enum w.of_cell.first) (cell.Enum (label_of v l)) i w.of_cell.is (valid.enum w.enum w.of_cell.first (label_of v l) (label_is p.enums k v w.enum h l w.is_label));
     known = h;
   }
-  do_valid p _ _ _ (well.copy_enum k c d w) v s h i = record {
+  do_valid p well_formed _ _ _ (well.copy_enum k c d w) v s h i = record {
     state = put_is p s c (plan.Enum w.enum w.to.first) (cell.Enum (label_at s d)) i w.to.is (valid.enum w.enum w.to.first (label_at s d) (label_held p s d w.enum i w.from));
     known = h;
   }
-  do_valid p _ _ _ (well.keep k c es w) v s h i =
+  do_valid p well_formed _ _ _ (well.keep k c es w) v s h i =
       calculated_valid (Goes p k v) (λ (xs : List Value). Ok (with_cell s c (cell.Hold xs))) (fixed_values v es)
       (λ xs is. record {
         state = put_is p s c (plan.Hold w.parts w.is_hold.first) (cell.Hold xs) i w.is_hold.is (valid.hold w.parts w.is_hold.first xs (all_fixed_are p.enums k v h w.parts es xs w.kept is));
         known = h;
       })
-  do_valid p _ _ _ (well.keep_from k c d w) v s h i = record {
+  do_valid p well_formed _ _ _ (well.keep_from k c d w) v s h i = record {
     state = put_is p s c (plan.Hold w.parts w.to.first) (cell.Hold (parts_at s d)) i w.to.is (valid.hold w.parts w.to.first (parts_at s d) (parts_held p s d w.parts i w.from));
     known = h;
   }
-  do_valid p _ _ _ (well.push_num k c t w u) v s h i =
-      calculated_valid (Goes p k v) (λ (x : ℤ). stored p c (cell.Nums (nums_at s c ++ x ∷ [])) x s) (term_number v t s)
-      (λ x is. stored_valid p (Goes p k v) s c (cell.Nums (nums_at s c ++ x ∷ [])) x
-      (λ fits. record {
-        state = put_is p s c (plan.Nums w.lo w.hi) (cell.Nums (nums_at s c ++ x ∷ [])) i w.is (nums_held p s c x i w (in_range_is w.lo w.hi x (rw w.is at fits)));
+  do_valid p well_formed _ _ _ (well.push_num k c t w u) v s h i =
+      calculated_valid (Goes p k v) (λ (x : ℤ). stored p c (with_pushed c) x s) (term_number v t s)
+      (λ x is. stored_in p (Goes p k v) s c (with_pushed c) x
+      (λ y lands. record {
+        state = put_is p s c (plan.Nums w.lo w.hi) (cell.Nums (nums_at s c ++ y ∷ [])) i w.is (nums_held p s c y i w (nums_landed p.enums p.cells c x y well_formed w lands));
         known = h;
       }))
-  do_valid p _ _ _ (well.push_word k c w u t) v s h i = record {
+  do_valid p well_formed _ _ _ (well.push_word k c w u t) v s h i = record {
     state = put_is p s c plan.Words (cell.Words (words_at s c ++ word_of v w ∷ [])) i u.is (valid.words _);
     known = h;
   }
-  do_valid p _ _ _ (well.branch k c a b t ta tb) v s h i =
-      let left : IfOk (dos_step p v a s) (Goes p k v) = ends_known p k v h (dos_step p v a s) (dos_valid p k a ta v s h i) in
-      let right : IfOk (dos_step p v b s) (Goes p k v) = ends_known p k v h (dos_step p v b s) (dos_valid p k b tb v s h i) in
+  do_valid p well_formed _ _ _ (well.branch k c a b t ta tb) v s h i =
+      let left : IfOk (dos_step p v a s) (Goes p k v) = ends_known p k v h (dos_step p v a s) (dos_valid p well_formed k a ta v s h i) in
+      let right : IfOk (dos_step p v b s) (Goes p k v) = ends_known p k v h (dos_step p v b s) (dos_valid p well_formed k b tb v s h i) in
       calculated_valid (Goes p k v) (λ (x : Bool). if x then dos_step p v a s else dos_step p v b s) (truth (test_truth p.tests) v c s)
       (λ x is. either (Goes p k v) (dos_step p v a s) (dos_step p v b s) x left right)
 
-  dos_valid : (p : ScriptPlan) (k : Kinds) (ds : DosPlan) → IsDos p k ds → (v : Environment) (s : State) → IsKnown p.enums k v → IsValid p s → IfOk (dos_step p v ds s) (IsValid p)
-  dos_valid p _ _ (well.finished k) v s h i = i
-  dos_valid p _ _ (well.followed k later d rest t r) v s h i =
+  dos_valid : (p : ScriptPlan) → All (IsCell p.enums) p.cells → (k : Kinds) (ds : DosPlan) → IsDos p k ds → (v : Environment) (s : State) → IsKnown p.enums k v → IsValid p s → IfOk (dos_step p v ds s) (IsValid p)
+  dos_valid p well_formed _ _ (well.finished k) v s h i = i
+  dos_valid p well_formed _ _ (well.followed k later d rest t r) v s h i =
       followed_valid (IsValid p) (Goes p later (environment_after v d)) (λ (s' : State). dos_step p (environment_after v d) rest s') (do_step p v d s)
-      (do_valid p k later d t v s h i)
-      (λ s' g. dos_valid p later rest r (environment_after v d) s' g.known g.state)
+      (do_valid p well_formed k later d t v s h i)
+      (λ s' g. dos_valid p well_formed later rest r (environment_after v d) s' g.known g.state)
 
 recorded_valid : (p : ScriptPlan) (n : ℕ) (r : Result State FaultKind) → IfOk r (IsValid p) → IsValidOutcome p (at_record n r)
 recorded_valid p n (Ok s) h = h
@@ -306,7 +297,7 @@ recorded_valid p n (Err e) h = tt
 
 -- One record keeps a group's state valid.
 pub step_valid : (p : ScriptPlan) (o : Outcome) (rec : Record) → IsWellFormed p → IsRecord p rec → IsValidOutcome p o → IsValidOutcome p (step p o rec)
-step_valid p (Going s) rec w r i = recorded_valid p rec.no (dos_step p (environment rec []) p.update s) (dos_valid p (known_kinds p) p.update w.update (environment rec []) s (record { fields = r; locals = tt; params = tt }) i)
+step_valid p (Going s) rec w r i = recorded_valid p rec.no (dos_step p (environment rec []) p.update s) (dos_valid p w.cells (known_kinds p) p.update w.update (environment rec []) s (record { fields = r; locals = tt; params = tt }) i)
 step_valid p (Ended end) rec w r i = tt
 
 first_valid : (enums : List EnumPlan) (c : CellPlan) → IsCell enums c → IsValidCell enums c (first_cell c)

@@ -27,7 +27,7 @@ use Rattle.sym_check.specs.Scopes.{Scope, entry, Stands, IsFree, in_tests}
 use Rattle.sym_check.specs.declared.elaborate.scope.Meaning.TheVariants as meaning
 use Rattle.sym_check.specs.Typing.{Typed, Means, IsCondition}
 use Rattle.sym_check.specs.Breaks.{place, Breaks}
-use Rattle.sym_check.specs.Validity.{InRange}
+use Rattle.sym_check.specs.Ranges.{InRange}
 use Rattle.sym_check.specs.InOrder.{Each, FirstBroken}
 use Rattle.sym_check.specs.Declarations.{unfinished, IsKindOf, IsLiteral, IsLabelDecl, IsParamDecl}
 

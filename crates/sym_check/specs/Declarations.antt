@@ -30,7 +30,7 @@ use Rattle.sym_check.specs.declared.elaborate.scope.Meaning.{Meaning}
 use Rattle.sym_check.specs.Scopes.{Scope, entry, Stands, IsFree, in_tests}
 use Rattle.sym_check.specs.declared.elaborate.scope.Meaning.TheVariants as meaning
 use Rattle.sym_check.specs.Typing.{IsCondition}
-use Rattle.sym_check.specs.Validity.{InRange}
+use Rattle.sym_check.specs.Ranges.{InRange}
 use Rattle.sym_check.specs.InOrder.{Each}
 
 -- The scope after a name in its own declaration.

@@ -1,5 +1,5 @@
 -- States and outcomes that fit a plan: of the declared kinds, whatever values they hold.
-use Rattle.std.specs.Prelude.{ℕ, ℤ, List, slice_get, IsSomeAnd}
+use Rattle.std.specs.Prelude.{ℕ, ℤ, List, IsSome}
 use Rattle.std.specs.List.{AllZip}
 use Rattle.sym_base.specs.declared.values.value.Value.{Value}
 use Rattle.sym_base.specs.declared.values.state.Cell.{Cell}
@@ -13,6 +13,7 @@ use Rattle.sym_check.specs.declared.plan.script.KindPlan.{KindPlan}
 use Rattle.sym_check.specs.declared.plan.script.CellPlan.{CellPlan}
 use Rattle.sym_check.specs.declared.plan.script.CellPlan.TheVariants as plan
 use Rattle.sym_check.specs.ScriptPlans.{ScriptPlan}
+use Rattle.sym_check.specs.Ranges.{range_at}
 
 -- A cell is of its declared kind, whatever values it holds.
 pub data FitsCell : CellPlan → Cell → Type 0 where
@@ -27,16 +28,9 @@ pub data FitsCell : CellPlan → Cell → Type 0 where
 abbrev pub FitsState : ScriptPlan → State → Type 0
 FitsState p s = AllZip FitsCell p.cells s.cells
 
--- The cell has a range, which an assignment or a push can leave.
-abbrev pub HasRange : CellPlan → Type 0
-HasRange (plan.Int lo hi first) = Unit {0}
-HasRange (plan.Nums lo hi) = Unit {0}
-HasRange plan.Words = ⊥
-HasRange (plan.Hold kinds first) = ⊥
-HasRange (plan.Enum of first) = ⊥
-
+-- A fault by a number names a cell that has a range, which an assignment or a push can leave.
 abbrev pub FitsFault : ScriptPlan → FaultKind → Type 0
-FitsFault p (fault.Over c) = IsSomeAnd (slice_get p.cells c) HasRange
+FitsFault p (fault.Over c) = IsSome (range_at p.cells c)
 FitsFault p fault.Arith = Unit {0}
 
 -- The outcome may be one of a group of the script.

@@ -4,6 +4,7 @@ pub mod CondPlans
 pub mod DoPlans
 pub mod ShowPlans
 pub mod ScriptPlans
+pub mod Ranges
 pub mod Arithmetic
 pub mod FixedValues
 pub mod LineValues

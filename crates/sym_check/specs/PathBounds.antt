@@ -1,12 +1,15 @@
 -- The path bound: how many paths the symbolic execution of one record can have at most. Sums and
 -- products stop at a million.
-use Rattle.std.specs.Prelude.{ℕ, ◌+◌, ◌*◌, min, max, if◌then◌else◌}
+use Rattle.std.specs.Prelude.{ℕ, ◌+◌, ◌*◌, min, max, List, if◌then◌else◌}
 use Rattle.sym_base.specs.declared.tree.compare.Compare.{Compare}
 use Rattle.sym_base.specs.declared.tree.compare.Compare.TheVariants as compare
 use Rattle.sym_base.specs.declared.limits.TheConstants as limit
 use Rattle.sym_check.specs.LinePlans.{TermPlan, OfNum, OfLine}
 use Rattle.sym_check.specs.CondPlans.{CondPlan, Compared, Words, CellIs, LabelIs, Test, Not, And, Or}
 use Rattle.sym_check.specs.Conditions.{is_fixed}
+use Rattle.sym_check.specs.Ranges.{is_clamped}
+use Rattle.sym_check.specs.ScriptPlans.{ScriptPlan}
+use Rattle.sym_check.specs.declared.plan.script.CellPlan.{CellPlan}
 use Rattle.sym_check.specs.declared.path_bound.Counts.{Counts}
 use Rattle.sym_check.specs.declared.path_bound.Ways.{Ways}
 use Rattle.sym_check.specs.DoPlans.{DoPlan, Let, SetInt, SetEnum, CopyEnum, Keep, KeepFrom, PushNum, PushWord, If, DosPlan, End, Then}
@@ -70,22 +73,30 @@ then_ways first rest = record {
   ended = plus first.ended (times first.going rest.ended);
 }
 
+-- A number that is stored lies below the cell's range, in it or above it. Outside it goes on where
+-- the range clamps, and else it ends.
+abbrev pub store_ways : List CellPlan → ℕ → Ways
+store_ways cells c =
+    if is_clamped cells c
+    then record { going = 3; ended = 0 }
+    else record { going = 1; ended = 2 }
+
 abbrev mutual
-  pub do_ways : DoPlan → Ways
-  do_ways (Let n e) = record { going = 1; ended = 0 }
-  do_ways (SetInt c t) = record { going = 1; ended = 2 }
-  do_ways (SetEnum c l) = record { going = 1; ended = 0 }
-  do_ways (CopyEnum c d) = record { going = 1; ended = 0 }
-  do_ways (Keep c es) = record { going = 1; ended = 0 }
-  do_ways (KeepFrom c d) = record { going = 1; ended = 0 }
-  do_ways (PushNum c t) = record { going = 1; ended = 2 }
-  do_ways (PushWord c w) = record { going = 1; ended = 0 }
-  do_ways (If c a b) = if_ways c (dos_ways a) (dos_ways b)
+  pub do_ways : List CellPlan → DoPlan → Ways
+  do_ways cells (Let n e) = record { going = 1; ended = 0 }
+  do_ways cells (SetInt c t) = store_ways cells c
+  do_ways cells (SetEnum c l) = record { going = 1; ended = 0 }
+  do_ways cells (CopyEnum c d) = record { going = 1; ended = 0 }
+  do_ways cells (Keep c es) = record { going = 1; ended = 0 }
+  do_ways cells (KeepFrom c d) = record { going = 1; ended = 0 }
+  do_ways cells (PushNum c t) = store_ways cells c
+  do_ways cells (PushWord c w) = record { going = 1; ended = 0 }
+  do_ways cells (If c a b) = if_ways c (dos_ways cells a) (dos_ways cells b)
 
-  pub dos_ways : DosPlan → Ways
-  dos_ways End = record { going = 1; ended = 0 }
-  dos_ways (Then d rest) = then_ways (do_ways d) (dos_ways rest)
+  pub dos_ways : List CellPlan → DosPlan → Ways
+  dos_ways cells End = record { going = 1; ended = 0 }
+  dos_ways cells (Then d rest) = then_ways (do_ways cells d) (dos_ways cells rest)
 
--- The path bound of an update.
-abbrev pub path_bound : DosPlan → ℕ
-path_bound update = plus (dos_ways update).going (dos_ways update).ended
+-- The path bound of a plan.
+abbrev pub path_bound : ScriptPlan → ℕ
+path_bound p = plus (dos_ways p.cells p.update).going (dos_ways p.cells p.update).ended

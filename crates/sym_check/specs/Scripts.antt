@@ -64,7 +64,7 @@ pub record HasPlan (t : ScriptTree) (p : ScriptPlan) : Type 0 where
 -- The script breaks no rule, and this is its plan.
 pub record IsAccepted (t : ScriptTree) (p : ScriptPlan) : Type 0 where
   pub has_plan : HasPlan t p
-  pub few : path_bound p.update ≤ limit.PATHS_MAX
+  pub few : path_bound p ≤ limit.PATHS_MAX
 
 -- The first broken rule of a script. `p` has the plans of what stands before.
 pub data BreaksScript (t : ScriptTree) : CheckErr → Type 0 where
@@ -100,15 +100,15 @@ pub data BreaksScript (t : ScriptTree) : CheckErr → Type 0 where
       → BreaksScript t f
   too_many : (p : ScriptPlan)
       → HasPlan t p
-      → limit.PATHS_MAX < path_bound p.update
-      → BreaksScript t (broken.Branchy (path_bound p.update))
+      → limit.PATHS_MAX < path_bound p
+      → BreaksScript t (broken.Branchy (path_bound p))
 
 -- Tried last, when all else stands.
 abbrev pub bounded : ScriptPlan → Result ScriptPlan CheckErr
 bounded p =
-    if nat_le (path_bound p.update) limit.PATHS_MAX
+    if nat_le (path_bound p) limit.PATHS_MAX
     then Ok p
-    else Err (broken.Branchy (path_bound p.update))
+    else Err (broken.Branchy (path_bound p))
 
 -- The plan of a script, or its first broken rule.
 abbrev pub plan_of : ScriptTree → Result ScriptPlan CheckErr

@@ -1,7 +1,7 @@
 -- The sequential meaning of an update: what one record does to a group, and what many do. The
 -- update, its step and the fold over records are those of the SYMPLE paper (SOSP 2015); the
 -- statements and the faults are this project's profile.
-use Rattle.std.specs.Prelude.{ℕ, ℤ, pos, int_le, ◌-◌, ◌&&◌, Bool, false, if◌then◌else◌, List, [], ◌∷◌, ◌++◌, map, replicate, length, Option, Some, None, slice_get, Result, Ok, Err}
+use Rattle.std.specs.Prelude.{ℕ, ℤ, pos, ◌-◌, if◌then◌else◌, List, [], ◌∷◌, ◌++◌, map, replicate, length, Result, Ok, Err}
 use Rattle.sym_base.specs.declared.values.value.Value.{Value}
 use Rattle.sym_base.specs.declared.values.value.Value.TheVariants as value
 use Rattle.sym_base.specs.declared.values.record.Record.{Record}
@@ -22,6 +22,7 @@ use Rattle.sym_check.specs.LineValues.{term_number}
 use Rattle.sym_check.specs.Conditions.{truth, test_truth}
 use Rattle.sym_check.specs.DoPlans.{DoPlan, Let, SetInt, SetEnum, CopyEnum, Keep, KeepFrom, PushNum, PushWord, If, DosPlan, End, Then}
 use Rattle.sym_check.specs.ScriptPlans.{ScriptPlan}
+use Rattle.sym_check.specs.Ranges.{landed}
 
 -- What a cell holds at first.
 abbrev pub first_cell : CellPlan → Cell
@@ -34,24 +35,24 @@ first_cell (plan.Enum enum first) = cell.Enum first
 abbrev pub initial : ScriptPlan → State
 initial p = record { cells = map first_cell p.cells }
 
--- Whether x lies in the range of an integer cell or a `nums` cell.
-abbrev pub in_range : Option CellPlan → ℤ → Bool
-in_range None x = false
-in_range (Some (plan.Int lo hi first)) x = int_le lo x && int_le x hi
-in_range (Some (plan.Nums lo hi)) x = int_le lo x && int_le x hi
-in_range (Some plan.Words) x = false
-in_range (Some (plan.Hold kinds first)) x = false
-in_range (Some (plan.Enum enum first)) x = false
-
 -- Arithmetic that fails ends the group.
 abbrev pub or_fault : {A : Type 0} → Result A Arith → Result A FaultKind
 or_fault (Ok x) = Ok x
 or_fault (Err e) = Err fault.Arith
 
--- The cell becomes `content` for a number in its range; any other number ends the group.
-abbrev pub stored : ScriptPlan → ℕ → Cell → ℤ → State → Result State FaultKind
-stored p c content x s =
-    if in_range (slice_get p.cells c) x then Ok (with_cell s c content) else Err (fault.Over c)
+-- The state with this number in an integer cell,
+abbrev pub with_int : ℕ → ℤ → State → State
+with_int c x s = with_cell s c (cell.Int x)
+
+-- and with this number last in a list.
+abbrev pub with_pushed : ℕ → ℤ → State → State
+with_pushed c x s = with_cell s c (cell.Nums (nums_at s c ++ x ∷ []))
+
+-- What the cell keeps of the number is put into the state. Where it keeps nothing, the group ends.
+abbrev pub stored : ScriptPlan → ℕ → (ℤ → State → State) → ℤ → State → Result State FaultKind
+stored p c put x s = do
+  y ← landed p.cells c x
+  Ok (put y s)
 
 -- The environment in an update: the record's fields and the locals so far.
 abbrev pub environment : Record → List Value → Environment
@@ -88,7 +89,7 @@ abbrev mutual
     Ok s
   do_step p k (SetInt c t) s = do
     x ← or_fault (term_number k t s)
-    stored p c (cell.Int x) x s
+    stored p c (with_int c) x s
   do_step p k (SetEnum c l) s = Ok (with_cell s c (cell.Enum (label_of k l)))
   do_step p k (CopyEnum c d) s = Ok (with_cell s c (cell.Enum (label_at s d)))
   do_step p k (Keep c es) s = do
@@ -97,7 +98,7 @@ abbrev mutual
   do_step p k (KeepFrom c d) s = Ok (with_cell s c (cell.Hold (parts_at s d)))
   do_step p k (PushNum c t) s = do
     x ← or_fault (term_number k t s)
-    stored p c (cell.Nums (nums_at s c ++ x ∷ [])) x s
+    stored p c (with_pushed c) x s
   do_step p k (PushWord c w) s = Ok (with_cell s c (cell.Words (words_at s c ++ word_of k w ∷ [])))
   do_step p k (If c a b) s = do
     x ← or_fault (truth (test_truth p.tests) k c s)

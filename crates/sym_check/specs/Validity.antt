@@ -1,5 +1,5 @@
 -- Values and records that are of a script's kinds, and states that are valid.
-use Rattle.std.specs.Prelude.{ℕ, ℤ, ◌<◌, ◌≤ℤ◌, List, [], length, map, Option, Some, None, slice_get, IfSome}
+use Rattle.std.specs.Prelude.{ℕ, ℤ, ◌<◌, List, [], length, map, Option, Some, None, slice_get, IfSome}
 use Rattle.std.specs.List.{All, AllZip}
 use Rattle.sym_base.specs.declared.values.value.Value.{Value}
 use Rattle.sym_base.specs.declared.values.value.Value.TheVariants as value
@@ -19,6 +19,7 @@ use Rattle.sym_check.specs.declared.plan.script.FieldPlan.{FieldPlan}
 use Rattle.sym_check.specs.declared.plan.script.CellPlan.{CellPlan}
 use Rattle.sym_check.specs.declared.plan.script.CellPlan.TheVariants as plan
 use Rattle.sym_check.specs.ScriptPlans.{ScriptPlan}
+use Rattle.sym_check.specs.Ranges.{InRange}
 
 abbrev pub labels_of : Option EnumPlan → List (List ℕ)
 labels_of None = []
@@ -68,10 +69,6 @@ IsKeyOf p (Some g) (One v) = IfSome (slice_get (field_kinds p) g) (λ k. IsOfKin
 
 abbrev pub IsKey : ScriptPlan → Key → Type 0
 IsKey p key = IsKeyOf p p.group key
-
--- Both ends are in a range.
-abbrev pub InRange : ℤ → ℤ → ℤ → Type 0
-InRange lo hi x = (lo ≤ℤ x) × (x ≤ℤ hi)
 
 -- A cell holds what it may: a number or numbers in its range, words, parts of its kinds, or a label
 -- of its enum.

@@ -25,7 +25,8 @@ use Rattle.sym_check.specs.DoPlans.{DoPlan, Let, SetInt, SetEnum, CopyEnum, Keep
 use Rattle.sym_check.specs.ScriptPlans.{ScriptPlan, TestOf}
 use Rattle.sym_check.specs.CellKinds.{IsIntCell, IsNumsCell, IsWordsCell, IsHoldCell, IsEnumCell}
 use Rattle.sym_check.specs.Columns.{IsColumn}
-use Rattle.sym_check.specs.Validity.{label_count, IsOfKind, AreOfKinds, field_kinds, InRange}
+use Rattle.sym_check.specs.Ranges.{InRange}
+use Rattle.sym_check.specs.Validity.{label_count, IsOfKind, AreOfKinds, field_kinds}
 
 -- The kinds of what an expression may name.
 pub record Kinds : Type 0 where

@@ -20,6 +20,7 @@ pub use plan::condition::Cond;
 pub use plan::expression::{
     ArithOp, Fixed, FixedList, LabelOf, Line, Num, Term, WordOf, copy_fixed_list,
 };
+pub use plan::range::Range;
 pub use plan::script::{
     CellPlan, CellPlans, ColumnPlan, ColumnPlans, EnumPlan, EnumPlans, FieldPlan, FieldPlans,
     KindPlan, KindPlans, Plan, TestPlan, TestPlans, copy_column_plans, copy_test_plans,

@@ -1,14 +1,16 @@
-//! The path bound of an update: how many paths the symbolic execution of one record can have at
+//! The path bound of a plan: how many paths the symbolic execution of one record can have at
 //! most.
 ghost use Rattle.std.specs.Prelude.{◌≡◌};
 ghost use Rattle.sym_check.specs.CondPlans.{cond_plan};
 ghost use Rattle.sym_check.specs.Conditions.{is_fixed_term, is_fixed};
 ghost use Rattle.sym_check.specs.DoPlans.{do_plan, dos_plan};
 ghost use Rattle.sym_check.specs.LinePlans.{term_plan};
-ghost use Rattle.sym_check.specs.PathBounds.{plus, times, compare_counts, term_counts, and_counts, or_counts, counts, if_ways, do_ways, then_ways, dos_ways, path_bound};
+ghost use Rattle.sym_check.specs.ScriptPlans.{script_plan};
+ghost use Rattle.sym_check.specs.PathBounds.{plus, times, compare_counts, term_counts, and_counts, or_counts, counts, if_ways, store_ways, do_ways, then_ways, dos_ways, path_bound};
 
 use crate::plan::condition::Cond;
 use crate::plan::expression::Term;
+use crate::plan::script::Plan;
 use crate::plan::statement::{Do, Dos};
 use sym_base::{Compare, PATHS_COUNTED};
 
@@ -157,12 +159,22 @@ fn then_ways(first: Ways, rest: Ways) -> Ways
     }
 }
 
+fn store_ways(plan: &Plan, cell: u16) -> Ways
+    ensures { result ≡ store_ways (script_plan plan.now).cells cell }
+{
+    if plan.is_clamped(cell) {
+        Ways { going: 3, ended: 0 }
+    } else {
+        Ways { going: 1, ended: 2 }
+    }
+}
+
 #[cycle(path_ways)]
-fn do_ways(statement: &Do) -> Ways
-    ensures { result ≡ do_ways (do_plan statement.now) }
+fn do_ways(plan: &Plan, statement: &Do) -> Ways
+    ensures { result ≡ do_ways (script_plan plan.now).cells (do_plan statement.now) }
 {
     match statement {
-        Do::SetInt(..) | Do::PushNum(..) => Ways { going: 1, ended: 2 },
+        Do::SetInt(cell, _) | Do::PushNum(cell, _) => store_ways(plan, *cell),
         Do::Let(..)
         | Do::SetEnum(..)
         | Do::CopyEnum(..)
@@ -170,25 +182,25 @@ fn do_ways(statement: &Do) -> Ways
         | Do::KeepFrom(..)
         | Do::PushWord(..) => Ways { going: 1, ended: 0 },
         Do::If(condition, then, otherwise) => {
-            if_ways(condition, dos_ways(then), dos_ways(otherwise))
+            if_ways(condition, dos_ways(plan, then), dos_ways(plan, otherwise))
         }
     }
 }
 
 #[cycle(path_ways)]
-fn dos_ways(statements: &Dos) -> Ways
-    ensures { result ≡ dos_ways (dos_plan statements.now) }
+fn dos_ways(plan: &Plan, statements: &Dos) -> Ways
+    ensures { result ≡ dos_ways (script_plan plan.now).cells (dos_plan statements.now) }
 {
     match statements {
         Dos::End => Ways { going: 1, ended: 0 },
-        Dos::More(first, rest) => then_ways(do_ways(first), dos_ways(rest)),
+        Dos::More(first, rest) => then_ways(do_ways(plan, first), dos_ways(plan, rest)),
     }
 }
 
-/// The path bound of an update, or 1,000,000 where it is more. It takes no memory.
-pub(crate) fn path_bound_of(update: &Dos) -> u32
-    ensures { result ≡ path_bound (dos_plan update.now) }
+/// The path bound of a plan, or 1,000,000 where it is more. It takes no memory.
+pub(crate) fn path_bound_of(plan: &Plan) -> u32
+    ensures { result ≡ path_bound (script_plan plan.now) }
 {
-    let ways = dos_ways(update);
+    let ways = dos_ways(plan, &plan.update);
     plus(ways.going, ways.ended)
 }

@@ -2,7 +2,6 @@
 ghost use Rattle.std.specs.Prelude.{◌≡◌};
 ghost use Rattle.sym_base.specs.Lawful.{IsLawful};
 ghost use Rattle.sym_base.specs.Trees.{script_tree};
-ghost use Rattle.sym_check.specs.DoPlans.{dos_plan};
 ghost use Rattle.sym_check.specs.PathBounds.{path_bound as paths_of};
 ghost use Rattle.sym_check.specs.PlanSets.{IsPlanned, IsPlanned-prop};
 ghost use Rattle.sym_check.specs.ScriptPlans.{script_plan};
@@ -19,7 +18,7 @@ pub struct Checked {
     path_bound: u32,
     pub ghost lawful: { IsLawful (script_tree script) },
     pub ghost planned: { IsPlanned script plan } by { IsPlanned-prop script plan },
-    pub ghost bound: { path_bound ≡ paths_of (dos_plan plan.update) },
+    pub ghost bound: { path_bound ≡ paths_of (script_plan plan) },
 }
 
 // Written here so that the crates above don't prove it for each type inside.
@@ -50,7 +49,7 @@ impl Checked {
         ensures script { checked_tree result ≡ script_tree script }
         ensures plan { checked_plan result ≡ script_plan plan }
     {
-        let path_bound = path_bound_of(&plan.update);
+        let path_bound = path_bound_of(&plan);
         Checked {
             script,
             plan,
@@ -89,7 +88,7 @@ impl Checked {
 
     /// How many paths the symbolic execution of one record can have at most.
     pub fn path_bound(&self) -> u32
-        ensures bound { result ≡ paths_of (checked_plan self.now).update }
+        ensures bound { result ≡ paths_of (checked_plan self.now) }
         ensures few { result ≤ limit.PATHS_MAX }
     {
         self.path_bound

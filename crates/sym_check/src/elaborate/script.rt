@@ -53,7 +53,7 @@ fn columns_of(alloc: Global, scope: &Scope, columns: &ColumnDecls) -> Result<Col
 fn bounded(plan: Plan) -> Result<Plan, CheckErr>
     ensures { Answers script_plan (bounded (script_plan plan)) result }
 {
-    let paths = path_bound_of(&plan.update);
+    let paths = path_bound_of(&plan);
     if paths <= PATHS_MAX {
         Ok(plan)
     } else {

@@ -1,13 +1,15 @@
 //! The plan of a whole script. Contracts see it as the plain data of `specs/ScriptPlans.antt`.
 ghost use Rattle.std.specs.Prelude.{◌≡◌, IfOk, map};
+ghost use Rattle.sym_check.specs.Ranges.{is_clamped, landed, range_at, range_of};
 ghost use Rattle.sym_check.specs.ScriptPlans.{test_plan, column_plan, script_plan};
 ghost use Rattle.sym_check.specs.Validity.{enum_labels};
 
 use crate::plan::condition::Cond;
+use crate::plan::range::Range;
 use crate::plan::show::Show;
 use crate::plan::statement::Dos;
 use std::alloc::Global;
-use sym_base::{NoMemory, Plain, Sequence, Text, Texts, Value, Values};
+use sym_base::{FaultKind, NoMemory, Plain, Sequence, Text, Texts, Value, Values};
 
 /// An enum: the texts of its labels, which are numbered from 0 in this order.
 #[derive(Drop)]
@@ -167,6 +169,20 @@ impl Plain for FieldPlan {
 }
 
 impl CellPlan {
+    /// The range of an integer cell or of a list of numbers; other cells have none.
+    pub fn range(&self) -> Option<Range>
+        ensures { result ≡ range_of self.now }
+    {
+        match self {
+            CellPlan::Int { lo, hi, .. } | CellPlan::Nums { lo, hi } => Some(Range {
+                lo: *lo,
+                hi: *hi,
+                clamps: false,
+            }),
+            CellPlan::Words | CellPlan::Hold { .. } | CellPlan::Enum { .. } => None,
+        }
+    }
+
     /// An equal cell of its own.
     pub fn copy(&self, alloc: Global) -> Result<CellPlan, NoMemory>
         ensures { IfOk result (λ c. c ≡ self.now) }
@@ -245,6 +261,41 @@ pub fn copy_column_plans(alloc: Global, columns: &ColumnPlans) -> Result<ColumnP
 }
 
 impl Plan {
+    /// The range of the cell with this number; none where the cell has none, or there is no such
+    /// cell.
+    pub fn range_at(&self, cell: u16) -> Option<Range>
+        ensures { result ≡ range_at (script_plan self.now).cells cell }
+    {
+        match self.cells.get(usize::from(cell)) {
+            Some(found) => found.range(),
+            None => None,
+        }
+    }
+
+    /// Whether the cell with this number takes the nearest end in place of a number outside its
+    /// range.
+    pub fn is_clamped(&self, cell: u16) -> bool
+        ensures { result ≡ is_clamped (script_plan self.now).cells cell }
+    {
+        match self.range_at(cell) {
+            Some(range) => range.clamps,
+            None => false,
+        }
+    }
+
+    /// What the cell with this number keeps of a number that is stored in it: the number itself
+    /// in the cell's range, or the nearest end where the range clamps. `Err` has the fault that
+    /// ends the group where the cell keeps nothing.
+    pub fn landed(&self, cell: u16, number: i128) -> Result<i64, FaultKind>
+        ensures { result ≡ landed (script_plan self.now).cells cell number }
+    {
+        let kept = match self.range_at(cell) {
+            Some(range) => range.kept(number),
+            None => None,
+        };
+        kept.ok_or(FaultKind::Over(cell))
+    }
+
     /// An equal plan of its own.
     pub fn copy(&self, alloc: Global) -> Result<Plan, NoMemory>
         ensures { IfOk result (λ p. script_plan p ≡ script_plan self.now) }
