@@ -142,13 +142,13 @@ module _ (p : ScriptPlan) where
       (All-cons (IsKind p.enums) k ks (kind_well s d.kind k there i) kinds, (literal_well s k d.first v there lawful j, values))
 
   cell_well : (s : Scope) (n : ℕ) (d : CellDecl) (c : CellPlan) (m : Meaning) → There s → is_lawful_cell d ≡ true → slice_get p.cells n ≡ Some c → IsCellDecl s n d c m → IsThere p (known_kinds p) m × IsCell p.enums c
-  cell_well s n _ _ _ there h e (is.int lo hi first i) =
+  cell_well s n _ _ _ there h e (is.int lo hi first clamp i) =
       let (ends, last) = both_true (is_number lo && is_number hi) (is_number first) h in
       let (low, high) = both_true (is_number lo) (is_number hi) ends in
-      (record { lo = lo; hi = hi; first = first; is = e }, (number_is lo low, number_is hi high, i))
-  cell_well s n _ _ _ there h e (is.nums lo hi i) =
+      (record { lo = lo; hi = hi; first = first; clamp = clamp; is = e }, (number_is lo low, number_is hi high, i))
+  cell_well s n _ _ _ there h e (is.nums lo hi clamp i) =
       let (low, high) = both_true (is_number lo) (is_number hi) h in
-      (record { lo = lo; hi = hi; is = e }, (number_is lo low, number_is hi high, i))
+      (record { lo = lo; hi = hi; clamp = clamp; is = e }, (number_is lo low, number_is hi high, i))
   cell_well s n _ _ _ there h e is.words = (record { is = e }, tt)
   cell_well s n _ _ _ there h e (is.hold parts ks vs are) =
       let (count, lawful) = both_true (is_between 1 max_parts (length parts)) (list_all is_lawful_part parts) h in

@@ -1,5 +1,5 @@
 -- The rules of the checker, tried on scripts.
-use Rattle.std.specs.Prelude.{◌≡◌, refl, ℕ, zero, suc, ℤ, pos, negsuc, codes, List, [], ◌∷◌, Option, Some, None, Result, Ok, Err}
+use Rattle.std.specs.Prelude.{◌≡◌, refl, ℕ, zero, suc, ℤ, pos, negsuc, Bool, true, false, codes, List, [], ◌∷◌, Option, Some, None, Result, Ok, Err}
 use Rattle.sym_base.specs.declared.tree.name.Name.{Name}
 use Rattle.sym_base.specs.declared.tree.compare.Compare.TheVariants as compare
 use Rattle.sym_base.specs.declared.tree.expression.BinOp.TheVariants as op
@@ -35,20 +35,20 @@ x_at at = record { text = codes "x"; at = at }
 abbrev name_at : List ℕ → ℕ → Name
 name_at text at = record { text = text; at = at }
 
--- field x: num; state n: int [lo..hi] = 0; update { .. } report { n = n; }
-abbrev ranged : ℤ → ℤ → StmtsTree → ScriptTree
-ranged lo hi update = record {
+-- field x: num; state n: int [lo..hi] = 0; update { .. } report { n = n; }, the cell maybe marked.
+abbrev ranged : ℤ → ℤ → Bool → StmtsTree → ScriptTree
+ranged lo hi clamp update = record {
   enums = [];
   fields = record { name = x_at 6; header = None; kind = ref.Num; default = None } ∷ [];
   group = None;
-  states = record { name = n_at 20; cell = cell.Int lo hi (pos 0) } ∷ [];
+  states = record { name = n_at 20; cell = cell.Int lo hi (pos 0) clamp } ∷ [];
   tests = [];
   update = update;
   columns = record { name = n_at 70; value = Named (n_at 74) } ∷ [];
 }
 
 abbrev counter : StmtsTree → ScriptTree
-counter update = ranged (pos 0) (pos 3) update
+counter update = ranged (pos 0) (pos 3) false update
 
 abbrev only : StmtTree → StmtsTree
 only d = Then d Done
@@ -81,9 +81,12 @@ taken = refl
 no_condition : plan_of (counter (only (If (Named (n_at 51)) Done Done))) ≡ Err (broken.Kind 51)
 no_condition = refl
 
--- The range is [3..0].
-no_range : plan_of (ranged (pos 3) (pos 0) Done) ≡ Err (broken.Range 20)
+-- The range is [3..0], and then [1..3], which hasn't the first value; no mark mends that.
+no_range : plan_of (ranged (pos 3) (pos 0) false Done) ≡ Err (broken.Range 20)
 no_range = refl
+
+first_outside : plan_of (ranged (pos 1) (pos 3) true Done) ≡ Err (broken.Range 20)
+first_outside = refl
 
 -- The operands of an operator come before it: n = m * "a";
 operands_first : plan_of (counter (only (Set (n_at 48) (Bin op.Mul (Named (name_at (codes "m") 52)) (Words (codes "a") 56) 54)))) ≡ Err (broken.Name 52)
@@ -93,16 +96,23 @@ operands_first = refl
 a_condition : plan_of (counter (only (Set (n_at 48) (Bin op.Lt (Bin op.Sub (Num (pos 1) 52) (Named (x_at 56)) 54) (Named (n_at 60)) 58)))) ≡ Err (broken.Kind 58)
 a_condition = refl
 
-abbrev counted : do_.DosPlan → ScriptPlan
-counted update = record {
+abbrev counted_in : Bool → do_.DosPlan → ScriptPlan
+counted_in clamp update = record {
   enums = [];
   fields = record { header = codes "x"; kind = kind.Num; default = None } ∷ [];
   group = None;
-  cells = plan.Int (pos 0) (pos 3) (pos 0) ∷ [];
+  cells = plan.Int (pos 0) (pos 3) (pos 0) clamp ∷ [];
   tests = [];
   update = update;
   columns = record { name = codes "n"; value = show.Cell 0 } ∷ [];
 }
+
+abbrev counted : do_.DosPlan → ScriptPlan
+counted update = counted_in false update
+
+-- state n: int [0..3] = 0 clamp;
+marked : plan_of (ranged (pos 0) (pos 3) true Done) ≡ Ok (counted_in true do_.End)
+marked = refl
 
 -- n = n + 1;
 one_more : plan_of (counter (only (Set (n_at 48) (Bin op.Add (Named (n_at 52)) (Num (pos 1) 56) 54)))) ≡ Ok (counted (do_.Then (do_.SetInt 0 (line.OfLine (line.Add (line.Cell 0) (fixed.Lit (pos 1))))) do_.End))

@@ -85,7 +85,7 @@ counter = record {
   enums = [];
   fields = number_field ∷ [];
   group = None;
-  cells = plan.Int (pos 0) (pos 3) (pos 0) ∷ [];
+  cells = plan.Int (pos 0) (pos 3) (pos 0) false ∷ [];
   tests = [];
   update = Then (SetInt 0 (line.OfLine (line.Add (line.Cell 0) (fixed.Lit (pos 1))))) End;
   columns = [];
@@ -101,6 +101,26 @@ counts_to_three = refl
 ends_at_the_fourth : after counter (five 1 ∷ five 2 ∷ five 3 ∷ five 4 ∷ five 5 ∷ []) (Going (initial counter)) ≡ Ended (record { kind = fault.Over 0; no = 4 })
 ends_at_the_fourth = refl
 
+-- Where the range clamps, the count stays at 3.
+abbrev clamped : ScriptPlan
+clamped = record counter { cells = plan.Int (pos 0) (pos 3) (pos 0) true ∷ [] }
+
+stays_at_three : after clamped (five 1 ∷ five 2 ∷ five 3 ∷ five 4 ∷ five 5 ∷ []) (Going (initial clamped)) ≡ Going (record { cells = cell.Int (pos 3) ∷ [] })
+stays_at_three = refl
+
+-- A list that clamps takes 9 for 12 and 0 for -5.
+abbrev clamped_list : ScriptPlan
+clamped_list = record counter {
+  cells = plan.Nums (pos 0) (pos 9) true ∷ [];
+  update = Then (PushNum 0 (line.OfNum (fixed.Field 0))) End;
+}
+
+abbrev number_at : ℕ → ℤ → Record
+number_at n x = record { no = n; fields = value.Num x ∷ [] }
+
+takes_the_ends : after clamped_list (number_at 1 (pos 12) ∷ number_at 2 (negsuc 4) ∷ number_at 3 (pos 4) ∷ []) (Going (initial clamped_list)) ≡ Going (record { cells = cell.Nums (pos 9 ∷ pos 0 ∷ pos 4 ∷ []) ∷ [] })
+takes_the_ends = refl
+
 no_records_no_groups : pass counter [] ≡ []
 no_records_no_groups = refl
 
@@ -110,7 +130,7 @@ sessions = record {
   enums = [];
   fields = number_field ∷ word_field ∷ [];
   group = Some 1;
-  cells = plan.Hold (kind.Num ∷ []) (value.Num (pos 0) ∷ []) ∷ plan.Int (pos 0) (pos 1000) (pos 0) ∷ plan.Nums (pos 0) (pos 1000) ∷ [];
+  cells = plan.Hold (kind.Num ∷ []) (value.Num (pos 0) ∷ []) ∷ plan.Int (pos 0) (pos 1000) (pos 0) false ∷ plan.Nums (pos 0) (pos 1000) false ∷ [];
   tests = record {
     params = kind.Num ∷ kind.Num ∷ [];
     body = Compared compare.Gt (line.OfNum (fixed.Bin op.Sub (fixed.Param 1) (fixed.Param 0))) (fixed.Lit (pos 30));
@@ -159,6 +179,13 @@ ends_by_arithmetic = refl
 -- Path bounds.
 counter_paths : path_bound counter ≡ 3
 counter_paths = refl
+
+-- A cell that clamps has three paths that go on.
+clamped_paths : path_bound clamped ≡ 3
+clamped_paths = refl
+
+clamped_twice : path_bound (record clamped_list { update = Then (PushNum 0 (line.OfNum (fixed.Field 0))) clamped_list.update }) ≡ 9
+clamped_twice = refl
 
 session_paths : path_bound sessions ≡ 8
 session_paths = refl

@@ -186,8 +186,8 @@ bind_cell (Ok a) f h = h a
 bind_cell (Err e) f h = tt
 
 few_cell : (s : Scope) (n at : ℕ) (c : CellDecl) → is_lawful_cell c ≡ true → IsFewCell (cell_of s n at c)
-few_cell s n at (cell.Int lo hi first) lawful = few_if (int_le lo first && int_le first hi) _ _ refl
-few_cell s n at (cell.Nums lo hi) lawful = few_if (int_le lo hi) _ _ refl
+few_cell s n at (cell.Int lo hi first clamp) lawful = few_if (int_le lo first && int_le first hi) _ _ refl
+few_cell s n at (cell.Nums lo hi clamp) lawful = few_if (int_le lo hi) _ _ refl
 few_cell s n at cell.Words lawful = refl
 few_cell s n at (cell.Hold parts) lawful =
     few_hold n (length parts) (parts_of s parts)

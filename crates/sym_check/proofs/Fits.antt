@@ -51,8 +51,8 @@ pub key_is : (p : ScriptPlan) (rec : Record) → IsRecord p rec → IsKey p (key
 key_is p rec r = key_by_is p rec p.group r
 
 cell_fits : (enums : List EnumPlan) (c : CellPlan) (content : Cell) → IsValidCell enums c content → FitsCell c content
-cell_fits enums _ _ (valid.int lo hi first x h) = fitting.int lo hi first x
-cell_fits enums _ _ (valid.nums lo hi xs h) = fitting.nums lo hi xs
+cell_fits enums _ _ (valid.int lo hi first clamp x h) = fitting.int lo hi first clamp x
+cell_fits enums _ _ (valid.nums lo hi clamp xs h) = fitting.nums lo hi clamp xs
 cell_fits enums _ _ (valid.words ts) = fitting.words ts
 cell_fits enums _ _ (valid.hold kinds first parts h) = fitting.hold kinds first parts
 cell_fits enums _ _ (valid.enum of first l h) = fitting.enum of first l

@@ -14,7 +14,7 @@ pub mod BlocksNamed
 pub mod AcceptedPlans
 mod Examples
 mod ZippedLists
-mod KeptNumbers
+pub mod KeptNumbers
 pub mod ValidSteps
 mod TestAnswers
 pub mod PlanLaws

@@ -1,7 +1,7 @@
 -- The declarations of enums, fields and states agree with what is so of them and with their first
 -- broken rule.
 use Rattle.std.proofs.lemmas.Int.{ints}
-use Rattle.std.proofs.Common.{arith, true, ◌≡◌, refl, subst, ℕ, ℤ, ◌≤ℤ◌, ◌&&◌, ◌⊎◌, inl, inr, ◌++◌, List, [], ◌∷◌, Option}
+use Rattle.std.proofs.Common.{arith, Bool, true, ◌≡◌, refl, subst, ℕ, ℤ, ◌≤ℤ◌, ◌&&◌, ◌⊎◌, inl, inr, ◌++◌, List, [], ◌∷◌, Option}
 use Rattle.std.specs.Prelude.{int_le}
 use Rattle.std.specs.Option.{unwrap_or}
 use Rattle.std.specs.Bool.{Decides}
@@ -168,26 +168,26 @@ int_le_holds a b h = grind (arith, ints, h)
 int_le_decides : (a b : ℤ) → Decides (int_le a b) (a ≤ℤ b)
 int_le_decides a b = (int_le_tells a b, int_le_holds a b)
 
-abbrev int_planned : ℕ → ℤ → ℤ → ℤ → PlannedCell
-int_planned n lo hi first = record { plan = plan.Int lo hi first; meaning = meaning.IntCell n }
+abbrev int_planned : ℕ → ℤ → ℤ → ℤ → Bool → PlannedCell
+int_planned n lo hi first clamp = record { plan = plan.Int lo hi first clamp; meaning = meaning.IntCell n }
 
-int_alone : (s : Scope) (n : ℕ) (lo hi first : ℤ) (p : CellPlan) (m : Meaning) → IsCellDecl s n (cell.Int lo hi first) p m → ◌≡◌ {A = PlannedCell} (int_planned n lo hi first) (record { plan = p; meaning = m })
-int_alone s n _ _ _ _ _ (is.int lo hi first i) = refl
+int_alone : (s : Scope) (n : ℕ) (lo hi first : ℤ) (clamp : Bool) (p : CellPlan) (m : Meaning) → IsCellDecl s n (cell.Int lo hi first clamp) p m → ◌≡◌ {A = PlannedCell} (int_planned n lo hi first clamp) (record { plan = p; meaning = m })
+int_alone s n _ _ _ _ _ _ (is.int lo hi first clamp i) = refl
 
-int_ranged : (s : Scope) (n : ℕ) (lo hi first : ℤ) (p : CellPlan) (m : Meaning) → IsCellDecl s n (cell.Int lo hi first) p m → InRange lo hi first
-int_ranged s n _ _ _ _ _ (is.int lo hi first i) = i
+int_ranged : (s : Scope) (n : ℕ) (lo hi first : ℤ) (clamp : Bool) (p : CellPlan) (m : Meaning) → IsCellDecl s n (cell.Int lo hi first clamp) p m → InRange lo hi first
+int_ranged s n _ _ _ _ _ _ (is.int lo hi first clamp i) = i
 
-int_unranged : (s : Scope) (at : ℕ) (lo hi first : ℤ) (f : CheckErr) → BreaksCell s at (cell.Int lo hi first) f → (InRange lo hi first → ⊥) × (broken.Range at ≡ f)
-int_unranged s at _ _ _ _ (breaks.no_int_range lo hi first none) = (none, refl)
+int_unranged : (s : Scope) (at : ℕ) (lo hi first : ℤ) (clamp : Bool) (f : CheckErr) → BreaksCell s at (cell.Int lo hi first clamp) f → (InRange lo hi first → ⊥) × (broken.Range at ≡ f)
+int_unranged s at _ _ _ _ _ (breaks.no_int_range lo hi first clamp none) = (none, refl)
 
-nums_alone : (s : Scope) (n : ℕ) (lo hi : ℤ) (p : CellPlan) (m : Meaning) → IsCellDecl s n (cell.Nums lo hi) p m → ◌≡◌ {A = PlannedCell} (record { plan = plan.Nums lo hi; meaning = meaning.NumsCell n }) (record { plan = p; meaning = m })
-nums_alone s n _ _ _ _ (is.nums lo hi i) = refl
+nums_alone : (s : Scope) (n : ℕ) (lo hi : ℤ) (clamp : Bool) (p : CellPlan) (m : Meaning) → IsCellDecl s n (cell.Nums lo hi clamp) p m → ◌≡◌ {A = PlannedCell} (record { plan = plan.Nums lo hi clamp; meaning = meaning.NumsCell n }) (record { plan = p; meaning = m })
+nums_alone s n _ _ _ _ _ (is.nums lo hi clamp i) = refl
 
-nums_ranged : (s : Scope) (n : ℕ) (lo hi : ℤ) (p : CellPlan) (m : Meaning) → IsCellDecl s n (cell.Nums lo hi) p m → lo ≤ℤ hi
-nums_ranged s n _ _ _ _ (is.nums lo hi i) = i
+nums_ranged : (s : Scope) (n : ℕ) (lo hi : ℤ) (clamp : Bool) (p : CellPlan) (m : Meaning) → IsCellDecl s n (cell.Nums lo hi clamp) p m → lo ≤ℤ hi
+nums_ranged s n _ _ _ _ _ (is.nums lo hi clamp i) = i
 
-nums_unranged : (s : Scope) (at : ℕ) (lo hi : ℤ) (f : CheckErr) → BreaksCell s at (cell.Nums lo hi) f → (lo ≤ℤ hi → ⊥) × (broken.Range at ≡ f)
-nums_unranged s at _ _ _ (breaks.no_nums_range lo hi none) = (none, refl)
+nums_unranged : (s : Scope) (at : ℕ) (lo hi : ℤ) (clamp : Bool) (f : CheckErr) → BreaksCell s at (cell.Nums lo hi clamp) f → (lo ≤ℤ hi → ⊥) × (broken.Range at ≡ f)
+nums_unranged s at _ _ _ _ (breaks.no_nums_range lo hi clamp none) = (none, refl)
 
 words_alone : (s : Scope) (n : ℕ) (p : CellPlan) (m : Meaning) → IsCellDecl s n cell.Words p m → ◌≡◌ {A = PlannedCell} (record { plan = plan.Words; meaning = meaning.WordsCell n }) (record { plan = p; meaning = m })
 words_alone s n _ _ is.words = refl
@@ -231,14 +231,14 @@ enum_cell_blames s at _ _ _ (breaks.in_enum of first f b) = inl (enum_not s of f
 enum_cell_blames s at _ _ _ (breaks.in_label of first enum f t b) = inr (enum, (meaning.Enum enum, t, refl), label_not s enum first f b)
 
 pub cell_agrees : (s : Scope) (n at : ℕ) (d : CellDecl) → Agrees (λ (p : PlannedCell). IsCellDecl s n d p.plan p.meaning) (BreaksCell s at d) (cell_of s n at d)
-cell_agrees s n at (cell.Int lo hi first) =
+cell_agrees s n at (cell.Int lo hi first clamp) =
     where_true (int_le lo first && int_le first hi) (Decides-and (int_le lo first) (int_le first hi) (int_le_decides lo first) (int_le_decides first hi))
-    (λ i. only_value _ (is.int lo hi first i) (λ p j. int_alone s n lo hi first p.plan p.meaning j) (λ f b. (int_unranged s at lo hi first f b).0 i))
-    (λ none. only_fault _ (breaks.no_int_range lo hi first none) (λ f b. (int_unranged s at lo hi first f b).1) (λ p j. none (int_ranged s n lo hi first p.plan p.meaning j)))
-cell_agrees s n at (cell.Nums lo hi) =
+    (λ i. only_value _ (is.int lo hi first clamp i) (λ p j. int_alone s n lo hi first clamp p.plan p.meaning j) (λ f b. (int_unranged s at lo hi first clamp f b).0 i))
+    (λ none. only_fault _ (breaks.no_int_range lo hi first clamp none) (λ f b. (int_unranged s at lo hi first clamp f b).1) (λ p j. none (int_ranged s n lo hi first clamp p.plan p.meaning j)))
+cell_agrees s n at (cell.Nums lo hi clamp) =
     where_true (int_le lo hi) (int_le_decides lo hi)
-    (λ i. only_value _ (is.nums lo hi i) (λ p j. nums_alone s n lo hi p.plan p.meaning j) (λ f b. (nums_unranged s at lo hi f b).0 i))
-    (λ none. only_fault _ (breaks.no_nums_range lo hi none) (λ f b. (nums_unranged s at lo hi f b).1) (λ p j. none (nums_ranged s n lo hi p.plan p.meaning j)))
+    (λ i. only_value _ (is.nums lo hi clamp i) (λ p j. nums_alone s n lo hi clamp p.plan p.meaning j) (λ f b. (nums_unranged s at lo hi clamp f b).0 i))
+    (λ none. only_fault _ (breaks.no_nums_range lo hi clamp none) (λ f b. (nums_unranged s at lo hi clamp f b).1) (λ p j. none (nums_ranged s n lo hi clamp p.plan p.meaning j)))
 cell_agrees s n at cell.Words = only_value _ is.words (λ p i. words_alone s n p.plan p.meaning i) (λ f b. elim b [ ])
 cell_agrees s n at (cell.Hold parts) =
     in_words (then_made (hold_planned n) (parts_agree s parts))

@@ -215,14 +215,14 @@ parts_held p s c kinds h w = go (zip_get (IsValidCell p.enums) p.cells s.cells c
 all_more : (lo hi x : ℤ) (xs : List ℤ) → All (InRange lo hi) xs → InRange lo hi x → All (InRange lo hi) (xs ++ x ∷ [])
 all_more lo hi x xs h t = All-append (InRange lo hi) xs (x ∷ []) h (All-cons (InRange lo hi) x [] t (All-nil (InRange lo hi)))
 
-nums_held : (p : ScriptPlan) (s : State) (c : ℕ) (x : ℤ) → IsValid p s → (w : kinds_of.IsNumsCell p.cells c) → InRange w.lo w.hi x → IsValidCell p.enums (plan.Nums w.lo w.hi) (cell.Nums (nums_at s c ++ x ∷ []))
-nums_held p s c x h w t = go (zip_get (IsValidCell p.enums) p.cells s.cells c (plan.Nums w.lo w.hi) h w.is)
+nums_held : (p : ScriptPlan) (s : State) (c : ℕ) (x : ℤ) → IsValid p s → (w : kinds_of.IsNumsCell p.cells c) → InRange w.lo w.hi x → IsValidCell p.enums (plan.Nums w.lo w.hi w.clamp) (cell.Nums (nums_at s c ++ x ∷ []))
+nums_held p s c x h w t = go (zip_get (IsValidCell p.enums) p.cells s.cells c (plan.Nums w.lo w.hi w.clamp) h w.is)
   where
-    found : (content : Cell) → IsValidCell p.enums (plan.Nums w.lo w.hi) content → slice_get s.cells c ≡ Some content → All (InRange w.lo w.hi) (cell_nums (slice_get s.cells c))
-    found _ (valid.nums lo hi xs t) e = rw e t
+    found : (content : Cell) → IsValidCell p.enums (plan.Nums w.lo w.hi w.clamp) content → slice_get s.cells c ≡ Some content → All (InRange w.lo w.hi) (cell_nums (slice_get s.cells c))
+    found _ (valid.nums lo hi clamp xs t) e = rw e t
 
-    go : (content : Cell) × (slice_get s.cells c ≡ Some content) × IsValidCell p.enums (plan.Nums w.lo w.hi) content → IsValidCell p.enums (plan.Nums w.lo w.hi) (cell.Nums (nums_at s c ++ x ∷ []))
-    go (content, e, i) = valid.nums w.lo w.hi _ (all_more w.lo w.hi x (nums_at s c) (found content i e) t)
+    go : (content : Cell) × (slice_get s.cells c ≡ Some content) × IsValidCell p.enums (plan.Nums w.lo w.hi w.clamp) content → IsValidCell p.enums (plan.Nums w.lo w.hi w.clamp) (cell.Nums (nums_at s c ++ x ∷ []))
+    go (content, e, i) = valid.nums w.lo w.hi w.clamp _ (all_more w.lo w.hi x (nums_at s c) (found content i e) t)
 
 either : (P : State → Type 0) (l r : Result State FaultKind) (x : Bool) → IfOk l P → IfOk r P → IfOk (if x then l else r) P
 either P l r true h k = h
@@ -246,7 +246,7 @@ mutual
       calculated_valid (Goes p k v) (λ (x : ℤ). stored p c (with_int c) x s) (term_number v t s)
       (λ x is. stored_in p (Goes p k v) s c (with_int c) x
       (λ y lands. record {
-        state = put_is p s c (plan.Int w.lo w.hi w.first) (cell.Int y) i w.is (valid.int w.lo w.hi w.first y (int_landed p.enums p.cells c x y well_formed w lands));
+        state = put_is p s c (plan.Int w.lo w.hi w.first w.clamp) (cell.Int y) i w.is (valid.int w.lo w.hi w.first w.clamp y (int_landed p.enums p.cells c x y well_formed w lands));
         known = h;
       }))
   do_valid p well_formed _ _ _ (well.set_enum k c l w) v s h i = record {
@@ -271,7 +271,7 @@ mutual
       calculated_valid (Goes p k v) (λ (x : ℤ). stored p c (with_pushed c) x s) (term_number v t s)
       (λ x is. stored_in p (Goes p k v) s c (with_pushed c) x
       (λ y lands. record {
-        state = put_is p s c (plan.Nums w.lo w.hi) (cell.Nums (nums_at s c ++ y ∷ [])) i w.is (nums_held p s c y i w (nums_landed p.enums p.cells c x y well_formed w lands));
+        state = put_is p s c (plan.Nums w.lo w.hi w.clamp) (cell.Nums (nums_at s c ++ y ∷ [])) i w.is (nums_held p s c y i w (nums_landed p.enums p.cells c x y well_formed w lands));
         known = h;
       }))
   do_valid p well_formed _ _ _ (well.push_word k c w u t) v s h i = record {
@@ -301,8 +301,8 @@ step_valid p (Going s) rec w r i = recorded_valid p rec.no (dos_step p (environm
 step_valid p (Ended end) rec w r i = tt
 
 first_valid : (enums : List EnumPlan) (c : CellPlan) → IsCell enums c → IsValidCell enums c (first_cell c)
-first_valid enums (plan.Int lo hi first) h = valid.int lo hi first first h.2
-first_valid enums (plan.Nums lo hi) h = valid.nums lo hi [] (All-nil (InRange lo hi))
+first_valid enums (plan.Int lo hi first clamp) h = valid.int lo hi first clamp first h.2
+first_valid enums (plan.Nums lo hi clamp) h = valid.nums lo hi clamp [] (All-nil (InRange lo hi))
 first_valid enums plan.Words h = valid.words []
 first_valid enums (plan.Hold kinds first) h = valid.hold kinds first first h.1
 first_valid enums (plan.Enum of first) h = valid.enum of first first h

@@ -1,6 +1,6 @@
 -- The first broken rule in declarations, with its place. The faults of a declaration come in the
 -- order of its text.
-use Rattle.std.specs.Prelude.{◌≡◌, ℕ, ℤ, ◌≤ℤ◌, List, [], ◌∷◌, ◌++◌, Option, Some, None}
+use Rattle.std.specs.Prelude.{◌≡◌, ℕ, ℤ, ◌≤ℤ◌, Bool, List, [], ◌∷◌, ◌++◌, Option, Some, None}
 use Rattle.std.specs.List.{Contains}
 use Rattle.sym_base.specs.declared.tree.name.Name.{Name}
 use Rattle.sym_base.specs.declared.tree.declaration.EnumDecl.{EnumDecl}
@@ -109,12 +109,12 @@ pub data BreaksParts (s : Scope) : List Part → CheckErr → Type 0 where
 
 -- `at` is the place of the state's name.
 pub data BreaksCell (s : Scope) (at : ℕ) : CellDecl → CheckErr → Type 0 where
-  no_int_range : (lo hi first : ℤ)
+  no_int_range : (lo hi first : ℤ) (clamp : Bool)
       → (InRange lo hi first → ⊥)
-      → BreaksCell s at (cell.Int lo hi first) (broken.Range at)
-  no_nums_range : (lo hi : ℤ)
+      → BreaksCell s at (cell.Int lo hi first clamp) (broken.Range at)
+  no_nums_range : (lo hi : ℤ) (clamp : Bool)
       → (lo ≤ℤ hi → ⊥)
-      → BreaksCell s at (cell.Nums lo hi) (broken.Range at)
+      → BreaksCell s at (cell.Nums lo hi clamp) (broken.Range at)
   in_parts : (parts : List Part) (f : CheckErr)
       → BreaksParts s parts f
       → BreaksCell s at (cell.Hold parts) f

@@ -1,5 +1,5 @@
 -- What the cells of a plan are, by their numbers.
-use Rattle.std.specs.Prelude.{◌≡◌, ℕ, ℤ, List, Some, slice_get}
+use Rattle.std.specs.Prelude.{◌≡◌, ℕ, ℤ, Bool, List, Some, slice_get}
 use Rattle.sym_base.specs.declared.values.value.Value.{Value}
 use Rattle.sym_check.specs.declared.plan.script.KindPlan.{KindPlan}
 use Rattle.sym_check.specs.declared.plan.script.CellPlan.{CellPlan}
@@ -10,12 +10,14 @@ pub record IsIntCell (cells : List CellPlan) (c : ℕ) : Type 0 where
   pub lo : ℤ
   pub hi : ℤ
   pub first : ℤ
-  pub is : slice_get cells c ≡ Some (plan.Int lo hi first)
+  pub clamp : Bool
+  pub is : slice_get cells c ≡ Some (plan.Int lo hi first clamp)
 
 pub record IsNumsCell (cells : List CellPlan) (c : ℕ) : Type 0 where
   pub lo : ℤ
   pub hi : ℤ
-  pub is : slice_get cells c ≡ Some (plan.Nums lo hi)
+  pub clamp : Bool
+  pub is : slice_get cells c ≡ Some (plan.Nums lo hi clamp)
 
 pub record IsWordsCell (cells : List CellPlan) (c : ℕ) : Type 0 where
   pub is : slice_get cells c ≡ Some plan.Words

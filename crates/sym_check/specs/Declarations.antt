@@ -1,5 +1,5 @@
 -- Declarations of a script, and their plan: one case for each rule.
-use Rattle.std.specs.Prelude.{◌≡◌, ℕ, ℤ, ◌≤ℤ◌, List, [], ◌∷◌, ◌++◌, Option, Some, None}
+use Rattle.std.specs.Prelude.{◌≡◌, ℕ, ℤ, ◌≤ℤ◌, Bool, List, [], ◌∷◌, ◌++◌, Option, Some, None}
 use Rattle.std.specs.List.{Contains}
 use Rattle.std.specs.Option.{unwrap_or}
 use Rattle.sym_base.specs.declared.tree.name.Name.{Name}
@@ -98,12 +98,13 @@ pub data AreParts (s : Scope) : List Part → List KindPlan → List Value → T
 
 -- What a cell holds, and what its name stands for, by its number.
 pub data IsCellDecl (s : Scope) (n : ℕ) : CellDecl → CellPlan → Meaning → Type 0 where
-  int : (lo hi first : ℤ)
+  int : (lo hi first : ℤ) (clamp : Bool)
       → InRange lo hi first
-      → IsCellDecl s n (cell.Int lo hi first) (plan.Int lo hi first) (meaning.IntCell n)
-  nums : (lo hi : ℤ)
+      → IsCellDecl s n (cell.Int lo hi first clamp) (plan.Int lo hi first clamp)
+      (meaning.IntCell n)
+  nums : (lo hi : ℤ) (clamp : Bool)
       → lo ≤ℤ hi
-      → IsCellDecl s n (cell.Nums lo hi) (plan.Nums lo hi) (meaning.NumsCell n)
+      → IsCellDecl s n (cell.Nums lo hi clamp) (plan.Nums lo hi clamp) (meaning.NumsCell n)
   words : IsCellDecl s n cell.Words plan.Words (meaning.WordsCell n)
   hold : (parts : List Part) (ks : List KindPlan) (vs : List Value)
       → AreParts s parts ks vs

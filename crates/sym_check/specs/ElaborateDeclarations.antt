@@ -160,13 +160,13 @@ pub record PlannedCell : Type 0 where
 
 -- The place is that of the state's name.
 abbrev pub cell_of : Scope → ℕ → ℕ → CellDecl → Result PlannedCell CheckErr
-cell_of s n at (cell.Int lo hi first) =
+cell_of s n at (cell.Int lo hi first clamp) =
     if int_le lo first && int_le first hi
-    then Ok (record { plan = plan.Int lo hi first; meaning = meaning.IntCell n })
+    then Ok (record { plan = plan.Int lo hi first clamp; meaning = meaning.IntCell n })
     else Err (broken.Range at)
-cell_of s n at (cell.Nums lo hi) =
+cell_of s n at (cell.Nums lo hi clamp) =
     if int_le lo hi
-    then Ok (record { plan = plan.Nums lo hi; meaning = meaning.NumsCell n })
+    then Ok (record { plan = plan.Nums lo hi clamp; meaning = meaning.NumsCell n })
     else Err (broken.Range at)
 cell_of s n at cell.Words = Ok (record { plan = plan.Words; meaning = meaning.WordsCell n })
 cell_of s n at (cell.Hold parts) = do

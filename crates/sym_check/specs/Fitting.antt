@@ -1,5 +1,5 @@
 -- States and outcomes that fit a plan: of the declared kinds, whatever values they hold.
-use Rattle.std.specs.Prelude.{ℕ, ℤ, List, IsSome}
+use Rattle.std.specs.Prelude.{ℕ, ℤ, Bool, List, IsSome}
 use Rattle.std.specs.List.{AllZip}
 use Rattle.sym_base.specs.declared.values.value.Value.{Value}
 use Rattle.sym_base.specs.declared.values.state.Cell.{Cell}
@@ -17,8 +17,10 @@ use Rattle.sym_check.specs.Ranges.{range_at}
 
 -- A cell is of its declared kind, whatever values it holds.
 pub data FitsCell : CellPlan → Cell → Type 0 where
-  int : (lo hi first x : ℤ) → FitsCell (plan.Int lo hi first) (cell.Int x)
-  nums : (lo hi : ℤ) (xs : List ℤ) → FitsCell (plan.Nums lo hi) (cell.Nums xs)
+  int : (lo hi first : ℤ) (clamp : Bool) (x : ℤ)
+      → FitsCell (plan.Int lo hi first clamp) (cell.Int x)
+  nums : (lo hi : ℤ) (clamp : Bool) (xs : List ℤ)
+      → FitsCell (plan.Nums lo hi clamp) (cell.Nums xs)
   words : (ts : List (List ℕ)) → FitsCell plan.Words (cell.Words ts)
   hold : (kinds : List KindPlan) (first parts : List Value)
       → FitsCell (plan.Hold kinds first) (cell.Hold parts)

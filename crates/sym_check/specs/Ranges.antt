@@ -27,8 +27,8 @@ kept r x =
 
 -- The range of a cell. Words, parts and labels have none.
 abbrev pub range_of : CellPlan → Option Range
-range_of (plan.Int lo hi first) = Some (record { lo = lo; hi = hi; clamps = false })
-range_of (plan.Nums lo hi) = Some (record { lo = lo; hi = hi; clamps = false })
+range_of (plan.Int lo hi first clamp) = Some (record { lo = lo; hi = hi; clamps = clamp })
+range_of (plan.Nums lo hi clamp) = Some (record { lo = lo; hi = hi; clamps = clamp })
 range_of plan.Words = None
 range_of (plan.Hold kinds first) = None
 range_of (plan.Enum enum first) = None
@@ -41,13 +41,13 @@ range_at cells c = option_and_then range_of (slice_get cells c)
 abbrev pub landed : List CellPlan → ℕ → ℤ → Result ℤ FaultKind
 landed cells c x = ok_or (option_and_then (λ r. kept r x) (range_at cells c)) (fault.Over c)
 
+abbrev pub range_clamps : Option Range → Bool
+range_clamps None = false
+range_clamps (Some r) = r.clamps
+
 -- Whether the cell with this number takes the nearest end in place of a number outside its range.
 abbrev pub is_clamped : List CellPlan → ℕ → Bool
-is_clamped cells c = clamps (range_at cells c)
-  where
-    clamps : Option Range → Bool
-    clamps None = false
-    clamps (Some r) = r.clamps
+is_clamped cells c = range_clamps (range_at cells c)
 
 -- A range from 0 to 9 keeps 4, and neither 12 nor -5. Where it clamps, it keeps 9 and 0 of these.
 abbrev to_nine : Bool → Range

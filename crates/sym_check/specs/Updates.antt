@@ -26,8 +26,8 @@ use Rattle.sym_check.specs.Ranges.{landed}
 
 -- What a cell holds at first.
 abbrev pub first_cell : CellPlan → Cell
-first_cell (plan.Int lo hi first) = cell.Int first
-first_cell (plan.Nums lo hi) = cell.Nums []
+first_cell (plan.Int lo hi first clamp) = cell.Int first
+first_cell (plan.Nums lo hi clamp) = cell.Nums []
 first_cell plan.Words = cell.Words []
 first_cell (plan.Hold kinds first) = cell.Hold first
 first_cell (plan.Enum enum first) = cell.Enum first

@@ -1,5 +1,5 @@
 -- Values and records that are of a script's kinds, and states that are valid.
-use Rattle.std.specs.Prelude.{ℕ, ℤ, ◌<◌, List, [], length, map, Option, Some, None, slice_get, IfSome}
+use Rattle.std.specs.Prelude.{ℕ, ℤ, ◌<◌, Bool, List, [], length, map, Option, Some, None, slice_get, IfSome}
 use Rattle.std.specs.List.{All, AllZip}
 use Rattle.sym_base.specs.declared.values.value.Value.{Value}
 use Rattle.sym_base.specs.declared.values.value.Value.TheVariants as value
@@ -73,12 +73,12 @@ IsKey p key = IsKeyOf p p.group key
 -- A cell holds what it may: a number or numbers in its range, words, parts of its kinds, or a label
 -- of its enum.
 pub data IsValidCell (enums : List EnumPlan) : CellPlan → Cell → Type 0 where
-  int : (lo hi first x : ℤ)
+  int : (lo hi first : ℤ) (clamp : Bool) (x : ℤ)
       → InRange lo hi x
-      → IsValidCell enums (plan.Int lo hi first) (cell.Int x)
-  nums : (lo hi : ℤ) (xs : List ℤ)
+      → IsValidCell enums (plan.Int lo hi first clamp) (cell.Int x)
+  nums : (lo hi : ℤ) (clamp : Bool) (xs : List ℤ)
       → All (InRange lo hi) xs
-      → IsValidCell enums (plan.Nums lo hi) (cell.Nums xs)
+      → IsValidCell enums (plan.Nums lo hi clamp) (cell.Nums xs)
   words : (ts : List (List ℕ)) → IsValidCell enums plan.Words (cell.Words ts)
   hold : (kinds : List KindPlan) (first parts : List Value)
       → AreOfKinds enums kinds parts

@@ -190,8 +190,8 @@ pub record IsField (enums : List EnumPlan) (f : FieldPlan) : Type 0 where
 -- Ranges are of numbers, with an end that is no less than the beginning; the first content is
 -- valid.
 abbrev pub IsCell : List EnumPlan → CellPlan → Type 0
-IsCell enums (plan.Int lo hi first) = IsNumber lo × IsNumber hi × InRange lo hi first
-IsCell enums (plan.Nums lo hi) = IsNumber lo × IsNumber hi × (lo ≤ℤ hi)
+IsCell enums (plan.Int lo hi first clamp) = IsNumber lo × IsNumber hi × InRange lo hi first
+IsCell enums (plan.Nums lo hi clamp) = IsNumber lo × IsNumber hi × (lo ≤ℤ hi)
 IsCell enums plan.Words = Unit {0}
 IsCell enums (plan.Hold kinds first) = All (IsKind enums) kinds × AreOfKinds enums kinds first
 IsCell enums (plan.Enum enum first) = first < label_count enums enum

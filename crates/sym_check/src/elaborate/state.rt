@@ -70,16 +70,26 @@ fn cell_of(
         Answers named_cell (cell_of seen number own.now.at decl.now) result }
 {
     match decl {
-        CellDecl::Int { lo, hi, first } if *lo <= *first && *first <= *hi => Ok(NamedCell {
+        CellDecl::Int {
+            lo,
+            hi,
+            first,
+            clamp,
+        } if *lo <= *first && *first <= *hi => Ok(NamedCell {
             plan: CellPlan::Int {
                 lo: *lo,
                 hi: *hi,
                 first: *first,
+                clamp: *clamp,
             },
             meaning: Meaning::IntCell(number),
         }),
-        CellDecl::Nums { lo, hi } if *lo <= *hi => Ok(NamedCell {
-            plan: CellPlan::Nums { lo: *lo, hi: *hi },
+        CellDecl::Nums { lo, hi, clamp } if *lo <= *hi => Ok(NamedCell {
+            plan: CellPlan::Nums {
+                lo: *lo,
+                hi: *hi,
+                clamp: *clamp,
+            },
             meaning: Meaning::NumsCell(number),
         }),
         CellDecl::Int { .. } | CellDecl::Nums { .. } => Err(CheckErr::Range { at: own.at }),

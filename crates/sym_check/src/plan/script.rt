@@ -39,11 +39,28 @@ pub struct FieldPlan {
 /// What a cell holds, and what it holds at first. Ranges have both ends in them.
 #[derive(Drop)]
 pub enum CellPlan {
-    Int { lo: i64, hi: i64, first: i64 },
-    Nums { lo: i64, hi: i64 },
+    Int {
+        lo: i64,
+        hi: i64,
+        first: i64,
+        /// Whether a number outside the range becomes the nearest end, in place of a fault.
+        clamp: bool,
+    },
+    Nums {
+        lo: i64,
+        hi: i64,
+        /// The same, of a number that is pushed.
+        clamp: bool,
+    },
     Words,
-    Hold { kinds: KindPlans, first: Values },
-    Enum { of: u16, first: u8 },
+    Hold {
+        kinds: KindPlans,
+        first: Values,
+    },
+    Enum {
+        of: u16,
+        first: u8,
+    },
 }
 
 /// A test: the kinds of its parameters, and the condition that it answers.
@@ -174,10 +191,10 @@ impl CellPlan {
         ensures { result ≡ range_of self.now }
     {
         match self {
-            CellPlan::Int { lo, hi, .. } | CellPlan::Nums { lo, hi } => Some(Range {
+            CellPlan::Int { lo, hi, clamp, .. } | CellPlan::Nums { lo, hi, clamp } => Some(Range {
                 lo: *lo,
                 hi: *hi,
-                clamps: false,
+                clamps: *clamp,
             }),
             CellPlan::Words | CellPlan::Hold { .. } | CellPlan::Enum { .. } => None,
         }
@@ -188,12 +205,22 @@ impl CellPlan {
         ensures { IfOk result (λ c. c ≡ self.now) }
     {
         match self {
-            CellPlan::Int { lo, hi, first } => Ok(CellPlan::Int {
+            CellPlan::Int {
+                lo,
+                hi,
+                first,
+                clamp,
+            } => Ok(CellPlan::Int {
                 lo: *lo,
                 hi: *hi,
                 first: *first,
+                clamp: *clamp,
             }),
-            CellPlan::Nums { lo, hi } => Ok(CellPlan::Nums { lo: *lo, hi: *hi }),
+            CellPlan::Nums { lo, hi, clamp } => Ok(CellPlan::Nums {
+                lo: *lo,
+                hi: *hi,
+                clamp: *clamp,
+            }),
             CellPlan::Words => Ok(CellPlan::Words),
             CellPlan::Hold { kinds, first } => {
                 let kinds = kinds.copy(alloc)?;
