@@ -164,6 +164,12 @@ impl Plain for i64 {
     }
 }
 
+impl Plain for u16 {
+    fn copied(&self, _alloc: Global) -> Result<u16, NoMemory> {
+        Ok(*self)
+    }
+}
+
 impl Plain for u64 {
     fn copied(&self, _alloc: Global) -> Result<u64, NoMemory> {
         Ok(*self)
