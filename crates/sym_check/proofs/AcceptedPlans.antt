@@ -29,7 +29,7 @@ use Rattle.sym_check.specs.declared.elaborate.scope.Meaning.{Meaning}
 use Rattle.sym_check.specs.declared.elaborate.scope.Meaning.TheVariants as meaning
 use Rattle.sym_check.specs.Scopes.{Scope, entry, is_label, hidden, in_tests, in_update, in_report}
 use Rattle.sym_check.specs.InOrder.{Each, none, one_more}
-use Rattle.sym_check.specs.Declarations.{unfinished, IsKindOf, IsLiteral, IsDefault, IsLabelDecl, IsEnumDecl, IsFieldDecl, IsGroup, AreParts, IsCellDecl, IsStateDecl, IsParamDecl, IsTestDecl}
+use Rattle.sym_check.specs.Declarations.{unfinished, IsKindOf, IsLiteral, IsDefault, IsLabelDecl, IsEnumDecl, IsFieldDecl, IsGroupField, AreParts, IsCellDecl, IsStateDecl, IsParamDecl, IsTestDecl}
 use Rattle.sym_check.specs.Declarations as is
 use Rattle.sym_check.specs.Reports.{IsShown, IsColumnDecl}
 use Rattle.sym_check.specs.Reports as report
@@ -126,12 +126,11 @@ module _ (p : ScriptPlan) where
         record { kind = kind_well (unfinished s d.name) d.kind k begun i; empty = default_well (unfinished s d.name) k d.default empty begun lawful j },
       )
 
-  group_well : (s : Scope) (d : Option Name) (g : Option ℕ) → There s → IsGroup s d g → IfSome g (λ n. n < length p.fields)
-  group_well s _ _ there is.no_group = tt
-  group_well s _ _ there (is.group x k n t) =
+  group_keeps : (s : Scope) → There s → Keeps (IsGroupField s) is_lawful_name (λ (named : Scope). Unit {0}) (λ (g : ℕ). g < length p.fields) p.group
+  group_keeps s there _ _ _ _ _ (is.group_field named i n x k free t) h stands begun =
       let is_there : slice_get (field_kinds p) n ≡ Some k = stands_there p (known_kinds p) s x (meaning.Value k (var.Field n)) there t in
       let within : n < length (field_kinds p) = slice_get_within (field_kinds p) n k is_there in
-      rw length-map at within
+      (tt, rw length-map at within)
 
   parts_well : (s : Scope) (d : List Part) (ks : List KindPlan) (vs : List Value) → There s → list_all is_lawful_part d ≡ true → AreParts s d ks vs → All (IsKind p.enums) ks × AreOfKinds p.enums ks vs
   parts_well s _ _ _ there h is.no_parts = (All-nil (IsKind p.enums), tt)
@@ -220,12 +219,15 @@ accepted_well t p lawful i =
     let updated : There p (in_update h.scope) = there_seen p p (known_kinds p) (known_kinds p) view.Update h.scope (λ m e x. x) scope in
     let reported : There p (in_report h.scope) = there_seen p p (known_kinds p) (known_kinds p) view.Report h.scope (λ m e x. x) scope in
     let (named, columns_are) = each_keeps (IsColumnDecl (in_report h.scope)) is_lawful_column (λ (c : Scope). Unit {0}) (IsColumn p.cells) p.columns (column_keeps p (in_report h.scope) reported) [] h.names t.columns h.columns lawful.columns tt in
+    let (line, group) = each_keeps (IsGroupField d.field_scope) is_lawful_name (λ (named : Scope). Unit {0}) (λ (g : ℕ). g < length p.fields) p.group (group_keeps p d.field_scope field_scope) [] d.fields.group.named t.group d.fields.group.each lawful.group tt in
+    let grouped : length p.group ≡ length t.group = each_long (IsGroupField d.field_scope) [] d.fields.group.named 0 t.group p.group d.fields.group.each in
     let long : length p.cells ≡ length t.states = each_long IsStateDecl d.field_scope d.cell_scope 0 t.states p.cells d.cells in
     let few : length t.states ≤ max_cells = (between 1 max_cells (length t.states) lawful.cell_count).1 in
     record {
       enums = enums;
       fields = fields;
-      group = group_well p d.field_scope t.group p.group field_scope d.fields.group;
+      group_count = rw grouped lawful.group_count;
+      group = group;
       cell_count = rw long few;
       cells = cells;
       tests = tests;

@@ -40,7 +40,7 @@ abbrev ranged : ℤ → ℤ → Bool → StmtsTree → ScriptTree
 ranged lo hi clamp update = record {
   enums = [];
   fields = record { name = x_at 6; header = None; kind = ref.Num; default = None } ∷ [];
-  group = None;
+  group = [];
   states = record { name = n_at 20; cell = cell.Int lo hi (pos 0) clamp } ∷ [];
   tests = [];
   update = update;
@@ -100,7 +100,7 @@ abbrev counted_in : Bool → do_.DosPlan → ScriptPlan
 counted_in clamp update = record {
   enums = [];
   fields = record { header = codes "x"; kind = kind.Num; default = None } ∷ [];
-  group = None;
+  group = [];
   cells = plan.Int (pos 0) (pos 3) (pos 0) clamp ∷ [];
   tests = [];
   update = update;
@@ -144,7 +144,7 @@ abbrev toggle : StmtsTree → List ColumnTree → ScriptTree
 toggle update columns = record {
   enums = record { name = name_at (codes "e") 5; labels = a_at 9 ∷ b_at 12 ∷ [] } ∷ [];
   fields = record { name = x_at 22; header = None; kind = ref.Num; default = None } ∷ [];
-  group = None;
+  group = [];
   states = record { name = c_at 36; cell = cell.Enum (name_at (codes "e") 39) (a_at 43) } ∷ record { name = name_at (codes "h") 52; cell = cell.Hold (record { kind = ref.Num; first = literal.Num (pos 0) 66 } ∷ []) } ∷ [];
   tests = record { name = name_at (codes "t") 75; params = record { name = name_at (codes "p") 77; kind = ref.Num } ∷ record { name = name_at (codes "q") 85; kind = ref.Num } ∷ []; body = Bin op.Lt (Named (name_at (codes "q") 95)) (Named (name_at (codes "p") 99)) 97 } ∷ [];
   update = update;
@@ -194,10 +194,43 @@ too_many_paths = refl
 toggled : plan_of (toggle (only (If (Bin op.Is (Named (c_at 113)) (Named (a_at 118)) 115) (only (Set (c_at 122) (Named (b_at 126)))) (only (Set (c_at 136) (Named (a_at 140)))))) shows_c) ≡ Ok (record {
   enums = record { labels = codes "a" ∷ codes "b" ∷ [] } ∷ [];
   fields = record { header = codes "x"; kind = kind.Num; default = None } ∷ [];
-  group = None;
+  group = [];
   cells = plan.Enum 0 0 ∷ plan.Hold (kind.Num ∷ []) (value.Num (pos 0) ∷ []) ∷ [];
   tests = record { params = kind.Num ∷ kind.Num ∷ []; body = cond.Compared compare.Lt (line.OfNum (fixed.Param 1)) (fixed.Param 0) } ∷ [];
   update = do_.Then (do_.If (cond.CellIs 0 (label.Lit 0)) (do_.Then (do_.SetEnum 0 (label.Lit 1)) do_.End) (do_.Then (do_.SetEnum 0 (label.Lit 0)) do_.End)) do_.End;
   columns = record { name = codes "c"; value = show.Cell 0 } ∷ [];
 })
 toggled = refl
+
+-- The line group names a field twice, no field, a cell that comes later, and an enum.
+abbrev grouped : List Name → ScriptTree
+grouped names = record (toggle Done shows_c) { group = names }
+
+field_twice : plan_of (grouped (x_at 32 ∷ x_at 35 ∷ [])) ≡ Err (broken.Twice 35)
+field_twice = refl
+
+no_name : plan_of (grouped (x_at 32 ∷ name_at (codes "y") 35 ∷ [])) ≡ Err (broken.Name 35)
+no_name = refl
+
+later_cell : plan_of (grouped (c_at 32 ∷ [])) ≡ Err (broken.Name 32)
+later_cell = refl
+
+no_field : plan_of (grouped (name_at (codes "e") 32 ∷ name_at (codes "e") 35 ∷ [])) ≡ Err (broken.Kind 32)
+no_field = refl
+
+-- field x: num; field y: word; group y, x;
+abbrev two_fields : ScriptTree
+two_fields = record (ranged (pos 0) (pos 3) false Done) {
+  fields =
+      record { name = x_at 6; header = None; kind = ref.Num; default = None }
+      ∷ record { name = name_at (codes "y") 20; header = None; kind = ref.Word; default = None } ∷ [];
+  group = name_at (codes "y") 34 ∷ x_at 37 ∷ [];
+}
+
+in_the_order_of_the_line : plan_of two_fields ≡ Ok (record (counted do_.End) {
+  fields =
+      record { header = codes "x"; kind = kind.Num; default = None }
+      ∷ record { header = codes "y"; kind = kind.Word; default = None } ∷ [];
+  group = 1 ∷ 0 ∷ [];
+})
+in_the_order_of_the_line = refl

@@ -18,11 +18,11 @@ use Rattle.sym_check.specs.declared.elaborate.scope.Meaning.{Meaning}
 use Rattle.sym_check.specs.declared.elaborate.scope.Meaning.TheVariants as meaning
 use Rattle.sym_check.specs.Scopes.{Scope, find, Stands, IsFree}
 use Rattle.sym_check.specs.Elaborate.{kind_at}
-use Rattle.sym_check.specs.Declarations.{IsKindOf, IsLiteral, IsDefault, IsGroup}
+use Rattle.sym_check.specs.Declarations.{IsKindOf, IsLiteral, IsDefault}
 use Rattle.sym_check.specs.Declarations as is
-use Rattle.sym_check.specs.BreaksDeclarations.{BreaksKind, literal_place, IsVisible, BreaksLiteral, BreaksGroup}
+use Rattle.sym_check.specs.BreaksDeclarations.{BreaksKind, literal_place, IsVisible, BreaksLiteral}
 use Rattle.sym_check.specs.BreaksDeclarations as breaks
-use Rattle.sym_check.specs.ElaborateDeclarations.{enum_named, label_named, field_named, kind_of, no_label, literal_of, default_of, group_of}
+use Rattle.sym_check.specs.ElaborateDeclarations.{enum_named, label_named, field_named, kind_of, no_label, literal_of, default_of}
 use Rattle.sym_check.proofs.Agreements.{Agrees, in_words, only_value, only_fault, then_made, IsKinded, of_kind, of_no_kind, where_true, named_agrees, stands_once, stands_or_free}
 
 -- The enum that a name stands for, by what it stands for; so too a label and a field.
@@ -183,27 +183,3 @@ default_agrees s k (Some d) =
     in_words (then_made (λ v. Some v) (literal_agrees s k d)) (default_is s k d) (is_default s k d)
     (λ f b. (d, refl, b))
     (λ f b. let same : d ≡ b.0 = cc (b.1) in subst (λ (l : Literal). BreaksLiteral s k l f) (sym same) b.2)
-
--- The group line.
-group_is : (s : Scope) (x : Name) (o : Option ℕ) → (n : ℕ) × ((m : Meaning) × Stands s x m × IsFieldMeaning m n) × (Some n ≡ o) → IsGroup s (Some x) o
-group_is s x o (n, (m, t, (k, i)), e) = subst (IsGroup s (Some x)) e (is.group x k n (subst (Stands s x) i t))
-
-is_group : (s : Scope) (x : Name) (o : Option ℕ) → IsGroup s (Some x) o → (n : ℕ) × ((m : Meaning) × Stands s x m × IsFieldMeaning m n) × (Some n ≡ o)
-is_group s _ _ (is.group x k n t) = (n, (meaning.Value k (var.Field n), t, (k, refl)), refl)
-
-no_group_is : (s : Scope) (x : Name) (f : CheckErr) → Unmeant s x IsFieldMeaning f → BreaksGroup s (Some x) f
-no_group_is s x f (inl (t, e)) = subst (BreaksGroup s (Some x)) e (breaks.unknown_group x t)
-no_group_is s x f (inr (m, t, (none, e))) = subst (BreaksGroup s (Some x)) e (breaks.no_field x m t (λ k n i. none n (k, i)))
-
-is_no_group : (s : Scope) (x : Name) (f : CheckErr) → BreaksGroup s (Some x) f → Unmeant s x IsFieldMeaning f
-is_no_group s _ _ (breaks.unknown_group x t) = inl (t, refl)
-is_no_group s _ _ (breaks.no_field x m t none) = inr (m, t, ((λ n i. none i.0 n i.1), refl))
-
-no_group_alone : (s : Scope) (o : Option ℕ) → IsGroup s None o → None ≡ o
-no_group_alone s _ is.no_group = refl
-
-pub group_agrees : (s : Scope) (d : Option Name) → Agrees (IsGroup s d) (BreaksGroup s d) (group_of s d)
-group_agrees s None = only_value None is.no_group (no_group_alone s) (λ f b. elim b [ ])
-group_agrees s (Some x) =
-    in_words (then_made (λ (n : ℕ). Some n) (named_agrees s x (λ o. field_named x.at o) refl (field_kinded x.at)))
-    (group_is s x) (is_group s x) (no_group_is s x) (is_no_group s x)

@@ -1,7 +1,7 @@
 -- The definitions on plans, tried on examples.
 use Rattle.std.specs.Prelude.{◌≡◌, refl, ℕ, zero, suc, ℤ, pos, negsuc, true, false, List, [], ◌∷◌, Some, None, Ok}
 use Rattle.sym_base.specs.declared.values.value.Value.TheVariants as value
-use Rattle.sym_base.specs.declared.values.value.Key.TheVariants.{One}
+use Rattle.sym_base.specs.declared.values.value.Key.{Key}
 use Rattle.sym_base.specs.declared.values.record.Record.{Record}
 use Rattle.sym_base.specs.declared.values.state.Cell.TheVariants as cell
 use Rattle.sym_base.specs.declared.values.state.FaultKind.TheVariants as fault
@@ -23,7 +23,7 @@ use Rattle.sym_check.specs.FixedValues.{Environment, number}
 use Rattle.sym_check.specs.LineValues.{pair}
 use Rattle.sym_check.specs.Conditions.{truth, no_test, no_cells, test_truth}
 use Rattle.sym_check.specs.Updates.{initial, step, after}
-use Rattle.sym_check.specs.Groups.{pass}
+use Rattle.sym_check.specs.Groups.{key_of, pass}
 use Rattle.sym_check.specs.PathBounds.{path_bound}
 
 abbrev nothing : Environment
@@ -84,7 +84,7 @@ abbrev counter : ScriptPlan
 counter = record {
   enums = [];
   fields = number_field ∷ [];
-  group = None;
+  group = [];
   cells = plan.Int (pos 0) (pos 3) (pos 0) false ∷ [];
   tests = [];
   update = Then (SetInt 0 (line.OfLine (line.Add (line.Cell 0) (fixed.Lit (pos 1))))) End;
@@ -129,7 +129,7 @@ abbrev sessions : ScriptPlan
 sessions = record {
   enums = [];
   fields = number_field ∷ word_field ∷ [];
-  group = Some 1;
+  group = 1 ∷ [];
   cells = plan.Hold (kind.Num ∷ []) (value.Num (pos 0) ∷ []) ∷ plan.Int (pos 0) (pos 1000) (pos 0) false ∷ plan.Nums (pos 0) (pos 1000) false ∷ [];
   tests = record {
     params = kind.Num ∷ kind.Num ∷ [];
@@ -151,7 +151,20 @@ visit n ts user = record { no = n; fields = value.Num (pos ts) ∷ value.Word us
 abbrev open_session : ℕ → ℕ → List ℤ → Outcome
 open_session last n done = Going (record { cells = cell.Hold (value.Num (pos last) ∷ []) ∷ cell.Int (pos n) ∷ cell.Nums done ∷ [] })
 
-two_users : pass sessions (visit 1 10 (97 ∷ []) ∷ visit 2 20 (97 ∷ []) ∷ visit 3 60 (97 ∷ []) ∷ visit 4 5 (98 ∷ []) ∷ visit 5 61 (97 ∷ []) ∷ []) ≡ ((One (value.Word (97 ∷ [])), open_session 61 2 (pos 2 ∷ [])) ∷ (One (value.Word (98 ∷ [])), open_session 5 1 []) ∷ [])
+abbrev user_key : List ℕ → Key
+user_key user = record { values = value.Word user ∷ [] }
+
+-- The values of two fields, in the order of the group line; none without one.
+abbrev by_both : ScriptPlan
+by_both = record sessions { group = 1 ∷ 0 ∷ [] }
+
+key_of_both : key_of by_both (visit 1 10 (97 ∷ [])) ≡ record { values = value.Word (97 ∷ []) ∷ value.Num (pos 10) ∷ [] }
+key_of_both = refl
+
+one_key : key_of counter (five 1) ≡ record { values = [] }
+one_key = refl
+
+two_users : pass sessions (visit 1 10 (97 ∷ []) ∷ visit 2 20 (97 ∷ []) ∷ visit 3 60 (97 ∷ []) ∷ visit 4 5 (98 ∷ []) ∷ visit 5 61 (97 ∷ []) ∷ []) ≡ ((user_key (97 ∷ []), open_session 61 2 (pos 2 ∷ [])) ∷ (user_key (98 ∷ []), open_session 5 1 []) ∷ [])
 two_users = refl
 
 -- A local of a block that isn't entered leaves a gap.

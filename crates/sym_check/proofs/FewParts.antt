@@ -218,7 +218,7 @@ kept_by : {B : Type 0} (s : Scope) (r : Result (Planned B) CheckErr) (b : B) (m 
 kept_by {B} s r b m k e = let P : Result (Planned B) CheckErr → Type 0 = λ o. Keeps s o in subst P e k
 
 -- So has the scope after all declarations of a lawful script.
-pub declared_few : (t : ScriptTree) (es : List EnumPlan) (fs : List FieldPlan) (g : Option ℕ) (cs : List CellPlan) (ts : List TestOf) (s : Scope)
+pub declared_few : (t : ScriptTree) (es : List EnumPlan) (fs : List FieldPlan) (g : List ℕ) (cs : List CellPlan) (ts : List TestOf) (s : Scope)
     → IsLawful t
     → HasDeclarations t es fs g cs ts s
     → HaveFewParts s

@@ -1,9 +1,8 @@
 -- What fits a well-formed plan: the key of a record, a valid state, and the outcome of a step.
-use Rattle.std.proofs.Common.{◌≡◌, refl, ℕ, ℤ, Bool, true, false, List, [], ◌∷◌, ◌++◌, Option, Some, None, Result, Ok, Err}
+use Rattle.std.proofs.Common.{◌≡◌, refl, ℕ, ℤ, Bool, true, false, List, [], ◌∷◌, map, Option, Some, None, Result, Ok, Err}
 use Rattle.std.specs.Prelude.{slice_get, if◌then◌else◌, IfSome, IfErr}
 use Rattle.std.specs.List.{AllZip}
 use Rattle.sym_base.specs.declared.values.value.Value.{Value}
-use Rattle.sym_base.specs.declared.values.value.Key.TheVariants.{Whole, One}
 use Rattle.sym_base.specs.declared.values.record.Record.{Record}
 use Rattle.sym_base.specs.declared.values.state.Cell.{Cell}
 use Rattle.sym_base.specs.declared.values.state.Cell.TheVariants as cell
@@ -25,8 +24,8 @@ use Rattle.sym_check.specs.DoPlans.{DoPlan, DosPlan}
 use Rattle.sym_check.specs.ScriptPlans.{ScriptPlan}
 use Rattle.sym_base.specs.States.{with_cell}
 use Rattle.sym_check.specs.Updates.{or_fault, with_int, with_pushed, stored, environment, environment_after, do_step, dos_step, at_record, step}
-use Rattle.sym_check.specs.Groups.{field_value, key_by, key_of}
-use Rattle.sym_check.specs.Validity.{IsOfKind, AreOfKinds, field_kinds, IsRecord, IsKeyOf, IsKey, IsValidCell, IsValid, IsValidOutcome}
+use Rattle.sym_check.specs.Groups.{field_at, key_of}
+use Rattle.sym_check.specs.Validity.{IsOfKind, AreOfKinds, field_kinds, IsRecord, IsOfField, IsKey, IsValidCell, IsValid, IsValidOutcome}
 use Rattle.sym_check.specs.Validity as valid
 use Rattle.sym_check.specs.Fitting.{FitsCell, FitsState, FitsFault, FitsOutcome}
 use Rattle.sym_check.specs.Fitting as fitting
@@ -35,20 +34,23 @@ use Rattle.sym_check.specs.WellFormed as well
 use Rattle.sym_check.proofs.KeptNumbers.{stored_fits}
 use Rattle.sym_check.proofs.ZippedLists.{zip_get}
 
--- The value of the group field is of its kind.
-key_by_is : (p : ScriptPlan) (rec : Record) (group : Option ℕ) → IsRecord p rec → IsKeyOf p group (key_by group rec)
-key_by_is p rec None r = tt
-key_by_is p rec (Some g) r = go (slice_get (field_kinds p) g) refl
+-- The value of a field is of its kind.
+field_is : (p : ScriptPlan) (rec : Record) (g : ℕ) → IsRecord p rec → IsOfField p g (field_at rec g)
+field_is p rec g r = go (slice_get (field_kinds p) g) refl
   where
-    found : (k : KindPlan) → (v : Value) × (slice_get rec.fields g ≡ Some v) × IsOfKind p.enums k v → IsOfKind p.enums k (field_value (slice_get rec.fields g))
+    found : (k : KindPlan) → (v : Value) × (slice_get rec.fields g ≡ Some v) × IsOfKind p.enums k v → IsOfKind p.enums k (field_at rec g)
     found k (v, e, h) = rw e h
 
-    go : (o : Option KindPlan) → slice_get (field_kinds p) g ≡ o → IsKeyOf p (Some g) (key_by (Some g) rec)
+    go : (o : Option KindPlan) → slice_get (field_kinds p) g ≡ o → IsOfField p g (field_at rec g)
     go None e = rw e tt
     go (Some k) e = rw e (found k (zip_get (IsOfKind p.enums) (field_kinds p) rec.fields g k r e))
 
+fields_are : (p : ScriptPlan) (rec : Record) (group : List ℕ) → IsRecord p rec → AllZip (IsOfField p) group (map (field_at rec) group)
+fields_are p rec [] r = tt
+fields_are p rec (g ∷ rest) r = (field_is p rec g r, fields_are p rec rest r)
+
 pub key_is : (p : ScriptPlan) (rec : Record) → IsRecord p rec → IsKey p (key_of p rec)
-key_is p rec r = key_by_is p rec p.group r
+key_is p rec r = fields_are p rec p.group r
 
 cell_fits : (enums : List EnumPlan) (c : CellPlan) (content : Cell) → IsValidCell enums c content → FitsCell c content
 cell_fits enums _ _ (valid.int lo hi first clamp x h) = fitting.int lo hi first clamp x

@@ -7,6 +7,7 @@ use Rattle.std.proofs.lemmas.List.Elements.{filter-append}
 use Rattle.std.proofs.lemmas.Map.Keys.{IsDistinct-cons, IsDistinct-head, IsDistinct-tail}
 use Rattle.sym_base.specs.declared.values.value.Key.{Key}
 use Rattle.sym_base.specs.declared.values.value.Value.{Value}
+use Rattle.sym_base.proofs.ValueLemmas.{key_eq-Decides}
 use Rattle.sym_check.specs.Groups.{is_key, is_value, is_among, not_among, distinct}
 
 -- The test of values holds exactly of equal ones,
@@ -15,7 +16,7 @@ value-Decides v w = search rules
 
 -- and so does that of keys.
 pub key-Decides : (x y : Key) → Decides (is_key x y) (x ≡ y)
-key-Decides x y = search rules
+key-Decides = key_eq-Decides
 
 pub same_key : (x : Key) → is_key x x ≡ true
 same_key x = (key-Decides x x).1 refl

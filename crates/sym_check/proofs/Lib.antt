@@ -2,6 +2,7 @@ pub mod Agreements
 pub mod ListsAgree
 pub mod DeclarationsAgree
 pub mod StatesAgree
+pub mod GroupAgrees
 pub mod TestsAgree
 pub mod ReportsSeen
 pub mod ReportsAgree

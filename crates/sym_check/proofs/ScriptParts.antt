@@ -1,5 +1,5 @@
 -- A script, part by part, agrees with its plan and with its first broken rule.
-use Rattle.std.proofs.Common.{◌≡◌, refl, subst, ℕ, ◌<◌, ◌≤◌, nat_le, Decides, ◌⊎◌, inl, inr, List, [], Option, None, arith}
+use Rattle.std.proofs.Common.{◌≡◌, refl, subst, ℕ, ◌<◌, ◌≤◌, nat_le, Decides, ◌⊎◌, inl, inr, List, [], arith}
 use Rattle.std.proofs.lemmas.Bool.{leb-true, le-leb}
 use Rattle.sym_base.specs.declared.limits.TheConstants as limit
 use Rattle.sym_base.specs.Trees.{ScriptTree}
@@ -25,7 +25,7 @@ use Rattle.sym_check.specs.ElaborateReports.{column_decl}
 use Rattle.sym_check.specs.Scripts.{names, IsAccepted, BreaksScript, in_enums, in_fields, in_group, in_states, in_tests, in_block, in_columns, too_many, bounded, plan_of}
 use Rattle.sym_check.proofs.Agreements.{Agrees, in_words, only_value, only_fault, then_agrees, where_true}
 use Rattle.sym_check.proofs.ListsAgree.{each_agrees}
-use Rattle.sym_check.proofs.DeclarationsAgree.{group_agrees}
+use Rattle.sym_check.proofs.GroupAgrees.{group_agrees}
 use Rattle.sym_check.proofs.StatesAgree.{enum_agrees, field_agrees, state_agrees}
 use Rattle.sym_check.proofs.TestsAgree.{test_agrees}
 use Rattle.sym_check.proofs.BlocksAgree.{block_agrees}
@@ -72,7 +72,7 @@ Block t s p = IsBlock (hidden s) (in_update s) 0 t.update p.plan p.next
 abbrev Columns : ScriptTree → Scope → Planned (List ColumnOf) → Type 0
 Columns t s p = Each (IsColumnDecl (in_report s)) [] 0 t.columns p.plan p.scope
 
-abbrev plan_with : Planned (List EnumPlan) → Planned (List FieldPlan) → Option ℕ → Planned (List CellPlan) → Planned (List TestOf) → PlannedDos → Planned (List ColumnOf) → ScriptPlan
+abbrev plan_with : Planned (List EnumPlan) → Planned (List FieldPlan) → List ℕ → Planned (List CellPlan) → Planned (List TestOf) → PlannedDos → Planned (List ColumnOf) → ScriptPlan
 plan_with e f g c k u q = record {
   enums = e.plan;
   fields = f.plan;
@@ -87,7 +87,7 @@ abbrev Found : ScriptTree → ScriptPlan → Type 0
 Found t p =
     (e : Planned (List EnumPlan)) × Enums t e
     × ((f : Planned (List FieldPlan)) × Fields t e.scope f
-    × ((g : Option ℕ) × IsGroup f.scope t.group g
+    × ((g : List ℕ) × IsGroup f.scope t.group g
     × ((c : Planned (List CellPlan)) × Cells t f.scope c
     × ((k : Planned (List TestOf)) × Tests t c.scope k
     × ((u : PlannedDos) × Block t k.scope u
@@ -153,7 +153,7 @@ Faults t x =
     × (FirstBroken IsFieldDecl BreaksField e.scope 0 t.fields x
     ⊎ ((f : Planned (List FieldPlan)) × Fields t e.scope f
     × (BreaksGroup f.scope t.group x
-    ⊎ ((g : Option ℕ) × IsGroup f.scope t.group g
+    ⊎ ((g : List ℕ) × IsGroup f.scope t.group g
     × (FirstBroken IsStateDecl BreaksState f.scope 0 t.states x
     ⊎ ((c : Planned (List CellPlan)) × Cells t f.scope c
     × (FirstBroken (IsTestDecl (names t)) (BreaksTest (names t)) c.scope 0 t.tests x
@@ -182,8 +182,8 @@ no_columns = record { plan = []; scope = [] }
 
 script_blamed : (t : ScriptTree) (x : CheckErr) → Faults t x → BreaksScript t x
 script_blamed t x (inl b) = in_enums x b
-script_blamed t x (inr (e, ie, inl b)) = in_fields (plan_with e no_fields None no_cells no_tests no_update no_columns) e.scope x ie b
-script_blamed t x (inr (e, ie, inr (f, jf, inl b))) = in_group (plan_with e f None no_cells no_tests no_update no_columns) e.scope f.scope x ie jf b
+script_blamed t x (inr (e, ie, inl b)) = in_fields (plan_with e no_fields [] no_cells no_tests no_update no_columns) e.scope x ie b
+script_blamed t x (inr (e, ie, inr (f, jf, inl b))) = in_group (plan_with e f [] no_cells no_tests no_update no_columns) e.scope f.scope x ie jf b
 script_blamed t x (inr (e, ie, inr (f, jf, inr (g, ig, inl b)))) =
     in_states (plan_with e f g no_cells no_tests no_update no_columns) f.scope x (record { enum_scope = e.scope; enums = ie; fields = jf; group = ig }) b
 script_blamed t x (inr (e, ie, inr (f, jf, inr (g, ig, inr (c, ic, inl b))))) =

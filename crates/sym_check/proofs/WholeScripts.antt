@@ -1,6 +1,6 @@
 -- The plan of a script from the plans of its parts.
 use Rattle.std.proofs.Common.{◌≡◌, ◌∙◌, ap, refl, ℕ, List, []}
-use Rattle.std.specs.Prelude.{Option, Result, Ok, Err}
+use Rattle.std.specs.Prelude.{Result, Ok, Err}
 use Rattle.sym_base.specs.Trees.{ScriptTree}
 use Rattle.sym_check.specs.declared.elaborate.error.CheckErr.{CheckErr}
 use Rattle.sym_check.specs.declared.plan.script.EnumPlan.{EnumPlan}
@@ -18,7 +18,7 @@ use Rattle.sym_check.specs.Scripts.{names, bounded, plan_of}
 use Rattle.sym_check.specs.WholeScripts.{update_plan, column_plans}
 
 -- The declarations have these plans, and lead to this scope.
-pub record HasDeclarations (t : ScriptTree) (es : List EnumPlan) (fs : List FieldPlan) (g : Option ℕ) (cs : List CellPlan) (ts : List TestOf) (s : Scope) : Type 0 where
+pub record HasDeclarations (t : ScriptTree) (es : List EnumPlan) (fs : List FieldPlan) (g : List ℕ) (cs : List CellPlan) (ts : List TestOf) (s : Scope) : Type 0 where
   pub enum_scope : Scope
   pub enums : each enum_decl [] 0 t.enums ≡ Ok (record { plan = es; scope = enum_scope })
   pub field_scope : Scope
@@ -36,7 +36,7 @@ goes_on : {A B C : Type 0} (r : Result A CheckErr) (g : A → B) (f : B → Resu
 goes_on (Ok a) g f b h = let same : g a ≡ b = cc in ap f same
 goes_on (Err d) g f b h = cc
 
-module _ (t : ScriptTree) (es : List EnumPlan) (fs : List FieldPlan) (g : Option ℕ) (cs : List CellPlan) (ts : List TestOf) (s : Scope) where
+module _ (t : ScriptTree) (es : List EnumPlan) (fs : List FieldPlan) (g : List ℕ) (cs : List CellPlan) (ts : List TestOf) (s : Scope) where
   abbrev whole : DosPlan → List ColumnOf → Result ScriptPlan CheckErr
   whole update columns = bounded (record {
     enums = es;

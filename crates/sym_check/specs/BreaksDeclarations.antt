@@ -29,7 +29,7 @@ use Rattle.sym_check.specs.Typing.{Typed, Means, IsCondition}
 use Rattle.sym_check.specs.Breaks.{place, Breaks}
 use Rattle.sym_check.specs.Ranges.{InRange}
 use Rattle.sym_check.specs.InOrder.{Each, FirstBroken}
-use Rattle.sym_check.specs.Declarations.{unfinished, IsKindOf, IsLiteral, IsLabelDecl, IsParamDecl}
+use Rattle.sym_check.specs.Declarations.{unfinished, IsKindOf, IsLiteral, IsLabelDecl, IsGroupField, IsParamDecl}
 
 -- A name that is to stand for an enum.
 pub data BreaksKind (s : Scope) : KindRef → CheckErr → Type 0 where
@@ -85,12 +85,23 @@ pub data BreaksField (s : Scope) (n : ℕ) : FieldDecl → CheckErr → Type 0 w
       → BreaksLiteral (unfinished s d.name) k l f
       → BreaksField s n d f
 
-pub data BreaksGroup (s : Scope) : Option Name → CheckErr → Type 0 where
-  unknown_group : (x : Name) → IsFree s x → BreaksGroup s (Some x) (broken.Name x.at)
+-- `named` are the earlier names of the group line.
+pub data BreaksGroupField (s named : Scope) (i : ℕ) : Name → CheckErr → Type 0 where
+  named_twice : (x : Name) (m : Meaning)
+      → Stands named x m
+      → BreaksGroupField s named i x (broken.Twice x.at)
+  unknown_field : (x : Name)
+      → IsFree named x
+      → IsFree s x
+      → BreaksGroupField s named i x (broken.Name x.at)
   no_field : (x : Name) (m : Meaning)
+      → IsFree named x
       → Stands s x m
       → ((k : KindPlan) (n : ℕ) → m ≡ meaning.Value k (var.Field n) → ⊥)
-      → BreaksGroup s (Some x) (broken.Kind x.at)
+      → BreaksGroupField s named i x (broken.Kind x.at)
+
+abbrev pub BreaksGroup : Scope → List Name → CheckErr → Type 0
+BreaksGroup s group f = FirstBroken (IsGroupField s) (BreaksGroupField s) [] 0 group f
 
 -- Parts go one by one, a kind before its literal.
 pub data BreaksParts (s : Scope) : List Part → CheckErr → Type 0 where

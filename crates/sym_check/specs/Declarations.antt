@@ -79,12 +79,18 @@ pub data IsFieldDecl : Scope → ℕ → FieldDecl → FieldPlan → Scope → T
       (record { header = unwrap_or d.header d.name.text; kind = k; default = empty })
       (s ++ entry d.name (meaning.Value k (var.Field n)) ∷ [])
 
--- The group line, where there is one, names a field.
-pub data IsGroup (s : Scope) : Option Name → Option ℕ → Type 0 where
-  no_group : IsGroup s None None
-  group : (x : Name) (k : KindPlan) (n : ℕ)
+-- A name of the group line is that of a field, and no earlier name of the line; these are the scope
+-- that grows.
+pub data IsGroupField (s : Scope) : Scope → ℕ → Name → ℕ → Scope → Type 0 where
+  group_field : (named : Scope) (i n : ℕ) (x : Name) (k : KindPlan)
+      → IsFree named x
       → Stands s x (meaning.Value k (var.Field n))
-      → IsGroup s (Some x) (Some n)
+      → IsGroupField s named i x n (unfinished named x)
+
+-- The names of the group line, and the fields' numbers in the line's order; none without a line.
+pub record IsGroup (s : Scope) (group : List Name) (fields : List ℕ) : Type 0 where
+  pub named : Scope
+  pub each : Each (IsGroupField s) [] 0 group fields named
 
 -- Parts with their kinds and first values.
 pub data AreParts (s : Scope) : List Part → List KindPlan → List Value → Type 0 where

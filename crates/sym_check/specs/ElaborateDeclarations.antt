@@ -136,11 +136,17 @@ field_decl s n d =
         scope = s ++ entry d.name (meaning.Value k (var.Field n)) ∷ [];
       }))
 
-abbrev pub group_of : Scope → Option Name → Result (Option ℕ) CheckErr
-group_of s None = Ok None
-group_of s (Some x) = do
-  n ← field_named x.at (find s x.text)
-  Ok (Some n)
+-- A field of the group line; `named` are the earlier names of the line.
+abbrev pub group_field : Scope → Scope → ℕ → Name → Result (Planned ℕ) CheckErr
+group_field s named i x =
+    unless_taken x.at (find named x.text) (do
+      n ← field_named x.at (find s x.text)
+      Ok (record { plan = n; scope = unfinished named x }))
+
+abbrev pub group_of : Scope → List Name → Result (List ℕ) CheckErr
+group_of s group = do
+  fields ← each (group_field s) [] 0 group
+  Ok fields.plan
 
 pub record PlannedParts : Type 0 where
   pub kinds : List KindPlan

@@ -5,7 +5,6 @@ use Rattle.std.specs.List.{filter, list_any}
 use Rattle.sym_base.specs.declared.values.value.Value.{Value}
 use Rattle.sym_base.specs.declared.values.value.Value.TheVariants as value
 use Rattle.sym_base.specs.declared.values.value.Key.{Key}
-use Rattle.sym_base.specs.declared.values.value.Key.TheVariants.{Whole, One}
 use Rattle.sym_base.specs.contracts.values.value.KeyPartialEq.TheImpl as same_key
 use Rattle.sym_base.specs.contracts.values.value.ValuePartialEq.TheImpl as same_value
 use Rattle.sym_base.specs.declared.values.record.Record.{Record}
@@ -19,13 +18,13 @@ abbrev pub field_value : Option Value → Value
 field_value None = value.Num (pos 0)
 field_value (Some v) = v
 
-abbrev pub key_by : Option ℕ → Record → Key
-key_by None rec = Whole
-key_by (Some field) rec = One (field_value (slice_get rec.fields field))
+abbrev pub field_at : Record → ℕ → Value
+field_at rec field = field_value (slice_get rec.fields field)
 
--- The key of a record's group.
+-- The key of a record's group: the values of the fields that the group line names, in the line's
+-- order. It is empty without a group line, and then all records are of one group.
 abbrev pub key_of : ScriptPlan → Record → Key
-key_of p rec = key_by p.group rec
+key_of p rec = record { values = map (field_at rec) p.group }
 
 -- The values are equal, as `==` tells.
 abbrev pub is_value : Value → Value → Bool

@@ -366,21 +366,6 @@ DosPlan-set =
     (DoCopy-set ℕ_set FixedPlan-set TermPlan-set
     LabelOf-set (List-set FixedPlan-set) WordOf-set CondPlan-set)
 
-abbrev to_group : Option ℕ → List ℕ
-to_group None = []
-to_group (Some n) = n ∷ []
-
-abbrev of_group : List ℕ → Option ℕ
-of_group [] = None
-of_group (n ∷ rest) = Some n
-
-same_group : (x : Option ℕ) → of_group (to_group x) ≡ x
-same_group None = refl
-same_group (Some n) = refl
-
-Group-set : IsSet (Option ℕ)
-Group-set = retract_set to_group of_group same_group (List-set ℕ_set)
-
 pub TestOf-set : IsSet TestOf
 TestOf-set a b p q = λ i j. record {
   params = agree (List-set KindPlan-set) (λ (t : TestOf). t.params) a b p q i j;
@@ -397,7 +382,7 @@ pub ScriptPlan-set : IsSet ScriptPlan
 ScriptPlan-set a b p q = λ i j. record {
   enums = agree (List-set EnumPlan-set) (λ (s : ScriptPlan). s.enums) a b p q i j;
   fields = agree (List-set FieldPlan-set) (λ (s : ScriptPlan). s.fields) a b p q i j;
-  group = agree Group-set (λ (s : ScriptPlan). s.group) a b p q i j;
+  group = agree (List-set ℕ_set) (λ (s : ScriptPlan). s.group) a b p q i j;
   cells = agree (List-set CellPlan-set) (λ (s : ScriptPlan). s.cells) a b p q i j;
   tests = agree (List-set TestOf-set) (λ (s : ScriptPlan). s.tests) a b p q i j;
   update = agree DosPlan-set (λ (s : ScriptPlan). s.update) a b p q i j;

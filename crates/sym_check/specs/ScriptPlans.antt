@@ -1,5 +1,5 @@
 -- The plan of a script as plain data.
-use Rattle.std.specs.Prelude.{ℕ, List, Option, map}
+use Rattle.std.specs.Prelude.{ℕ, List, map}
 use Rattle.sym_check.specs.declared.plan.script.EnumPlan.{EnumPlan}
 use Rattle.sym_check.specs.declared.plan.script.KindPlan.{KindPlan}
 use Rattle.sym_check.specs.declared.plan.script.FieldPlan.{FieldPlan}
@@ -30,7 +30,7 @@ column_plan c = record { name = c.name; value = show_plan c.value }
 pub record ScriptPlan : Type 0 where
   pub enums : List EnumPlan
   pub fields : List FieldPlan
-  pub group : Option ℕ
+  pub group : List ℕ
   pub cells : List CellPlan
   pub tests : List TestOf
   pub update : DosPlan

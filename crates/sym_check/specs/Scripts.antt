@@ -37,7 +37,8 @@ names t =
     ++ (map (λ (d : StateDecl). d.name.text) t.states
     ++ map (λ (d : TestTree). d.name.text) t.tests))
 
--- The enums and fields have these plans, each in the scope of those before it, and the group line.
+-- The enums and fields have these plans, each in the scope of those before it, and so has the group
+-- line.
 pub record HaveFields (t : ScriptTree) (p : ScriptPlan) (s : Scope) : Type 0 where
   pub enum_scope : Scope
   pub enums : Each IsEnumDecl [] 0 t.enums p.enums enum_scope

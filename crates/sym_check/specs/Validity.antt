@@ -4,7 +4,6 @@ use Rattle.std.specs.List.{All, AllZip}
 use Rattle.sym_base.specs.declared.values.value.Value.{Value}
 use Rattle.sym_base.specs.declared.values.value.Value.TheVariants as value
 use Rattle.sym_base.specs.declared.values.value.Key.{Key}
-use Rattle.sym_base.specs.declared.values.value.Key.TheVariants.{Whole, One}
 use Rattle.sym_base.specs.declared.values.record.Record.{Record}
 use Rattle.sym_base.specs.declared.values.state.Cell.{Cell}
 use Rattle.sym_base.specs.declared.values.state.Cell.TheVariants as cell
@@ -60,15 +59,13 @@ field_kinds p = map (λ (f : FieldPlan). f.kind) p.fields
 abbrev pub IsRecord : ScriptPlan → Record → Type 0
 IsRecord p rec = AreOfKinds p.enums (field_kinds p) rec.fields
 
--- The key of a group is the value of the group field, or the one key where no field is named.
-abbrev pub IsKeyOf : ScriptPlan → Option ℕ → Key → Type 0
-IsKeyOf p None Whole = Unit {0}
-IsKeyOf p None (One v) = ⊥
-IsKeyOf p (Some g) Whole = ⊥
-IsKeyOf p (Some g) (One v) = IfSome (slice_get (field_kinds p) g) (λ k. IsOfKind p.enums k v)
+-- A value of the field with this number, of the field's kind.
+abbrev pub IsOfField : ScriptPlan → ℕ → Value → Type 0
+IsOfField p field v = IfSome (slice_get (field_kinds p) field) (λ k. IsOfKind p.enums k v)
 
+-- The key of a group has one value for each field that the group line names, in the line's order.
 abbrev pub IsKey : ScriptPlan → Key → Type 0
-IsKey p key = IsKeyOf p p.group key
+IsKey p key = AllZip (IsOfField p) p.group key.values
 
 -- A cell holds what it may: a number or numbers in its range, words, parts of its kinds, or a label
 -- of its enum.

@@ -4,7 +4,7 @@
 use Rattle.std.specs.Prelude.{◌≡◌, ℕ, ℤ, ◌-◌, ◌<◌, ◌≤◌, ◌≤ℤ◌, List, [], ◌∷◌, ◌++◌, replicate, length, Some, slice_get, IfSome}
 use Rattle.std.specs.List.{All, AllZip}
 use Rattle.sym_base.specs.declared.values.value.Value.{Value}
-use Rattle.sym_base.specs.Limits.{IsNumber, max_labels, max_cells}
+use Rattle.sym_base.specs.Limits.{IsNumber, max_labels, max_group_fields, max_cells}
 use Rattle.sym_check.specs.declared.plan.expression.WordOf.{WordOf}
 use Rattle.sym_check.specs.declared.plan.expression.WordOf.TheVariants as word
 use Rattle.sym_check.specs.declared.plan.expression.LabelOf.{LabelOf}
@@ -211,11 +211,12 @@ known_kinds p = record { fields = field_kinds p; locals = []; params = [] }
 abbrev pub IsEnum : EnumPlan → Type 0
 IsEnum e = (1 ≤ length e.labels) × (length e.labels ≤ max_labels)
 
--- Each part of the plan is so, and there are at most 32 cells.
+-- Each part of the plan is so. There are at most 32 cells, and at most 3 fields tell groups apart.
 pub record IsWellFormed (p : ScriptPlan) : Type 0 where
   pub enums : All IsEnum p.enums
   pub fields : All (IsField p.enums) p.fields
-  pub group : IfSome p.group (λ g. g < length p.fields)
+  pub group_count : length p.group ≤ max_group_fields
+  pub group : All (λ g. g < length p.fields) p.group
   pub cell_count : length p.cells ≤ max_cells
   pub cells : All (IsCell p.enums) p.cells
   pub tests : All (IsTest p) p.tests

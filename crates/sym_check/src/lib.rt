@@ -22,8 +22,8 @@ pub use plan::expression::{
 };
 pub use plan::range::Range;
 pub use plan::script::{
-    CellPlan, CellPlans, ColumnPlan, ColumnPlans, EnumPlan, EnumPlans, FieldPlan, FieldPlans,
-    KindPlan, KindPlans, Plan, TestPlan, TestPlans, copy_column_plans, copy_test_plans,
+    CellPlan, CellPlans, ColumnPlan, ColumnPlans, EnumPlan, EnumPlans, FieldNos, FieldPlan,
+    FieldPlans, KindPlan, KindPlans, Plan, TestPlan, TestPlans, copy_column_plans, copy_test_plans,
     enum_labels,
 };
 pub use plan::show::{Show, ShowFn};

@@ -2,7 +2,7 @@
 ghost use Rattle.std.specs.Prelude.{◌≡◌, ◌<◌, IfOk, length};
 ghost use Rattle.std.specs.Option.{unwrap_or};
 ghost use Rattle.sym_check.specs.Declaring.{Declares};
-ghost use Rattle.sym_check.specs.ElaborateDeclarations.{field_decl, group_of};
+ghost use Rattle.sym_check.specs.ElaborateDeclarations.{field_decl, group_field, group_of};
 ghost use Rattle.sym_check.specs.InOrder.{each};
 ghost use Rattle.sym_check.specs.TypedPlans.{Answers, itself};
 
@@ -10,9 +10,9 @@ use crate::elaborate::error::CheckErr;
 use crate::elaborate::literal::{default_of, kind_of};
 use crate::elaborate::naming::{declare, field_named, free};
 use crate::elaborate::scope::{Meaning, Scope, Variable, found};
-use crate::plan::script::{FieldPlan, FieldPlans};
+use crate::plan::script::{FieldNos, FieldPlan, FieldPlans};
 use std::alloc::Global;
-use sym_base::{FieldDecl, FieldDecls, Name, NoMemory, Text};
+use sym_base::{FieldDecl, FieldDecls, Name, Names, NoMemory, Text};
 
 // The text of a field's column in a header: the one that is given, or its name.
 fn header_of(alloc: Global, decl: &FieldDecl) -> Result<Text, NoMemory>
@@ -62,15 +62,30 @@ pub(crate) fn field_decls(
     Ok(fields)
 }
 
-/// The field that the group line names.
-pub(crate) fn group_of(scope: &Scope, group: &Option<Name>) -> Result<Option<u16>, CheckErr>
+// A field of the group line, whose name is added to those before it.
+fn group_field(
+    alloc: Global,
+    scope: &Scope,
+    named: &mut Scope,
+    name: &Name,
+) -> Result<u16, CheckErr>
+    ensures { Declares itself (group_field scope.now named.old 0 name.now) result named.new }
+{
+    free(named, name)?;
+    let field = field_named(name.at, found(scope, name.text.as_str()))?;
+    declare(alloc, named, name, Meaning::Unfinished)?;
+    Ok(field)
+}
+
+/// The fields that the group line names, in the line's order.
+pub(crate) fn group_of(alloc: Global, scope: &Scope, group: &Names) -> Result<FieldNos, CheckErr>
     ensures { Answers itself (group_of scope.now group.now) result }
 {
-    match group {
-        None => Ok(None),
-        Some(name) => {
-            let field = field_named(name.at, found(scope, name.text.as_str()))?;
-            Ok(Some(field))
-        }
+    let mut named = Scope::new(alloc);
+    let mut fields = FieldNos::new(alloc);
+    'names: for name in group.as_slice() {
+        let field = group_field(alloc, scope, &mut named, name)?;
+        fields.push(field)?;
     }
+    Ok(fields)
 }

@@ -69,7 +69,7 @@ pub(crate) fn elaborate_script(alloc: Global, script: &Script) -> Result<Plan, C
     let mut scope = Scope::new(alloc);
     let enums = enum_decls(alloc, &mut scope, &script.enums)?;
     let fields = field_decls(alloc, &mut scope, &script.fields)?;
-    let group = group_of(&scope, &script.group)?;
+    let group = group_of(alloc, &scope, &script.group)?;
     let cells = state_decls(alloc, &mut scope, &script.states)?;
     let names = names_of(alloc, script)?;
     let tests = test_decls(alloc, &names, &mut scope, &script.tests)?;

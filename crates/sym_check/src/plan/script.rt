@@ -86,6 +86,9 @@ pub type KindPlans = Sequence<KindPlan>;
 /// The fields, in order of declaration.
 pub type FieldPlans = Sequence<FieldPlan>;
 
+/// The numbers of fields, counted from 0.
+pub type FieldNos = Sequence<u16>;
+
 /// The cells, in order of declaration.
 pub type CellPlans = Sequence<CellPlan>;
 
@@ -99,9 +102,9 @@ pub type ColumnPlans = Sequence<ColumnPlan>;
 pub struct Plan {
     pub enums: EnumPlans,
     pub fields: FieldPlans,
-    /// The field whose value tells one group from another; all records are of one group where
-    /// there is none.
-    pub group: Option<u16>,
+    /// The fields whose values tell one group from another, in the group line's order; all records
+    /// are of one group where there are none.
+    pub group: FieldNos,
     pub cells: CellPlans,
     pub tests: TestPlans,
     pub update: Dos,
@@ -329,6 +332,7 @@ impl Plan {
     {
         let enums = self.enums.copy(alloc)?;
         let fields = self.fields.copy(alloc)?;
+        let group = self.group.copy(alloc)?;
         let cells = self.cells.copy(alloc)?;
         let tests = copy_test_plans(alloc, &self.tests)?;
         let update = self.update.copy(alloc)?;
@@ -336,7 +340,7 @@ impl Plan {
         Ok(Plan {
             enums,
             fields,
-            group: self.group,
+            group,
             cells,
             tests,
             update,
