@@ -9,10 +9,10 @@ mod path_bound;
 mod plan;
 
 pub use checking::{CheckErr, Checked, check};
-pub use evaluate::arithmetic::Arith;
+pub use evaluate::arithmetic::{Arith, product};
 pub use evaluate::calls::{fixed, number, pair, test};
 pub use evaluate::fixed_value::{FixedValue, value_of};
-pub use evaluate::known::Known;
+pub use evaluate::known::{Known, known_in};
 pub use evaluate::numbers::{number_of, pair_of};
 pub use evaluate::pairs::Pair;
 pub use evaluate::truth::answer_at;

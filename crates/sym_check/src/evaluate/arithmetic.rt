@@ -1,5 +1,5 @@
 //! Arithmetic on the numbers of a script.
-ghost use Rattle.std.specs.Prelude.{◌≡◌, ◌≢◌, pos, neg_ℤ, ◌+ℤ◌, ◌-ℤ◌, ◌*ℤ◌, int_div, int_rem};
+ghost use Rattle.std.specs.Prelude.{◌≡◌, ◌≢◌, ◌≤◌, ◌^◌, unsigned_abs, pos, neg_ℤ, ◌+ℤ◌, ◌-ℤ◌, ◌*ℤ◌, int_div, int_rem};
 ghost use Rattle.sym_check.specs.Arithmetic.{within, calculated};
 
 use crate::plan::expression::ArithOp;
@@ -39,8 +39,11 @@ fn difference(x: i64, y: i64) -> i128
     x as i128 - y as i128
 }
 
-pub(crate) fn product(x: i64, y: i64) -> i128
-    ensures { result ≡ x *ℤ y }
+/// The product, which 128 bits hold.
+#[inline(always)]
+pub fn product(x: i64, y: i64) -> i128
+    ensures value { result ≡ x *ℤ y }
+    ensures size { unsigned_abs result ≤ 2 ^ 126 }
 {
     x as i128 * y as i128
 }

@@ -12,7 +12,7 @@ ghost use Rattle.sym_check.specs.Updates.{environment};
 use crate::checking::Checked;
 use crate::evaluate::arithmetic::Arith;
 use crate::evaluate::fixed_value::{FixedValue, value_of};
-use crate::evaluate::known::Known;
+use crate::evaluate::known::known_in;
 use crate::evaluate::numbers::{number_of, pair_of};
 use crate::evaluate::pairs::Pair;
 use crate::evaluate::truth::answer_at;
@@ -22,16 +22,6 @@ use sym_base::{NoMemory, Record, Values};
 
 // A name that stands for nothing, or for a value of another kind, counts as 0, the empty word or
 // the label 0. So these calls need no condition; in a plan of a checked script no name does.
-fn known_in<'a>(rec: &'a Record, locals: &'a Values) -> Known<'a>
-    ensures { known_values result ≡ environment rec.now locals.now }
-{
-    Known {
-        fields: rec.fields.as_slice(),
-        locals: locals.as_slice(),
-        parts: &[],
-        args: &[],
-    }
-}
 
 /// The number of a fixed expression at a record. `locals` are those that were named so far, by
 /// their numbers. `Arith` is returned exactly where a step of it leaves `-NUM_MAX` to `NUM_MAX`

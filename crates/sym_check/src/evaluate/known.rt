@@ -2,9 +2,10 @@
 ghost use Rattle.std.specs.Prelude.{◌≡◌, slice_get, option_copied};
 ghost use Rattle.sym_check.specs.FixedValues.{value_number, value_word, value_label, word_of, label_of};
 ghost use Rattle.sym_check.specs.KnownValues.{known_values};
+ghost use Rattle.sym_check.specs.Updates.{environment};
 
 use crate::plan::expression::{LabelOf, WordOf};
-use sym_base::Value;
+use sym_base::{Record, Value, Values};
 
 /// The fields of a record, the locals so far, and in the body of a test its parameters: the parts
 /// of a hold cell and the arguments after them.
@@ -14,6 +15,19 @@ pub struct Known<'a> {
     pub locals: &'a [Value],
     pub parts: &'a [Value],
     pub args: &'a [Value],
+}
+
+/// The fields of the record, and the locals so far.
+#[inline(always)]
+pub fn known_in<'a>(rec: &'a Record, locals: &'a Values) -> Known<'a>
+    ensures { known_values result ≡ environment rec.now locals.now }
+{
+    Known {
+        fields: rec.fields.as_slice(),
+        locals: locals.as_slice(),
+        parts: &[],
+        args: &[],
+    }
 }
 
 fn number_in(value: Option<&Value>) -> i64
