@@ -6,6 +6,7 @@ mod calls;
 mod groups;
 mod keys;
 pub mod laws;
+mod putting;
 mod report;
 mod states;
 mod steps;

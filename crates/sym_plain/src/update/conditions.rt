@@ -10,11 +10,12 @@ ghost use Rattle.sym_check.specs.ScriptPlans.{script_plan};
 ghost use Rattle.sym_check.specs.Updates.{or_fault};
 ghost use Rattle.sym_plain.specs.Running.{Gives, Makes, with_value};
 
+use crate::putting::{put_at, put_num, put_word};
 use crate::update::buffers::shorten;
 use crate::update::stop::Stop;
 use crate::update::terms::term_number;
 use std::alloc::Global;
-use sym_base::{FaultKind, NoMemory, State, Text, Value, Values};
+use sym_base::{FaultKind, State, Value, Values};
 use sym_check::{Cond, Fixed, FixedList, FixedValue, Known, Plan, answer_at, number_of, value_of};
 
 /// The value of a fixed expression; arithmetic that fails ends the group.
@@ -27,54 +28,6 @@ pub fn fixed_value(alloc: Global, known: &Known, expression: &Fixed) -> Result<V
         FixedValue::Is(value) => Ok(value),
         FixedValue::Arith => Err(Stop::Fault(FaultKind::Arith)),
     }
-}
-
-#[inline(never)]
-pub(crate) fn put_at(values: &mut Values, index: usize, value: Value) -> Result<(), NoMemory>
-    requires { index ≤ length values.old }
-    ensures values { let before = take index values.old in
-        OnOk result (take (index + 1) values.new ≡ before ++ value ∷ []) }
-    ensures length { OnOk result (index + 1 ≤ length values.new) }
-{
-    if index < values.len() {
-        values.set(index, value);
-    } else {
-        values.push(value)?;
-    }
-    Ok(())
-}
-
-pub(crate) fn put_num(values: &mut Values, index: usize, number: i64) -> Result<(), NoMemory>
-    requires { index ≤ length values.old }
-    ensures values { let before = take index values.old in
-        OnOk result (take (index + 1) values.new ≡ before ++ Value.Num number ∷ []) }
-    ensures length { OnOk result (index + 1 ≤ length values.new) }
-{
-    match values.get_mut(index) {
-        Some(value) => value.set_num(number),
-        None => values.push(Value::Num(number))?,
-    }
-    Ok(())
-}
-
-// The word is written over that of the value at this place.
-#[inline(never)]
-pub(crate) fn put_word(
-    alloc: Global,
-    values: &mut Values,
-    index: usize,
-    word: &str,
-) -> Result<(), NoMemory>
-    requires { index ≤ length values.old }
-    ensures values { let before = take index values.old in
-        OnOk result (take (index + 1) values.new ≡ before ++ Value.Word word.now ∷ []) }
-    ensures length { OnOk result (index + 1 ≤ length values.new) }
-{
-    match values.get_mut(index) {
-        Some(value) => value.set_word(alloc, word)?,
-        None => values.push(Value::Word(Text::from_str(alloc, word)?))?,
-    }
-    Ok(())
 }
 
 // Puts the value of an expression at this place; those before it stay.

@@ -10,8 +10,9 @@ ghost use Rattle.sym_check.specs.Updates.{environment, environment_after, do_ste
 ghost use Rattle.sym_base.specs.States.{cell_nums, parts_at, cell_parts, cell_words, with_cell, with_num, with_word};
 ghost use Rattle.sym_plain.specs.Running.{IsAssignment, Makes, kept, kept_cell};
 
+use crate::putting::put_copy;
 use crate::update::buffers::{Buffers, shorten};
-use crate::update::conditions::{fixed_value, put_at, put_num, put_word, set_values, truth_of};
+use crate::update::conditions::{fixed_value, set_values, truth_of};
 use crate::update::stop::Stop;
 use crate::update::terms::{in_range, term_number};
 use std::alloc::Global;
@@ -74,26 +75,12 @@ fn push_word(alloc: Global, state: &mut State, cell: u16, word: &str) -> Result<
     Ok(())
 }
 
-// A part is written over the value at this place; those before it stay.
-fn put_part(alloc: Global, values: &mut Values, index: usize, part: &Value) -> Result<(), NoMemory>
-    requires { index ≤ length values.old }
-    ensures values { let before = take index values.old in
-        OnOk result (take (index + 1) values.new ≡ before ++ part.now ∷ []) }
-    ensures length { OnOk result (index + 1 ≤ length values.new) }
-{
-    match part {
-        Value::Num(number) => put_num(values, index, *number),
-        Value::Word(word) => put_word(alloc, values, index, word.as_str()),
-        Value::Label(label) => put_at(values, index, Value::Label(*label)),
-    }
-}
-
 // Makes the list that of these parts, over the memory that it has.
 fn set_parts(alloc: Global, parts: &[Value], values: &mut Values) -> Result<(), NoMemory>
     ensures { OnOk result (values.new ≡ parts.now) }
 {
     'parts: for (index, part) in parts.iter().enumerate() {
-        put_part(alloc, values, index, part)?;
+        put_copy(alloc, values, index, part)?;
     }
     if parts.len() < values.len() {
         shorten(alloc, values, parts.len());
