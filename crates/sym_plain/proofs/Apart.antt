@@ -16,7 +16,7 @@ use Rattle.sym_plain.specs.Pairs.{has_key, put, standing, stepped, after_record,
 use Rattle.sym_plain.proofs.Passes.{pass_next}
 use Rattle.sym_plain.proofs.Puts.{Pairs, has-put, has-put-same, lookup-put, lookup-put-same, put-again, put-swap}
 
-snoc : (p : ScriptPlan) (records : List Record) (rec : Record) (xs : Pairs) → after_records p (records ++ rec ∷ []) xs ≡ after_record p rec (after_records p records xs)
+snoc : (p : ScriptPlan) (records : List Record) (rec : Record) (xs : Pairs Outcome) → after_records p (records ++ rec ∷ []) xs ≡ after_record p rec (after_records p records xs)
 snoc p [] rec xs = refl
 snoc p (first ∷ records) rec xs = snoc p records rec (after_record p first xs)
 
@@ -37,10 +37,10 @@ module _ (p : ScriptPlan) (records : List Record) (rec : Record) where
   abbrev more : List Record
   more = records ++ rec ∷ []
 
-  by_others : (j : Key) (xs : Pairs) → is_key (key_of p rec) j ≡ false → stepped_by p more j xs ≡ stepped_by p records j xs
+  by_others : (j : Key) (xs : Pairs Outcome) → is_key (key_of p rec) j ≡ false → stepped_by p more j xs ≡ stepped_by p records j xs
   by_others j xs e = ap (λ (rs : List Record). put xs j (after p rs (standing p (lookup (is_key j) xs)))) (other_records p records rec j e)
 
-  by_own : (xs : Pairs) → stepped_by p more (key_of p rec) xs ≡ stepped p (key_of p rec) rec (stepped_by p records (key_of p rec) xs)
+  by_own : (xs : Pairs Outcome) → stepped_by p more (key_of p rec) xs ≡ stepped p (key_of p rec) rec (stepped_by p records (key_of p rec) xs)
   by_own xs =
       let k : Key = key_of p rec in
       let s : Outcome = standing p (lookup (is_key k) xs) in
@@ -50,7 +50,7 @@ module _ (p : ScriptPlan) (records : List Record) (rec : Record) where
       ∙ sym (put-again k o (step p o rec) xs)
       ∙ ap (λ (r : Option Outcome). put (put xs k o) k (step p (standing p r) rec)) (sym (lookup-put-same k o xs))
 
-  by_swap : (j : Key) (xs : Pairs) → is_key (key_of p rec) j ≡ false → has_key xs (key_of p rec) ≡ true
+  by_swap : (j : Key) (xs : Pairs Outcome) → is_key (key_of p rec) j ≡ false → has_key xs (key_of p rec) ≡ true
       → stepped p (key_of p rec) rec (stepped_by p records j xs) ≡ stepped_by p records j (stepped p (key_of p rec) rec xs)
   by_swap j xs e h =
       let k : Key = key_of p rec in
@@ -70,13 +70,13 @@ module _ (p : ScriptPlan) (records : List Record) (rec : Record) where
   none_later true c h = absurd (true≢false h)
   none_later false c h = h
 
-  keys_of_others : (ks : List Key) (xs : Pairs) → is_among (key_of p rec) ks ≡ false → after_keys p more ks xs ≡ after_keys p records ks xs
+  keys_of_others : (ks : List Key) (xs : Pairs Outcome) → is_among (key_of p rec) ks ≡ false → after_keys p more ks xs ≡ after_keys p records ks xs
   keys_of_others [] xs h = refl
   keys_of_others (j ∷ rest) xs h =
       ap (after_keys p more rest) (by_others j xs (none_here (is_key (key_of p rec) j) (is_among (key_of p rec) rest) h))
       ∙ keys_of_others rest (stepped_by p records j xs) (none_later (is_key (key_of p rec) j) (is_among (key_of p rec) rest) h)
 
-  past_others : (ks : List Key) (xs : Pairs) → is_among (key_of p rec) ks ≡ false → has_key xs (key_of p rec) ≡ true
+  past_others : (ks : List Key) (xs : Pairs Outcome) → is_among (key_of p rec) ks ≡ false → has_key xs (key_of p rec) ≡ true
       → stepped p (key_of p rec) rec (after_keys p records ks xs) ≡ after_keys p records ks (stepped p (key_of p rec) rec xs)
   past_others [] xs h there = refl
   past_others (j ∷ rest) xs h there =
@@ -86,7 +86,7 @@ module _ (p : ScriptPlan) (records : List Record) (rec : Record) where
       past_others rest (stepped_by p records j xs) later (has-put (key_of p rec) j o xs there)
       ∙ ap (after_keys p records rest) (by_swap j xs here there)
 
-  at_head : (rest : List Key) (xs : Pairs) → is_among (key_of p rec) rest ≡ false
+  at_head : (rest : List Key) (xs : Pairs Outcome) → is_among (key_of p rec) rest ≡ false
       → after_keys p more (key_of p rec ∷ rest) xs ≡ stepped p (key_of p rec) rec (after_keys p records (key_of p rec ∷ rest) xs)
   at_head rest xs h =
       let k : Key = key_of p rec in
@@ -102,7 +102,7 @@ module _ (p : ScriptPlan) (records : List Record) (rec : Record) where
       ∙ ap (λ (t : Bool). t || is_among (key_of p rec) ks) h.0
       ∙ none_like ks j e h.1
 
-  among : (ks : List Key) (xs : Pairs) → IsDistinct is_key ks → is_among (key_of p rec) ks ≡ true
+  among : (ks : List Key) (xs : Pairs Outcome) → IsDistinct is_key ks → is_among (key_of p rec) ks ≡ true
       → after_keys p more ks xs ≡ stepped p (key_of p rec) rec (after_keys p records ks xs)
   among [] xs d h = absurd (true≢false (sym h))
   among (j ∷ rest) xs d h =
@@ -119,22 +119,22 @@ module _ (p : ScriptPlan) (records : List Record) (rec : Record) where
           ap (after_keys p more rest) (by_others j xs e)
           ∙ later g
 
-  last_key : (rs : List Record) (ks : List Key) (k : Key) (xs : Pairs) → after_keys p rs (ks ++ k ∷ []) xs ≡ stepped_by p rs k (after_keys p rs ks xs)
+  last_key : (rs : List Record) (ks : List Key) (k : Key) (xs : Pairs Outcome) → after_keys p rs (ks ++ k ∷ []) xs ≡ stepped_by p rs k (after_keys p rs ks xs)
   last_key rs [] k xs = refl
   last_key rs (j ∷ ks) k xs = last_key rs ks k (stepped_by p rs j xs)
 
-  absent : (xs : Pairs) → is_among (key_of p rec) (keys p records) ≡ false
+  absent : (xs : Pairs Outcome) → is_among (key_of p rec) (keys p records) ≡ false
       → after_keys p more (keys p records ++ key_of p rec ∷ []) xs ≡ stepped p (key_of p rec) rec (after_keys p records (keys p records) xs)
   absent xs h =
       let k : Key = key_of p rec in
-      let was : Pairs = after_keys p records (keys p records) xs in
+      let was : Pairs Outcome = after_keys p records (keys p records) xs in
       last_key more (keys p records) k xs
       ∙ ap (stepped_by p more k) (keys_of_others (keys p records) xs h)
       ∙ ap (λ (rs : List Record). put was k (after p rs (standing p (lookup (is_key k) was))))
       (own_records p records rec ∙ ap (λ (rs : List Record). rs ++ rec ∷ []) (none_of p k records h))
 
   -- One record more.
-  next : (xs : Pairs) → after_keys p more (keys p more) xs ≡ after_record p rec (after_keys p records (keys p records) xs)
+  next : (xs : Pairs Outcome) → after_keys p more (keys p more) xs ≡ after_record p rec (after_keys p records (keys p records) xs)
   next xs =
       ap (λ (ks : List Key). after_keys p more ks xs) (keys_one p records rec)
       ∙ of (is_among (key_of p rec) (keys p records)) refl
@@ -144,7 +144,7 @@ module _ (p : ScriptPlan) (records : List Record) (rec : Record) where
       of true h = among (keys p records) xs (keys_apart p records) h
       of false h = absent xs h
 
-apart_on : (p : ScriptPlan) (first rest : List Record) (xs : Pairs) → after_records p first xs ≡ after_keys p first (keys p first) xs
+apart_on : (p : ScriptPlan) (first rest : List Record) (xs : Pairs Outcome) → after_records p first xs ≡ after_keys p first (keys p first) xs
     → after_records p (first ++ rest) xs ≡ after_keys p (first ++ rest) (keys p (first ++ rest)) xs
 apart_on p first [] xs e =
     subst (λ (rs : List Record). after_records p rs xs ≡ after_keys p rs (keys p rs) xs) (sym (append-nil first)) e
@@ -153,7 +153,7 @@ apart_on p first (rec ∷ rest) xs e =
     (apart_on p (first ++ rec ∷ []) rest xs (snoc p first rec xs ∙ ap (after_record p rec) e ∙ sym (next p first rec xs)))
 
 -- Groups go apart: each key makes the steps of its own records.
-pub groups_apart : (p : ScriptPlan) (records : List Record) (xs : Pairs) → after_records p records xs ≡ after_keys p records (keys p records) xs
+pub groups_apart : (p : ScriptPlan) (records : List Record) (xs : Pairs Outcome) → after_records p records xs ≡ after_keys p records (keys p records) xs
 groups_apart p records xs = apart_on p [] records xs refl
 
 -- The pass over more records goes on from where it stands.

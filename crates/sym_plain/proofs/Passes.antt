@@ -13,6 +13,7 @@ use Rattle.sym_check.proofs.GroupLaws.{keys_one, records_of_append, none_of}
 use Rattle.sym_check.proofs.Keys.{equal_keys, same_key}
 use Rattle.sym_check.proofs.PlanLaws.{after_more}
 use Rattle.sym_plain.specs.Pairs.{has_key, put, standing, stepped, after_record}
+use Rattle.sym_plain.proofs.Puts.{at_key}
 
 -- ---- keys with what a function gives for each
 module _ (f : Key → Outcome) where
@@ -36,9 +37,6 @@ module _ (p : ScriptPlan) (rec : Record) where
   -- What a function gives for each key after one record more.
   abbrev next : Key → (Key → Outcome) → Key → Outcome
   next key f k = if is_key key k then step p (f k) rec else f k
-
-  abbrev at_key : Key → Outcome → Key × Outcome → Key × Outcome
-  at_key key outcome q = if is_key key q.0 then (q.0, outcome) else q
 
   set_pairs : (f : Key → Outcome) (key : Key) (ks : List Key) → map (at_key key (step p (f key) rec)) (pairs f ks) ≡ pairs (next key f) ks
   set_pairs f key [] = refl

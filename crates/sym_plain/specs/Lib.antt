@@ -1,3 +1,4 @@
 pub mod Running
 pub mod Pairs
 pub mod Shown
+pub mod Lending

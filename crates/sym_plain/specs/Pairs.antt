@@ -1,4 +1,4 @@
--- Groups as a list of pairs: each key with how its group stands.
+-- Groups as a list of pairs: each key with how its group stands, or with another value of its own.
 use Rattle.std.specs.Prelude.{◌≡◌, Bool, true, false, List, [], ◌∷◌, ◌++◌, map, Option, Some, None, if◌then◌else◌}
 use Rattle.std.specs.List.{IsDistinct}
 use Rattle.std.specs.Map.{keys_of, lookup}
@@ -11,18 +11,18 @@ use Rattle.sym_check.specs.ScriptPlans.{ScriptPlan}
 use Rattle.sym_check.specs.Updates.{initial, step, after}
 
 -- No key stands twice.
-abbrev pub HaveDistinctKeys : List (Key × Outcome) → Type 0
+abbrev pub HaveDistinctKeys : {V : Type 0} → List (Key × V) → Type 0
 HaveDistinctKeys pairs = IsDistinct is_key (keys_of pairs)
 
-abbrev pub has_key : List (Key × Outcome) → Key → Bool
+abbrev pub has_key : {V : Type 0} → List (Key × V) → Key → Bool
 has_key pairs key = is_among key (keys_of pairs)
 
--- The key's outcome becomes this one; a new key goes last; all other pairs stay.
-abbrev pub put : List (Key × Outcome) → Key → Outcome → List (Key × Outcome)
-put pairs key outcome =
+-- The key's value becomes this one; a new key goes last; all other pairs stay.
+abbrev pub put : {V : Type 0} → List (Key × V) → Key → V → List (Key × V)
+put pairs key now =
     if has_key pairs key
-    then map (λ p. if is_key key p.0 then (p.0, outcome) else p) pairs
-    else pairs ++ (key, outcome) ∷ []
+    then map (λ p. if is_key key p.0 then (p.0, now) else p) pairs
+    else pairs ++ (key, now) ∷ []
 
 -- How a group stands; one that isn't there begins with the initial state.
 abbrev pub standing : ScriptPlan → Option Outcome → Outcome

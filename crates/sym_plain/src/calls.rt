@@ -9,7 +9,7 @@ ghost use Rattle.sym_plain.specs.Pairs.{after_record};
 ghost use Rattle.sym_plain.specs.Shown.{columns};
 
 use crate::groups::Groups;
-use crate::keys::record_key;
+use crate::keys::{record_key, set_key};
 use crate::report::shown::shown_columns;
 use crate::states::first_state;
 use crate::steps::step_of;
@@ -50,6 +50,20 @@ pub fn key_of(alloc: Global, checked: &Checked, rec: &Record) -> Result<Key, NoM
     ensures { IfOk result (λ k. k ≡ key_of (checked_plan checked.now) rec.now) }
 {
     record_key(alloc, checked.plan(), rec)
+}
+
+/// Makes the key that of the record's group, over the memory that it has. After an `Err` it is
+/// unspecified. For callers who look many groups up: nothing is allocated where the key's values
+/// fit.
+pub fn key_into(
+    alloc: Global,
+    checked: &Checked,
+    rec: &Record,
+    key: &mut Key,
+) -> Result<(), NoMemory>
+    ensures { OnOk result (key.new ≡ key_of (checked_plan checked.now) rec.now) }
+{
+    set_key(alloc, checked.plan(), key, rec)
 }
 
 /// The groups after one record more: the record's group makes its next step, a new group goes last

@@ -1,9 +1,9 @@
 //! How groups stand, in order of their keys' first appearance.
-ghost use Rattle.std.specs.Prelude.{◌≡◌, [], None, IsTrue, IfOk, OnOk, length, slice_get};
+ghost use Rattle.std.specs.Prelude.{◌≡◌, ◌++◌, ◌∷◌, [], None, IsTrue, IfOk, OnOk, OnErr, length, slice_get};
 ghost use Rattle.std.specs.List.{list_all};
 ghost use Rattle.std.specs.Map.{lookup};
 ghost use Rattle.std.specs.Map.Iter.{deref_pair};
-ghost use Rattle.std.specs.Option.{option_map};
+ghost use Rattle.std.specs.Option.{option_map, option_copied, option_copied_mut};
 ghost use Rattle.sym_check.specs.Conditions.{has_fixed_body};
 ghost use Rattle.sym_check.specs.Groups.{is_key};
 ghost use Rattle.sym_check.specs.ScriptPlans.{script_plan};
@@ -130,6 +130,9 @@ impl Model for Groups {
 }
 
 impl Groups {
+    ghost use Rattle.std.specs.Borrow.{sem};
+    ghost use Rattle.sym_plain.specs.Lending.{lends_outcome};
+
     /// No groups. It takes no memory.
     pub fn new(alloc: Global) -> Groups
         ensures { result ≡ [] }
@@ -165,6 +168,33 @@ impl Groups {
         let mut groups = self;
         groups.map.insert(key, outcome)?;
         Ok(groups)
+    }
+
+    /// How the group with this key stands; `None` exactly where there is no such group.
+    pub fn find(&self, key: &Key) -> Option<&Outcome>
+        ensures { option_copied result ≡ lookup (is_key key.now) self.now }
+    {
+        self.map.get(key)
+    }
+
+    /// The outcome of the group with this key, which can be written; `None` exactly where there is
+    /// no such group.
+    pub fn outcome_mut(&mut self, key: &Key) -> Option<&mut Outcome>
+        ensures* writes_back { sem 𝓛 (lends_outcome self.entry key.now result) }
+        ensures outcome { option_copied_mut result ≡ lookup (is_key key.now) self.old }
+    {
+        self.map.get_mut(key)
+    }
+
+    /// A group more, which goes last. `outcome_mut` tells whether its key is new. After an `Err`
+    /// the groups are as before, and the key and the outcome are dropped.
+    pub fn begin(&mut self, _alloc: Global, key: Key, outcome: Outcome) -> Result<(), NoMemory>
+        requires new { lookup (is_key key) self.old ≡ None }
+        ensures ok { OnOk result (self.new ≡ self.old ++ (key, outcome) ∷ []) }
+        ensures err { OnErr result (self.new ≡ self.old) }
+    {
+        self.map.insert(key, outcome)?;
+        Ok(())
     }
 
     /// Equal groups of their own.
