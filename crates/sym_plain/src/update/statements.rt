@@ -14,7 +14,7 @@ use crate::putting::put_copy;
 use crate::update::buffers::{Buffers, shorten};
 use crate::update::conditions::{fixed_value, set_values, truth_of};
 use crate::update::stop::Stop;
-use crate::update::terms::{in_range, term_number};
+use crate::update::terms::term_number;
 use std::alloc::Global;
 use sym_base::{Cell, NoMemory, Nums, Record, State, Text, Value, Values, Words};
 use sym_check::{Do, Dos, FixedList, Known, Plan};
@@ -182,7 +182,7 @@ fn assign(
     match statement {
         Do::SetInt(cell, term) => {
             let number = term_number(known, term, state)?;
-            let number = in_range(plan, *cell, number)?;
+            let number = plan.landed(*cell, number)?;
             state.set_int(*cell, number);
         }
         Do::SetEnum(cell, label) => state
@@ -198,7 +198,7 @@ fn assign(
         Do::KeepFrom(cell, from) => keep_from(alloc, state, *cell, *from)?,
         Do::PushNum(cell, term) => {
             let number = term_number(known, term, state)?;
-            let number = in_range(plan, *cell, number)?;
+            let number = plan.landed(*cell, number)?;
             push_num(alloc, state, *cell, number)?;
         }
         Do::PushWord(cell, word) => push_word(alloc, state, *cell, known.word(word))?,

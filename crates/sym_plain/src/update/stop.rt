@@ -32,3 +32,13 @@ impl From<Arith> for Stop {
         Stop::Fault(FaultKind::Arith)
     }
 }
+
+impl From<FaultKind> for Stop {
+    ghost use Rattle.sym_plain.specs.declared.update.stop.Stop.TheVariants as stop;
+
+    ghost from_gives = { λ kind e. e ≡ stop.Fault kind };
+
+    fn from(kind: FaultKind) -> Stop {
+        Stop::Fault(kind)
+    }
+}
