@@ -1,10 +1,14 @@
 //! The sequential pass, record by record, against a plain walk over a list of records.
+ghost use Rattle.std.specs.Prelude.{◌≡◌, false, None, IfOk};
+ghost use Rattle.std.specs.Map.{lookup};
+ghost use Rattle.sym_check.specs.Groups.{is_key};
+
 use crate::scripts::{Row, all_hold, check_rows};
 use std::alloc::Global;
 use std::test::Fail;
 use sym_base::{Fault, FaultKind, Key, NoMemory, Outcome, Record, Text, Value, Values};
 use sym_check::Checked;
-use sym_plain::{Groups, fold, fold_into, key_of};
+use sym_plain::{Groups, fold, fold_into, initial, key_into, key_of, step};
 
 // A sum for each name, in a range.
 const SUMS: &str = "field x: num; field who: word; group who; state n: int [0..9] = 1; \
@@ -124,6 +128,8 @@ enum Way {
     InPlace,
     /// The copy changes where it stands, and the groups stay.
     InCopy,
+    /// The group is looked up by its key, and makes its step outside.
+    ByKey,
 }
 
 /// The groups before a record and after it.
@@ -143,6 +149,69 @@ fn fold_in_place(
     Ok(groups)
 }
 
+// The state's next step is written over it.
+fn step_on(
+    alloc: Global,
+    checked: &Checked,
+    outcome: &mut Outcome,
+    rec: &Record,
+) -> Result<(), NoMemory> {
+    if let Outcome::Going(state) = outcome {
+        let next = step(alloc, checked, state.copy(alloc)?, rec)?;
+        *outcome = next;
+    }
+    Ok(())
+}
+
+fn first_step(alloc: Global, checked: &Checked, rec: &Record) -> Result<Outcome, NoMemory> {
+    step(alloc, checked, initial(alloc, checked)?, rec)
+}
+
+// Whether there is a group with this key, which then makes its step.
+fn go_on(
+    alloc: Global,
+    checked: &Checked,
+    groups: &mut Groups,
+    key: &Key,
+    rec: &Record,
+) -> Result<bool, NoMemory>
+    ensures { IfOk result (λ there. there ≡ false → lookup (is_key key.now) groups.new ≡ None) }
+{
+    match groups.outcome_mut(key) {
+        Some(outcome) => {
+            step_on(alloc, checked, outcome, rec)?;
+            Ok(true)
+        }
+        None => Ok(false),
+    }
+}
+
+fn step_group(
+    alloc: Global,
+    checked: &Checked,
+    groups: &mut Groups,
+    key: Key,
+    rec: &Record,
+) -> Result<(), NoMemory> {
+    if !go_on(alloc, checked, groups, &key, rec)? {
+        groups.begin(alloc, key, first_step(alloc, checked, rec)?)?;
+    }
+    Ok(())
+}
+
+// The key is made over another record's.
+fn fold_by_key(
+    alloc: Global,
+    checked: &Checked,
+    mut groups: Groups,
+    rec: &Record,
+) -> Result<Groups, NoMemory> {
+    let mut key = key_of(alloc, checked, &record(alloc, 1, 2, "zoe")?)?;
+    key_into(alloc, checked, rec, &mut key)?;
+    step_group(alloc, checked, &mut groups, key, rec)?;
+    Ok(groups)
+}
+
 fn fold_by(
     alloc: Global,
     checked: &Checked,
@@ -153,6 +222,7 @@ fn fold_by(
     match way {
         Way::Given => fold(alloc, checked, groups, rec),
         Way::InPlace | Way::InCopy => fold_in_place(alloc, checked, groups, rec),
+        Way::ByKey => fold_by_key(alloc, checked, groups, rec),
     }
 }
 
@@ -165,7 +235,7 @@ fn fold_copied(
 ) -> Result<Folded, NoMemory> {
     let copied = groups.copy(alloc)?;
     let (before, old) = match way {
-        Way::Given | Way::InPlace => (copied, groups),
+        Way::Given | Way::InPlace | Way::ByKey => (copied, groups),
         Way::InCopy => (groups, copied),
     };
     let after = fold_by(alloc, checked, way, old, rec)?;
@@ -229,6 +299,11 @@ fn fold_into_is_a_plain_walk_and_a_copy_stays(rt: HostRuntime) -> Result<(), Fai
 #[test]
 fn a_copy_of_groups_goes_on(rt: HostRuntime) -> Result<(), Fail> {
     check_rows(&rt, rt.alloc(), SUMS, &[Way::InCopy])
+}
+
+#[test]
+fn groups_that_are_looked_up_make_the_same_steps(rt: HostRuntime) -> Result<(), Fail> {
+    check_rows(&rt, rt.alloc(), SUMS, &[Way::ByKey])
 }
 
 /// A name, which is a record's key.
@@ -296,6 +371,33 @@ fn wrong_group(groups: &Groups, rows: &[(i64, u64)]) -> Option<usize> {
     } else {
         Some(rows.len())
     }
+}
+
+/// A number, and the record at which the group with this key ended; `None` where there is no such
+/// group.
+const SOUGHT: [(i64, Option<u64>); 3] = [(7, Some(3)), (9, None), (8, Some(2))];
+
+fn is_found(groups: &Groups, key: &Key, no: Option<u64>) -> bool {
+    match (groups.find(key), no) {
+        (Some(outcome), Some(no)) => stands(outcome, Standing::Left(no)),
+        (None, None) => true,
+        _ => false,
+    }
+}
+
+// The place of the first row that isn't found as wanted.
+fn wrong_find(alloc: Global, groups: &Groups) -> Result<Option<usize>, NoMemory> {
+    'rows: for (place, (number, no)) in SOUGHT.iter().enumerate() {
+        if !is_found(groups, &Key::One(Value::Num(*number)), *no) {
+            return Ok(Some(place));
+        }
+    }
+    Ok(None)
+}
+
+#[test]
+fn an_outcome_is_found_by_its_key(rt: HostRuntime) -> Result<(), Fail> {
+    all_hold(&rt, wrong_find(rt.alloc(), &put_all(rt.alloc(), &PUT)?))
 }
 
 fn wrong_put(alloc: Global) -> Result<Option<usize>, NoMemory> {
