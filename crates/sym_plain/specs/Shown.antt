@@ -76,8 +76,8 @@ negated operand = on_number (λ x. wide (neg_ℤ x)) operand
 -- The names of an enum cell's labels; none of any other cell.
 abbrev pub cell_labels : List EnumPlan → Option CellPlan → List (List ℕ)
 cell_labels enums None = []
-cell_labels enums (Some (plan.Int lo hi first)) = []
-cell_labels enums (Some (plan.Nums lo hi)) = []
+cell_labels enums (Some (plan.Int lo hi first clamp)) = []
+cell_labels enums (Some (plan.Nums lo hi clamp)) = []
 cell_labels enums (Some plan.Words) = []
 cell_labels enums (Some (plan.Hold kinds first)) = []
 cell_labels enums (Some (plan.Enum enum first)) = enum_labels enums enum
@@ -92,8 +92,8 @@ kind_labels enums (Some (kind.Label enum)) = enum_labels enums enum
 -- The kind of a hold cell's part.
 abbrev pub part_kind : Option CellPlan → ℕ → Option KindPlan
 part_kind None part = None
-part_kind (Some (plan.Int lo hi first)) part = None
-part_kind (Some (plan.Nums lo hi)) part = None
+part_kind (Some (plan.Int lo hi first clamp)) part = None
+part_kind (Some (plan.Nums lo hi clamp)) part = None
 part_kind (Some plan.Words) part = None
 part_kind (Some (plan.Hold kinds first)) part = slice_get kinds part
 part_kind (Some (plan.Enum enum first)) part = None
