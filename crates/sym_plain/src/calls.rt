@@ -44,8 +44,8 @@ pub fn columns(alloc: Global, checked: &Checked, state: &State) -> Result<Column
     shown_columns(alloc, checked.plan(), state)
 }
 
-/// The key of a record's group: `Whole` where the script has no group line, else `One` of the
-/// named field's value. For callers who look a group up: folding finds the key itself.
+/// The key of a record's group: the values of the group line's fields in the line's order, and an
+/// empty list without a group line. For callers who look a group up: folding finds the key itself.
 pub fn key_of(alloc: Global, checked: &Checked, rec: &Record) -> Result<Key, NoMemory>
     ensures { IfOk result (λ k. k ≡ key_of (checked_plan checked.now) rec.now) }
 {

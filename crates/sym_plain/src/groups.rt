@@ -9,7 +9,7 @@ ghost use Rattle.sym_check.specs.Groups.{is_key};
 ghost use Rattle.sym_check.specs.ScriptPlans.{script_plan};
 ghost use Rattle.sym_plain.specs.Pairs.{HaveDistinctKeys, Steps, after_record, put, stepped};
 
-use crate::keys::set_key;
+use crate::keys::{no_key, set_key};
 use crate::states::first_state;
 use crate::steps::advance;
 use crate::update::buffers::Buffers;
@@ -139,7 +139,7 @@ impl Groups {
     {
         Groups {
             map: IndexMap::new(alloc),
-            key: Key::Whole,
+            key: no_key(alloc),
             buffers: Buffers::new(alloc),
         }
     }
@@ -203,7 +203,7 @@ impl Groups {
     {
         Ok(Groups {
             map: copy_map(alloc, &self.map)?,
-            key: Key::Whole,
+            key: no_key(alloc),
             buffers: Buffers::new(alloc),
         })
     }

@@ -1,38 +1,48 @@
 //! The keys of groups.
-ghost use Rattle.std.specs.Prelude.{◌≡◌, IfOk, OnOk, option_copied};
-ghost use Rattle.sym_check.specs.Groups.{field_value, key_of};
+ghost use Rattle.std.specs.Prelude.{◌≡◌, ◌≤◌, ◌+◌, ◌++◌, ◌∷◌, [], IfOk, OnOk, length, map, option_copied, take};
+ghost use Rattle.sym_check.specs.Groups.{field_at, field_value, key_of};
 ghost use Rattle.sym_check.specs.ScriptPlans.{script_plan};
 
+use crate::putting::{put_copy, put_num};
+use crate::update::buffers::shorten;
 use std::alloc::Global;
-use sym_base::{Key, NoMemory, Record, Value};
+use sym_base::{Key, NoMemory, Record, Value, Values};
 use sym_check::Plan;
 
-fn copy_value(alloc: Global, value: Option<&Value>) -> Result<Value, NoMemory>
-    ensures { IfOk result (λ v. v ≡ field_value (option_copied value.entry)) }
+// Puts the value of a field at this place of a key; those before it stay.
+fn put_field(
+    alloc: Global,
+    values: &mut Values,
+    index: usize,
+    value: Option<&Value>,
+) -> Result<(), NoMemory>
+    requires { index ≤ length values.old }
+    ensures values { let value = field_value (option_copied value.entry) in
+        OnOk result (take (index + 1) values.new ≡ take index values.old ++ value ∷ []) }
+    ensures length { OnOk result (index + 1 ≤ length values.new) }
 {
     match value {
-        Some(value) => value.copy(alloc),
-        None => Ok(Value::Num(0)),
+        Some(value) => put_copy(alloc, values, index, value),
+        None => put_num(values, index, 0),
     }
 }
 
-// Makes the key that of this value, over the memory that it has.
-fn set_one(alloc: Global, key: &mut Key, value: Option<&Value>) -> Result<(), NoMemory>
-    ensures { OnOk result (key.new ≡ Key.One (field_value (option_copied value.entry))) }
+// Makes the values those of these fields, over the memory that they have.
+fn set_fields(
+    alloc: Global,
+    fields: &[u16],
+    rec: &Record,
+    values: &mut Values,
+) -> Result<(), NoMemory>
+    ensures { OnOk result (values.new ≡ map (field_at rec.now) fields.now) }
 {
-    match key {
-        Key::One(held) => match value {
-            Some(value) => held.copy_from(alloc, value),
-            None => {
-                held.set_num(0);
-                Ok(())
-            }
-        },
-        Key::Whole => {
-            *key = Key::One(copy_value(alloc, value)?);
-            Ok(())
-        }
+    'fields: for (index, field) in fields.iter().enumerate() {
+        put_field(alloc, values, index, rec.fields.get(usize::from(*field)))?;
     }
+    if fields.len() < values.len() {
+        shorten(alloc, values, fields.len());
+    }
+    Ok(())
 }
 
 /// Makes the key that of the record's group, over the memory that it has. After an `Err` it is
@@ -45,12 +55,15 @@ pub(crate) fn set_key(
 ) -> Result<(), NoMemory>
     ensures { OnOk result (key.new ≡ key_of (script_plan plan.now) rec.now) }
 {
-    match plan.group {
-        Some(field) => set_one(alloc, key, rec.fields.get(usize::from(field))),
-        None => {
-            *key = Key::Whole;
-            Ok(())
-        }
+    set_fields(alloc, plan.group.as_slice(), rec, &mut key.values)
+}
+
+/// The key with no values, over which others are made. It takes no memory.
+pub(crate) fn no_key(alloc: Global) -> Key
+    ensures { result.values ≡ [] }
+{
+    Key {
+        values: Values::new(alloc),
     }
 }
 
@@ -58,7 +71,7 @@ pub(crate) fn set_key(
 pub(crate) fn record_key(alloc: Global, plan: &Plan, rec: &Record) -> Result<Key, NoMemory>
     ensures { IfOk result (λ k. k ≡ key_of (script_plan plan.now) rec.now) }
 {
-    let mut key = Key::Whole;
+    let mut key = no_key(alloc);
     set_key(alloc, plan, &mut key, rec)?;
     Ok(key)
 }
