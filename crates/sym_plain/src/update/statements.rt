@@ -17,18 +17,7 @@ use crate::update::stop::Stop;
 use crate::update::terms::term_number;
 use std::alloc::Global;
 use sym_base::{Cell, NoMemory, Nums, Record, State, Text, Value, Values, Words};
-use sym_check::{Do, Dos, FixedList, Known, Plan};
-
-fn known_in<'a>(rec: &'a Record, locals: &'a Values) -> Known<'a>
-    ensures { known_values result ≡ environment rec.now locals.now }
-{
-    Known {
-        fields: rec.fields.as_slice(),
-        locals: locals.as_slice(),
-        parts: &[],
-        args: &[],
-    }
-}
+use sym_check::{Do, Dos, FixedList, Known, Plan, known_in};
 
 // A cell of another kind becomes a list of this number.
 fn push_to(alloc: Global, cell: &mut Cell, number: i64) -> Result<(), NoMemory>

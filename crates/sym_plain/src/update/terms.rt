@@ -1,18 +1,11 @@
 //! Numbers that may depend on a cell.
-ghost use Rattle.std.specs.Prelude.{◌≡◌, ◌≤◌, ◌^◌, ◌*ℤ◌, unsigned_abs};
+ghost use Rattle.std.specs.Prelude.{◌≡◌};
 ghost use Rattle.sym_check.specs.KnownValues.{known_values};
 ghost use Rattle.sym_check.specs.LinePlans.{term_plan};
 ghost use Rattle.sym_check.specs.LineValues.{pair_at, term_number};
 
 use sym_base::State;
-use sym_check::{Arith, Known, Pair, Term, number_of, pair_of};
-
-fn product(x: i64, y: i64) -> i128
-    ensures value { result ≡ x *ℤ y }
-    ensures size { unsigned_abs result ≤ 2 ^ 126 }
-{
-    x as i128 * y as i128
-}
+use sym_check::{Arith, Known, Pair, Term, number_of, pair_of, product};
 
 // No such number leaves 128 bits.
 fn line_at(pair: &Pair, number: i64) -> i128
