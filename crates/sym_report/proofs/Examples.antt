@@ -1,9 +1,9 @@
 -- The text of a table and the rows of groups, tried on examples.
 use Rattle.std.specs.Prelude.{◌≡◌, refl, ℕ, pos, negsuc, true, false}
-use Rattle.std.specs.Prelude.{List, [], ◌∷◌, ◌++◌, Some, None, codes}
+use Rattle.std.specs.Prelude.{List, [], ◌∷◌, ◌++◌, None, codes}
 use Rattle.std.specs.Fmt.{digits}
 use Rattle.sym_base.specs.declared.values.value.Value.TheVariants as value
-use Rattle.sym_base.specs.declared.values.value.Key.TheVariants.{Whole, One}
+use Rattle.sym_base.specs.declared.values.value.Key.{Key}
 use Rattle.sym_base.specs.declared.values.report.Column.TheVariants as column
 use Rattle.sym_base.specs.declared.values.report.ReportFault.TheVariants as fault
 use Rattle.sym_base.specs.declared.values.state.FaultKind.TheVariants as kind
@@ -88,12 +88,13 @@ bob_is_faulty = refl
 bad_column : is_faulty (Columns (column.Num (pos 1) ∷ column.Bad fault.Overflow ∷ [])) ≡ true
 bad_column = refl
 
--- A script with the cells n and xs, grouped by user, whose kind is an enum of two labels.
+-- A script with the cells n and xs, grouped by day and by user. The kind of the users, who are the
+-- first field, is an enum of two labels.
 abbrev tree : ScriptTree
 tree = record {
   enums = [];
   fields = [];
-  group = Some (record { text = codes "user"; at = 9 });
+  group = record { text = codes "day"; at = 9 } ∷ record { text = codes "user"; at = 13 } ∷ [];
   states =
       record { name = record { text = codes "n"; at = 20 }; cell = cell.Words }
       ∷ record { name = record { text = codes "xs"; at = 30 }; cell = cell.Words }
@@ -106,23 +107,35 @@ tree = record {
 abbrev planned : ScriptPlan
 planned = record {
   enums = record { labels = codes "idle" ∷ codes "busy" ∷ [] } ∷ [];
-  fields = record { header = codes "User ID"; kind = plan.Label 0; default = None } ∷ [];
-  group = Some 0;
+  fields =
+      record { header = codes "User ID"; kind = plan.Label 0; default = None }
+      ∷ record { header = codes "Day"; kind = plan.Num; default = None }
+      ∷ [];
+  group = 1 ∷ 0 ∷ [];
   cells = [];
   tests = [];
   update = End;
   columns = record { name = codes "count"; value = show.Num (pos 1) } ∷ [];
 }
 
--- The group's field is called by its name, and not by its header.
-names : heads_of tree planned ≡ record { keys = codes "user" ∷ []; columns = codes "count" ∷ [] }
+-- The group's fields are called by their names, and not by their headers, in the line's order.
+names :
+    heads_of tree planned
+    ≡ record { keys = codes "day" ∷ codes "user" ∷ []; columns = codes "count" ∷ [] }
 names = refl
+
+abbrev busy_day : Key
+busy_day = record { values = value.Num (pos 3) ∷ value.Label 1 ∷ [] }
 
 -- A label is shown by its name, and so is the cell of a fault.
 busy_group :
-    row_of tree planned (One (value.Label 1), Ended (record { kind = kind.Over 1; no = 7 }))
-    ≡ record { keys = column.Word (codes "busy") ∷ []; body = Over (codes "xs") 7 }
+    row_of tree planned (busy_day, Ended (record { kind = kind.Over 1; no = 7 }))
+    ≡ record {
+      keys = column.Num (pos 3) ∷ column.Word (codes "busy") ∷ [];
+      body = Over (codes "xs") 7;
+    }
 busy_group = refl
 
-whole : key_columns planned Whole ≡ []
+-- Without a group line a key has no values.
+whole : key_columns (record planned { group = [] }) (record { values = [] }) ≡ []
 whole = refl

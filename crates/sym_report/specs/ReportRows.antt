@@ -1,10 +1,10 @@
 -- What a report shows: the names above its rows, and a row for each group. That each group has one
 -- row is the SYMPLE paper's (SOSP 2015); what a row shows is this project's profile.
-use Rattle.std.specs.Prelude.{ℕ, Bool, true, false, List, [], ◌∷◌, map}
+use Rattle.std.specs.Prelude.{ℕ, Bool, true, false, List, [], map}
 use Rattle.std.specs.Prelude.{Option, Some, None, slice_get}
-use Rattle.std.specs.List.{list_any}
+use Rattle.std.specs.List.{list_any, zip}
 use Rattle.sym_base.specs.declared.values.value.Key.{Key}
-use Rattle.sym_base.specs.declared.values.value.Key.TheVariants.{Whole, One}
+use Rattle.sym_base.specs.declared.values.value.Value.{Value}
 use Rattle.sym_base.specs.declared.values.report.Column.{Column}
 use Rattle.sym_base.specs.declared.values.report.Column.TheVariants as column
 use Rattle.sym_base.specs.declared.values.state.FaultKind.{FaultKind}
@@ -23,10 +23,9 @@ use Rattle.sym_report.specs.declared.rows.Row.{Row}
 use Rattle.sym_report.specs.declared.rows.RowBody.{RowBody}
 use Rattle.sym_report.specs.declared.rows.RowBody.TheVariants.{Columns, Over, Arith}
 
--- The name in the group line; none where there is no such line.
-abbrev pub key_names : Option Name → List (List ℕ)
-key_names None = []
-key_names (Some name) = name.text ∷ []
+-- The names in the group line, in its order; none where there is no such line.
+abbrev pub key_names : List Name → List (List ℕ)
+key_names = map (λ name. name.text)
 
 -- The names above a report's rows, as the script declares them.
 abbrev pub heads_of : ScriptTree → ScriptPlan → Heads
@@ -39,18 +38,18 @@ abbrev pub field_kind : Option FieldPlan → Option KindPlan
 field_kind None = None
 field_kind (Some field) = Some field.kind
 
-abbrev pub kind_by : List FieldPlan → Option ℕ → Option KindPlan
-kind_by fields None = None
-kind_by fields (Some field) = field_kind (slice_get fields field)
+-- The names of the labels that a field's values may have.
+abbrev pub field_labels : ScriptPlan → ℕ → List (List ℕ)
+field_labels p field = kind_labels p.enums (field_kind (slice_get p.fields field))
 
--- The kind of the field that the group line names.
-abbrev pub key_kind : ScriptPlan → Option KindPlan
-key_kind p = kind_by p.fields p.group
+-- The columns of values of these fields, each with its field; a label is shown by its name.
+abbrev pub field_columns : ScriptPlan → List ℕ → List Value → List Column
+field_columns p fields values =
+    map (λ (of : ℕ × Value). value_column (field_labels p of.0) (Some of.1)) (zip fields values)
 
--- The values of a key; a label is shown by its name.
+-- The columns of a key: its values are those of the group line's fields, in the line's order.
 abbrev pub key_columns : ScriptPlan → Key → List Column
-key_columns p Whole = []
-key_columns p (One v) = value_column (kind_labels p.enums (key_kind p)) (Some v) ∷ []
+key_columns p key = field_columns p p.group key.values
 
 abbrev pub state_name : Option StateDecl → List ℕ
 state_name None = []

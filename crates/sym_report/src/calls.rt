@@ -3,24 +3,14 @@ ghost use Rattle.std.specs.Prelude.{◌≡◌, IfOk, map};
 ghost use Rattle.sym_base.specs.Trees.{script_tree};
 ghost use Rattle.sym_check.specs.CheckedScripts.{checked_tree, checked_plan};
 ghost use Rattle.sym_check.specs.ScriptPlans.{ColumnOf, column_plan, script_plan};
-ghost use Rattle.sym_report.specs.ReportRows.{key_names, heads_of, cell_name, fault_body, row_of};
+ghost use Rattle.sym_report.specs.ReportRows.{heads_of, cell_name, fault_body, row_of};
 
-use crate::keys::key_columns;
+use crate::keys::{key_columns, key_names};
 use crate::rows::{Heads, Row, RowBody};
 use std::alloc::Global;
-use sym_base::{Fault, FaultKind, Key, Name, NoMemory, Outcome, Script, Text, Texts};
+use sym_base::{Fault, FaultKind, Key, NoMemory, Outcome, Script, Text, Texts};
 use sym_check::{Checked, ColumnPlans, Plan};
 use sym_plain::columns;
-
-fn key_names(alloc: Global, group: &Option<Name>) -> Result<Texts, NoMemory>
-    ensures { IfOk result (λ n. n ≡ key_names group.now) }
-{
-    let mut names = Texts::new(alloc);
-    if let Some(name) = group {
-        names.push(name.text.copy(alloc)?)?;
-    }
-    Ok(names)
-}
 
 fn column_names(alloc: Global, columns: &ColumnPlans) -> Result<Texts, NoMemory>
     ensures { IfOk result (λ n. n ≡ map (λ (c : ColumnOf). c.name) (map column_plan columns.now)) }
@@ -67,8 +57,8 @@ pub(crate) fn fault_body(alloc: Global, script: &Script, fault: &Fault) -> Resul
     }
 }
 
-/// The names above the rows of the script's report: of the group's field, where the script has a
-/// group line, and of the columns in order.
+/// The names above the rows of the script's report: of the fields of the group line, and of the
+/// columns, in order.
 pub fn heads(alloc: Global, checked: &Checked) -> Result<Heads, NoMemory>
     ensures { let tree = checked_tree checked.now in
         IfOk result (λ h. h ≡ heads_of tree (checked_plan checked.now)) }

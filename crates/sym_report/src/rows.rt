@@ -9,7 +9,8 @@ use sym_base::{Column, Columns, NoMemory, Text, Texts};
 /// The names above a report's rows.
 #[derive(PartialEq, Eq, Drop)]
 pub struct Heads {
-    /// The name of the group's field; none where all records are of one group.
+    /// The names of the fields of the group line, in the line's order; none where all records are
+    /// of one group.
     pub keys: Texts,
     /// The names of the columns, in order of declaration.
     pub columns: Texts,
@@ -18,7 +19,7 @@ pub struct Heads {
 /// What a report shows of a group.
 #[derive(PartialEq, Eq, Drop)]
 pub struct Row {
-    /// The value of the group's field; none where all records are of one group.
+    /// The values of these fields; none where all records are of one group.
     pub keys: Columns,
     pub body: RowBody,
 }

@@ -4,10 +4,10 @@ use crate::*;
 use std::alloc::Global;
 use std::process::Abort;
 use std::test::Fail;
-use sym_base::{Column, Columns, Key, NoMemory, Nums, ReportFault, Text, Texts, Value};
+use sym_base::{Column, Columns, Key, NoMemory, Nums, ReportFault, Text, Texts, Value, Values};
 use sym_check::{
-    CellPlans, ColumnPlan, ColumnPlans, Dos, EnumPlan, EnumPlans, FieldPlan, FieldPlans, KindPlan,
-    Plan, Show, TestPlans,
+    CellPlans, ColumnPlan, ColumnPlans, Dos, EnumPlan, EnumPlans, FieldNos, FieldPlan, FieldPlans,
+    KindPlan, Plan, Show, TestPlans,
 };
 
 fn texts(alloc: Global, names: &[&str]) -> Result<Texts, NoMemory> {
@@ -269,11 +269,14 @@ fn field(alloc: Global, header: &str, kind: KindPlan) -> Result<FieldPlan, NoMem
     })
 }
 
-// The fields `User ID`, a word, and `mode`, a label, which tells groups apart.
+// The fields `User ID`, a word, and `mode`, a label. Groups are told apart by `mode` and by user.
 fn plan(alloc: Global) -> Result<Plan, NoMemory> {
     let mut fields = FieldPlans::new(alloc);
     fields.push(field(alloc, "User ID", KindPlan::Word)?)?;
     fields.push(field(alloc, "mode", KindPlan::Label(1))?)?;
+    let mut group = FieldNos::new(alloc);
+    group.push(1)?;
+    group.push(0)?;
     let mut enums = EnumPlans::new(alloc);
     let labels = texts(alloc, &["view", "cart", "buy"])?;
     enums.push(EnumPlan { labels })?;
@@ -288,7 +291,7 @@ fn plan(alloc: Global) -> Result<Plan, NoMemory> {
     Ok(Plan {
         enums,
         fields,
-        group: Some(1),
+        group,
         cells: CellPlans::new(alloc),
         tests: TestPlans::new(alloc),
         update: Dos::End,
@@ -296,18 +299,22 @@ fn plan(alloc: Global) -> Result<Plan, NoMemory> {
     })
 }
 
-// What a key with this value shows.
-fn key_shown(alloc: Global, value: Value) -> Result<Columns, NoMemory> {
-    let plan = plan(alloc)?;
-    key_columns(alloc, &plan, &Key::One(value))
+// What a key of this mode and of this user shows.
+fn key_shown(alloc: Global, mode: Value, user: &str) -> Result<Columns, NoMemory> {
+    let mut values = Values::new(alloc);
+    values.push(mode)?;
+    values.push(Value::Word(Text::from_str(alloc, user)?))?;
+    key_columns(alloc, &plan(alloc)?, &Key { values })
 }
 
 #[test]
-fn a_label_is_shown_by_its_name(rt: HostRuntime) -> Result<(), Fail> {
+fn a_key_shows_each_field_and_a_label_by_its_name(rt: HostRuntime) -> Result<(), Fail> {
     let alloc = rt.alloc();
-    let shown = key_shown(alloc, Value::Label(1))?;
+    let shown = key_shown(alloc, Value::Label(1), "ann")?;
     assert!(rt; shown.get(0) == Some(&word(alloc, "busy")?));
-    let shown = key_shown(alloc, Value::Num(-5))?;
+    assert!(rt; shown.get(1) == Some(&word(alloc, "ann")?));
+    assert!(rt; shown.len() == 2);
+    let shown = key_shown(alloc, Value::Num(-5), "")?;
     assert!(rt; shown.get(0) == Some(&Column::Num(-5)));
     Ok(())
 }
