@@ -1,5 +1,5 @@
 -- The records of rows, as a function and as relations, of some rows and more, and their kinds.
-use Rattle.std.proofs.Common.{◌≡◌, ◌∙◌, ◌↔◌, refl, ap, ℕ, ◌+◌, suc, arith, add-zero, List, [], ◌∷◌, ◌++◌, length, Result, Ok, Err, MatchResult}
+use Rattle.std.proofs.Common.{◌≡◌, ◌∙◌, ◌↔◌, refl, ap, ℕ, ◌+◌, arith, add-zero, List, [], ◌∷◌, ◌++◌, length, Result, Ok, Err, MatchResult}
 use Rattle.std.specs.List.{All}
 use Rattle.std.proofs.lemmas.List.Elements.{All-cons, All-nil}
 use Rattle.sym_base.specs.declared.values.value.Value.{Value}

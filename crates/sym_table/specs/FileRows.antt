@@ -1,5 +1,5 @@
 -- The rows of a file.
-use Rattle.std.specs.Prelude.{ℕ, List, [], ◌∷◌}
+use Rattle.std.specs.Prelude.{ℕ, List}
 use Rattle.csv.specs.Reading.{default_config, records, strip_bom}
 
 -- The rows that CSV gives for a text, with commas, double quotes and LF, CRLF or CR after a row.

@@ -2,6 +2,7 @@ pub mod Texts
 pub mod Fields
 pub mod Rows
 pub mod RowRecords
+pub mod ChunkRecords
 pub mod Decoding
 pub mod FileRows
 pub mod Headers

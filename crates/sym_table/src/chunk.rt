@@ -38,6 +38,18 @@ impl Chunk {
             rows: self.rows.copy(alloc)?,
         })
     }
+
+    /// The chunk's rows. It takes no memory.
+    pub fn into_rows(self) -> Rows
+        ensures { result ≡ self.rows }
+    {
+        let Chunk {
+            first_no: _first_no,
+            header: _header,
+            rows,
+        } = self;
+        rows
+    }
 }
 
 impl Plain for Chunk {

@@ -1,11 +1,11 @@
 //! Cutting a file into chunks of rows.
-ghost use Rattle.std.specs.Prelude.{◌≡◌, ◌≤◌, ◌+◌, ◌^◌, ◌<◌, List, IfOk, IfSome, IsSome, length};
+ghost use Rattle.std.specs.Prelude.{◌≡◌, ◌≤◌, ◌+◌, ◌^◌, ◌<◌, List, IfOk, IfSome, IsSome, OnOk, length, take};
 ghost use Rattle.std.specs.List.{All};
 ghost use Rattle.sym_base.specs.Limits.{max_fields};
 ghost use Rattle.sym_base.specs.declared.limits.TheConstants as limit;
 ghost use Rattle.sym_check.specs.CheckedScripts.{checked_plan};
 ghost use Rattle.sym_check.specs.declared.plan.script.FieldPlan.{FieldPlan as OneField};
-ghost use Rattle.sym_table.specs.Cutting.{Cuts, HeadsBy, Opens, Takes, TakesRows};
+ghost use Rattle.sym_table.specs.Cutting.{Cuts, HeadsBy, Opens, ReadsAt, Takes, TakesRows};
 ghost use Rattle.sym_table.specs.FileRows.{file_rows};
 ghost use Rattle.sym_table.specs.Rows.{FitsHeader, FitsChunk};
 
@@ -15,6 +15,7 @@ use crate::header::{HeadErr, Header, Places};
 use crate::mark::without_mark;
 use crate::reader::RowReader;
 use crate::row::{Row, Rows};
+use crate::spare::Spare;
 use std::alloc::Global;
 use std::marker::Model;
 use sym_base::NoMemory;
@@ -57,26 +58,64 @@ impl<'a> Model for Cutter<'a> {
     ghost invariant = { λ c. IsCutting c.rows c.next_no c.chunk };
 }
 
+// Makes a row at `at`, where there are as many before it. They stay.
+fn make_row(
+    alloc: Global,
+    rows: &mut Vec<Row>,
+    at: usize,
+    spare: &mut Spare,
+) -> Result<(), NoMemory>
+    requires { at ≤ length rows.old.items }
+    ensures room { OnOk result (at < length rows.new.items) }
+    ensures same { OnOk result (take at rows.new.items ≡ take at rows.old.items) }
+{
+    if at == rows.len() {
+        rows.push(spare.row(alloc))?;
+    }
+    Ok(())
+}
+
+// Reads the next row in the place of the one at `at`, which may be one more than there are: whether
+// there was one. The rows before it stay.
+fn read_at(
+    alloc: Global,
+    reader: &mut RowReader<'_>,
+    rows: &mut Vec<Row>,
+    at: usize,
+    spare: &mut Spare,
+) -> Result<bool, NoMemory>
+    requires { at ≤ length rows.old.items }
+    ensures { ReadsAt at reader.old reader.new rows.old.items rows.new.items result }
+{
+    match make_row(alloc, rows, at, spare) {
+        Ok(()) => reader.read(&mut rows[at]),
+        Err(refused) => {
+            reader.fail();
+            Err(refused)
+        }
+    }
+}
+
 // The next rows, `count` of them or those that are left.
-fn take_rows(alloc: Global, reader: &mut RowReader<'_>, count: u32) -> Result<Rows, NoMemory>
+fn take_rows(
+    alloc: Global,
+    reader: &mut RowReader<'_>,
+    count: u32,
+    spare: &mut Spare,
+) -> Result<Rows, NoMemory>
     requires { 1 ≤ count }
     ensures { TakesRows count reader.old reader.new result }
 {
     if reader.has_failed() {
         return Err(NoMemory);
     }
-    let mut rows = Rows::new(alloc);
-    'rows: for _at in 0..count {
-        let mut row = Row::new(alloc);
-        if !reader.read(&mut row)? {
-            return Ok(rows);
-        }
-        if rows.push(row).is_err() {
-            reader.fail();
-            return Err(NoMemory);
-        }
+    let mut rows = spare.chunk(alloc);
+    let mut taken = 0;
+    'rows: while taken < count as usize && read_at(alloc, reader, &mut rows, taken, spare)? {
+        taken += 1;
     }
-    Ok(rows)
+    spare.shorten(&mut rows, taken);
+    Ok(Rows::of(rows))
 }
 
 // The header of a file that has no rows: nothing is read by it.
@@ -166,8 +205,7 @@ impl<'a> Cutter<'a> {
 
     /// The next chunk: as many rows as a chunk has, or the fewer that are left. `None` exactly
     /// where no row is left. A chunk fits each script that the header fits. After an `Err` each
-    /// later call answers one. For callers who take many rows at once: the program takes one at a
-    /// time, by `next_row`.
+    /// later call answers one.
     pub fn next(&mut self, alloc: Global) -> Result<Option<Chunk>, NoMemory>
         ensures cuts { Cuts self.old self.new result }
         ensures fits { (fields : List OneField) → FitsHeader fields self.old.header →
@@ -175,7 +213,21 @@ impl<'a> Cutter<'a> {
         ensures header { self.new.header ≡ self.old.header }
         ensures chunk { self.new.chunk ≡ self.old.chunk }
     {
-        let rows = take_rows(alloc, &mut self.rows, self.chunk)?;
+        let mut spare = Spare::new(alloc);
+        self.next_over(alloc, &mut spare)
+    }
+
+    /// The next chunk, as `next` gives it, read over the memory of rows that are done with. For
+    /// callers who take many chunks: once these rows have grown to the largest, no row is
+    /// allocated.
+    pub fn next_over(&mut self, alloc: Global, spare: &mut Spare) -> Result<Option<Chunk>, NoMemory>
+        ensures cuts { Cuts self.old self.new result }
+        ensures fits { (fields : List OneField) → FitsHeader fields self.old.header →
+            IfOk result (λ found. IfSome found (λ cut. FitsChunk fields cut)) }
+        ensures header { self.new.header ≡ self.old.header }
+        ensures chunk { self.new.chunk ≡ self.old.chunk }
+    {
+        let rows = take_rows(alloc, &mut self.rows, self.chunk, spare)?;
         if rows.is_empty() {
             return Ok(None);
         }

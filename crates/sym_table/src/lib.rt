@@ -13,6 +13,7 @@ mod mark;
 mod reader;
 mod reading;
 mod row;
+mod spare;
 
 pub use bad::{Bad, BadCause, Decoded};
 pub use chunk::{Chunk, Chunks};
@@ -20,3 +21,4 @@ pub use cutter::Cutter;
 pub use decoding::{decode, decode_into};
 pub use header::{HeadErr, HeadFault, Header, Places};
 pub use row::{Row, Rows};
+pub use spare::Spare;
