@@ -1,12 +1,11 @@
 -- The files so far, and what comes of the next one.
-use Rattle.std.proofs.Common.{◌≡◌, ◌∙◌, append-nil, refl, sym, ap, ℕ, zero, suc, ◌+◌, ◌≤◌, ◌<◌, arith, append_assoc, length-append, List, [], ◌∷◌, ◌++◌, length, take, drop, map, get_or, Option, Some, None, IfSome, Result, Ok, Err, slice_get, replicate, subst}
+use Rattle.std.proofs.Common.{◌≡◌, ◌∙◌, append-nil, refl, sym, ap, ℕ, zero, suc, ◌+◌, ◌≤◌, ◌<◌, arith, append_assoc, length-append, List, [], ◌∷◌, ◌++◌, length, take, drop, map, get_or, Option, Some, None, IfSome, Ok, Err, slice_get, replicate, subst}
 use Rattle.std.specs.Option.{unwrap_or}
 use Rattle.std.proofs.lemmas.List.{take-append-drop, length-map, length-replicate}
 use Rattle.std.proofs.lemmas.List.Elements.{length_all_zip}
 use Rattle.std.proofs.Math.Seq.{take-append_seam}
 use Rattle.sym_base.specs.Counts.{Rose}
 use Rattle.sym_base.specs.declared.values.record.Record.{Record}
-use Rattle.sym_check.specs.Groups.{pass}
 use Rattle.sym_check.specs.ScriptPlans.{ScriptPlan}
 use Rattle.sym_table.specs.declared.header.Header.{Header}
 use Rattle.sym_table.specs.FileRows.{file_rows}
@@ -16,12 +15,13 @@ use Rattle.sym_engine.specs.declared.error.PassErr.{PassErr}
 use Rattle.sym_engine.specs.declared.error.PassErr.TheVariants as pass_err
 use Rattle.sym_table.specs.RowRecords.{HaveRecords}
 use Rattle.sym_table.specs.RowRecords as have
-use Rattle.sym_engine.specs.FileRecords.{FileRules, plain_rules, shown_rows, rows_by, IsFine, HasProblem, row_records}
+use Rattle.sym_engine.specs.FileRecords.{FileRules, shown_rows, rows_by, IsFine, HasProblem, row_records}
 use Rattle.sym_engine.specs.FileRecords as files
 use Rattle.sym_engine.specs.FirstProblems.{AllFine, FirstProblem}
 use Rattle.sym_engine.specs.FirstProblems as problems
-use Rattle.sym_engine.specs.Folding.{Pairs, Folds, IsFolded, IsUnread}
-use Rattle.sym_engine.specs.Passing.{May, MayAll, PassedAll, FailsAt, HasFirstProblem, StopsPass}
+use Rattle.sym_engine.specs.Rounds.{Extends}
+use Rattle.sym_engine.specs.Taking.{IsTaken, IsUnread, TakesFile}
+use Rattle.sym_engine.specs.Passing.{May, MayAll, FailsAt, HasFirstProblem, StopsFrom}
 use Rattle.sym_engine.proofs.FilesAgree.{in_size}
 
 -- ---- files after files
@@ -102,19 +102,20 @@ within [] k name e = absurd (cc)
 within (n ∷ names) zero name e = refl
 within (n ∷ names) (suc k) name e = let more = within names k name e in omega (arith, more)
 
--- ---- how a pass stands
-pub record IsPassing (p : ScriptPlan) (rules : FileRules) (holds : List ℕ → Option (List ℕ)) (names : List (List ℕ)) (k next : ℕ) (groups : Pairs) : Type 0 where
+-- ---- how far files are taken
+pub record IsPassing {S : Type 0} (stands : S → List Record → Type 0) (p : ScriptPlan) (rules : FileRules) (holds : List ℕ → Option (List ℕ)) (names : List (List ℕ))
+    (first k next : ℕ) (old now : S) : Type 0 where
   pub told : List (List ℕ)
   pub may : MayAll holds (take k names) told
   pub records : List Record
-  pub fine : AllFine p rules 1 told records
-  pub next_is : next ≡ 1 + length records
-  pub stands : groups ≡ pass p records
+  pub fine : AllFine p rules first told records
+  pub next_is : next ≡ first + length records
+  pub extends : Extends stands old now records
 
-told_count : (p : ScriptPlan) (rules : FileRules) (holds : List ℕ → Option (List ℕ)) (names : List (List ℕ)) (k next : ℕ) (groups : Pairs) (name : List ℕ)
-    → (is : IsPassing p rules holds names k next groups) → slice_get names k ≡ Some name → length is.told ≡ k
-told_count p rules holds names k next groups name is at =
-    sym (length_all_zip (λ n bytes. May (holds n) bytes) (take k names) is.told is.may) ∙ within names k name at
+told_count : (holds : List ℕ → Option (List ℕ)) (names told : List (List ℕ)) (k : ℕ) (name : List ℕ)
+    → MayAll holds (take k names) told → slice_get names k ≡ Some name → length told ≡ k
+told_count holds names told k name may at =
+    sym (length_all_zip (λ n bytes. May (holds n) bytes) (take k names) told may) ∙ within names k name at
 
 file_fine : (p : ScriptPlan) (rules : FileRules) (file first : ℕ) (bytes : List ℕ) (records : List Record) → length bytes ≤ rules.max_bytes
     → row_records p file first (rows_by rules bytes) ≡ Ok records → IsFine p rules first bytes records
@@ -130,21 +131,6 @@ file_problem p rules file first bytes why size e =
 shown_count : (shown : Row → Row) (rows : List Row) → length (shown_rows shown rows) ≡ length rows
 shown_count shown [] = refl
 shown_count shown (header ∷ rows) = ap suc (length-map rows shown)
-
-same_rows : (rows : List Row) → rows ≡ map (λ row. row) rows
-same_rows [] = refl
-same_rows (row ∷ rows) = ap (λ more. row ∷ more) (same_rows rows)
-
-same_shown : (rows : List Row) → rows ≡ shown_rows (λ row. row) rows
-same_shown [] = refl
-same_shown (header ∷ rows) = ap (λ more. header ∷ more) (same_rows rows)
-
--- What is folded of a file's rows is folded of its rows as they are.
-pub fold_plain : (p : ScriptPlan) (max file first next : ℕ) (bytes : List ℕ) (old : Pairs) (r : Result Pairs PassErr)
-    → Folds p file first next (file_rows bytes) old r → Folds p file first next (rows_by (plain_rules max) bytes) old r
-fold_plain p max file first next bytes old r folds =
-    let P : List Row → Type 0 = λ rows. Folds p file first next rows old r in
-    subst P (same_shown (file_rows bytes)) folds
 
 -- ---- a file has no more records than bytes
 records_count : (p : ScriptPlan) (header : Header) (n : ℕ) (rows : List Row) (records : List Record) → HaveRecords p header n rows records → length records ≡ length rows
@@ -162,55 +148,54 @@ fine_few p rules first bytes _ (files.filled row rows header records size e is a
     omega (arith, few, same, shown, count)
 
 -- ---- one file more
-next_fine : (p : ScriptPlan) (rules : FileRules) (file first next : ℕ) (old new : Pairs) (bytes : List ℕ) (earlier : List Record) → first ≡ 1 + length earlier → length bytes ≤ rules.max_bytes
-    → (folded : IsFolded p file first next (rows_by rules bytes) old new) → IsFine p rules (1 + length earlier) bytes folded.records
-next_fine p rules file first next old new bytes earlier e size folded =
-    let Q : ℕ → Type 0 = λ n. IsFine p rules n bytes folded.records in
-    subst Q e (file_fine p rules file first bytes folded.records size folded.are)
-
 one_fine : (p : ScriptPlan) (rules : FileRules) (first : ℕ) (bytes : List ℕ) (records : List Record) → IsFine p rules first bytes records → AllFine p rules first (bytes ∷ []) records
 one_fine p rules first bytes records fine =
     let Q : List Record → Type 0 = λ all. AllFine p rules first (bytes ∷ []) all in
     subst Q (append-nil records) (problems.one_more first bytes [] records [] fine (problems.no_file (first + length records)))
 
-pub pass_on : (p : ScriptPlan) (rules : FileRules) (holds : List ℕ → Option (List ℕ)) (names : List (List ℕ)) (k first next : ℕ) (old new : Pairs) (name bytes : List ℕ)
-    → IsPassing p rules holds names k first old → slice_get names k ≡ Some name → May (holds name) bytes → length bytes ≤ rules.max_bytes
-    → IsFolded p k first next (rows_by rules bytes) old new → IsPassing p rules holds names (k + 1) next new
-pass_on p rules holds names k first next old new name bytes is at may size folded =
+pub pass_on : {S : Type 0} (stands : S → List Record → Type 0) (p : ScriptPlan) (rules : FileRules) (holds : List ℕ → Option (List ℕ)) (names : List (List ℕ))
+    (first k n next : ℕ) (old now new : S) (name bytes : List ℕ)
+    → IsPassing stands p rules holds names first k n old now → slice_get names k ≡ Some name → May (holds name) bytes → length bytes ≤ rules.max_bytes
+    → IsTaken stands (row_records p k n (rows_by rules bytes)) n next now new → IsPassing stands p rules holds names first (k + 1) next old new
+pass_on stands p rules holds names first k n next old now new name bytes is at may size taken =
     let P : List (List ℕ) → Type 0 = λ ns. MayAll holds ns (is.told ++ bytes ∷ []) in
-    let fine = next_fine p rules k first next old new bytes is.records is.next_is size folded in
+    let Q : ℕ → Type 0 = λ m. IsFine p rules m bytes taken.records in
+    let fine = subst Q is.next_is (file_fine p rules k n bytes taken.records size taken.are) in
     record {
       told = is.told ++ bytes ∷ [];
       may = subst P (sym (take_at names k name at)) (may_both holds (take k names) (name ∷ []) is.told (bytes ∷ []) is.may (may, tt));
-      records = is.records ++ folded.records;
-      fine = fine_then p rules 1 is.told (bytes ∷ []) is.records folded.records is.fine (one_fine p rules (1 + length is.records) bytes folded.records fine);
-      next_is = omega (arith, folded.next_is, is.next_is, length-append is.records folded.records);
-      stands = folded.stands is.records is.stands;
+      records = is.records ++ taken.records;
+      fine = fine_then p rules first is.told (bytes ∷ []) is.records taken.records is.fine (one_fine p rules (first + length is.records) bytes taken.records fine);
+      next_is = omega (arith, taken.next_is, is.next_is, length-append is.records taken.records);
+      extends = λ before stood.
+          let R : List Record → Type 0 = λ records. stands new records in
+          subst R (append_assoc before is.records taken.records) (taken.extends (before ++ is.records) (is.extends before stood));
     }
 
 -- The next number is at most by the file's size larger.
-pub number_few : (p : ScriptPlan) (rules : FileRules) (holds : List ℕ → Option (List ℕ)) (names : List (List ℕ)) (k first next : ℕ) (old new : Pairs) (bytes : List ℕ)
-    → IsPassing p rules holds names k first old → length bytes ≤ rules.max_bytes → IsFolded p k first next (rows_by rules bytes) old new → next ≤ first + rules.max_bytes
-number_few p rules holds names k first next old new bytes is size folded =
-    let few = fine_few p rules (1 + length is.records) bytes folded.records (next_fine p rules k first next old new bytes is.records is.next_is size folded) in
-    omega (arith, folded.next_is, few, size)
+pub number_few : {S : Type 0} (stands : S → List Record → Type 0) (p : ScriptPlan) (rules : FileRules) (k n next : ℕ) (now new : S) (bytes : List ℕ)
+    → length bytes ≤ rules.max_bytes → IsTaken stands (row_records p k n (rows_by rules bytes)) n next now new → next ≤ n + rules.max_bytes
+number_few stands p rules k n next now new bytes size taken =
+    let few = fine_few p rules n bytes taken.records (file_fine p rules k n bytes taken.records size taken.are) in
+    omega (arith, taken.next_is, few, size)
 
--- ---- why a pass stops
-pub stops_at : (p : ScriptPlan) (rules : FileRules) (holds : List ℕ → Option (List ℕ)) (names : List (List ℕ)) (k next : ℕ) (groups : Pairs) (name bytes : List ℕ) (why : PassErr)
-    → IsPassing p rules holds names k next groups → slice_get names k ≡ Some name → May (holds name) bytes
-    → HasProblem p rules k next bytes why → HasFirstProblem p rules holds names why
-stops_at p rules holds names k next groups name bytes why is at may problem =
-    let count = told_count p rules holds names k next groups name is at in
+-- ---- why files aren't taken
+pub stops_at : {S : Type 0} (stands : S → List Record → Type 0) (p : ScriptPlan) (rules : FileRules) (holds : List ℕ → Option (List ℕ)) (names : List (List ℕ))
+    (first k n : ℕ) (old now : S) (name bytes : List ℕ) (why : PassErr)
+    → IsPassing stands p rules holds names first k n old now → slice_get names k ≡ Some name → May (holds name) bytes
+    → HasProblem p rules k n bytes why → HasFirstProblem p rules holds names first why
+stops_at stands p rules holds names first k n old now name bytes why is at may problem =
+    let count = told_count holds names is.told k name is.may at in
     let as_file : k ≡ 0 + length is.told = omega (arith, count) in
-    let P : ℕ → Type 0 = λ n. HasProblem p rules k n bytes why in
-    let Q : ℕ → Type 0 = λ n. FirstProblem p rules n (1 + length is.records) (bytes ∷ some_files holds (drop (k + 1) names)) why in
+    let P : ℕ → Type 0 = λ m. HasProblem p rules k m bytes why in
+    let Q : ℕ → Type 0 = λ m. FirstProblem p rules m (first + length is.records) (bytes ∷ some_files holds (drop (k + 1) names)) why in
     let R : List (List ℕ) → Type 0 = λ ns. MayAll holds ns (bytes ∷ some_files holds (drop (k + 1) names)) in
-    let here = problems.here k (1 + length is.records) bytes (some_files holds (drop (k + 1) names)) why (subst P is.next_is problem) in
+    let here = problems.here k (first + length is.records) bytes (some_files holds (drop (k + 1) names)) why (subst P is.next_is problem) in
     record {
       files = is.told ++ bytes ∷ some_files holds (drop (k + 1) names);
       may = may_whole holds names is.told (bytes ∷ some_files holds (drop (k + 1) names)) k is.may
           (subst R (sym (drop_at names k name at)) (may, may_some holds (drop (k + 1) names)));
-      first = problem_then p rules 0 1 is.told (bytes ∷ some_files holds (drop (k + 1) names)) is.records why is.fine (subst Q as_file here);
+      problem = problem_then p rules 0 first is.told (bytes ∷ some_files holds (drop (k + 1) names)) is.records why is.fine (subst Q as_file here);
     }
 
 -- More bytes than are allowed, which the file may hold.
@@ -221,14 +206,15 @@ larger max (Some bytes) h = (bytes, refl, h)
 rose_later : (a b c : ℕ) → a ≤ b → Rose b c → Rose a c
 rose_later a b c h rose = omega arith
 
-fails_at : (p : ScriptPlan) (rules : FileRules) (holds : List ℕ → Option (List ℕ)) (names : List (List ℕ)) (before after : List ℕ → ℕ) (k next : ℕ) (groups : Pairs) (name : List ℕ)
-    → IsPassing p rules holds names k next groups → slice_get names k ≡ Some name → Rose (before name) (after name)
-    → FailsAt p rules holds names before after k
-fails_at p rules holds names before after k next groups name is at rose =
-    let count = told_count p rules holds names k next groups name is at in
+fails_at : {S : Type 0} (stands : S → List Record → Type 0) (p : ScriptPlan) (rules : FileRules) (holds : List ℕ → Option (List ℕ)) (names : List (List ℕ)) (before after : List ℕ → ℕ)
+    (first k n : ℕ) (old now : S) (name : List ℕ)
+    → IsPassing stands p rules holds names first k n old now → slice_get names k ≡ Some name → Rose (before name) (after name)
+    → FailsAt p rules holds names first before after k
+fails_at stands p rules holds names before after first k n old now name is at rose =
+    let count = told_count holds names is.told k name is.may at in
     let rest = some_files holds (drop k names) in
-    let P : List (List ℕ) → Type 0 = λ fs. AllFine p rules 1 fs is.records in
-    let front : take k (is.told ++ rest) ≡ is.told = ap (λ n. take n (is.told ++ rest)) (sym count) ∙ take-append_seam is.told rest in
+    let P : List (List ℕ) → Type 0 = λ fs. AllFine p rules first fs is.records in
+    let front : take k (is.told ++ rest) ≡ is.told = ap (λ m. take m (is.told ++ rest)) (sym count) ∙ take-append_seam is.told rest in
     record {
       files = is.told ++ rest;
       may = may_whole holds names is.told rest k is.may (may_some holds (drop k names));
@@ -240,55 +226,46 @@ fails_at p rules holds names before after k next groups name is at rose =
     }
 
 -- The file wasn't read.
-pub unread_stops : (p : ScriptPlan) (rules : FileRules) (holds : List ℕ → Option (List ℕ)) (names : List (List ℕ)) (before now after : List ℕ → ℕ) (k next : ℕ) (groups : Pairs) (name : List ℕ) (why : PassErr)
-    → IsPassing p rules holds names k next groups → slice_get names k ≡ Some name → before name ≤ now name
-    → IsUnread rules.max_bytes k (holds name) (now name) (after name) why → StopsPass p rules holds names before after why
-unread_stops p rules holds names before now after k next groups name (pass_err.Read file) is at later unread =
-    let P : ℕ → Type 0 = λ n. FailsAt p rules holds names before after n in
-    subst P (sym unread.0) (fails_at p rules holds names before after k next groups name is at (rose_later (before name) (now name) (after name) later unread.1))
-unread_stops p rules holds names before now after k next groups name (pass_err.TooLarge file) is at later unread =
+pub unread_stops : {S : Type 0} (stands : S → List Record → Type 0) (p : ScriptPlan) (rules : FileRules) (holds : List ℕ → Option (List ℕ)) (names : List (List ℕ)) (before during after : List ℕ → ℕ)
+    (first k n : ℕ) (old now : S) (name : List ℕ) (why : PassErr)
+    → IsPassing stands p rules holds names first k n old now → slice_get names k ≡ Some name → before name ≤ during name
+    → IsUnread rules.max_bytes k (holds name) (during name) (after name) why → StopsFrom first p rules holds names before after why
+unread_stops stands p rules holds names before during after first k n old now name (pass_err.Read file) is at later unread =
+    let P : ℕ → Type 0 = λ m. FailsAt p rules holds names first before after m in
+    subst P (sym unread.0) (fails_at stands p rules holds names before after first k n old now name is at (rose_later (before name) (during name) (after name) later unread.1))
+unread_stops stands p rules holds names before during after first k n old now name (pass_err.TooLarge file) is at later unread =
     let large = larger rules.max_bytes (holds name) unread.1 in
-    let P : ℕ → Type 0 = λ n. HasFirstProblem p rules holds names (pass_err.TooLarge n) in
-    subst P (sym unread.0) (stops_at p rules holds names k next groups name large.0 (pass_err.TooLarge k) is at large.1 (files.too_large large.2))
-unread_stops p rules holds names before now after k next groups name (pass_err.Head file fault) is at later unread = absurd unread
-unread_stops p rules holds names before now after k next groups name (pass_err.Bad file bad) is at later unread = absurd unread
-unread_stops p rules holds names before now after k next groups name pass_err.NoMemory is at later unread = tt
+    let P : ℕ → Type 0 = λ m. HasFirstProblem p rules holds names first (pass_err.TooLarge m) in
+    subst P (sym unread.0) (stops_at stands p rules holds names first k n old now name large.0 (pass_err.TooLarge k) is at large.1 (files.too_large large.2))
+unread_stops stands p rules holds names before during after first k n old now name (pass_err.Head file fault) is at later unread = absurd unread
+unread_stops stands p rules holds names before during after first k n old now name (pass_err.Bad file bad) is at later unread = absurd unread
+unread_stops stands p rules holds names before during after first k n old now name pass_err.NoMemory is at later unread = tt
 
 -- The file has a problem.
-pub unfolded_stops : (p : ScriptPlan) (rules : FileRules) (holds : List ℕ → Option (List ℕ)) (names : List (List ℕ)) (before after : List ℕ → ℕ) (k next later : ℕ) (groups : Pairs) (name bytes : List ℕ) (why : PassErr)
-    → IsPassing p rules holds names k next groups → slice_get names k ≡ Some name → May (holds name) bytes → length bytes ≤ rules.max_bytes
-    → Folds p k next later (rows_by rules bytes) groups (Err why) → StopsPass p rules holds names before after why
-unfolded_stops p rules holds names before after k next later groups name bytes (pass_err.Read file) is at may size e = absurd e
-unfolded_stops p rules holds names before after k next later groups name bytes (pass_err.TooLarge file) is at may size e = absurd e
-unfolded_stops p rules holds names before after k next later groups name bytes (pass_err.Head file fault) is at may size e =
-    stops_at p rules holds names k next groups name bytes (pass_err.Head file fault) is at may (file_problem p rules k next bytes (pass_err.Head file fault) size e)
-unfolded_stops p rules holds names before after k next later groups name bytes (pass_err.Bad file bad) is at may size e =
-    stops_at p rules holds names k next groups name bytes (pass_err.Bad file bad) is at may (file_problem p rules k next bytes (pass_err.Bad file bad) size e)
-unfolded_stops p rules holds names before after k next later groups name bytes pass_err.NoMemory is at may size e = tt
+pub untaken_stops : {S : Type 0} (stands : S → List Record → Type 0) (p : ScriptPlan) (rules : FileRules) (holds : List ℕ → Option (List ℕ)) (names : List (List ℕ)) (before after : List ℕ → ℕ)
+    (first k n later : ℕ) (old now new : S) (name bytes : List ℕ) (why : PassErr)
+    → IsPassing stands p rules holds names first k n old now → slice_get names k ≡ Some name → May (holds name) bytes → length bytes ≤ rules.max_bytes
+    → TakesFile {A = Unit {0}} stands (row_records p k n (rows_by rules bytes)) n later now new (Err why) → StopsFrom first p rules holds names before after why
+untaken_stops stands p rules holds names before after first k n later old now new name bytes (pass_err.Read file) is at may size e = absurd e
+untaken_stops stands p rules holds names before after first k n later old now new name bytes (pass_err.TooLarge file) is at may size e = absurd e
+untaken_stops stands p rules holds names before after first k n later old now new name bytes (pass_err.Head file fault) is at may size e =
+    stops_at stands p rules holds names first k n old now name bytes (pass_err.Head file fault) is at may (file_problem p rules k n bytes (pass_err.Head file fault) size e)
+untaken_stops stands p rules holds names before after first k n later old now new name bytes (pass_err.Bad file bad) is at may size e =
+    stops_at stands p rules holds names first k n old now name bytes (pass_err.Bad file bad) is at may (file_problem p rules k n bytes (pass_err.Bad file bad) size e)
+untaken_stops stands p rules holds names before after first k n later old now new name bytes pass_err.NoMemory is at may size e = tt
 
 -- ---- all files
-pub pass_begins : (p : ScriptPlan) (rules : FileRules) (holds : List ℕ → Option (List ℕ)) (names : List (List ℕ)) (next : ℕ) (groups : Pairs)
-    → groups ≡ [] → next ≡ 1 → IsPassing p rules holds names 0 next groups
-pass_begins p rules holds names next groups e n = record {
+pub pass_begins : {S : Type 0} (stands : S → List Record → Type 0) (p : ScriptPlan) (rules : FileRules) (holds : List ℕ → Option (List ℕ)) (names : List (List ℕ)) (first : ℕ) (now : S)
+    → IsPassing stands p rules holds names first 0 first now now
+pass_begins stands p rules holds names first now = record {
   told = [];
   may = tt;
   records = [];
-  fine = problems.no_file 1;
-  next_is = n;
-  stands = e;
+  fine = problems.no_file first;
+  next_is = omega arith;
+  extends = λ before at.
+      let P : List Record → Type 0 = λ records. stands now records in subst P (sym (append-nil before)) at;
 }
-
-pub passed_all : (p : ScriptPlan) (rules : FileRules) (holds : List ℕ → Option (List ℕ)) (names : List (List ℕ)) (k next : ℕ) (groups : Pairs)
-    → IsPassing p rules holds names k next groups → take k names ≡ names → PassedAll p rules holds names groups
-passed_all p rules holds names k next groups is all =
-    let P : List (List ℕ) → Type 0 = λ ns. MayAll holds ns is.told in
-    record {
-      files = is.told;
-      may = subst P all is.may;
-      records = is.records;
-      fine = is.fine;
-      stands = is.stands;
-    }
 
 -- ---- names and bytes as the code has them
 pub name_at : {A : Type 0} (f : A → List ℕ) (xs : List A) (k : ℕ) (x : A) (name : List ℕ) → k < length xs → x ≡ get_or xs k x → name ≡ f x
@@ -296,12 +273,6 @@ pub name_at : {A : Type 0} (f : A → List ℕ) (xs : List A) (k : ℕ) (x : A) 
 name_at f [] k x name h e same = absurd (omega (arith, h))
 name_at f (y ∷ ys) zero x name h e same = ap Some (ap f (sym e) ∙ sym same)
 name_at f (y ∷ ys) (suc k) x name h e same = name_at f ys k x name (omega (arith, h)) e same
-
-pub take_past : {A : Type 0} (f : A → List ℕ) (k : ℕ) (xs : List A) → length xs ≤ k → take k (map f xs) ≡ map f xs
-take_past f zero [] h = refl
-take_past f (suc k) [] h = refl
-take_past f zero (x ∷ xs) h = absurd (omega (arith, h))
-take_past f (suc k) (x ∷ xs) h = ap (λ ys. f x ∷ ys) (take_past f k xs (omega (arith, h)))
 
 pub may_as : (now holds : List ℕ → Option (List ℕ)) (name items bytes : List ℕ) → now ≡ holds → bytes ≡ items → May (now name) items → May (holds name) bytes
 may_as now holds name items bytes same e may =

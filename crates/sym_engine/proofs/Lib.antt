@@ -3,3 +3,4 @@ pub mod FilesAgree
 pub mod Opened
 pub mod Walks
 pub mod FileByFile
+pub mod Folds

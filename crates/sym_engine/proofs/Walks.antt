@@ -1,226 +1,313 @@
--- How far a file is folded.
-use Rattle.std.proofs.Common.{◌≡◌, ◌∙◌, refl, sym, ap, ℕ, ◌+◌, ◌-◌, arith, append_assoc, append-nil, length-append, true, false, List, [], ◌∷◌, ◌++◌, length, Option, None, Some, Ok, Err, Result, Bool, ◌<◌, ◌≤◌, subst}
-use Rattle.std.specs.Option.{unwrap_or}
+-- How far records are taken, of a chunk's rows, of a round's chunks and of a file's rounds.
+use Rattle.std.proofs.Common.{◌≡◌, ◌∙◌, refl, sym, ap, ℕ, zero, suc, ◌+◌, ◌<◌, ◌≤◌, arith, append_assoc, append-nil, length-append, List, [], ◌∷◌, ◌++◌, length, drop, map, get_or, IfSome, IsSome, Bool, true, false, ◌==◌, Option, None, Some, Ok, Err, Result, subst}
+use Rattle.std.specs.List.{All}
 use Rattle.std.specs.Result.{IsErrAnd}
+use Rattle.std.proofs.lemmas.List.Elements.{All-head, All-push, All-tail}
+use Rattle.std.specs.Option.{unwrap_or}
+use Rattle.std.proofs.lemmas.Grind.{flat_map-append}
+use Rattle.std.proofs.lemmas.Bool.{eqb-true, eqb-false}
+use Rattle.std.proofs.lemmas.List.{length-map, map-append}
 use Rattle.sym_base.specs.declared.values.value.Value.{Value}
 use Rattle.sym_base.specs.declared.values.record.Record.{Record}
 use Rattle.sym_check.specs.Arithmetic.{and_then}
-use Rattle.sym_check.specs.Groups.{pass}
 use Rattle.sym_check.specs.ScriptPlans.{ScriptPlan}
 use Rattle.sym_table.specs.declared.bad.Bad.{Bad}
 use Rattle.sym_table.specs.declared.bad.BadCause.{BadCause}
 use Rattle.sym_table.specs.declared.bad.Decoded.TheVariants as decoded
+use Rattle.sym_table.specs.declared.chunk.Chunk.{Chunk}
 use Rattle.sym_table.specs.declared.header.Header.{Header}
-use Rattle.sym_table.specs.Cutting.{Cutting, Takes}
-use Rattle.sym_table.specs.Decoding.{numbered, Fills}
+use Rattle.sym_table.specs.Cutting.{Cutting, Cuts, IsNext}
+use Rattle.sym_table.specs.ChunkRecords.{RunOn, chunk_records, all_records}
+use Rattle.sym_table.specs.Decoding.{numbered}
 use Rattle.sym_table.specs.Reading.{Row}
-use Rattle.sym_table.specs.Rows.{read_row}
+use Rattle.sym_table.specs.RowRecords.{record_or_bad, records_or_bad, in_turn}
+use Rattle.sym_check.specs.declared.plan.script.FieldPlan.{FieldPlan}
+use Rattle.sym_table.specs.Rows.{FitsChunk, read_row}
+use Rattle.sym_table.proofs.RecordsAgree.{rows_append}
+use Rattle.sym_engine.specs.declared.rounds.Took.{Took}
+use Rattle.sym_engine.specs.declared.rounds.Took.TheVariants as took
+use Rattle.sym_engine.specs.Rounds.{Extends, Takes, shown_chunk, round_records, stands_by}
 use Rattle.sym_engine.specs.declared.error.PassErr.{PassErr}
-use Rattle.sym_engine.specs.declared.error.PassErr.TheVariants as pass_err
-use Rattle.sym_table.specs.RowRecords.{record_or_bad, records_or_bad}
-use Rattle.sym_engine.specs.FileRecords.{or_else}
-use Rattle.sym_engine.specs.Folding.{Extends, Pairs, IsOpened, IsRowFolded, FoldsRow, AreFolded, FoldsRows, IsFolded, Folds, OpensFile}
+use Rattle.sym_engine.specs.Taking.{AreCut, AreTaken, TakesRows, rows_of}
 
--- The records of some rows, after those that were folded.
-abbrev pub after : List Record → Result (List Record) Bad → Result (List Record) Bad
-after done others = and_then (λ rest. Ok (done ++ rest)) others
-
--- The rows that were taken are records, and folded.
-pub record IsWalk (p : ScriptPlan) (header : Header) (first : ℕ) (rows : List Row) (old now : Pairs) (c : Cutting) : Type 0 where
-  pub left : List Row
+-- Of all records some are taken, and the others are left.
+pub record IsWalk {S : Type 0} (stands : S → List Record → Type 0) (all left : Result (List Record) Bad) (old now : S) : Type 0 where
   pub done : List Record
-  pub has : c.left ≡ Some left
-  pub next : c.next_no ≡ first + length done
-  pub reads : records_or_bad p header first rows ≡ after done (records_or_bad p header c.next_no left)
-  pub stands : Extends p old now done
+  pub splits : all ≡ in_turn (Ok done) left
+  pub extends : Extends stands old now done
 
-after_none : (r : Result (List Record) Bad) → r ≡ after [] r
-after_none (Ok records) = refl
-after_none (Err bad) = refl
+-- ---- records in turn
+pub none_first : (r : Result (List Record) Bad) → r ≡ in_turn (Ok []) r
+none_first (Ok records) = refl
+none_first (Err bad) = refl
 
-pub walk_begins : (p : ScriptPlan) (header : Header) (rows : List Row) (groups : Pairs) (c : Cutting)
-    → c.left ≡ Some rows → IsWalk p header c.next_no rows groups groups c
-walk_begins p header rows groups c has = record {
-  left = rows;
-  done = [];
-  has = has;
-  next = omega arith;
-  reads = after_none (records_or_bad p header c.next_no rows);
-  stands = λ before e. e ∙ ap (pass p) (sym (append-nil before));
+turn_assoc : (a b c : Result (List Record) Bad) → in_turn a (in_turn b c) ≡ in_turn (in_turn a b) c
+turn_assoc (Err bad) b c = refl
+turn_assoc (Ok first) (Err bad) c = refl
+turn_assoc (Ok first) (Ok more) (Err bad) = refl
+turn_assoc (Ok first) (Ok more) (Ok rest) = ap Ok (sym (append_assoc first more rest))
+
+-- ---- the walk
+-- The next part of what is left is taken.
+pub walk_on : {S : Type 0} (stands : S → List Record → Type 0) (all left part rest : Result (List Record) Bad) (old now new : S)
+    → IsWalk stands all left old now → left ≡ in_turn part rest → Takes stands part now new took.Done → IsWalk stands all rest old new
+walk_on stands all left part rest old now new w e takes = record {
+  done = w.done ++ takes.0;
+  splits =
+      w.splits
+      ∙ ap (in_turn (Ok w.done)) (e ∙ ap (λ r. in_turn r rest) takes.1)
+      ∙ turn_assoc (Ok w.done) (Ok takes.0) rest;
+  extends = λ before at.
+      let P : List Record → Type 0 = λ records. stands new records in
+      subst P (append_assoc before w.done takes.0) (takes.2 (before ++ w.done) (w.extends before at));
 }
 
+-- The next part of what is left has a row that is no record.
+pub walk_stops : {S : Type 0} (stands : S → List Record → Type 0) (all left part rest : Result (List Record) Bad) (old now : S) (bad : Bad)
+    → IsWalk stands all left old now → left ≡ in_turn part rest → part ≡ Err bad → all ≡ Err bad
+walk_stops stands all left part rest old now bad w e broken =
+    w.splits ∙ ap (in_turn (Ok w.done)) (e ∙ ap (λ r. in_turn r rest) broken)
+
+-- Nothing is left.
+pub walk_ends : {S : Type 0} (stands : S → List Record → Type 0) (all left : Result (List Record) Bad) (old now : S)
+    → IsWalk stands all left old now → left ≡ Ok [] → Takes stands all old now took.Done
+walk_ends stands all left old now w e =
+    (w.done, w.splits ∙ ap (in_turn (Ok w.done)) e ∙ ap Ok (append-nil w.done), w.extends)
+
+-- ---- a chunk's rows
+-- What one row is read as.
+abbrev pub alone : Result Record Bad → Result (List Record) Bad
+alone (Ok rec) = Ok (rec ∷ [])
+alone (Err bad) = Err bad
+
+first_alone : (r : Result Record Bad) (others : Result (List Record) Bad)
+    → and_then (λ rec. and_then (λ rest. Ok (rec ∷ rest)) others) r ≡ in_turn (alone r) others
+first_alone (Err bad) others = refl
+first_alone (Ok rec) (Err bad) = refl
+first_alone (Ok rec) (Ok rest) = refl
+
+-- What is left at a place, where an item is there.
+pub drop_next : {A : Type 0} (xs : List A) (k : ℕ) (x : A) → k < length xs → x ≡ get_or xs k x → drop k xs ≡ x ∷ drop (k + 1) xs
+drop_next [] k x h e = absurd (omega (arith, h))
+drop_next (y ∷ ys) zero x h e = ap (λ z. z ∷ ys) (sym e)
+drop_next (y ∷ ys) (suc k) x h e =
+    let more : suc (k + 1) ≡ suc k + 1 = omega arith in
+    drop_next ys k x (omega (arith, h)) e ∙ ap (λ m. x ∷ drop m (y ∷ ys)) more
+
+pub row_next : (p : ScriptPlan) (header : Header) (n : ℕ) (rows : List Row) (k : ℕ) (row : Row) → k < length rows → row ≡ get_or rows k row
+    → records_or_bad p header n (drop k rows) ≡ in_turn (alone (record_or_bad n (read_row p.enums p.fields header row))) (records_or_bad p header (n + 1) (drop (k + 1) rows))
+row_next p header n rows k row h e =
+    ap (records_or_bad p header n) (drop_next rows k row h e)
+    ∙ first_alone (record_or_bad n (read_row p.enums p.fields header row)) (records_or_bad p header (n + 1) (drop (k + 1) rows))
+
+-- What a row was decoded to.
+pub record_is : (n : ℕ) (read : Result (List Value) BadCause) (rec : Record) → numbered n read ≡ decoded.Is rec → alone (record_or_bad n read) ≡ Ok (rec ∷ [])
+record_is n (Ok values) rec e =
+    let same : record { no = n; fields = values } ≡ rec = cc in ap (λ r. Ok (r ∷ [])) same
+record_is n (Err why) rec e = absurd (cc)
+
+-- ---- a round's chunks
+pub chunk_next : (p : ScriptPlan) (cuts : List Chunk) (k : ℕ) (cut : Chunk) → k < length cuts → cut ≡ get_or cuts k cut
+    → all_records p (drop k cuts) ≡ in_turn (chunk_records p cut) (all_records p (drop (k + 1) cuts))
+chunk_next p cuts k cut h e = ap (all_records p) (drop_next cuts k cut h e)
+
+-- ---- a file's rounds
+-- The rows of chunks that run on, and then others.
+pub round_next : (p : ScriptPlan) (header : Header) (shown : Row → Row) (n : ℕ) (cuts : List Chunk) (rest : List Row)
+    → All (λ (cut : Chunk). cut.header ≡ header) cuts → RunOn n cuts
+    → records_or_bad p header n (map shown (rows_of cuts ++ rest))
+    ≡ in_turn (round_records p shown cuts) (records_or_bad p header (n + length (rows_of cuts)) (map shown rest))
+round_next p header shown n [] rest headers numbers =
+    let same : n ≡ n + 0 = omega arith in
+    none_first (records_or_bad p header n (map shown rest))
+    ∙ ap (λ m. in_turn (Ok []) (records_or_bad p header m (map shown rest))) same
+round_next p header shown n (cut ∷ cuts) rest headers numbers =
+    let count : n + length (map shown cut.rows) ≡ n + length cut.rows = omega (arith, length-map cut.rows shown) in
+    let last : n + length cut.rows + length (rows_of cuts) ≡ n + length (cut.rows ++ rows_of cuts) = omega (arith, length-append cut.rows (rows_of cuts)) in
+    let front = records_or_bad p header n (map shown cut.rows) in
+    let more = round_records p shown cuts in
+    let head : chunk_records p (shown_chunk shown cut) ≡ front =
+    ap (λ h. records_or_bad p h cut.first_no (map shown cut.rows)) (All-head (λ (c : Chunk). c.header ≡ header) cut cuts headers)
+    ∙ ap (λ m. records_or_bad p header m (map shown cut.rows)) numbers.0 in
+    ap (λ rows. records_or_bad p header n (map shown rows)) (append_assoc cut.rows (rows_of cuts) rest)
+    ∙ ap (records_or_bad p header n) (map-append shown cut.rows (rows_of cuts ++ rest))
+    ∙ rows_append p header n (map shown cut.rows) (map shown (rows_of cuts ++ rest))
+    ∙ ap (λ m. in_turn front (records_or_bad p header m (map shown (rows_of cuts ++ rest)))) count
+    ∙ ap (in_turn front) (round_next p header shown (n + length cut.rows) cuts rest (All-tail (λ (c : Chunk). c.header ≡ header) cut cuts headers) numbers.1)
+    ∙ turn_assoc front more (records_or_bad p header (n + length cut.rows + length (rows_of cuts)) (map shown rest))
+    ∙ ap (λ m. in_turn (in_turn front more) (records_or_bad p header m (map shown rest))) last
+    ∙ ap (λ r. in_turn (in_turn r more) (records_or_bad p header (n + length (cut.rows ++ rows_of cuts)) (map shown rest))) (sym head)
+
+-- ---- chunks that are cut off one after the other
 some_rows : (a b : List Row) → ◌≡◌ {A = Option (List Row)} (Some a) (Some b) → a ≡ b
 some_rows a b e = cc
 
--- What a row was decoded to.
-record_is : (n : ℕ) (read : Result (List Value) BadCause) (rec : Record) → numbered n read ≡ decoded.Is rec → record_or_bad n read ≡ Ok rec
-record_is n (Ok values) rec e =
-    let same : record { no = n; fields = values } ≡ rec = cc in ap Ok same
-record_is n (Err why) rec e = absurd (cc)
+pub left_is : (o : Option (List Row)) → IsSome o → o ≡ Some (unwrap_or o [])
+left_is None h = absurd (cc)
+left_is (Some rows) h = refl
 
-bad_is : (n : ℕ) (read : Result (List Value) BadCause) (bad : Bad) → numbered n read ≡ decoded.Bad bad → record_or_bad n read ≡ Err bad
-bad_is n (Ok values) bad e = absurd (cc)
-bad_is n (Err why) bad e =
-    let same : record { no = n; cause = why } ≡ bad = cc in ap Err same
+pub left_of : (o : Option (List Row)) (rows : List Row) → o ≡ Some rows → unwrap_or o [] ≡ rows
+left_of o rows e = ap (λ x. unwrap_or x []) e
 
-pub row_folded : (p : ScriptPlan) (row : Row) (n m : ℕ) (h header : Header) (found : Option Bad) (rec : Record) (old new : Pairs)
-    → n ≡ m → h ≡ header → found ≡ None → Fills found rec (numbered n (read_row p.enums p.fields h row)) → Extends p old new (rec ∷ [])
-    → IsRowFolded p (record_or_bad m (read_row p.enums p.fields header row)) old new
-row_folded p row n m h header found rec old new same at none fills stands =
-    let F : Option Bad → Type 0 = λ o. Fills o rec (numbered n (read_row p.enums p.fields h row)) in
-    let P : ℕ → Type 0 = λ k. record_or_bad k (read_row p.enums p.fields h row) ≡ Ok rec in
-    let Q : Header → Type 0 = λ k. record_or_bad m (read_row p.enums p.fields k row) ≡ Ok rec in
+pub is_some : (o : Option (List Row)) (rows : List Row) → o ≡ Some rows → IsSome o
+is_some o rows e = let P : Option (List Row) → Type 0 = λ x. IsSome x in subst P (sym e) refl
+
+more_rows : (cuts : List Chunk) (cut : Chunk) → rows_of (cuts ++ cut ∷ []) ≡ rows_of cuts ++ cut.rows
+more_rows cuts cut =
+    flat_map-append (λ (k : Chunk). k.rows) cuts (cut ∷ []) ∙ ap (λ rows. rows_of cuts ++ rows) (append-nil cut.rows)
+
+run_on_more : (n : ℕ) (cuts : List Chunk) (cut : Chunk) → RunOn n cuts → cut.first_no ≡ n + length (rows_of cuts) → RunOn n (cuts ++ cut ∷ [])
+run_on_more n [] cut numbers e = (omega (arith, e), tt)
+run_on_more n (k ∷ cuts) cut numbers e =
+    (numbers.0, run_on_more (n + length k.rows) cuts cut numbers.1 (omega (arith, e, length-append k.rows (rows_of cuts))))
+
+pub cut_on : (a b c : Cutting) (cuts : List Chunk) (cut : Chunk) → AreCut a b cuts → b.header ≡ a.header → IsNext b c cut → AreCut a c (cuts ++ cut ∷ [])
+cut_on a b c cuts cut is same next =
+    let rest_is : is.rest ≡ cut.rows ++ next.rest = some_rows is.rest (cut.rows ++ next.rest) (sym is.has ∙ next.had) in
+    let more = more_rows cuts cut in
     record {
-      rec = rec;
-      is = subst Q at (subst P same (record_is n (read_row p.enums p.fields h row) rec (subst F none fills)));
-      stands = stands;
+      rest = next.rest;
+      had =
+          is.had
+          ∙ ap (λ rest. Some (rows_of cuts ++ rest)) rest_is
+          ∙ ap Some (sym (append_assoc (rows_of cuts) cut.rows next.rest))
+          ∙ ap (λ rows. Some (rows ++ next.rest)) (sym more);
+      has = next.has;
+      filled = All-push (λ (k : Chunk). 1 ≤ length k.rows) cuts cut is.filled next.some;
+      headers = All-push (λ (k : Chunk). k.header ≡ a.header) cuts cut is.headers (next.header_is ∙ same);
+      numbers = run_on_more a.next_no cuts cut is.numbers (next.first ∙ is.next);
+      next = omega (arith, next.next, is.next, ap length more, length-append (rows_of cuts) cut.rows);
     }
 
-pub row_bad : (p : ScriptPlan) (row : Row) (n m : ℕ) (h header : Header) (found : Option Bad) (rec : Record) (bad : Bad)
-    → n ≡ m → h ≡ header → found ≡ Some bad → Fills found rec (numbered n (read_row p.enums p.fields h row))
-    → record_or_bad m (read_row p.enums p.fields header row) ≡ Err bad
-row_bad p row n m h header found rec bad same at some fills =
-    let F : Option Bad → Type 0 = λ o. Fills o rec (numbered n (read_row p.enums p.fields h row)) in
-    let P : ℕ → Type 0 = λ k. record_or_bad k (read_row p.enums p.fields h row) ≡ Err bad in
-    let Q : Header → Type 0 = λ k. record_or_bad m (read_row p.enums p.fields k row) ≡ Err bad in
-    subst Q at (subst P same (bad_is n (read_row p.enums p.fields h row) bad (subst F some fills)))
+-- The next chunk, as it was found and put behind the others.
+pub cut_push : (a b c : Cutting) (cuts more : List Chunk) (found : Option Chunk) (cut : Chunk) → found ≡ Some cut → more ≡ cuts ++ cut ∷ []
+    → AreCut a b cuts → b.header ≡ a.header → Cuts b c (Ok found) → AreCut a c more
+cut_push a b c cuts more found cut some pushed is same next =
+    let P : Option Chunk → Type 0 = λ o. Cuts b c (Ok o) in
+    let Q : List Chunk → Type 0 = λ all. AreCut a c all in
+    subst Q (sym pushed) (cut_on a b c cuts cut is same (subst P some next))
 
-after_more : (done : List Record) (rec : Record) (r : Result (List Record) Bad)
-    → after done (and_then (λ others. Ok (rec ∷ others)) r) ≡ after (done ++ rec ∷ []) r
-after_more done rec (Ok others) = ap Ok (sym (append_assoc done (rec ∷ []) others))
-after_more done rec (Err bad) = refl
+pub fit_push : (fields : List FieldPlan) (cuts more : List Chunk) (found : Option Chunk) (cut : Chunk) → found ≡ Some cut → more ≡ cuts ++ cut ∷ []
+    → All (FitsChunk fields) cuts → IfSome found (λ k. FitsChunk fields k) → All (FitsChunk fields) more
+fit_push fields cuts more found cut some pushed are fits =
+    let P : Option Chunk → Type 0 = λ o. IfSome o (λ k. FitsChunk fields k) in
+    let Q : List Chunk → Type 0 = λ all. All (FitsChunk fields) all in
+    subst Q (sym pushed) (All-push (FitsChunk fields) cuts cut are (subst P some fits))
 
--- The next row, by the record that it is.
-next_row : (p : ScriptPlan) (header : Header) (n : ℕ) (row : Row) (rows : List Row) (r : Result Record Bad)
-    → record_or_bad n (read_row p.enums p.fields header row) ≡ r
-    → records_or_bad p header n (row ∷ rows) ≡ and_then (λ rec. and_then (λ others. Ok (rec ∷ others)) (records_or_bad p header (n + 1) rows)) r
-next_row p header n row rows r e =
-    ap (λ found. and_then (λ rec. and_then (λ others. Ok (rec ∷ others)) (records_or_bad p header (n + 1) rows)) found) e
+-- Whether there is one, by the test of the length.
+pub none_are : {A : Type 0} (xs : List A) (b : Bool) → b ≡ true → b ≡ (length xs == 0) → xs ≡ []
+none_are [] b t e = refl
+none_are (x ∷ xs) b t e = let zero_is = eqb-true (length (x ∷ xs)) 0 (sym e ∙ t) in absurd (omega arith)
 
--- The row that was taken, and its number.
-record IsTaken (c d : Cutting) (row : Row) (left : List Row) : Type 0 where
-  rest : List Row
-  left_is : left ≡ row ∷ rest
-  has : d.left ≡ Some rest
-  next : d.next_no ≡ c.next_no + 1
-  number : d.next_no - 1 ≡ c.next_no
+pub some_are : {A : Type 0} (xs : List A) (b : Bool) → b ≡ false → b ≡ (length xs == 0) → 1 ≤ length xs
+some_are [] b t e = absurd (eqb-false 0 0 (sym e ∙ t) refl)
+some_are (x ∷ xs) b t e = omega arith
 
-taken : (c d : Cutting) (row : Row) (left : List Row) → c.left ≡ Some left → Takes c d row (Ok true) → IsTaken c d row left
-taken c d row left has took = record {
-  rest = took.0;
-  left_is = some_rows left (row ∷ took.0) (sym has ∙ took.1);
-  has = took.2;
-  next = took.3;
-  number = let e = took.3 in omega arith;
-}
+-- Where no chunk was cut off, the next number stays.
+pub same_next : (a b : Cutting) (cuts : List Chunk) → AreCut a b cuts → cuts ≡ [] → b.next_no ≡ a.next_no
+same_next a b cuts is e = omega (arith, is.next, ap (λ k. length (rows_of k)) e)
 
--- What is read from this row on.
-from_row : (p : ScriptPlan) (header : Header) (c d : Cutting) (row : Row) (left : List Row) (r : Result Record Bad) → (t : IsTaken c d row left)
-    → record_or_bad (d.next_no - 1) (read_row p.enums p.fields header row) ≡ r
-    → records_or_bad p header c.next_no left ≡ and_then (λ rec. and_then (λ others. Ok (rec ∷ others)) (records_or_bad p header (c.next_no + 1) t.rest)) r
-from_row p header c d row left r t e =
-    let P : ℕ → Type 0 = λ k. record_or_bad k (read_row p.enums p.fields header row) ≡ r in
-    ap (records_or_bad p header c.next_no) t.left_is ∙ next_row p header c.next_no row t.rest r (subst P t.number e)
+-- How far a file's rows are taken: those that are left, and the walk over the records.
+pub record IsTaking {S : Type 0} (stands : S → List Record → Type 0) (p : ScriptPlan) (header : Header) (shown : Row → Row) (first : ℕ) (rows : List Row)
+    (old now : S) (c : Cutting) : Type 0 where
+  pub left : List Row
+  pub has : c.left ≡ Some left
+  pub numbers : c.next_no + length left ≡ first + length rows
+  pub walk : IsWalk stands (records_or_bad p header first (map shown rows)) (records_or_bad p header c.next_no (map shown left)) old now
 
-pub walk_on : (p : ScriptPlan) (header : Header) (first : ℕ) (rows : List Row) (old now new : Pairs) (c d : Cutting) (row : Row)
-    → IsWalk p header first rows old now c → Takes c d row (Ok true)
-    → IsRowFolded p (record_or_bad (d.next_no - 1) (read_row p.enums p.fields header row)) now new
-    → IsWalk p header first rows old new d
-walk_on p header first rows old now new c d row w took folded =
-    let t = taken c d row w.left w.has took in
-    let rec = folded.rec in
+-- What is left, by the round that is cut off it.
+left_next : {S : Type 0} (stands : S → List Record → Type 0) (p : ScriptPlan) (header : Header) (shown : Row → Row) (first : ℕ) (rows : List Row) (old now : S) (c d : Cutting) (cuts : List Chunk)
+    → (is : IsTaking stands p header shown first rows old now c) → c.header ≡ header → (cut : AreCut c d cuts)
+    → records_or_bad p header c.next_no (map shown is.left) ≡ in_turn (round_records p shown cuts) (records_or_bad p header d.next_no (map shown cut.rest))
+left_next stands p header shown first rows old now c d cuts is same cut =
+    let P : Header → Type 0 = λ h. All (λ (k : Chunk). k.header ≡ h) cuts in
+    let left_is : is.left ≡ rows_of cuts ++ cut.rest = some_rows is.left (rows_of cuts ++ cut.rest) (sym is.has ∙ cut.had) in
+    ap (λ left. records_or_bad p header c.next_no (map shown left)) left_is
+    ∙ round_next p header shown c.next_no cuts cut.rest (subst P same cut.headers) cut.numbers
+    ∙ ap (λ m. in_turn (round_records p shown cuts) (records_or_bad p header m (map shown cut.rest))) (sym cut.next)
+
+pub taking_on : {S : Type 0} (stands : S → List Record → Type 0) (p : ScriptPlan) (header : Header) (shown : Row → Row) (first : ℕ) (rows : List Row) (old now new : S) (c d : Cutting) (cuts : List Chunk)
+    → IsTaking stands p header shown first rows old now c → c.header ≡ header → AreCut c d cuts
+    → Takes stands (round_records p shown cuts) now new took.Done → IsTaking stands p header shown first rows old new d
+taking_on stands p header shown first rows old now new c d cuts is same cut takes =
+    let left_is : is.left ≡ rows_of cuts ++ cut.rest = some_rows is.left (rows_of cuts ++ cut.rest) (sym is.has ∙ cut.had) in
     record {
-      left = t.rest;
-      done = w.done ++ rec ∷ [];
-      has = t.has;
-      next = omega (arith, t.next, w.next, length-append w.done (rec ∷ []));
-      reads =
-          w.reads
-          ∙ ap (after w.done) (from_row p header c d row w.left (Ok rec) t folded.is)
-          ∙ after_more w.done rec (records_or_bad p header (c.next_no + 1) t.rest)
-          ∙ ap (λ n. after (w.done ++ rec ∷ []) (records_or_bad p header n t.rest)) (sym t.next);
-      stands = λ before e.
-          folded.stands (before ++ w.done) (w.stands before e) ∙ ap (pass p) (append_assoc before w.done (rec ∷ []));
+      left = cut.rest;
+      has = cut.has;
+      numbers = omega (arith, is.numbers, cut.next, ap length left_is, length-append (rows_of cuts) cut.rest);
+      walk =
+          walk_on stands (records_or_bad p header first (map shown rows)) (records_or_bad p header c.next_no (map shown is.left)) (round_records p shown cuts)
+          (records_or_bad p header d.next_no (map shown cut.rest)) old now new is.walk
+          (left_next stands p header shown first rows old now c d cuts is same cut) takes;
     }
 
-walk_bad : (p : ScriptPlan) (header : Header) (first : ℕ) (rows : List Row) (old now : Pairs) (c d : Cutting) (row : Row) (bad : Bad)
-    → IsWalk p header first rows old now c → Takes c d row (Ok true)
-    → record_or_bad (d.next_no - 1) (read_row p.enums p.fields header row) ≡ Err bad
-    → records_or_bad p header first rows ≡ Err bad
-walk_bad p header first rows old now c d row bad w took e =
-    let t = taken c d row w.left w.has took in
-    w.reads ∙ ap (after w.done) (from_row p header c d row w.left (Err bad) t e)
+pub taking_fewer : {S : Type 0} (stands : S → List Record → Type 0) (p : ScriptPlan) (header : Header) (shown : Row → Row) (first : ℕ) (rows : List Row) (old now : S) (c d : Cutting) (cuts : List Chunk)
+    → IsTaking stands p header shown first rows old now c → AreCut c d cuts → 1 ≤ length cuts
+    → length (unwrap_or d.left []) < length (unwrap_or c.left [])
+taking_fewer stands p header shown first rows old now c d [] is cut many = absurd (omega arith)
+taking_fewer stands p header shown first rows old now c d (k ∷ cuts) is cut many =
+    let had : unwrap_or c.left [] ≡ (k.rows ++ rows_of cuts) ++ cut.rest = left_of c.left ((k.rows ++ rows_of cuts) ++ cut.rest) cut.had in
+    let has : unwrap_or d.left [] ≡ cut.rest = left_of d.left cut.rest cut.has in
+    omega (arith, ap length had, ap length has, All-head (λ (c : Chunk). 1 ≤ length c.rows) k cuts cut.filled, length-append (k.rows ++ rows_of cuts) cut.rest, length-append k.rows (rows_of cuts))
 
-pub walk_stops : (p : ScriptPlan) (header : Header) (first file next : ℕ) (rows : List Row) (old now : Pairs) (c d : Cutting) (row : Row) (why : PassErr)
-    → IsWalk p header first rows old now c → Takes c d row (Ok true)
-    → FoldsRow p file (record_or_bad (d.next_no - 1) (read_row p.enums p.fields header row)) now (Err why)
-    → FoldsRows p file (records_or_bad p header first rows) first next old (Err why)
-walk_stops p header first file next rows old now c d row (pass_err.Read n) w took stops = stops
-walk_stops p header first file next rows old now c d row (pass_err.TooLarge n) w took stops = stops
-walk_stops p header first file next rows old now c d row (pass_err.Head n fault) w took stops = stops
-walk_stops p header first file next rows old now c d row (pass_err.Bad n bad) w took stops =
-    (stops.0, walk_bad p header first rows old now c d row bad w took stops.1)
-walk_stops p header first file next rows old now c d row pass_err.NoMemory w took stops = tt
+pub taking_stops : {S : Type 0} (stands : S → List Record → Type 0) (p : ScriptPlan) (header : Header) (shown : Row → Row) (first : ℕ) (rows : List Row) (old now : S) (c d : Cutting) (cuts : List Chunk) (bad : Bad)
+    → IsTaking stands p header shown first rows old now c → c.header ≡ header → AreCut c d cuts
+    → round_records p shown cuts ≡ Err bad → records_or_bad p header first (map shown rows) ≡ Err bad
+taking_stops stands p header shown first rows old now c d cuts bad is same cut broken =
+    walk_stops stands (records_or_bad p header first (map shown rows)) (records_or_bad p header c.next_no (map shown is.left)) (round_records p shown cuts)
+    (records_or_bad p header d.next_no (map shown cut.rest)) old now bad is.walk
+    (left_next stands p header shown first rows old now c d cuts is same cut) broken
 
-pub walk_ends : (p : ScriptPlan) (header : Header) (first : ℕ) (rows : List Row) (old now : Pairs) (c d : Cutting) (row : Row)
-    → IsWalk p header first rows old now c → Takes c d row (Ok false)
-    → AreFolded p (records_or_bad p header first rows) first d.next_no old now
-walk_ends p header first rows old now c d row w took =
-    let none : w.left ≡ [] = some_rows w.left [] (sym w.has ∙ took.0) in
+-- There are as many records as rows.
+one_more : (r : Result Record Bad) (others : Result (List Record) Bad) (records : List Record) (n : ℕ)
+    → ((rest : List Record) → others ≡ Ok rest → length rest ≡ n)
+    → and_then (λ rec. and_then (λ rest. Ok (rec ∷ rest)) others) r ≡ Ok records → length records ≡ suc n
+one_more (Err bad) others records n many e = absurd (cc)
+one_more (Ok rec) (Err bad) records n many e = absurd (cc)
+one_more (Ok rec) (Ok rest) records n many e =
+    let same : rec ∷ rest ≡ records = cc in sym (ap length same) ∙ ap suc (many rest refl)
+
+records_many : (p : ScriptPlan) (header : Header) (n : ℕ) (rows : List Row) (records : List Record) → records_or_bad p header n rows ≡ Ok records → length records ≡ length rows
+records_many p header n [] records e = let none : records ≡ [] = cc in ap length none
+records_many p header n (row ∷ rows) records e =
+    one_more (record_or_bad n (read_row p.enums p.fields header row)) (records_or_bad p header (n + 1) rows) records (length rows)
+    (λ rest is. records_many p header (n + 1) rows rest is) e
+
+pub taking_ends : {S : Type 0} (stands : S → List Record → Type 0) (p : ScriptPlan) (header : Header) (shown : Row → Row) (first : ℕ) (rows : List Row) (old now : S) (c d : Cutting)
+    → IsTaking stands p header shown first rows old now c → c.left ≡ Some [] → d.next_no ≡ c.next_no
+    → AreTaken stands (records_or_bad p header first (map shown rows)) first d.next_no old now
+taking_ends stands p header shown first rows old now c d is none same =
+    let left_is : is.left ≡ [] = some_rows is.left [] (sym is.has ∙ none) in
+    let ends =
+    walk_ends stands (records_or_bad p header first (map shown rows)) (records_or_bad p header c.next_no (map shown is.left)) old now is.walk
+    (ap (λ left. records_or_bad p header c.next_no (map shown left)) left_is) in
     record {
-      records = w.done;
-      are = w.reads ∙ ap (λ left. after w.done (records_or_bad p header c.next_no left)) none ∙ ap Ok (append-nil w.done);
-      next_is = took.2 ∙ w.next;
-      stands = w.stands;
+      records = ends.0;
+      are = ends.1;
+      next_is = omega (arith, same, is.numbers, ap length left_is, records_many p header first (map shown rows) ends.0 ends.1, length-map rows shown);
+      extends = ends.2;
     }
 
--- ---- the whole file
-pub file_folded : (p : ScriptPlan) (file first next last : ℕ) (rows : List Row) (c : Cutting) (old new : Pairs) → last ≡ next
-    → (is : IsOpened p file first rows c) → AreFolded p (records_or_bad p c.header c.next_no is.left) c.next_no next old new → IsFolded p file first last rows old new
-file_folded p file first next last rows c old new same is are = record {
-  records = are.records;
-  are =
-      is.reads
-      ∙ ap (λ n. or_else (pass_err.Bad file) (records_or_bad p c.header n is.left)) (sym is.next)
-      ∙ ap (or_else (pass_err.Bad file)) are.are;
-  next_is = omega (arith, same, are.next_is, is.next);
-  stands = are.stands;
-}
+-- What a round came to, by the script, the limit and what is shown as they were.
+pub took_as : {S : Type 0} (stands : S → ScriptPlan → ℕ → List Record → Type 0) (p q : ScriptPlan) (n m : ℕ) (f g : Row → Row) (cuts : List Chunk) (now new : S) (t u : Took)
+    → p ≡ q → n ≡ m → f ≡ g → t ≡ u → Takes (stands_by stands p n) (round_records p f cuts) now new t → Takes (stands_by stands q m) (round_records q g cuts) now new u
+took_as stands p q n m f g cuts now new t u plan limit shown same takes =
+    let P : ScriptPlan → Type 0 = λ x. Takes (stands_by stands x n) (round_records x f cuts) now new t in
+    let N : ℕ → Type 0 = λ x. Takes (stands_by stands q x) (round_records q f cuts) now new t in
+    let F : (Row → Row) → Type 0 = λ x. Takes (stands_by stands q m) (round_records q x cuts) now new t in
+    let T : Took → Type 0 = λ x. Takes (stands_by stands q m) (round_records q g cuts) now new x in
+    subst T same (subst F shown (subst N limit (subst P plan takes)))
 
-pub file_stops : (p : ScriptPlan) (file first next later : ℕ) (rows : List Row) (c : Cutting) (old : Pairs) (why : PassErr)
-    → (is : IsOpened p file first rows c) → FoldsRows p file (records_or_bad p c.header c.next_no is.left) c.next_no next old (Err why)
-    → Folds p file first later rows old (Err why)
-file_stops p file first next later rows c old (pass_err.Read n) is stops = stops
-file_stops p file first next later rows c old (pass_err.TooLarge n) is stops = stops
-file_stops p file first next later rows c old (pass_err.Head n fault) is stops = absurd stops
-file_stops p file first next later rows c old (pass_err.Bad n bad) is stops =
-    is.reads
-    ∙ ap (λ n. or_else (pass_err.Bad file) (records_or_bad p c.header n is.left)) (sym is.next)
-    ∙ ap (or_else (pass_err.Bad file)) stops.1
-    ∙ ap (λ m. Err (pass_err.Bad m bad)) (sym stops.0)
-file_stops p file first next later rows c old pass_err.NoMemory is stops = tt
+-- What a file's rows came to, by the rows as they were left.
+pub rows_as : {S : Type 0} (stands : S → List Record → Type 0) (p : ScriptPlan) (header : Header) (n next : ℕ) (shown : Row → Row) (rows left : List Row) (old new : S) (t u : Took)
+    → rows ≡ left → t ≡ u → TakesRows stands (records_or_bad p header n (map shown rows)) n next old new t
+    → TakesRows stands (records_or_bad p header n (map shown left)) n next old new u
+rows_as stands p header n next shown rows left old new t u e same takes =
+    let P : List Row → Type 0 = λ x. TakesRows stands (records_or_bad p header n (map shown x)) n next old new t in
+    let T : Took → Type 0 = λ x. TakesRows stands (records_or_bad p header n (map shown left)) n next old new x in
+    subst T same (subst P e takes)
 
-pub head_stops : (p : ScriptPlan) (file first later : ℕ) (rows : List Row) (old : Pairs) (why : PassErr)
-    → OpensFile p file first rows (Err why) → Folds p file first later rows old (Err why)
-head_stops p file first later rows old (pass_err.Read n) stops = stops
-head_stops p file first later rows old (pass_err.TooLarge n) stops = stops
-head_stops p file first later rows old (pass_err.Head n fault) stops = stops
-head_stops p file first later rows old (pass_err.Bad n bad) stops = absurd stops
-head_stops p file first later rows old pass_err.NoMemory stops = tt
-
--- ---- taken rows, and errors that are passed on
-pub took_as : (c d : Cutting) (row : Row) (b t : Bool) → b ≡ t → Takes c d row (Ok b) → Takes c d row (Ok t)
-took_as c d row b t e took = let P : Bool → Type 0 = λ x. Takes c d row (Ok x) in subst P e took
-
-pub fewer : (c d : Cutting) (row : Row) → Takes c d row (Ok true) → length (unwrap_or d.left []) < length (unwrap_or c.left [])
-fewer c d row took =
-    let was : unwrap_or c.left [] ≡ row ∷ took.0 = ap (λ o. unwrap_or o []) took.1 in
-    let is : unwrap_or d.left [] ≡ took.0 = ap (λ o. unwrap_or o []) took.2 in
-    omega (arith, ap length was, ap length is)
-
-pub numbered_on : (c d : Cutting) (row : Row) → Takes c d row (Ok true) → 1 ≤ d.next_no
-numbered_on c d row took = omega (arith, took.3)
-
-pub fails_as : (r : Result Pairs PassErr) (why : PassErr) (P : Result Pairs PassErr → Type 0) → IsErrAnd r (λ e. e ≡ why) → P (Err why) → P r
-fails_as (Ok groups) why P is holds = absurd is
+-- ---- errors that are passed on
+pub fails_as : {A : Type 0} (r : Result A PassErr) (why : PassErr) (P : Result A PassErr → Type 0) → IsErrAnd r (λ e. e ≡ why) → P (Err why) → P r
+fails_as (Ok x) why P is holds = absurd is
 fails_as (Err e) why P is holds = let Q : PassErr → Type 0 = λ x. P (Err x) in subst Q (sym is) holds

@@ -24,9 +24,13 @@ pub record FileRules : Type 0 where
   pub max_bytes : ℕ
   pub shown : Row → Row
 
+-- Files of at most so many bytes, each row as it is shown.
+abbrev pub rules_of : ℕ → (Row → Row) → FileRules
+rules_of max_bytes shown = record { max_bytes = max_bytes; shown = shown }
+
 -- Files of at most so many bytes, each row as it is.
 abbrev pub plain_rules : ℕ → FileRules
-plain_rules max_bytes = record { max_bytes = max_bytes; shown = λ row. row }
+plain_rules max_bytes = rules_of max_bytes (λ row. row)
 
 -- The header as it is, and the other rows as they are shown.
 abbrev pub shown_rows : (Row → Row) → List Row → List Row

@@ -1,4 +1,6 @@
 pub mod FileRecords
 pub mod FirstProblems
+pub mod Options
+pub mod Rounds
 pub mod Passing
-pub mod Folding
+pub mod Taking

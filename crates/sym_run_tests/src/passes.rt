@@ -4,7 +4,7 @@ use std::alloc::Global;
 use std::test::Fail;
 use sym_base::{Column, Key, MemStore, NoMemory, Outcome, State, Value};
 use sym_check::Checked;
-use sym_engine::{PassErr, pass};
+use sym_engine::{CHUNK_DEFAULT, LIMIT_DEFAULT, Options, PassErr, WORKERS_DEFAULT, pass};
 use sym_plain::{Groups, columns};
 use sym_table::{Bad, BadCause, HeadFault};
 
@@ -31,6 +31,9 @@ struct Run([&'static str; 3], Want);
 /// The sum of each user's numbers, which is at most 8.
 const SCRIPT: &str = "field u: word; field n: num; group u; state k: int [0..8] = 0; \
                       update { k = k + n; } report { k = k; }";
+
+/// The rows of a chunk, on which the groups don't depend.
+const CHUNKS: [u32; 3] = [1, 2, CHUNK_DEFAULT];
 
 /// The files and their names. The last one has more than 16 bytes.
 const FILES: [(&str, &str); 8] = [
@@ -190,18 +193,26 @@ fn are_groups(
     Ok(groups.len() == wanted.len())
 }
 
-// Whether the pass over the files of these names, of at most 16 bytes each, comes to this.
+// Whether the pass over the files of these names, of at most 16 bytes each, cut into chunks of so
+// many rows, comes to this.
 fn pass_is(
     alloc: Global,
     checked: &Checked,
     files: &mut MemStore,
     names: &[String],
+    chunk: u32,
     want: Want,
 ) -> Result<bool, NoMemory> {
-    if names.len() > 3 {
+    if names.len() > 3 || chunk < 1 || chunk > CHUNK_DEFAULT {
         return Ok(false);
     }
-    match (pass(alloc, checked, files, names, 16), want) {
+    let options = Options {
+        chunk,
+        limit: LIMIT_DEFAULT,
+        workers: WORKERS_DEFAULT,
+        max_bytes: 16,
+    };
+    match (pass(alloc, checked, files, names, &options), want) {
         (Ok(groups), Want::Groups(wanted)) => are_groups(alloc, checked, &groups, wanted),
         (Err(why), Want::Stops(wanted)) => Ok(why == wanted),
         (Ok(_), Want::Stops(_)) | (Err(_), Want::Groups(_)) => Ok(false),
@@ -213,14 +224,21 @@ fn run_is(
     checked: &Checked,
     files: &mut MemStore,
     run: &[&'static str],
+    chunk: u32,
     want: Want,
 ) -> Result<bool, NoMemory> {
-    pass_is(alloc, checked, files, names(alloc, run)?.as_slice(), want)
+    let names = names(alloc, run)?;
+    pass_is(alloc, checked, files, names.as_slice(), chunk, want)
 }
 
 impl Row for Run {
     fn holds(&self, alloc: Global, checked: &Checked) -> Result<bool, NoMemory> {
-        run_is(alloc, checked, &mut store(alloc, 0)?, &self.0, self.1)
+        'chunks: for chunk in CHUNKS {
+            if !run_is(alloc, checked, &mut store(alloc, 0)?, &self.0, chunk, self.1)? {
+                return Ok(false);
+            }
+        }
+        Ok(true)
     }
 }
 
@@ -257,8 +275,8 @@ fn fails_once(
     let Run(names, whole) = WHOLE;
     let fault = Want::Stops(PassErr::Read { file });
     Ok(
-        run_is(alloc, checked, files, &names, fault)?
-            && run_is(alloc, checked, files, &names, whole)?,
+        run_is(alloc, checked, files, &names, CHUNK_DEFAULT, fault)?
+            && run_is(alloc, checked, files, &names, CHUNK_DEFAULT, whole)?,
     )
 }
 

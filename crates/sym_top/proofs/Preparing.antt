@@ -251,11 +251,11 @@ module _ (call : Call) (read : CommandRead) (asked : command_of call.asked ≡ S
       }
 
   problem-stops : (why : PassErr) →
-      HasFirstProblem (checked_program checked).plan (file_rules (command_seen read)) call.holds (command_seen read).files why →
+      HasFirstProblem (checked_program checked).plan (file_rules (command_seen read)) call.holds (command_seen read).files 1 why →
       Stops call (record { why = pass_refusal why; command = Some read; checked = Some checked })
   problem-stops why s =
       known (pass_refusal why) s.files s.may
-      (promise.at_end (pass_refusal why) (problem (command_seen read) (checked_program checked) why asked loads.is_program s.first))
+      (promise.at_end (pass_refusal why) (problem (command_seen read) (checked_program checked) why asked loads.is_program s.problem))
 
   error-stops : (why : PassErr) →
       StopsPass (checked_program checked).plan (file_rules (command_seen read)) call.holds (command_seen read).files middle call.after why →

@@ -15,7 +15,7 @@ use crate::status::Status;
 use std::alloc::Global;
 use sym_base::{NoMemory, Store};
 use sym_check::Checked;
-use sym_engine::pass;
+use sym_engine::{CHUNK_DEFAULT, LIMIT_DEFAULT, Options, WORKERS_DEFAULT, pass};
 use sym_plain::Groups;
 use sym_report::{Heads, TableForm, heads, report_row};
 
@@ -135,7 +135,13 @@ pub fn report_files<F: Store>(
     ensures same { F.holds files.new ≡ F.holds files.old }
     ensures later { (other : List ℕ) → F.faults files.old other ≤ F.faults files.new other }
 {
-    let groups = match pass(alloc, checked, files, names, max_bytes) {
+    let options = Options {
+        chunk: CHUNK_DEFAULT,
+        limit: LIMIT_DEFAULT,
+        workers: WORKERS_DEFAULT,
+        max_bytes,
+    };
+    let groups = match pass(alloc, checked, files, names, &options) {
         Ok(groups) => groups,
         Err(error) => return Err(pass_refusal(error)),
     };

@@ -1,5 +1,5 @@
 use Rattle.sym_engine.proofs.FileByFile.{may_be}
-use Rattle.sym_engine.proofs.passing.read_file.Goals as goal
+use Rattle.sym_engine.proofs.files.read_file.Goals as goal
 
 pub returns-in-Ok-clause-read : goal.returns-in-Ok-clause-read
 returns-in-Ok-clause-read g c =

@@ -1,0 +1,70 @@
+-- Rows and chunks that are folded in order.
+use Rattle.std.proofs.Common.{◌≡◌, ◌∙◌, refl, sym, ap, ℕ, ◌+◌, ◌<◌, List, [], ◌∷◌, ◌++◌, length, drop, map, get_or, Option, None, Result, Ok, Err, IfOk, subst}
+use Rattle.sym_base.specs.declared.values.memory.NoMemory.{NoMemory}
+use Rattle.sym_base.specs.declared.values.record.Record.{Record}
+use Rattle.sym_base.specs.declared.values.value.Key.{Key}
+use Rattle.sym_base.specs.declared.values.state.Outcome.{Outcome}
+use Rattle.sym_check.specs.Groups.{pass}
+use Rattle.sym_check.specs.ScriptPlans.{ScriptPlan}
+use Rattle.sym_table.specs.declared.bad.Bad.{Bad}
+use Rattle.sym_table.specs.declared.chunk.Chunk.{Chunk}
+use Rattle.sym_table.specs.declared.header.Header.{Header}
+use Rattle.sym_table.specs.ChunkRecords.{chunk_records, all_records}
+use Rattle.sym_table.specs.Decoding.{numbered, Fills}
+use Rattle.sym_table.specs.Reading.{Row}
+use Rattle.sym_table.specs.RowRecords.{record_or_bad, records_or_bad}
+use Rattle.sym_table.specs.Rows.{read_row}
+use Rattle.sym_engine.specs.declared.folding.Folded.{Folded}
+use Rattle.sym_engine.specs.declared.rounds.Took.{Took}
+use Rattle.sym_engine.specs.declared.rounds.Took.TheVariants as took
+use Rattle.sym_engine.specs.Rounds.{Takes, shown_chunk, round_records}
+use Rattle.sym_engine.specs.Taking.{ArePassed}
+use Rattle.sym_engine.proofs.Walks.{IsWalk, alone, walk_on, row_next, chunk_next, record_is}
+
+abbrev Pairs : Type 0
+Pairs = List (Key × Outcome)
+
+-- The row at a place, by the list that the code goes over.
+at_place : {A : Type 0} (xs items : List A) (k : ℕ) (x : A) → items ≡ xs → k < length items → x ≡ get_or items k x → (k < length xs) × (x ≡ get_or xs k x)
+at_place {A = A} xs items k x same h e =
+    let P : List A → Type 0 = λ ys. (k < length ys) × (x ≡ get_or ys k x) in subst P same (h, e)
+
+pub row_folded : (p : ScriptPlan) (header : Header) (n : ℕ) (rows items : List Row) (k : ℕ) (row : Row) (found : Option Bad) (rec : Record) (all : Result (List Record) Bad) (old now new : Pairs)
+    → items ≡ rows → k < length items → row ≡ get_or items k row → found ≡ None → Fills found rec (numbered n (read_row p.enums p.fields header row))
+    → ((records : List Record) → now ≡ pass p records → new ≡ pass p (records ++ rec ∷ []))
+    → IsWalk (ArePassed p) all (records_or_bad p header n (drop k rows)) old now → IsWalk (ArePassed p) all (records_or_bad p header (n + 1) (drop (k + 1) rows)) old new
+row_folded p header n rows items k row found rec all old now new same h e none fills folds w =
+    let F : Option Bad → Type 0 = λ o. Fills o rec (numbered n (read_row p.enums p.fields header row)) in
+    let at = at_place rows items k row same h e in
+    walk_on (ArePassed p) all (records_or_bad p header n (drop k rows)) (alone (record_or_bad n (read_row p.enums p.fields header row))) (records_or_bad p header (n + 1) (drop (k + 1) rows))
+    old now new w (row_next p header n rows k row at.0 at.1)
+    (rec ∷ [], record_is n (read_row p.enums p.fields header row) rec (subst F none fills), folds)
+
+pub chunk_folded : (p : ScriptPlan) (cuts : List Chunk) (k : ℕ) (cut : Chunk) (t : Took) (all : Result (List Record) Bad) (old now new : Pairs)
+    → k < length cuts → cut ≡ get_or cuts k cut → t ≡ took.Done → Takes (ArePassed p) (chunk_records p cut) now new t
+    → IsWalk (ArePassed p) all (all_records p (drop k cuts)) old now → IsWalk (ArePassed p) all (all_records p (drop (k + 1) cuts)) old new
+chunk_folded p cuts k cut t all old now new h e done takes w =
+    let T : Took → Type 0 = λ x. Takes (ArePassed p) (chunk_records p cut) now new x in
+    walk_on (ArePassed p) all (all_records p (drop k cuts)) (chunk_records p cut) (all_records p (drop (k + 1) cuts)) old now new w
+    (chunk_next p cuts k cut h e) (subst T done takes)
+
+-- ---- rows as they are
+same_rows : (rows : List Row) → map (λ row. row) rows ≡ rows
+same_rows [] = refl
+same_rows (row ∷ rows) = ap (λ more. row ∷ more) (same_rows rows)
+
+plain_chunks : (cuts : List Chunk) → map (shown_chunk (λ row. row)) cuts ≡ cuts
+plain_chunks [] = refl
+plain_chunks (cut ∷ cuts) =
+    ap (λ rows. (record cut { rows = rows }) ∷ map (shown_chunk (λ row. row)) cuts) (same_rows cut.rows)
+    ∙ ap (λ more. cut ∷ more) (plain_chunks cuts)
+
+-- A round of rows as they are, whose groups are folded.
+pub round_folded : (p : ScriptPlan) (cuts items : List Chunk) (old new : Folded) (r : Result Took NoMemory) → items ≡ cuts
+    → IfOk r (Takes (ArePassed p) (all_records p items) old.groups new.groups)
+    → IfOk r (Takes (λ (x : Folded) (records : List Record). ArePassed p x.groups records) (round_records p (λ row. row) cuts) old new)
+round_folded p cuts items old new (Ok took.Done) same takes =
+    (takes.0, ap (all_records p) (plain_chunks cuts ∙ sym same) ∙ takes.1, takes.2)
+round_folded p cuts items old new (Ok (took.Bad bad)) same takes =
+    ap (all_records p) (plain_chunks cuts ∙ sym same) ∙ takes
+round_folded p cuts items old new (Err e) same takes = takes

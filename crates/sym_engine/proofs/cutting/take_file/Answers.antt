@@ -1,0 +1,54 @@
+use Rattle.std.proofs.Common.{Result}
+use Rattle.sym_check.specs.CheckedScripts.{checked_plan}
+use Rattle.sym_table.specs.FileRows.{file_rows}
+use Rattle.sym_engine.specs.declared.error.PassErr.{PassErr}
+use Rattle.sym_engine.specs.declared.rounds.Took.TheVariants as took
+use Rattle.sym_engine.specs.FileRecords.{shown_rows, row_records}
+use Rattle.sym_engine.specs.Rounds.{stands_by}
+use Rattle.sym_engine.specs.Taking.{TakesFile, rows_left}
+use Rattle.sym_engine.proofs.Walks.{fails_as, is_some, left_of, rows_as}
+use Rattle.sym_engine.proofs.Opened.{file_taken, file_bad, head_stops}
+use Rattle.sym_engine.proofs.cutting.take_file.Goals as goal
+
+pub returns-in_err-cutter-clause-takes : goal.returns-in_err-cutter-clause-takes
+returns-in_err-cutter-clause-takes g c =
+    let p = checked_plan c.args.work.now.checked in
+    let stood = stands_by g.R.Rounds.stands p c.args.work.now.limit in
+    let first = c.args.course.now.next_no in
+    let shown = g.R.Rounds.shown c.args.rounds.now in
+    let rows = file_rows c.args.bytes.now in
+    let why = c.in_err-cutter.field-0.0 in
+    let now = c.args.rounds.now in
+    let P : Result (Unit {0}) PassErr → Type 0 = λ r. TakesFile stood (row_records p c.args.file first (shown_rows shown rows)) first first now now r in
+    fails_as c.from_residual.result why P c.from_residual.ensures.1
+    (head_stops stood p shown c.args.file first first rows now now why (c.in_err-cutter.ensures shown))
+
+pub take_rounds-requires-clause-left : goal.take_rounds-requires-clause-left
+take_rounds-requires-clause-left g c =
+    let is = c.in_ok-cutter.ensures (g.R.Rounds.shown c.args.rounds.now) in is_some c.in_ok-cutter.cutter.left is.left is.has
+
+pub take_rounds-requires-clause-fits : goal.take_rounds-requires-clause-fits
+take_rounds-requires-clause-fits g c = (c.in_ok-cutter.ensures (g.R.Rounds.shown c.args.rounds.now)).fits
+
+pub returns-in-Done-clause-takes : goal.returns-in-Done-clause-takes
+returns-in-Done-clause-takes g c =
+    let p = checked_plan c.args.work.now.checked in
+    let stood = stands_by g.R.Rounds.stands p c.args.work.now.limit in
+    let shown = g.R.Rounds.shown c.args.rounds.now in
+    let cut = c.in_ok-cutter.cutter in
+    let is = c.in_ok-cutter.ensures shown in
+    file_taken stood p shown c.args.file c.args.course.now.next_no c.take_rounds.new.cutter.next_no c.next_no-course.result (file_rows c.args.bytes.now) c.in_ok-cutter.cutter
+    c.args.rounds.now c.take_rounds.new.rounds c.next_no-course.ensures is
+    (rows_as stood p cut.header cut.next_no c.take_rounds.new.cutter.next_no shown (rows_left cut) is.left c.args.rounds.now c.take_rounds.new.rounds c.in_ok-take_rounds.field-0 took.Done
+    (left_of cut.left is.left is.has) c.in-Done.is c.in_ok-take_rounds.ensures.takes)
+
+pub returns-clause-takes : goal.returns-clause-takes
+returns-clause-takes g c =
+    let p = checked_plan c.args.work.now.checked in
+    let stood = stands_by g.R.Rounds.stands p c.args.work.now.limit in
+    let shown = g.R.Rounds.shown c.args.rounds.now in
+    let cut = c.in_ok-cutter.cutter in
+    let is = c.in_ok-cutter.ensures shown in
+    file_bad p shown c.args.file c.args.course.now.next_no (file_rows c.args.bytes.now) c.in_ok-cutter.cutter c.in-Bad.bad is
+    (rows_as stood p cut.header cut.next_no c.take_rounds.new.cutter.next_no shown (rows_left cut) is.left c.args.rounds.now c.take_rounds.new.rounds c.in_ok-take_rounds.field-0 (took.Bad c.in-Bad.bad)
+    (left_of cut.left is.left is.has) c.in-Bad.is c.in_ok-take_rounds.ensures.takes)

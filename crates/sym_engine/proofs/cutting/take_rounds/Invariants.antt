@@ -1,0 +1,22 @@
+-- The rounds so far are taken; the script, the path limit and what is shown are as they were.
+use Rattle.std.proofs.Common.{◌≡◌, length}
+use Rattle.sym_check.specs.CheckedScripts.{checked_plan}
+use Rattle.sym_engine.specs.Rounds.{stands_by}
+use Rattle.sym_engine.specs.Taking.{rows_left}
+use Rattle.sym_engine.proofs.Walks.{IsTaking}
+use Rattle.sym_engine.proofs.cutting.take_rounds.Given as goal
+
+abbrev pub invariant-rounds : goal.invariant-rounds
+invariant-rounds g l =
+    let p = checked_plan l.fn.work.checked in
+    let old = l.fn.cutter in
+    record {
+      checked : checked_plan l.work.checked ≡ p;
+      limit : l.work.limit ≡ l.fn.work.limit;
+      shown : g.R.Rounds.shown l.rounds ≡ g.R.Rounds.shown l.fn.rounds;
+      header : l.cutter.header ≡ old.header;
+      taking : IsTaking (stands_by g.R.Rounds.stands p l.fn.work.limit) p old.header (g.R.Rounds.shown l.fn.rounds) old.next_no (rows_left old) l.fn.rounds l.rounds l.cutter;
+    }
+
+abbrev pub decreases-rounds : goal.decreases-rounds
+decreases-rounds g l = length (rows_left l.cutter)

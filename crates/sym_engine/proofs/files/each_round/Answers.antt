@@ -1,0 +1,109 @@
+use Rattle.std.proofs.Common.{◌∙◌, ◌≤◌, ℕ, refl, arith, map, length, Result, Ok, Err}
+use Rattle.std.specs.Result.{IfErr}
+use Rattle.std.specs.String.{string_bytes}
+use Rattle.sym_check.specs.CheckedScripts.{checked_plan}
+use Rattle.sym_engine.specs.declared.error.PassErr.{PassErr}
+use Rattle.sym_engine.specs.FileRecords.{rules_of}
+use Rattle.sym_engine.specs.Passing.{StopsFrom}
+use Rattle.sym_engine.specs.Rounds.{stands_by}
+use Rattle.sym_engine.proofs.Walks.{fails_as}
+use Rattle.sym_engine.proofs.Opened.{file_as}
+use Rattle.sym_table.specs.FileRows.{file_rows}
+use Rattle.sym_engine.proofs.FileByFile.{pass_begins, pass_on, number_few, unread_stops, untaken_stops, name_at, may_as, unread_as}
+use Rattle.sym_engine.proofs.files.each_round.Goals as goal
+
+pub files-init : goal.files-init
+files-init g c =
+    let p = checked_plan c.args.checked.now in
+    record {
+      passing =
+          pass_begins (stands_by g.R.Rounds.stands p c.args.options.now.limit) p (rules_of c.args.options.now.max_bytes (g.R.Rounds.shown c.args.rounds.now))
+          (g.F.Store.holds c.args.files.now) (map string_bytes c.args.names.now) c.args.first c.args.rounds.now;
+      few = omega arith;
+      chunk = refl;
+      checked = c.in_ok-copy.ensures.plan;
+      limit = refl;
+      shown = refl;
+      same = refl;
+      later = λ other. omega arith;
+    }
+
+pub files-preserved : goal.files-preserved
+files-preserved g c =
+    let p = checked_plan c.args.checked.now in
+    let limit = c.args.options.now.limit in
+    let stood = stands_by g.R.Rounds.stands p limit in
+    let shown = g.R.Rounds.shown c.args.rounds.now in
+    let rules = rules_of c.args.options.now.max_bytes shown in
+    let holds = g.F.Store.holds c.args.files.now in
+    let names = map string_bytes c.args.names.now in
+    let k = c.files.file in
+    let name = c.as_str.result.now in
+    let bytes = c.as_slice-bytes.result.now in
+    let is = c.files.invariant in
+    let first = c.files.course.next_no in
+    let next = c.take_file.new.course.next_no in
+    let at = name_at string_bytes c.args.names.now k c.index-names-file.result name c.files-test.true c.index-names-file.is c.as_str.ensures.value in
+    let may = may_as (g.F.Store.holds c.files.files) holds name c.in_ok-bytes.bytes.items bytes is.same c.as_slice-bytes.ensures.value c.in_ok-bytes.ensures.read in
+    let size : length bytes ≤ c.args.options.now.max_bytes = rw c.as_slice-bytes.ensures.value c.in_ok-bytes.ensures.fits in
+    let takes =
+    file_as {A = Unit {0}} g.R.Rounds.stands (checked_plan c.files.work.checked) p c.files.work.limit limit (g.R.Rounds.shown c.files.rounds) shown k first next (file_rows bytes)
+    c.files.rounds c.take_file.new.rounds (Ok tt) is.checked is.limit is.shown c.in_ok-take_file.ensures.takes in
+    let few = number_few stood p rules k first next c.files.rounds c.take_file.new.rounds bytes size takes in
+    record {
+      passing = pass_on stood p rules holds names c.args.first k first next c.args.rounds.now c.files.rounds c.take_file.new.rounds name bytes is.passing at may size takes;
+      few = omega (arith, few, is.few, c.requires.options.most_bytes);
+      chunk = c.take_file.ensures.chunk ∙ is.chunk;
+      checked = c.take_file.ensures.checked ∙ is.checked;
+      limit = c.take_file.ensures.same ∙ is.limit;
+      shown = c.take_file.ensures.shown ∙ is.shown;
+      same = c.in_ok-bytes.ensures.same ∙ is.same;
+      later = λ other. omega (arith, c.in_ok-bytes.ensures.later other, is.later other);
+    }
+
+pub returns-in_err-bytes-clause-stopped : goal.returns-in_err-bytes-clause-stopped
+returns-in_err-bytes-clause-stopped g c =
+    let p = checked_plan c.args.checked.now in
+    let stood = stands_by g.R.Rounds.stands p c.args.options.now.limit in
+    let rules = rules_of c.args.options.now.max_bytes (g.R.Rounds.shown c.args.rounds.now) in
+    let holds = g.F.Store.holds c.args.files.now in
+    let names = map string_bytes c.args.names.now in
+    let before = g.F.Store.faults c.args.files.now in
+    let during = g.F.Store.faults c.files.files in
+    let after = g.F.Store.faults c.read_file.new.files in
+    let k = c.files.file in
+    let name = c.as_str.result.now in
+    let at = name_at string_bytes c.args.names.now k c.index-names-file.result name c.files-test.true c.index-names-file.is c.as_str.ensures.value in
+    let why = c.in_err-bytes.field-0.0 in
+    let unread = unread_as c.args.options.now.max_bytes k (g.F.Store.holds c.files.files) holds name (during name) (after name) why c.files.invariant.same c.in_err-bytes.ensures.unread in
+    let P : Result ℕ PassErr → Type 0 = λ r. IfErr r (StopsFrom c.args.first p rules holds names before after) in
+    fails_as c.from_residual-in_err-bytes.result why P c.from_residual-in_err-bytes.ensures.1
+    (unread_stops stood p rules holds names before during after c.args.first k c.files.course.next_no c.args.rounds.now c.files.rounds name why c.files.invariant.passing at (c.files.invariant.later name) unread)
+
+pub returns-in_err-take_file-clause-stopped : goal.returns-in_err-take_file-clause-stopped
+returns-in_err-take_file-clause-stopped g c =
+    let p = checked_plan c.args.checked.now in
+    let limit = c.args.options.now.limit in
+    let stood = stands_by g.R.Rounds.stands p limit in
+    let shown = g.R.Rounds.shown c.args.rounds.now in
+    let rules = rules_of c.args.options.now.max_bytes shown in
+    let holds = g.F.Store.holds c.args.files.now in
+    let names = map string_bytes c.args.names.now in
+    let before = g.F.Store.faults c.args.files.now in
+    let after = g.F.Store.faults c.read_file.new.files in
+    let k = c.files.file in
+    let name = c.as_str.result.now in
+    let bytes = c.as_slice-bytes.result.now in
+    let is = c.files.invariant in
+    let first = c.files.course.next_no in
+    let next = c.take_file.new.course.next_no in
+    let why = c.in_err-take_file.field-0.0 in
+    let at = name_at string_bytes c.args.names.now k c.index-names-file.result name c.files-test.true c.index-names-file.is c.as_str.ensures.value in
+    let may = may_as (g.F.Store.holds c.files.files) holds name c.in_ok-bytes.bytes.items bytes is.same c.as_slice-bytes.ensures.value c.in_ok-bytes.ensures.read in
+    let size : length bytes ≤ c.args.options.now.max_bytes = rw c.as_slice-bytes.ensures.value c.in_ok-bytes.ensures.fits in
+    let takes =
+    file_as {A = Unit {0}} g.R.Rounds.stands (checked_plan c.files.work.checked) p c.files.work.limit limit (g.R.Rounds.shown c.files.rounds) shown k first next (file_rows bytes)
+    c.files.rounds c.take_file.new.rounds (Err why) is.checked is.limit is.shown c.in_err-take_file.ensures.takes in
+    let P : Result ℕ PassErr → Type 0 = λ r. IfErr r (StopsFrom c.args.first p rules holds names before after) in
+    fails_as c.from_residual-in_err-take_file.result why P c.from_residual-in_err-take_file.ensures.1
+    (untaken_stops stood p rules holds names before after c.args.first k first next c.args.rounds.now c.files.rounds c.take_file.new.rounds name bytes why is.passing at may size takes)

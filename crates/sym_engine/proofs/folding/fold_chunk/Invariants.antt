@@ -1,0 +1,15 @@
+-- The rows so far are folded.
+use Rattle.std.proofs.Common.{◌≡◌, ◌+◌, drop}
+use Rattle.sym_check.specs.CheckedScripts.{checked_plan}
+use Rattle.sym_table.specs.ChunkRecords.{chunk_records}
+use Rattle.sym_table.specs.RowRecords.{records_or_bad}
+use Rattle.sym_engine.specs.Taking.{ArePassed}
+use Rattle.sym_engine.proofs.Walks.{IsWalk}
+use Rattle.sym_engine.proofs.folding.fold_chunk.Given as goal
+
+abbrev pub invariant-rows : goal.invariant-rows
+invariant-rows l = record {
+  number : l.no ≡ l.chunk.first_no + l.row-index;
+  walk : IsWalk (ArePassed (checked_plan l.checked)) (chunk_records (checked_plan l.checked) l.chunk)
+      (records_or_bad (checked_plan l.checked) l.chunk.header l.no (drop l.row-index l.chunk.rows)) l.fn.folded.groups l.folded.groups;
+}

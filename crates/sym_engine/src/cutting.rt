@@ -1,0 +1,164 @@
+//! The rounds of one file.
+ghost use Rattle.std.specs.Prelude.{◌≡◌, ◌≤◌, ◌^◌, List, [], Some, IfOk, IsSome, length, map};
+ghost use Rattle.std.specs.List.{All};
+ghost use Rattle.sym_base.specs.declared.limits.TheConstants as limit;
+ghost use Rattle.sym_base.specs.declared.values.record.Record.{Record as OneRecord};
+ghost use Rattle.sym_check.specs.CheckedScripts.{checked_plan};
+ghost use Rattle.sym_check.specs.declared.plan.script.FieldPlan.{FieldPlan as OneField};
+ghost use Rattle.sym_table.specs.FileRows.{file_rows};
+ghost use Rattle.sym_table.specs.Reading.{Row as OneRow};
+ghost use Rattle.sym_table.specs.RowRecords.{records_or_bad};
+ghost use Rattle.sym_table.specs.Rows.{FitsChunk, FitsHeader};
+ghost use Rattle.sym_engine.specs.FileRecords.{row_records, shown_rows};
+ghost use Rattle.sym_engine.specs.Rounds.{IsLimit, stands_by};
+ghost use Rattle.sym_engine.specs.Taking.{AreCut, OpensFile, TakesFile, TakesRows, rows_left};
+
+use crate::error::PassErr;
+use crate::rounds::{Rounds, Took, Work};
+use std::alloc::Global;
+use std::mem;
+use sym_base::{CHUNKS_MAX, NoMemory};
+use sym_check::Checked;
+use sym_table::{Chunks, Cutter, HeadErr, Spare};
+
+/// Where the next file begins: the number of its first record, the rows of a full chunk, and the
+/// memory of earlier rows.
+#[derive(Drop)]
+pub(crate) struct Course {
+    pub(crate) next_no: u64,
+    pub(crate) chunk: u32,
+    pub(crate) spare: Spare,
+}
+
+// Opens the file with the number `file`.
+fn open_file<'a>(
+    alloc: Global,
+    checked: &Checked,
+    bytes: &'a [u8],
+    file: u64,
+    first_no: u64,
+    chunk: u32,
+) -> Result<Cutter<'a>, PassErr>
+    requires size { length bytes.now ≤ limit.FILE_MAX }
+    requires first { first_no ≤ 2 ^ 62 }
+    requires some { 1 ≤ chunk }
+    requires most { chunk ≤ limit.CHUNK_MAX }
+    ensures { (shown : OneRow → OneRow) →
+        OpensFile (checked_plan checked.now) shown file first_no (file_rows bytes.now) result }
+{
+    match Cutter::open(alloc, checked, bytes, first_no, chunk) {
+        Ok(cutter) => Ok(cutter),
+        Err(HeadErr::Fault(fault)) => Err(PassErr::Head { file, fault }),
+        Err(HeadErr::NoMemory) => Err(PassErr::NoMemory),
+    }
+}
+
+// Keeps the rows of chunks that are done with.
+fn keep_rows(chunks: Chunks, spare: &mut Spare) {
+    'chunks: for chunk in chunks.into_vec() {
+        spare.keep(chunk);
+    }
+}
+
+// The chunks of the next round: as many as a round may have, or the fewer that are left. There are
+// none exactly where no row is left.
+fn next_round(alloc: Global, cutter: &mut Cutter<'_>, spare: &mut Spare) -> Result<Chunks, NoMemory>
+    requires { IsSome cutter.old.left }
+    ensures cut { IfOk result (λ chunks. AreCut cutter.old cutter.new chunks) }
+    ensures most { IfOk result (λ chunks. length chunks ≤ limit.CHUNKS_MAX) }
+    ensures ended { IfOk result (λ chunks. chunks ≡ [] → cutter.old.left ≡ Some []) }
+    ensures fit { (fields : List OneField) → FitsHeader fields cutter.old.header →
+        IfOk result (λ chunks. All (FitsChunk fields) chunks) }
+    ensures header { cutter.new.header ≡ cutter.old.header }
+{
+    let mut chunks = Chunks::new(alloc);
+    'chunks: for _number in 0..CHUNKS_MAX {
+        match cutter.next_over(alloc, spare)? {
+            Some(chunk) => chunks.push(chunk)?,
+            None => return Ok(chunks),
+        }
+    }
+    Ok(chunks)
+}
+
+// Takes the rows that are left, round by round. The script and the path limit of the work stay.
+fn take_rounds<R: Rounds>(
+    alloc: Global,
+    work: &mut Work,
+    cutter: &mut Cutter<'_>,
+    spare: &mut Spare,
+    rounds: &mut R,
+) -> Result<Took, NoMemory>
+    requires left { IsSome cutter.old.left }
+    requires fits { FitsHeader (checked_plan work.old.checked).fields cutter.old.header }
+    requires limit { IsLimit work.old.limit }
+    requires stands { let p = checked_plan work.old.checked in
+        (records : List OneRecord) × R.stands rounds.old p work.old.limit records }
+    ensures takes { let p = checked_plan work.old.checked in
+        let first = cutter.old.next_no in
+        let rows = map (R.shown rounds.old) (rows_left cutter.old) in
+        let read = records_or_bad p cutter.old.header first rows in
+        let stood = stands_by R.stands p work.old.limit in
+        IfOk result (TakesRows stood read first cutter.new.next_no rounds.old rounds.new) }
+    ensures shown { R.shown rounds.new ≡ R.shown rounds.old }
+    ensures checked { checked_plan work.new.checked ≡ checked_plan work.old.checked }
+    ensures same { work.new.limit ≡ work.old.limit }
+{
+    'rounds: loop {
+        let done = mem::replace(&mut work.chunks, Chunks::new(alloc));
+        keep_rows(done, spare);
+        work.chunks = next_round(alloc, cutter, spare)?;
+        if work.chunks.is_empty() {
+            return Ok(Took::Done);
+        }
+        match rounds.take(alloc, work)? {
+            Took::Done => {}
+            Took::Bad(bad) => return Ok(Took::Bad(bad)),
+        }
+    }
+}
+
+/// Takes the records of the file with the number `file`. Its first one has the number that the
+/// course gives, which becomes that of the first record after the file.
+pub(crate) fn take_file<R: Rounds>(
+    alloc: Global,
+    work: &mut Work,
+    bytes: &[u8],
+    file: u64,
+    course: &mut Course,
+    rounds: &mut R,
+) -> Result<(), PassErr>
+    requires size { length bytes.now ≤ limit.FILE_MAX }
+    requires first { course.old.next_no ≤ 2 ^ 62 }
+    requires some { 1 ≤ course.old.chunk }
+    requires most { course.old.chunk ≤ limit.CHUNK_MAX }
+    requires limit { IsLimit work.old.limit }
+    requires stands { let p = checked_plan work.old.checked in
+        (records : List OneRecord) × R.stands rounds.old p work.old.limit records }
+    ensures takes { let p = checked_plan work.old.checked in
+        let first = course.old.next_no in
+        let rows = shown_rows (R.shown rounds.old) (file_rows bytes.now) in
+        let read = row_records p file first rows in
+        let stood = stands_by R.stands p work.old.limit in
+        TakesFile stood read first course.new.next_no rounds.old rounds.new result }
+    ensures shown { R.shown rounds.new ≡ R.shown rounds.old }
+    ensures checked { checked_plan work.new.checked ≡ checked_plan work.old.checked }
+    ensures same { work.new.limit ≡ work.old.limit }
+    ensures chunk { course.new.chunk ≡ course.old.chunk }
+{
+    let mut cutter = open_file(
+        alloc,
+        &work.checked,
+        bytes,
+        file,
+        course.next_no,
+        course.chunk,
+    )?;
+    match take_rounds(alloc, work, &mut cutter, &mut course.spare, rounds)? {
+        Took::Done => {
+            course.next_no = cutter.next_no();
+            Ok(())
+        }
+        Took::Bad(bad) => Err(PassErr::Bad { file, bad }),
+    }
+}

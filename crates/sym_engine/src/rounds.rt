@@ -1,0 +1,63 @@
+//! Rounds of chunks, and what takes them.
+ghost use Rattle.std.specs.Prelude.{◌≡◌, ℕ, List, IfOk};
+ghost use Rattle.sym_base.specs.declared.values.record.Record.{Record as OneRecord};
+ghost use Rattle.sym_check.specs.CheckedScripts.{checked_plan};
+ghost use Rattle.sym_check.specs.ScriptPlans.{ScriptPlan};
+ghost use Rattle.sym_table.specs.Reading.{Row as OneRow};
+ghost use Rattle.sym_engine.specs.Rounds.{IsLimit, IsRound, Takes, round_records, stands_by};
+
+use std::alloc::Global;
+use sym_base::NoMemory;
+use sym_check::Checked;
+use sym_table::{Bad, Chunks};
+
+/// What is shared by those who work on a round: the script, the round's chunks, and the path
+/// limit.
+pub struct Work {
+    pub checked: Checked,
+    pub chunks: Chunks,
+    pub limit: u32,
+}
+
+// Written here so that the crates above don't prove it for each type inside.
+impl Drop for Work {
+    fn drop(self) {
+        let Work {
+            checked: _checked,
+            chunks: _chunks,
+            limit: _limit,
+        } = self;
+    }
+}
+
+/// What a round came to.
+#[derive(Clone, Copy, Debug, PartialEq, Eq)]
+pub enum Took {
+    /// Its records were taken.
+    Done,
+    /// This row is the first that is no record.
+    Bad(Bad),
+}
+
+/// A value that takes the records of files, round by round.
+pub trait Rounds {
+    // The row that is read in place of a row.
+    ghost shown: { Self → OneRow → OneRow };
+
+    // Whether the value stands for these records, by a script and a path limit.
+    ghost stands: { Self → ScriptPlan → ℕ → List OneRecord → Type 0 };
+
+    /// Takes the records of a round's rows, each row as it is shown, after those for which the
+    /// value stands; or `Bad` exactly where one of the rows is no record: the first such row.
+    /// After `Bad` and after an `Err` the value is unspecified.
+    fn take(&mut self, alloc: Global, work: &Work) -> Result<Took, NoMemory>
+        requires round { IsRound (checked_plan work.now.checked).fields work.now.chunks }
+        requires limit { IsLimit work.now.limit }
+        requires stands { let p = checked_plan work.now.checked in
+            (records : List OneRecord) × stands self.old p work.now.limit records }
+        ensures shown { shown self.new ≡ shown self.old }
+        ensures takes { let p = checked_plan work.now.checked in
+            let read = round_records p (shown self.old) work.now.chunks in
+            let stood = stands_by stands p work.now.limit in
+            IfOk result (Takes stood read self.old self.new) };
+}
