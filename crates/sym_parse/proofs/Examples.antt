@@ -16,7 +16,8 @@ use Rattle.sym_parse.specs.Parsing.Declarations.{num, literal_value, kind_ref, b
 use Rattle.sym_parse.specs.Parsing.Expressions.{chain, chain_from, call_or_name, number_leaf, named, primary, unary, product, sum, relation, negation, conjunction, expr, expression}
 use Rattle.sym_parse.specs.Parsing.Scripts.{enums, fields, states, tests, columns, report, script}
 use Rattle.sym_parse.specs.Parsing.Statements.{begins_statement, assignment, simple, statement, statements, statements_from, block, update}
-use Rattle.sym_parse.specs.Printed.{script_text, range_text, clamp_text}
+use Rattle.sym_parse.specs.Printed as form
+use Rattle.sym_parse.specs.Printed.{script_text}
 use Rattle.sym_parse.specs.Steps.{next, place, passed, sees_word, sees_sign, sees_name, sees_number, sees_text, is_done, word, sign, name, number, done, one_statement, one_operand, repeated, separated}
 
 -- A script begins with a field at the latest.
@@ -66,7 +67,7 @@ abbrev counter_text : List ℕ
 counter_text = codes "field x: num;\ngroup x;\nstate n: int [0..3] = 0 clamp;\nupdate {\n  n = n + 1;\n}\nreport {\n  n = n;\n}\n"
 
 printed : script_text counter ≡ counter_text
-unfolding script_text range_text clamp_text
+unfolding script_text form.script form.range form.clamp_of
 printed = rw (decimal_digit 0 (lit< tt), decimal_digit 1 (lit< tt), decimal_digit 3 (lit< tt)) refl
 
 read : parsed counter_text ≡ Ok counter

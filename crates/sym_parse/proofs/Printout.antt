@@ -5,7 +5,6 @@ pub mod Pieces
 pub mod Placing
 pub mod PrintedBack
 pub mod Separated
-pub mod Spelling
 pub mod StatementsBack
 pub mod Tokenized
 pub mod Unplaced

@@ -28,7 +28,8 @@ use Rattle.sym_parse.specs.Lexemes.{Lexeme}
 use Rattle.sym_parse.specs.Limits.{most}
 use Rattle.sym_parse.specs.Syntax.Declarations.{AreItems, AreAtMost, AreFurther, AreSome, AreSeparated, IsOneName, IsNum, IsLiteral, IsKind, IsEnum, IsHeader, IsDefault, IsField, IsGroup, IsRange, IsClamp, IsPart, IsCell, IsState, IsParam, IsTest, IsColumn}
 use Rattle.sym_parse.specs.Syntax.Scripts.{IsUpdate, IsReport, IsScript}
-use Rattle.sym_parse.proofs.Printout.Pieces.{Piece, Space, Break, sign, expr, further, listed, one_name, num, kind_of, literal_of, enum_of, header_of, default_of, field_of, group_of, range, clamp_of, part_of, cell_of, state_of, param_of, test_of, column_of, block, stmts, update_of, report_of, script, lexemes}
+use Rattle.sym_parse.specs.Printed.{Piece, Space, Break, sign, expr, further, listed, one_name, num, kind_of, literal_of, enum_of, header_of, default_of, field_of, group_of, range, clamp_of, part_of, cell_of, state_of, param_of, test_of, column_of, block, stmts, update_of, report_of, script}
+use Rattle.sym_parse.proofs.Printout.Pieces.{lexemes}
 use Rattle.sym_parse.proofs.Printout.Unplaced.{few-items, few-statements}
 use Rattle.sym_parse.proofs.Printout.Placing.{in_turn, key, mark, named, placed_name}
 use Rattle.sym_parse.proofs.Printout.ExpressionsBack.{Like, both}
@@ -201,6 +202,7 @@ module _ (place : ℕ → ℕ) where
       })
 
   range-reads : (lo hi : ℤ) (k : ℕ) → IsRange (lexemes place k (range lo hi)) (lo, hi)
+  unfolding range
   range-reads lo hi k =
       in_turn place (k + 1) (num lo) (sign symbol.DotDot ∷ (num hi ++ sign symbol.CloseBracket ∷ []))
       (λ ls. IsRange (mark place k symbol.OpenBracket ∷ ls) (lo, hi))
@@ -210,6 +212,7 @@ module _ (place : ℕ → ℕ) where
       refl (num-reads lo (k + 1)) refl (num-reads hi (j + 1)) refl))
 
   clamp-reads : (clamp : Bool) (k : ℕ) → IsClamp (lexemes place k (clamp_of clamp)) clamp
+  unfolding clamp_of
   clamp-reads true k = IsClamp.clamp (key place k keyword.Clamp) refl
   clamp-reads false k = IsClamp.none
 

@@ -14,7 +14,8 @@ use Rattle.sym_lex.specs.Terminals.{Name, Number, Str, Word, Sign}
 use Rattle.sym_parse.specs.Bare.{bare_name, bare_expr, bare_exprs}
 use Rattle.sym_parse.specs.Lexemes.{Lexeme}
 use Rattle.sym_parse.specs.Syntax.Expressions.{Line, Whole, IsGrouped, IsValues, IsPrimary, IsUnary, IsProduct, IsSum, IsRelation, IsNegation, IsConjunction, IsExpression, Within}
-use Rattle.sym_parse.proofs.Printout.Pieces.{Piece, Token, Space, sign, op_terminal, enclosed, operand, expr, exprs, further_exprs, lexemes}
+use Rattle.sym_parse.specs.Printed.{Piece, Token, Space, sign, op_terminal, enclosed, operand, expr, exprs, further_exprs}
+use Rattle.sym_parse.proofs.Printout.Pieces.{lexemes}
 use Rattle.sym_parse.proofs.Printout.Placing.{in_turn}
 
 -- Lexemes that read as something which is x, places aside.

@@ -5,7 +5,8 @@ use Rattle.sym_lex.specs.declared.keyword.Keyword.{Keyword}
 use Rattle.sym_lex.specs.declared.symbol.Symbol.{Symbol}
 use Rattle.sym_lex.specs.Terminals.{Name, Word, Sign}
 use Rattle.sym_parse.specs.Lexemes.{Lexeme}
-use Rattle.sym_parse.proofs.Printout.Pieces.{Piece, Token, Space, Break, Indent, lexemes, terminals_of}
+use Rattle.sym_parse.specs.Printed.{Piece, Token, Space, Break, Indent}
+use Rattle.sym_parse.proofs.Printout.Pieces.{lexemes, terminals_of}
 
 -- How many tokens there are among pieces.
 abbrev count : List Piece → ℕ

@@ -5,16 +5,15 @@ use Rattle.sym_base.specs.Trees.{ScriptTree}
 use Rattle.sym_parse.specs.Answers.{IsScriptOf}
 use Rattle.sym_parse.specs.Bare.{IsTextOf, ParsesAs}
 use Rattle.sym_parse.specs.Limits.{most}
-use Rattle.sym_parse.specs.Printed.{script_text}
 use Rattle.sym_parse.specs.Syntax.Scripts.{IsScript}
 use Rattle.sym_parse.proofs.Answering.{parsed-reads}
 use Rattle.sym_parse.proofs.Printout.DeclarationsBack.{script-reads}
-use Rattle.sym_parse.proofs.Printout.Pieces.{script, text}
+use Rattle.sym_parse.specs.Printed.{script_text, script, text}
 use Rattle.sym_parse.proofs.Printout.Separated.{script-fits}
-use Rattle.sym_parse.proofs.Printout.Spelling.{script-text}
 use Rattle.sym_parse.proofs.Printout.Tokenized.{lexed}
 
 read-again : (s : ScriptTree) → IsLawful s → IsTextOf (script_text s) s
+unfolding script_text
 read-again s h =
     let l = lexed (script s) (script-fits s h) in
     let r = script-reads l.place s h in
@@ -23,7 +22,7 @@ read-again s h =
       lexed = l.reads;
       script = subst (λ ls. IsScript most ls r.tree) l.same r.reads;
     } in
-    record { again = r.tree; accepted = subst (λ bytes. IsScriptOf bytes r.tree) (script-text s) there; same = r.same }
+    record { again = r.tree; accepted = there; same = r.same }
 
 -- What is printed is read again.
 pub printed_again : {V E : Type 0} (view : V → List ℕ) (s : ScriptTree) (r : Result V E) → IsLawful s → IfOk r (λ v. view v ≡ script_text s) → IfOk r (λ v. IsTextOf (view v) s)

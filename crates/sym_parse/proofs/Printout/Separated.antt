@@ -26,8 +26,7 @@ use Rattle.sym_base.specs.Trees.{ScriptTree, TestTree, ColumnTree, ExprTree, Num
 use Rattle.sym_lex.specs.declared.symbol.Symbol.TheVariants as symbol
 use Rattle.sym_lex.specs.Terminals.{Terminal, Name, Number, Str, Word, Sign}
 use Rattle.sym_lex.proofs.Spelling.{may_grow}
-use Rattle.sym_parse.specs.Printed.{is_if, is_empty}
-use Rattle.sym_parse.proofs.Printout.Pieces.{Piece, Token, Space, Break, Indent, sign, op_terminal, enclosed, operand, expr, exprs, further_exprs, further, listed, one_name, num, kind_of, literal_of, enum_of, header_of, default_of, field_of, group_of, range, clamp_of, part_of, cell_of, state_of, param_of, test_of, column_of, block, stmt, else_of, stmts, update_of, report_of, script}
+use Rattle.sym_parse.specs.Printed.{is_if, is_empty, Piece, Token, Space, Break, Indent, sign, op_terminal, enclosed, operand, expr, exprs, further_exprs, further, listed, one_name, num, kind_of, literal_of, enum_of, header_of, default_of, field_of, group_of, range, clamp_of, part_of, cell_of, state_of, param_of, test_of, column_of, block, stmt, else_of, stmts, update_of, report_of, script}
 use Rattle.sym_parse.proofs.Printout.ExpressionsBack.{both}
 use Rattle.sym_parse.proofs.Printout.StatementsBack.{all-leaves-of, leaves-of}
 
@@ -236,11 +235,13 @@ group-ends (n ∷ ns) l rest f =
     after (listed one_name (n ∷ ns)) (sign symbol.Semicolon ∷ Break ∷ []) rest (items-closed one_name is_lawful_name one-closed (n ∷ ns) l) refl f
 
 range-closed : (lo hi : ℤ) → is_number lo ≡ true → is_number hi ≡ true → Closed (range lo hi)
+unfolding range
 range-closed lo hi p q rest s f =
     after (num lo) (sign symbol.DotDot ∷ (num hi ++ sign symbol.CloseBracket ∷ [])) rest (num-closed lo p) refl
     (after (num hi) (sign symbol.CloseBracket ∷ []) rest (num-closed hi q) refl f)
 
 clamp-opens : (clamp : Bool) → Opens (clamp_of clamp)
+unfolding clamp_of
 clamp-opens true rest s f = (refl, join (is_soft rest) (fits rest) s f)
 clamp-opens false rest s f = (s, f)
 

@@ -10,10 +10,10 @@ use Rattle.sym_lex.specs.declared.symbol.Symbol.TheVariants as symbol
 use Rattle.sym_parse.specs.Bare.{bare_name, bare_expr, bare_stmt, bare_stmts}
 use Rattle.sym_parse.specs.Lexemes.{Lexeme}
 use Rattle.sym_parse.specs.Limits.{most}
-use Rattle.sym_parse.specs.Printed.{is_if, is_empty}
 use Rattle.sym_parse.specs.Syntax.Expressions.{IsExprWithin, IsValues, Whole, Within}
 use Rattle.sym_parse.specs.Syntax.Statements.{IsStatement, AreStatements, IsBlock, IsElse, IsIf, IsIfWithin, IsBlockWithin}
-use Rattle.sym_parse.proofs.Printout.Pieces.{Piece, Space, Break, Indent, sign, expr, exprs, block, stmt, else_of, stmts, lexemes}
+use Rattle.sym_parse.specs.Printed.{is_if, is_empty, Piece, Space, Break, Indent, sign, expr, exprs, block, stmt, else_of, stmts}
+use Rattle.sym_parse.proofs.Printout.Pieces.{lexemes}
 use Rattle.sym_parse.proofs.Printout.Unplaced.{all-short, are_short, few-operands}
 use Rattle.sym_parse.proofs.Printout.Placing.{in_turn, key, mark, named, placed_name}
 use Rattle.sym_parse.proofs.Printout.ExpressionsBack.{Like, as-whole, both, whole-reads, expr-reads, values-reads}

@@ -21,7 +21,8 @@ use Rattle.sym_lex.specs.Symbols.{symbol_text}
 use Rattle.sym_lex.specs.Terminals.{Terminal, Name, Number, Str, Word, Sign, terminal, terminals}
 use Rattle.sym_lex.proofs.Spelling.{Anything, EndsName, EndsNumber, AfterSymbol, may_grow, is_equals, nothing-spells, spells-both, spells-before, blanks-spell, name-spells, keyword-spells, number-spells, text-spells, sign-spells, whole-spells}
 use Rattle.sym_parse.specs.Lexemes.{Lexeme, lexemes_of}
-use Rattle.sym_parse.proofs.Printout.Pieces.{Piece, Token, Space, Break, Indent, terminal_text, text, terminals_of, lexemes}
+use Rattle.sym_parse.specs.Printed.{Piece, Token, Space, Break, Indent, terminal_text, text}
+use Rattle.sym_parse.proofs.Printout.Pieces.{terminals_of, lexemes}
 use Rattle.sym_parse.proofs.Printout.Placing.{placed, places}
 use Rattle.sym_parse.proofs.Printout.Separated.{is_soft, starts_blank, parted, is_sound, fits}
 use Rattle.sym_parse.proofs.Printout.ExpressionsBack.{both}

@@ -1,7 +1,9 @@
 //! Declarations and columns.
+#![tactic(auto, using(crate::proofs::Printout::Appended::text_append, crate::proofs::Printout::Appended::num_text))]
+
 ghost use Rattle.std.specs.Prelude.{◌≡◌, ◌++◌, OnOk};
 ghost use Rattle.sym_base.specs.Trees.{test_tree, column_tree};
-ghost use Rattle.sym_parse.specs.Printed.{cell_text, clamp_text, column_text, default_text, enum_text, field_text, group_text, header_text, kind_text, literal_text, param_text, part_text, range_text, state_text, test_text};
+ghost use Rattle.sym_parse.specs.Printed.{cell_of, clamp_of, column_of, default_of, enum_of, field_of, group_of, header_of, kind_of, literal_of, num, param_of, part_of, range, state_of, test_of, text};
 
 use crate::printing::expression::print_expr;
 use crate::printing::item::{Item, print_listed};
@@ -12,7 +14,7 @@ use sym_base::{
 };
 
 fn print_kind(out: &mut Vec<u8>, kind: &KindRef) -> Result<(), NoMemory>
-    ensures { OnOk result (out.new.items ≡ out.old.items ++ kind_text kind.now) }
+    ensures { OnOk result (out.new.items ≡ out.old.items ++ text (kind_of kind.now)) }
 {
     match kind {
         KindRef::Num => put(out, b"num"),
@@ -22,7 +24,7 @@ fn print_kind(out: &mut Vec<u8>, kind: &KindRef) -> Result<(), NoMemory>
 }
 
 fn print_literal(out: &mut Vec<u8>, literal: &Literal) -> Result<(), NoMemory>
-    ensures { OnOk result (out.new.items ≡ out.old.items ++ literal_text literal.now) }
+    ensures { OnOk result (out.new.items ≡ out.old.items ++ text (literal_of literal.now)) }
 {
     match literal {
         Literal::Num { value, at: _ } => put_number(out, *value),
@@ -32,7 +34,7 @@ fn print_literal(out: &mut Vec<u8>, literal: &Literal) -> Result<(), NoMemory>
 }
 
 impl Item for EnumDecl {
-    ghost text = { enum_text };
+    ghost pieces = { enum_of };
 
     fn print(&self, out: &mut Vec<u8>) -> Result<(), NoMemory> {
         put(out, b"enum ")?;
@@ -44,7 +46,7 @@ impl Item for EnumDecl {
 }
 
 fn print_header(out: &mut Vec<u8>, header: &Option<Text>) -> Result<(), NoMemory>
-    ensures { OnOk result (out.new.items ≡ out.old.items ++ header_text header.now) }
+    ensures { OnOk result (out.new.items ≡ out.old.items ++ text (header_of header.now)) }
 {
     match header {
         None => Ok(()),
@@ -56,7 +58,7 @@ fn print_header(out: &mut Vec<u8>, header: &Option<Text>) -> Result<(), NoMemory
 }
 
 fn print_default(out: &mut Vec<u8>, default: &Option<Literal>) -> Result<(), NoMemory>
-    ensures { OnOk result (out.new.items ≡ out.old.items ++ default_text default.now) }
+    ensures { OnOk result (out.new.items ≡ out.old.items ++ text (default_of default.now)) }
 {
     match default {
         None => Ok(()),
@@ -68,7 +70,7 @@ fn print_default(out: &mut Vec<u8>, default: &Option<Literal>) -> Result<(), NoM
 }
 
 impl Item for FieldDecl {
-    ghost text = { field_text };
+    ghost pieces = { field_of };
 
     fn print(&self, out: &mut Vec<u8>) -> Result<(), NoMemory> {
         put(out, b"field ")?;
@@ -83,7 +85,7 @@ impl Item for FieldDecl {
 
 /// Appends the line of the fields whose values tell groups apart, where there are some.
 pub fn print_group(out: &mut Vec<u8>, group: &[Name]) -> Result<(), NoMemory>
-    ensures { OnOk result (out.new.items ≡ out.old.items ++ group_text group.now) }
+    ensures { OnOk result (out.new.items ≡ out.old.items ++ text (group_of group.now)) }
 {
     match group {
         [] => Ok(()),
@@ -95,9 +97,9 @@ pub fn print_group(out: &mut Vec<u8>, group: &[Name]) -> Result<(), NoMemory>
     }
 }
 
-#[tactic(auto, unfolding(crate::specs::Printed::range_text))]
+#[tactic(auto, using(crate::proofs::Printout::Appended::text_append, crate::proofs::Printout::Appended::num_text), unfolding(crate::specs::Printed::range))]
 fn print_range(out: &mut Vec<u8>, lo: i64, hi: i64) -> Result<(), NoMemory>
-    ensures { OnOk result (out.new.items ≡ out.old.items ++ range_text lo hi) }
+    ensures { OnOk result (out.new.items ≡ out.old.items ++ text (range lo hi)) }
 {
     put(out, b"[")?;
     put_number(out, lo)?;
@@ -106,15 +108,23 @@ fn print_range(out: &mut Vec<u8>, lo: i64, hi: i64) -> Result<(), NoMemory>
     put(out, b"]")
 }
 
-#[tactic(auto, unfolding(crate::specs::Printed::clamp_text))]
+#[tactic(auto, unfolding(crate::specs::Printed::clamp_of))]
 fn print_clamp(out: &mut Vec<u8>, clamp: bool) -> Result<(), NoMemory>
-    ensures { OnOk result (out.new.items ≡ out.old.items ++ clamp_text clamp) }
+    ensures { OnOk result (out.new.items ≡ out.old.items ++ text (clamp_of clamp)) }
 {
     if clamp { put(out, b" clamp") } else { Ok(()) }
 }
 
+// Appends an integer cell's first value and its mark.
+fn print_first(out: &mut Vec<u8>, first: i64, clamp: bool) -> Result<(), NoMemory>
+    ensures { OnOk result (out.new.items ≡ out.old.items ++ text (num first ++ clamp_of clamp)) }
+{
+    put_number(out, first)?;
+    print_clamp(out, clamp)
+}
+
 impl Item for Part {
-    ghost text = { part_text };
+    ghost pieces = { part_of };
 
     fn print(&self, out: &mut Vec<u8>) -> Result<(), NoMemory> {
         print_kind(out, &self.kind)?;
@@ -124,7 +134,7 @@ impl Item for Part {
 }
 
 fn print_cell(out: &mut Vec<u8>, cell: &CellDecl) -> Result<(), NoMemory>
-    ensures { OnOk result (out.new.items ≡ out.old.items ++ cell_text cell.now) }
+    ensures { OnOk result (out.new.items ≡ out.old.items ++ text (cell_of cell.now)) }
 {
     match cell {
         CellDecl::Int {
@@ -136,8 +146,7 @@ fn print_cell(out: &mut Vec<u8>, cell: &CellDecl) -> Result<(), NoMemory>
             put(out, b"int ")?;
             print_range(out, *lo, *hi)?;
             put(out, b" = ")?;
-            put_number(out, *first)?;
-            print_clamp(out, *clamp)
+            print_first(out, *first, *clamp)
         }
         CellDecl::Nums { lo, hi, clamp } => {
             put(out, b"nums ")?;
@@ -159,7 +168,7 @@ fn print_cell(out: &mut Vec<u8>, cell: &CellDecl) -> Result<(), NoMemory>
 }
 
 impl Item for StateDecl {
-    ghost text = { state_text };
+    ghost pieces = { state_of };
 
     fn print(&self, out: &mut Vec<u8>) -> Result<(), NoMemory> {
         put(out, b"state ")?;
@@ -171,7 +180,7 @@ impl Item for StateDecl {
 }
 
 impl Item for Param {
-    ghost text = { param_text };
+    ghost pieces = { param_of };
 
     fn print(&self, out: &mut Vec<u8>) -> Result<(), NoMemory> {
         self.name.print(out)?;
@@ -181,7 +190,7 @@ impl Item for Param {
 }
 
 impl Item for TestDecl {
-    ghost text = { λ d. test_text (test_tree d) };
+    ghost pieces = { λ d. test_of (test_tree d) };
 
     fn print(&self, out: &mut Vec<u8>) -> Result<(), NoMemory> {
         put(out, b"test ")?;
@@ -195,7 +204,7 @@ impl Item for TestDecl {
 }
 
 impl Item for ColumnDecl {
-    ghost text = { λ d. column_text (column_tree d) };
+    ghost pieces = { λ d. column_of (column_tree d) };
 
     fn print(&self, out: &mut Vec<u8>) -> Result<(), NoMemory> {
         put(out, b"  ")?;

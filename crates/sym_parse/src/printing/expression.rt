@@ -1,8 +1,10 @@
 //! Expressions.
-ghost use Rattle.std.specs.Prelude.{◌≡◌, ◌++◌, OnOk};
+#![tactic(auto, using(crate::proofs::Printout::Appended::text_append))]
+
+ghost use Rattle.std.specs.Prelude.{◌≡◌, ◌++◌, [], OnOk, codes, if◌then◌else◌};
 ghost use Rattle.sym_base.specs.Trees.{expr_tree, exprs_tree};
 ghost use Rattle.sym_base.specs.Precedence.{expr_level, op_level, needs_parentheses, left_level as left_level_of, right_level as right_level_of};
-ghost use Rattle.sym_parse.specs.Printed.{op_text, opening, closing, expr_text, exprs_text, further_exprs_text};
+ghost use Rattle.sym_parse.specs.Printed.{op_text, expr as expr_pieces, exprs as exprs_pieces, further_exprs, operand as operand_pieces, text};
 
 use crate::printing::token::{put, put_number, put_text};
 use sym_base::{BinOp, Expr, Exprs, NoMemory};
@@ -77,6 +79,7 @@ fn level(expr: &Expr) -> u8
 }
 
 // An operator with the space on each side.
+#[tactic(auto, unfolding(crate::specs::Printed::op_text))]
 fn spelled(op: BinOp) -> &'static str
     ensures { result.now ≡ op_text op }
 {
@@ -99,13 +102,15 @@ fn spelled(op: BinOp) -> &'static str
 }
 
 fn open(out: &mut Vec<u8>, needed: bool) -> Result<(), NoMemory>
-    ensures { OnOk result (out.new.items ≡ out.old.items ++ opening needed) }
+    ensures { OnOk result
+        (out.new.items ≡ out.old.items ++ (if needed then codes "(" else [])) }
 {
     if needed { put(out, b"(") } else { Ok(()) }
 }
 
 fn close(out: &mut Vec<u8>, needed: bool) -> Result<(), NoMemory>
-    ensures { OnOk result (out.new.items ≡ out.old.items ++ closing needed) }
+    ensures { OnOk result
+        (out.new.items ≡ out.old.items ++ (if needed then codes ")" else [])) }
 {
     if needed { put(out, b")") } else { Ok(()) }
 }
@@ -117,10 +122,25 @@ fn needs(wanted: u8, operand: &Expr) -> bool
     level(operand) < wanted
 }
 
+// Appends an operand where this level is wanted.
+#[cycle(print_expression)]
+#[tactic(auto, using(crate::proofs::Printout::Appended::enclosed_text))]
+fn print_operand(out: &mut Vec<u8>, operand: &Expr, wanted: u8) -> Result<(), NoMemory>
+    ensures { let e = expr_tree operand.now in OnOk result
+        (out.new.items ≡ out.old.items ++ text (operand_pieces wanted e (expr_pieces e))) }
+{
+    let around = needs(wanted, operand);
+    open(out, around)?;
+    print_expr(out, operand)?;
+    close(out, around)
+}
+
 /// Appends an expression that needs no parentheses.
 #[cycle(print_expression)]
+#[tactic(auto, using(crate::proofs::Printout::Appended::text_append), unfolding(crate::specs::Printed::op_text))]
 pub fn print_expr(out: &mut Vec<u8>, expr: &Expr) -> Result<(), NoMemory>
-    ensures { OnOk result (out.new.items ≡ out.old.items ++ expr_text (expr_tree expr.now)) }
+    ensures { OnOk result
+        (out.new.items ≡ out.old.items ++ text (expr_pieces (expr_tree expr.now))) }
 {
     match expr {
         Expr::Num(number, _) => put_number(out, *number),
@@ -133,29 +153,17 @@ pub fn print_expr(out: &mut Vec<u8>, expr: &Expr) -> Result<(), NoMemory>
             put(out, b")")
         }
         Expr::Neg(operand, _) => {
-            let parentheses = needs(SIGN, operand);
             put(out, b"-")?;
-            open(out, parentheses)?;
-            print_expr(out, operand)?;
-            close(out, parentheses)
+            print_operand(out, operand, SIGN)
         }
         Expr::Not(operand, _) => {
-            let parentheses = needs(NOT, operand);
             put(out, b"not ")?;
-            open(out, parentheses)?;
-            print_expr(out, operand)?;
-            close(out, parentheses)
+            print_operand(out, operand, NOT)
         }
         Expr::Bin(op, left, right, _) => {
-            let around_left = needs(left_level(*op), left);
-            let around_right = needs(right_level(*op), right);
-            open(out, around_left)?;
-            print_expr(out, left)?;
-            close(out, around_left)?;
+            print_operand(out, left, left_level(*op))?;
             put(out, spelled(*op).as_bytes())?;
-            open(out, around_right)?;
-            print_expr(out, right)?;
-            close(out, around_right)
+            print_operand(out, right, right_level(*op))
         }
     }
 }
@@ -163,7 +171,8 @@ pub fn print_expr(out: &mut Vec<u8>, expr: &Expr) -> Result<(), NoMemory>
 /// Appends expressions with `, ` between them.
 #[cycle(print_expression)]
 pub fn print_exprs(out: &mut Vec<u8>, exprs: &Exprs) -> Result<(), NoMemory>
-    ensures { OnOk result (out.new.items ≡ out.old.items ++ exprs_text (exprs_tree exprs.now)) }
+    ensures { OnOk result
+        (out.new.items ≡ out.old.items ++ text (exprs_pieces (exprs_tree exprs.now))) }
 {
     match exprs {
         Exprs::End => Ok(()),
@@ -178,7 +187,7 @@ pub fn print_exprs(out: &mut Vec<u8>, exprs: &Exprs) -> Result<(), NoMemory>
 #[cycle(print_expression)]
 fn print_further(out: &mut Vec<u8>, exprs: &Exprs) -> Result<(), NoMemory>
     ensures { OnOk result
-        (out.new.items ≡ out.old.items ++ further_exprs_text (exprs_tree exprs.now)) }
+        (out.new.items ≡ out.old.items ++ text (further_exprs (exprs_tree exprs.now))) }
 {
     let mut left = exprs;
     'expressions: while let Exprs::More(first, rest) = left {

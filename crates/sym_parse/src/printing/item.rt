@@ -1,24 +1,24 @@
 //! Lists of items.
-ghost use Rattle.std.specs.Prelude.{◌≡◌, ◌++◌, ℕ, List, OnOk};
+ghost use Rattle.std.specs.Prelude.{◌≡◌, ◌++◌, List, OnOk};
 ghost use Rattle.std.specs.List.{flat_map};
 ghost use Rattle.sym_base.specs.declared.tree.name.Name.{Name};
-ghost use Rattle.sym_parse.specs.Printed.{further, listed, name_text};
+ghost use Rattle.sym_parse.specs.Printed.{Piece, further, listed, one_name, text};
 
 use crate::printing::token::put;
 use sym_base::{Name, NoMemory};
 
 /// An item of a list of a script.
 pub trait Item {
-    /// Its text.
-    ghost text: { Self → List ℕ };
+    /// What its text is made of.
+    ghost pieces: { Self → List Piece };
 
     /// Appends the text.
     fn print(&self, out: &mut Vec<u8>) -> Result<(), NoMemory>
-        ensures { OnOk result (out.new.items ≡ out.old.items ++ text self.now) };
+        ensures { OnOk result (out.new.items ≡ out.old.items ++ text (pieces self.now)) };
 }
 
 impl Item for Name {
-    ghost text = { name_text };
+    ghost pieces = { one_name };
 
     fn print(&self, out: &mut Vec<u8>) -> Result<(), NoMemory> {
         put(out, self.text.as_bytes())
@@ -28,7 +28,7 @@ impl Item for Name {
 /// Appends the items one after another.
 #[tactic(auto, using(crate::proofs::Printout::Appended::appended_more))]
 pub fn print_all<T: Item>(out: &mut Vec<u8>, items: &[T]) -> Result<(), NoMemory>
-    ensures { OnOk result (out.new.items ≡ out.old.items ++ flat_map T.text items.now) }
+    ensures { OnOk result (out.new.items ≡ out.old.items ++ text (flat_map T.pieces items.now)) }
 {
     'items: for item in items {
         item.print(out)?;
@@ -39,7 +39,7 @@ pub fn print_all<T: Item>(out: &mut Vec<u8>, items: &[T]) -> Result<(), NoMemory
 // Appends the items, each after a `, `.
 #[tactic(auto, using(crate::proofs::Printout::Appended::appended_more))]
 fn print_further<T: Item>(out: &mut Vec<u8>, items: &[T]) -> Result<(), NoMemory>
-    ensures { OnOk result (out.new.items ≡ out.old.items ++ further T.text items.now) }
+    ensures { OnOk result (out.new.items ≡ out.old.items ++ text (further T.pieces items.now)) }
 {
     'items: for item in items {
         put(out, b", ")?;
@@ -49,8 +49,9 @@ fn print_further<T: Item>(out: &mut Vec<u8>, items: &[T]) -> Result<(), NoMemory
 }
 
 /// Appends the items with `, ` between them.
+#[tactic(auto, using(crate::proofs::Printout::Appended::text_append))]
 pub fn print_listed<T: Item>(out: &mut Vec<u8>, items: &[T]) -> Result<(), NoMemory>
-    ensures { OnOk result (out.new.items ≡ out.old.items ++ listed T.text items.now) }
+    ensures { OnOk result (out.new.items ≡ out.old.items ++ text (listed T.pieces items.now)) }
 {
     match items {
         [] => Ok(()),

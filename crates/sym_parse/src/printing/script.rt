@@ -6,7 +6,7 @@ ghost use Rattle.sym_base.specs.Limits.{max_depth};
 ghost use Rattle.sym_base.specs.Sizes.{stmts_depth};
 ghost use Rattle.sym_base.specs.Trees.{column_tree, script_tree, stmts_tree, test_tree};
 ghost use Rattle.sym_parse.specs.Bare.{IsTextOf, ParsesAs};
-ghost use Rattle.sym_parse.specs.Printed.{column_text, report_text, script_text, test_text, update_text};
+ghost use Rattle.sym_parse.specs.Printed.{column_of, report_of, script_text, test_of, text, update_of};
 
 use crate::printing::declaration::print_group;
 use crate::printing::item::print_all;
@@ -18,7 +18,7 @@ use sym_base::{ColumnDecl, NoMemory, Script, Stmts, TestDecl};
 #[tactic(auto, using(crate::proofs::Printout::Appended::flat_map_map))]
 fn print_tests(out: &mut Vec<u8>, tests: &[TestDecl]) -> Result<(), NoMemory>
     ensures { OnOk result
-        (out.new.items ≡ out.old.items ++ flat_map test_text (map test_tree tests.now)) }
+        (out.new.items ≡ out.old.items ++ text (flat_map test_of (map test_tree tests.now))) }
 {
     print_all(out, tests)
 }
@@ -26,30 +26,33 @@ fn print_tests(out: &mut Vec<u8>, tests: &[TestDecl]) -> Result<(), NoMemory>
 #[tactic(auto, using(crate::proofs::Printout::Appended::flat_map_map))]
 fn print_columns(out: &mut Vec<u8>, columns: &[ColumnDecl]) -> Result<(), NoMemory>
     ensures { OnOk result
-        (out.new.items ≡ out.old.items ++ flat_map column_text (map column_tree columns.now)) }
+        (out.new.items ≡ out.old.items ++ text (flat_map column_of (map column_tree columns.now))) }
 {
     print_all(out, columns)
 }
 
+#[tactic(auto, using(crate::proofs::Printout::Appended::text_append))]
 fn print_update(out: &mut Vec<u8>, update: &Stmts) -> Result<(), NoMemory>
     requires { stmts_depth (stmts_tree update.now) ≤ max_depth }
-    ensures { OnOk result (out.new.items ≡ out.old.items ++ update_text (stmts_tree update.now)) }
+    ensures { OnOk result
+        (out.new.items ≡ out.old.items ++ text (update_of (stmts_tree update.now))) }
 {
     put(out, b"update {\n")?;
     print_stmts(out, update, 1)?;
     put(out, b"}\n")
 }
 
+#[tactic(auto, using(crate::proofs::Printout::Appended::text_append))]
 fn print_report(out: &mut Vec<u8>, columns: &[ColumnDecl]) -> Result<(), NoMemory>
     ensures { OnOk result
-        (out.new.items ≡ out.old.items ++ report_text (map column_tree columns.now)) }
+        (out.new.items ≡ out.old.items ++ text (report_of (map column_tree columns.now))) }
 {
     put(out, b"report {\n")?;
     print_columns(out, columns)?;
     put(out, b"}\n")
 }
 
-#[tactic(auto, unfolding(crate::specs::Printed::script_text))]
+#[tactic(auto, using(crate::proofs::Printout::Appended::text_append), unfolding(crate::specs::Printed::script_text, crate::specs::Printed::script))]
 fn print_script(alloc: Global, script: &Script) -> Result<Vec<u8>, NoMemory>
     requires { stmts_depth (stmts_tree script.now.update) ≤ max_depth }
     ensures { IfOk result (λ printed. printed.items ≡ script_text (script_tree script.now)) }

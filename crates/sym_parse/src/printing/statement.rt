@@ -1,9 +1,11 @@
 //! Statements.
+#![tactic(auto, using(crate::proofs::Printout::Appended::text_append))]
+
 ghost use Rattle.std.specs.Prelude.{◌≡◌, ◌≤◌, ◌+◌, ◌++◌, OnOk, ◌&&◌};
 ghost use Rattle.sym_base.specs.Limits.{max_depth};
 ghost use Rattle.sym_base.specs.Sizes.{stmt_depth, stmts_depth};
 ghost use Rattle.sym_base.specs.Trees.{stmt_tree, stmts_tree};
-ghost use Rattle.sym_parse.specs.Printed.{else_text, is_empty as is_empty_list, is_if as is_branch, stmt_text, stmts_text};
+ghost use Rattle.sym_parse.specs.Printed.{block, else_of, is_empty as is_empty_list, is_if as is_branch, stmt as stmt_pieces, stmts as stmts_pieces, text};
 
 use crate::printing::expression::{print_expr, print_exprs};
 use crate::printing::item::Item;
@@ -26,7 +28,8 @@ fn is_empty(stmts: &Stmts) -> bool
 #[cycle(print_statement)]
 fn print_stmt(out: &mut Vec<u8>, stmt: &Stmt, blocks: usize) -> Result<(), NoMemory>
     requires { blocks + stmt_depth (stmt_tree stmt.now) ≤ max_depth + 1 }
-    ensures { OnOk result (out.new.items ≡ out.old.items ++ stmt_text blocks (stmt_tree stmt.now)) }
+    ensures { OnOk result
+        (out.new.items ≡ out.old.items ++ text (stmt_pieces blocks (stmt_tree stmt.now))) }
 {
     match stmt {
         Stmt::Let(name, value) => {
@@ -66,13 +69,25 @@ fn print_stmt(out: &mut Vec<u8>, stmt: &Stmt, blocks: usize) -> Result<(), NoMem
         Stmt::If(condition, then, otherwise) => {
             put(out, b"if ")?;
             print_expr(out, condition)?;
-            put(out, b" {\n")?;
-            print_stmts(out, then, blocks + 1)?;
-            put_indent(out, blocks)?;
-            put(out, b"}")?;
+            put(out, b" ")?;
+            print_block(out, then, blocks)?;
             print_else(out, otherwise, blocks)
         }
     }
+}
+
+// Appends a block whose brackets stand inside so many blocks.
+#[cycle(print_statement)]
+fn print_block(out: &mut Vec<u8>, stmts: &Stmts, blocks: usize) -> Result<(), NoMemory>
+    requires { blocks + stmts_depth (stmts_tree stmts.now) ≤ max_depth }
+    ensures { OnOk result
+        (out.new.items ≡ out.old.items
+        ++ text (block blocks (stmts_pieces (blocks + 1) (stmts_tree stmts.now)))) }
+{
+    put(out, b"{\n")?;
+    print_stmts(out, stmts, blocks + 1)?;
+    put_indent(out, blocks)?;
+    put(out, b"}")
 }
 
 // Appends what stands after an `if`'s first block.
@@ -80,7 +95,7 @@ fn print_stmt(out: &mut Vec<u8>, stmt: &Stmt, blocks: usize) -> Result<(), NoMem
 fn print_else(out: &mut Vec<u8>, stmts: &Stmts, blocks: usize) -> Result<(), NoMemory>
     requires { blocks + stmts_depth (stmts_tree stmts.now) ≤ max_depth }
     ensures { OnOk result
-        (out.new.items ≡ out.old.items ++ else_text blocks (stmts_tree stmts.now)) }
+        (out.new.items ≡ out.old.items ++ text (else_of blocks (stmts_tree stmts.now))) }
 {
     match stmts {
         Stmts::End => Ok(()),
@@ -89,13 +104,7 @@ fn print_else(out: &mut Vec<u8>, stmts: &Stmts, blocks: usize) -> Result<(), NoM
             if is_if(first) && is_empty(rest) {
                 return print_stmt(out, first, blocks);
             }
-            put(out, b"{\n")?;
-            put_indent(out, blocks + 1)?;
-            print_stmt(out, first, blocks + 1)?;
-            put(out, b"\n")?;
-            print_stmts(out, rest, blocks + 1)?;
-            put_indent(out, blocks)?;
-            put(out, b"}")
+            print_block(out, stmts, blocks)
         }
     }
 }
@@ -105,7 +114,7 @@ fn print_else(out: &mut Vec<u8>, stmts: &Stmts, blocks: usize) -> Result<(), NoM
 pub fn print_stmts(out: &mut Vec<u8>, stmts: &Stmts, blocks: usize) -> Result<(), NoMemory>
     requires { blocks + stmts_depth (stmts_tree stmts.now) ≤ max_depth + 1 }
     ensures { OnOk result
-        (out.new.items ≡ out.old.items ++ stmts_text blocks (stmts_tree stmts.now)) }
+        (out.new.items ≡ out.old.items ++ text (stmts_pieces blocks (stmts_tree stmts.now))) }
 {
     match stmts {
         Stmts::End => Ok(()),
