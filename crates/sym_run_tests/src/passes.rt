@@ -136,9 +136,9 @@ fn names(alloc: Global, run: &[&'static str]) -> Result<Vec<String>, NoMemory> {
 }
 
 fn is_key(key: &Key, who: &str) -> bool {
-    match key {
-        Key::One(Value::Word(word)) => word.as_str() == who,
-        Key::One(Value::Num(_)) | Key::One(Value::Label(_)) | Key::Whole => false,
+    match key.values.as_slice() {
+        [Value::Word(word)] => word.as_str() == who,
+        _ => false,
     }
 }
 
@@ -234,7 +234,14 @@ fn run_is(
 impl Row for Run {
     fn holds(&self, alloc: Global, checked: &Checked) -> Result<bool, NoMemory> {
         'chunks: for chunk in CHUNKS {
-            if !run_is(alloc, checked, &mut store(alloc, 0)?, &self.0, chunk, self.1)? {
+            if !run_is(
+                alloc,
+                checked,
+                &mut store(alloc, 0)?,
+                &self.0,
+                chunk,
+                self.1,
+            )? {
                 return Ok(false);
             }
         }

@@ -9,6 +9,14 @@ use sym_top::{StartErr, Status, refuse_start, symple};
 const COUNTER: &str =
     "field x: num; state n: int [0..3] = 0; update { n = n + 1; } report { n = n; }";
 
+// The same, and stays at three.
+const CLAMPED: &str =
+    "field x: num; state n: int [0..3] = 0 clamp; update { n = n + 1; } report { n = n; }";
+
+// A sum that stays in a range of which neither end is 0.
+const BETWEEN: &str =
+    "field x: num; state n: int [-3..4] = 0 clamp; update { n = n + x; } report { n = n; }";
+
 // Sessions of each user: a gap of more than 30 ends one, also that from the time before the first.
 macro_rules! sessions {
     ($before:literal) => {
@@ -36,10 +44,23 @@ const BY_USER: &str =
     "field user: word; group user; state n: int [0..1000000] = 0; update { n = n + 1; } \
     report { n = n; }";
 
+// A group for each user and day.
+const BY_DAY: &str = "field user: word; field day: word; group user, day; \
+    state n: int [0..1000000] = 0; update { n = n + 1; } report { n = n; }";
+
+// A group for each value of all fields, in another order than theirs.
+const BY_ALL: &str = "enum mode { idle, busy } field user: word; field day: num; field what: mode; \
+    group what, user, day; state n: int [0..9] = 0; update { n = n + 1; } report { n = n; }";
+
 const SUMS: &str = "field user: word; field x: num else 0; group user; \
     state n: int [-1000000000000..1000000000000] = 0; \
     state xs: nums [-1000000000000..1000000000000]; update { n = n + x; push xs x; } \
     report { n = n; big = sum(xs) * 1000000000000; }";
+
+// The same with a list whose numbers stay in a range.
+const CLAMPED_SUMS: &str = "field user: word; field x: num else 0; group user; \
+    state n: int [-1000000000000..1000000000000] = 0; state xs: nums [0..9] clamp; \
+    update { n = n + x; push xs x; } report { n = n; big = sum(xs); }";
 
 const SHOWN: &str =
     "field user: word; group user; state n: int [0..9] = 7; state xs: nums [0..9]; update { } \
@@ -57,6 +78,9 @@ const DOUBLE: &str =
 
 const QUOTIENT: &str =
     "field x: num; state n: int [0..9] = 0; update { n = n + x / x; } report { n = n; }";
+
+const CLAMPED_QUOTIENT: &str =
+    "field x: num; state n: int [0..9] = 0 clamp; update { n = n + x / x; } report { n = n; }";
 
 // Each comparison of a cell with a number on its left; the other way round each ends elsewhere.
 const TURNED: &str =
@@ -238,12 +262,57 @@ fn wrong_run(alloc: Global, runs: &[Run]) -> Result<Option<usize>, NoMemory> {
 }
 
 /// Scripts, the files that they are run over, and the reports.
-const REPORTS: [Run; 18] = [
+const REPORTS: [Run; 25] = [
     Run {
         script: COUNTER,
         files: &["x\n5\n5\n5\n5\n5\n"],
         status: Status::Faulted,
         out: "n\nfault: n overflows at record 4\n--\n",
+        ..DONE
+    },
+    Run {
+        script: CLAMPED,
+        files: &["x\n5\n5\n5\n5\n5\n"],
+        out: "n\n3\n--\n",
+        ..DONE
+    },
+    Run {
+        script: BETWEEN,
+        files: &["x\n-9\n1\n"],
+        out: "n\n-2\n--\n",
+        ..DONE
+    },
+    Run {
+        script: CLAMPED_SUMS,
+        files: &["user,x\na,12\na,-5\na,4\n"],
+        out: "user | n | big\na | 11 | 13\n--\n",
+        ..DONE
+    },
+    Run {
+        script: CLAMPED_QUOTIENT,
+        files: &["x\n3\n0\n5\n"],
+        status: Status::Faulted,
+        out: "n\nfault: arithmetic at record 2\n--\n",
+        ..DONE
+    },
+    Run {
+        script: BY_DAY,
+        files: &["user,day\na,1\na,2\nb,1\na,1\n"],
+        out: "user | day | n\na | 1 | 2\na | 2 | 1\nb | 1 | 1\n--\n",
+        ..DONE
+    },
+    Run {
+        script: BY_DAY,
+        files: &["user,day\na b,c\na,b c\n"],
+        out: "user | day | n\na b | c | 1\na | b c | 1\n--\n",
+        ..DONE
+    },
+    // The group line's order is that of the names and values, whatever the file's.
+    Run {
+        script: BY_ALL,
+        files: &["day,user,what\n3,ann,busy\n3,bob,busy\n3,ann,idle\n3,ann,busy\n"],
+        out: "what | user | day | n\nbusy | ann | 3 | 2\nbusy | bob | 3 | 1\n\
+            idle | ann | 3 | 1\n--\n",
         ..DONE
     },
     Run {

@@ -76,9 +76,9 @@ fn is_new(moves: &[(i64, &'static str)], who: &str) -> bool {
 }
 
 fn is_key(key: &Key, who: &str) -> bool {
-    match key {
-        Key::One(Value::Word(word)) => word.as_str() == who,
-        Key::One(Value::Num(_) | Value::Label(_)) | Key::Whole => false,
+    match key.values.as_slice() {
+        [Value::Word(word)] => word.as_str() == who,
+        _ => false,
     }
 }
 
@@ -327,11 +327,17 @@ const PUT: [(i64, u64); 3] = [(7, 1), (8, 2), (7, 3)];
 /// The same of the groups, in their order.
 const FOUND: [(i64, u64); 2] = [(7, 3), (8, 2)];
 
+fn number_key(alloc: Global, number: i64) -> Result<Key, NoMemory> {
+    let mut values = Values::new(alloc);
+    values.push(Value::Num(number))?;
+    Ok(Key { values })
+}
+
 // Puts a group that ended.
 fn put_ended(alloc: Global, groups: Groups, number: i64, no: u64) -> Result<Groups, NoMemory> {
     let kind = FaultKind::Over(0);
     let outcome = Outcome::Ended(Fault { kind, no });
-    groups.put(alloc, Key::One(Value::Num(number)), outcome)
+    groups.put(alloc, number_key(alloc, number)?, outcome)
 }
 
 fn put_all(alloc: Global, rows: &[(i64, u64)]) -> Result<Groups, NoMemory> {
@@ -343,9 +349,9 @@ fn put_all(alloc: Global, rows: &[(i64, u64)]) -> Result<Groups, NoMemory> {
 }
 
 fn is_number_key(key: &Key, number: i64) -> bool {
-    match key {
-        Key::One(Value::Num(found)) => *found == number,
-        Key::One(Value::Word(_) | Value::Label(_)) | Key::Whole => false,
+    match key.values.as_slice() {
+        [Value::Num(found)] => *found == number,
+        _ => false,
     }
 }
 
@@ -388,7 +394,7 @@ fn is_found(groups: &Groups, key: &Key, no: Option<u64>) -> bool {
 // The place of the first row that isn't found as wanted.
 fn wrong_find(alloc: Global, groups: &Groups) -> Result<Option<usize>, NoMemory> {
     'rows: for (place, (number, no)) in SOUGHT.iter().enumerate() {
-        if !is_found(groups, &Key::One(Value::Num(*number)), *no) {
+        if !is_found(groups, &number_key(alloc, *number)?, *no) {
             return Ok(Some(place));
         }
     }
