@@ -26,4 +26,4 @@ pub record IsSizeOf (text : List ℕ) (size : Size) : Type 0 where
   pub is_plan : IsPlanOf text plan
   pub cells : size.cells ≡ length plan.cells
   pub tests : size.tests ≡ length plan.tests
-  pub paths : size.paths ≡ path_bound plan.update
+  pub paths : size.paths ≡ path_bound plan

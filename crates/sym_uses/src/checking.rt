@@ -78,6 +78,18 @@ mod tests {
     }
 
     #[test]
+    fn a_number_that_clamps_has_three_paths(rt: HostRuntime) {
+        let text = "field x: num; state n: int [0..3] = 0 clamp; \
+                    update { n = n + 1; } report { n = n; }";
+        let size = Size {
+            cells: 1,
+            tests: 0,
+            paths: 3,
+        };
+        assert_eq!(rt; size_of_text(rt.alloc(), text.as_bytes()), Ok(size));
+    }
+
+    #[test]
     fn a_text_is_refused_where_it_stops_or_breaks_a_rule(rt: HostRuntime) {
         let unread = size_of_text(rt.alloc(), "field x num;".as_bytes());
         assert_eq!(rt; unread, Err(Refused::Text(ParseErr::Expected { at: 8 })));
