@@ -1,7 +1,8 @@
 #!/bin/sh
 # Measures symple over two logs of 4,000,000 records, of 10 and of 98,304 users: the sessions of
-# each user, against gawk, mawk, miller, Python with its csv, and a program written by hand in Rust.
-# All have to write the same report, and each runs three times, in turn; miller, the slowest, is
+# each user, against gawk, mawk, miller, Python with its csv, and a program written by hand in Rust,
+# and with a group line of two fields (two_keys). All have to write the same report, that of two
+# fields but for its second column, and each runs three times, in turn; miller, the slowest, is
 # stopped where it takes two minutes. Prints the least wall time and the most memory of each, and
 # their ratios to symple's, as a table.
 # Needs rustc, gawk, mawk, miller, python3, GNU date, time and timeout (Debian's packages rustc,
@@ -12,7 +13,7 @@ set -eu
 records=${1:-4000000}
 most_bytes=67108864
 turns=3
-programs="symple rust mawk gawk python miller"
+programs="symple two_keys rust mawk gawk python miller"
 patience=120
 here=$(CDPATH='' cd -P "$(dirname "$0")" && pwd)
 root=$(dirname "$here")
@@ -39,6 +40,9 @@ run() {
     log=$work/$2.csv
     case $1 in
         symple) set -- "$root/crates/symple/out/symple" run "$here/sessions.symple" "$log" ;;
+        two_keys)
+            set -- "$root/crates/symple/out/symple" run "$here/two_keys.symple" "$log"
+            ;;
         rust) set -- "$work/sessions" "$log" ;;
         mawk | gawk) set -- "$1" -f "$here/sessions.awk" "$log" ;;
         python) set -- "$python" "$here/sessions.py" "$log" ;;
@@ -61,6 +65,10 @@ measure() {
         return
     fi
     [ "$status" -eq 0 ] || stop "$1 failed"
+    if [ "$1" = two_keys ]; then
+        sed 's/^\([^|]*| \)[^|]*| /\1/' "$work/report" >"$work/one_key"
+        mv "$work/one_key" "$work/report"
+    fi
     cmp -s "$work/report" "$work/$2.expected" ||
         stop "$1 and rust write different reports for $2 users"
     echo "$1 $2 $(((end - begin) / 1000)) $(tail -n 1 "$work/used")" >>"$work/turns"
