@@ -1,5 +1,5 @@
 //! Values put at a place of a list; those before it stay. The place is one of the list's, or the next
-//! after them. Each is written over the value that lies there, which keeps its memory.
+//! after them. A number or a word is written over the value at the place, in its memory.
 ghost use Rattle.std.specs.Prelude.{◌≡◌, ◌≤◌, ◌+◌, ◌++◌, ◌∷◌, [], OnOk, length, take};
 
 use std::alloc::Global;

@@ -19,7 +19,8 @@ pub struct Heads {
 /// What a report shows of a group.
 #[derive(PartialEq, Eq, Drop)]
 pub struct Row {
-    /// The values of these fields; none where all records are of one group.
+    /// The values of the group line's fields, in the line's order; none where all records are of
+    /// one group.
     pub keys: Columns,
     pub body: RowBody,
 }
