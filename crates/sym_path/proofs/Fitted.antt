@@ -15,7 +15,8 @@ use Rattle.sym_check.specs.declared.plan.script.CellPlan.{CellPlan}
 use Rattle.sym_check.specs.declared.plan.script.CellPlan.TheVariants as plan
 use Rattle.sym_check.specs.ScriptPlans.{ScriptPlan}
 use Rattle.sym_base.specs.States.{cell_nums, cell_words}
-use Rattle.sym_check.specs.Validity.{label_count, AreOfKinds, InRange, IsValidCell, IsValid, IsValidOutcome}
+use Rattle.sym_check.specs.Ranges.{InRange}
+use Rattle.sym_check.specs.Validity.{label_count, AreOfKinds, IsValidCell, IsValid, IsValidOutcome}
 use Rattle.sym_check.specs.Validity as valid
 use Rattle.sym_check.specs.WellFormed.{IsCell, IsWellFormed}
 use Rattle.sym_int.specs.Lines.{form_on, form_value}

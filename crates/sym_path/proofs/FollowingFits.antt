@@ -12,7 +12,8 @@ use Rattle.sym_check.specs.declared.plan.script.CellPlan.TheVariants as plan
 use Rattle.sym_check.specs.declared.plan.script.KindPlan.{KindPlan}
 use Rattle.sym_check.specs.CellKinds.{IsEnumCell, IsHoldCell}
 use Rattle.sym_check.specs.ScriptPlans.{ScriptPlan}
-use Rattle.sym_check.specs.Validity.{label_count, InRange}
+use Rattle.sym_check.specs.Ranges.{InRange}
+use Rattle.sym_check.specs.Validity.{label_count}
 use Rattle.sym_check.specs.WellFormed.{IsCell, IsWellFormed}
 use Rattle.sym_enum.specs.declared.form.EnumForm.{EnumForm}
 use Rattle.sym_enum.specs.declared.form.EnumForm.TheVariants as label

@@ -17,7 +17,8 @@ use Rattle.sym_check.specs.declared.plan.script.EnumPlan.{EnumPlan}
 use Rattle.sym_check.specs.declared.plan.script.CellPlan.{CellPlan}
 use Rattle.sym_check.specs.declared.plan.script.CellPlan.TheVariants as plan
 use Rattle.sym_check.specs.ScriptPlans.{ScriptPlan}
-use Rattle.sym_check.specs.Validity.{label_count, labels_in, InRange, IsValidCell, IsValid}
+use Rattle.sym_check.specs.Ranges.{InRange}
+use Rattle.sym_check.specs.Validity.{label_count, labels_in, IsValidCell, IsValid}
 use Rattle.sym_check.specs.Validity as valid
 use Rattle.sym_check.specs.WellFormed.{IsCell, IsEnum, IsWellFormed}
 use Rattle.sym_enum.specs.Labels.{IsOnlyLabel}

@@ -8,7 +8,8 @@ use Rattle.sym_check.specs.declared.plan.script.CellPlan.TheVariants as plan
 use Rattle.sym_check.specs.CellKinds.{IsHoldCell, IsEnumCell}
 use Rattle.sym_check.specs.Fitting.{FitsFault}
 use Rattle.sym_check.specs.ScriptPlans.{ScriptPlan, TestOf}
-use Rattle.sym_check.specs.Validity.{label_count, AreOfKinds, InRange}
+use Rattle.sym_check.specs.Ranges.{InRange}
+use Rattle.sym_check.specs.Validity.{label_count, AreOfKinds}
 use Rattle.sym_enum.specs.Labels.{has_label}
 use Rattle.sym_enum.specs.declared.form.EnumForm.TheVariants as label
 use Rattle.sym_enum.specs.declared.label_set.LabelSet.{LabelSet}

@@ -5,7 +5,7 @@ ghost use Rattle.sym_check.specs.CheckedScripts.{checked_plan};
 ghost use Rattle.sym_check.specs.CellKinds.{IsHoldCell, IsEnumCell};
 ghost use Rattle.sym_check.specs.Fitting.{FitsFault};
 ghost use Rattle.sym_check.specs.ScriptPlans.{script_plan};
-ghost use Rattle.sym_check.specs.Validity.{InRange};
+ghost use Rattle.sym_check.specs.Ranges.{InRange};
 ghost use Rattle.sym_check.specs.WellFormed.{IsCell, IsWellFormed};
 ghost use Rattle.sym_int.specs.Lines.{form_on};
 ghost use Rattle.sym_int.specs.Points.{HasPoint};
@@ -213,11 +213,7 @@ fn fault_fits(plan: &Plan, kind: &FaultKind) -> bool
     ensures { IsTrue result ↔ FitsFault (script_plan plan.now) kind.now }
 {
     match kind {
-        FaultKind::Over(cell) => match plan.cells.get(usize::from(*cell)) {
-            Some(CellPlan::Int { .. }) => true,
-            Some(CellPlan::Nums { .. }) => true,
-            _ => false,
-        },
+        FaultKind::Over(cell) => plan.range_at(*cell).is_some(),
         FaultKind::Arith => true,
     }
 }
