@@ -165,9 +165,9 @@ part_decided p cp now = (to cp now, from cp now)
   where
     to : (cp : CellPlan) (now : Part) → FitsPart p cp now → PartFits p cp now
     to (plan.Enum of first) (part.Set set) h = fitting.labels of first set h
-    to (plan.Int lo hi first) (part.Span span) h = fitting.numbers lo hi first span h
+    to (plan.Int lo hi first clamp) (part.Span span) h = fitting.numbers lo hi first span h
     to (plan.Hold kinds first) (part.Facts known) h = fitting.parts kinds first known h
-    to (plan.Nums lo hi) part.Free h = fitting.free_nums lo hi
+    to (plan.Nums lo hi clamp) part.Free h = fitting.free_nums lo hi
     to plan.Words part.Free h = fitting.free_words
     to cp now h = absurd h
 
@@ -184,10 +184,10 @@ form_decided p when cp f = (to cp f, from cp f)
     to : (cp : CellPlan) (f : Form) → FitsForm p when cp f → FormFits p when cp f
     to (plan.Enum of first) (form.Enum (label.Const l)) h = fitting.of_label of first l h
     to (plan.Enum of first) (form.Enum (label.Copy c)) h = fitting.copied_label of first c h
-    to (plan.Int lo hi first) (form.Int g) h = fitting.of_number lo hi first g h
+    to (plan.Int lo hi first clamp) (form.Int g) h = fitting.of_number lo hi first g h
     to (plan.Hold kinds first) (form.Hold (hold.Const parts)) h = fitting.of_parts kinds first parts h
     to (plan.Hold kinds first) (form.Hold (hold.Copy c)) h = fitting.copied_parts kinds first c h
-    to (plan.Nums lo hi) (form.Nums added) h = fitting.of_numbers lo hi added h
+    to (plan.Nums lo hi clamp) (form.Nums added) h = fitting.of_numbers lo hi added h
     to plan.Words (form.Words added) h = fitting.of_words added
     to cp f h = absurd h
 

@@ -1,5 +1,5 @@
 -- What fits a script, at a valid state that a path admits.
-use Rattle.std.proofs.Common.{◌≡◌, ◌<◌, ℕ, ℤ, List, [], ◌∷◌, ◌++◌, Option, Some, None, map, refl, sym, ap, ◌∙◌, arith}
+use Rattle.std.proofs.Common.{◌≡◌, ◌<◌, ℕ, ℤ, Bool, List, [], ◌∷◌, ◌++◌, Option, Some, None, map, refl, sym, ap, ◌∙◌, arith}
 use Rattle.std.proofs.lemmas.Int.{ints}
 use Rattle.std.proofs.lemmas.List.Elements.{All-append, All-map}
 use Rattle.std.specs.Prelude.{slice_get}
@@ -93,8 +93,8 @@ module _ (truth : Truth) (p : ScriptPlan) (when : List Part) (s : State) (admitt
         go : (x : Cell) × (slice_get s.cells c ≡ Some x) × IsValidCell p.enums (plan.Hold kinds first) x → AreOfKinds p.enums kinds (parts_at s c)
         go (x, is, v) = rw is (held x v)
 
-    nums_are : (lo hi : ℤ) (old : Cell) → IsValidCell p.enums (plan.Nums lo hi) old → All (InRange lo hi) (cell_nums (Some old))
-    nums_are _ _ _ (valid.nums lo hi xs h) = h
+    nums_are : (lo hi : ℤ) {clamp : Bool} (old : Cell) → IsValidCell p.enums (plan.Nums lo hi clamp) old → All (InRange lo hi) (cell_nums (Some old))
+    nums_are _ _ _ (valid.nums lo hi clamp xs h) = h
 
     map_all : {A B : Type 0} (f : A → B) (P : B → Type 0) (xs : List A) → All (λ x. P (f x)) xs → All P (map f xs)
     map_all f P xs h = All-map P f xs h
@@ -103,11 +103,11 @@ module _ (truth : Truth) (p : ScriptPlan) (when : List Part) (s : State) (admitt
     cell_valid : (cp : CellPlan) (f : Form) (old : Cell) → FormFits p when cp f → IsValidCell p.enums cp old → IsValidCell p.enums cp (cell_at f s old)
     cell_valid _ _ old (fitting.of_label of first l h) v = valid.enum of first l h
     cell_valid _ _ old (fitting.copied_label of first c h) v = valid.enum of first (label_at s c) (copied_is c of h.first h.is)
-    cell_valid _ _ old (fitting.of_number lo hi first f h) v = valid.int lo hi first (form_value f s) (number_in_range lo hi f h)
+    cell_valid _ _ old (fitting.of_number lo hi first f h) v = valid.int lo hi first _ (form_value f s) (number_in_range lo hi f h)
     cell_valid _ _ old (fitting.of_parts kinds first parts h) v = valid.hold kinds first parts h
     cell_valid _ _ old (fitting.copied_parts kinds first c h) v = valid.hold kinds first (parts_at s c) (copied_parts_are c kinds h.first h.is)
     cell_valid _ _ old (fitting.of_numbers lo hi added h) v =
-        valid.nums lo hi (nums_after added s old)
+        valid.nums lo hi _ (nums_after added s old)
         (All-append (InRange lo hi) (cell_nums (Some old)) (map (λ f. form_value f s) added) (nums_are lo hi old v)
         (map_all (λ f. form_value f s) (InRange lo hi) added (all_from (λ f. InRange lo hi (form_value f s)) added (λ i f e. number_in_range lo hi f (all_at (NumberFits lo hi when) added i f h e)))))
     cell_valid _ _ old (fitting.of_words added) v = valid.words (cell_words (Some old) ++ added)

@@ -1,6 +1,6 @@
 -- The forms that a path's forms become after those of another one: they fit, are taken, and give
 -- what they gave at the state that the others give.
-use Rattle.std.proofs.Common.{◌≡◌, ◌<◌, ℕ, suc, ℤ, ◌+ℤ◌, ◌*ℤ◌, ◌<ℤ◌, ◌≤ℤ◌, List, [], ◌∷◌, ◌++◌, Option, Some, None, length, map, drop, refl, sym, ap, ◌∙◌, subst, append_assoc, arith}
+use Rattle.std.proofs.Common.{◌≡◌, ◌<◌, ℕ, suc, ℤ, ◌+ℤ◌, ◌*ℤ◌, ◌<ℤ◌, ◌≤ℤ◌, Bool, List, [], ◌∷◌, ◌++◌, Option, Some, None, length, map, drop, refl, sym, ap, ◌∙◌, subst, append_assoc, arith}
 use Rattle.std.proofs.lemmas.Int.{ints, by_lt_z}
 use Rattle.std.proofs.lemmas.List.Elements.{All-append}
 use Rattle.std.proofs.lemmas.Option.{slice_get_within}
@@ -268,7 +268,7 @@ module _ (truth : Truth) (p : ScriptPlan) (lefts : List Part) (mids : List Form)
   own_all : (fs : List IntForm) → AllZip (NumberIsTakenTo lefts) fs fs → All (λ f. NumberIsTakenTo lefts f f) fs
   own_all fs h = all_from (λ f. NumberIsTakenTo lefts f f) fs (λ i f e. zip_at (NumberIsTakenTo lefts) fs fs i f f h e e)
 
-  nums_go : (c : ℕ) (lo hi : ℤ) (first added new : List IntForm) → slice_get mids c ≡ Some (form.Nums first) → All (NumberFits lo hi lefts) first → All (NumberFits lo hi needs) added → NumsAfter context added (Some (form.Nums first)) (form.Nums new) → FormGoes p lefts truth mids c (plan.Nums lo hi) (form.Nums added) (form.Nums new)
+  nums_go : (c : ℕ) (lo hi : ℤ) {clamp : Bool} (first added new : List IntForm) → slice_get mids c ≡ Some (form.Nums first) → All (NumberFits lo hi lefts) first → All (NumberFits lo hi needs) added → NumsAfter context added (Some (form.Nums first)) (form.Nums new) → FormGoes p lefts truth mids c (plan.Nums lo hi clamp) (form.Nums added) (form.Nums new)
   nums_go c lo hi first added new at own fits h = record {
     fits = fitting.of_numbers lo hi new (subst (λ (fs : List IntForm). All (NumberFits lo hi lefts) fs) whole (All-append (NumberFits lo hi lefts) first rest own (all_from (NumberFits lo hi lefts) rest (λ i r e. (beside i r e).2.fits))));
     taken = own_pairs new (subst (λ (fs : List IntForm). All (λ f. NumberIsTakenTo lefts f f) fs) whole (All-append (λ f. NumberIsTakenTo lefts f f) first rest (own_all first (all_at (IsTakenOn lefts) mids c (form.Nums first) mids_fit.taken at)) (all_from (λ f. NumberIsTakenTo lefts f f) rest (λ i r e. (beside i r e).2.taken))));
@@ -337,11 +337,11 @@ module _ (truth : Truth) (p : ScriptPlan) (lefts : List Part) (mids : List Form)
   form_goes c _ _ r at (fitting.copied_parts kinds first d h) t =
       let own : FormFits p lefts (plan.Hold kinds h.first) r = zip_at (FormFits p lefts) p.cells mids d (plan.Hold kinds h.first) r mids_fit.each h.is t in
       record { fits = parts_form kinds first h.first r own; taken = all_at (IsTakenOn lefts) mids d r mids_fit.taken t; value = λ s x y a ex ey. parts_value_given kinds h.first d r s x own a t }
-  form_goes c _ _ r at (fitting.of_numbers lo hi added h) t =
-      let (m, is, own) = zip_get (FormFits p lefts) p.cells mids c (plan.Nums lo hi) mids_fit.each at in
+  form_goes c _ _ r at (fitting.of_numbers lo hi {clamp = clamp} added h) t =
+      let (m, is, own) = zip_get (FormFits p lefts) p.cells mids c (plan.Nums lo hi clamp) mids_fit.each at in
       go m r own is (rw is at t)
     where
-      go : (m r : Form) → FormFits p lefts (plan.Nums lo hi) m → slice_get mids c ≡ Some m → NumsAfter context added (Some m) r → FormGoes p lefts truth mids c (plan.Nums lo hi) (form.Nums added) r
+      go : (m r : Form) → FormFits p lefts (plan.Nums lo hi clamp) m → slice_get mids c ≡ Some m → NumsAfter context added (Some m) r → FormGoes p lefts truth mids c (plan.Nums lo hi clamp) (form.Nums added) r
       go _ (form.Enum r) (fitting.of_numbers _ _ first own) is u = absurd u
       go _ (form.Int r) (fitting.of_numbers _ _ first own) is u = absurd u
       go _ (form.Hold r) (fitting.of_numbers _ _ first own) is u = absurd u
@@ -378,12 +378,12 @@ module _ (truth : Truth) (p : ScriptPlan) (lefts : List Part) (mids : List Form)
       go _ (fitting.of_parts _ _ ps k) is = rw is tt
       go _ (fitting.copied_parts _ _ e k) is = rw is tt
 
-  nums_there : (lo hi : ℤ) (c : ℕ) → slice_get p.cells c ≡ Some (plan.Nums lo hi) → IsNums (slice_get mids c)
-  nums_there lo hi c at =
-      let (m, is, own) = zip_get (FormFits p lefts) p.cells mids c (plan.Nums lo hi) mids_fit.each at in
+  nums_there : (lo hi : ℤ) {clamp : Bool} (c : ℕ) → slice_get p.cells c ≡ Some (plan.Nums lo hi clamp) → IsNums (slice_get mids c)
+  nums_there lo hi {clamp = clamp} c at =
+      let (m, is, own) = zip_get (FormFits p lefts) p.cells mids c (plan.Nums lo hi clamp) mids_fit.each at in
       go m own is
     where
-      go : (m : Form) → FormFits p lefts (plan.Nums lo hi) m → slice_get mids c ≡ Some m → IsNums (slice_get mids c)
+      go : (m : Form) → FormFits p lefts (plan.Nums lo hi clamp) m → slice_get mids c ≡ Some m → IsNums (slice_get mids c)
       go _ (fitting.of_numbers _ _ first k) is = rw is tt
 
   words_there : (c : ℕ) → slice_get p.cells c ≡ Some plan.Words → IsWords (slice_get mids c)

@@ -1,5 +1,5 @@
 -- A path on the union of two constraints fits where both paths fit.
-use Rattle.std.proofs.Common.{get_or, ◌≡◌, ℕ, ℤ, ◌≤ℤ◌, ◌<ℤ◌, ◌||◌, List, [], ◌∷◌, Some, ◌⊎◌, inl, inr, refl, sym, ap, ◌∙◌, subst, arith}
+use Rattle.std.proofs.Common.{get_or, ◌≡◌, ℕ, ℤ, ◌≤ℤ◌, ◌<ℤ◌, ◌||◌, Bool, List, [], ◌∷◌, Some, ◌⊎◌, inl, inr, refl, sym, ap, ◌∙◌, subst, arith}
 use Rattle.std.proofs.lemmas.Bool.{cases_eq}
 use Rattle.std.proofs.lemmas.Int.{ints, by_lt_z}
 use Rattle.std.specs.Prelude.{slice_get, slice_set, IsTrue}
@@ -45,7 +45,7 @@ use Rattle.sym_path.proofs.NarrowedFits.{label_free, label_taken, number_free, n
 labels_within : (p : ScriptPlan) (of first : ℕ) (set : LabelSet) → PartFits p (plan.Enum of first) (part.Set set) → FitsEnum (label_count p.enums of) set
 labels_within p of first set (fitting.labels _ _ _ h) = h
 
-in_range : (p : ScriptPlan) (lo hi first : ℤ) (span : Span) → PartFits p (plan.Int lo hi first) (part.Span span) → FitsRange lo hi span
+in_range : (p : ScriptPlan) (lo hi first : ℤ) {clamp : Bool} (span : Span) → PartFits p (plan.Int lo hi first clamp) (part.Span span) → FitsRange lo hi span
 in_range p lo hi first span (fitting.numbers _ _ _ _ h) = h
 
 united_set : (count : ℕ) (a b u : LabelSet) → ((l : ℕ) → has_label u l ≡ (has_label a l || has_label b l)) → FitsEnum count a → FitsEnum count b → FitsEnum count u
@@ -237,10 +237,10 @@ module _ (p : ScriptPlan) (v w u : List Part) (united : AreUnited v w u) (fits_v
           beside fs gs i f h e = zip_get (NumberIsTakenTo w) fs gs i f h e
 
   -- What fits says of number forms.
-  number_of : (when : List Part) (lo hi first : ℤ) (g : IntForm) → FormFits p when (plan.Int lo hi first) (form.Int g) → NumberFits lo hi when g
+  number_of : (when : List Part) (lo hi first : ℤ) {clamp : Bool} (g : IntForm) → FormFits p when (plan.Int lo hi first clamp) (form.Int g) → NumberFits lo hi when g
   number_of when lo hi first g (fitting.of_number _ _ _ _ h) = h
 
-  numbers_of : (when : List Part) (lo hi : ℤ) (gs : List IntForm) → FormFits p when (plan.Nums lo hi) (form.Nums gs) → All (NumberFits lo hi when) gs
+  numbers_of : (when : List Part) (lo hi : ℤ) {clamp : Bool} (gs : List IntForm) → FormFits p when (plan.Nums lo hi clamp) (form.Nums gs) → All (NumberFits lo hi when) gs
   numbers_of when lo hi gs (fitting.of_numbers _ _ _ h) = h
 
   form_fits : (cp : CellPlan) (f g : Form) → IsTakenTo w f g → FormFits p v cp f → FormFits p w cp g → FormFits p u cp f

@@ -77,22 +77,22 @@ module _ (p : ScriptPlan) (c : ℕ) where
   -- The part is one that the cell may have, and admits all that it may hold.
   pub whole_fits : (cp : CellPlan) (now : Part) (f : Form) → IsCell p.enums cp → IsWholeCell p c cp now f → PartFits p cp now
   whole_fits (plan.Enum of first) (part.Set set) (form.Enum f) w h = fitting.labels of first set (record { some = (first, (h.0 first).1 w); within = λ l q. (h.0 l).0 q })
-  whole_fits (plan.Int lo hi first) (part.Span span) (form.Int f) w h = let l = h.0 in let u = h.1 in fitting.numbers lo hi first span (omega (arith, ints), omega (arith, ints))
+  whole_fits (plan.Int lo hi first clamp) (part.Span span) (form.Int f) w h = let l = h.0 in let u = h.1 in fitting.numbers lo hi first span (omega (arith, ints), omega (arith, ints))
   whole_fits (plan.Hold kinds first) (part.Facts known) (form.Hold f) w h = fitting.parts kinds first known (rw (h.0, nothing_known) (all_from (Suits p kinds) [] (λ i x e. absurd (cc))))
-  whole_fits (plan.Nums lo hi) part.Free (form.Nums added) w h = fitting.free_nums lo hi
+  whole_fits (plan.Nums lo hi clamp) part.Free (form.Nums added) w h = fitting.free_nums lo hi
   whole_fits plan.Words part.Free (form.Words added) w h = fitting.free_words
   whole_fits cp now f w h = absurd h
 
   pub whole_admits : (truth : Truth) (cp : CellPlan) (now : Part) (f : Form) (x : Cell) → IsWholeCell p c cp now f → IsValidCell p.enums cp x → PartAdmits truth now x
   whole_admits truth _ (part.Set set) (form.Enum f) _ h (valid.enum of first l q) = (h.0 l).1 q
-  whole_admits truth _ (part.Span span) (form.Int f) _ h (valid.int lo hi first x q) = let l = h.0 in let u = h.1 in let a = q.0 in let b = q.1 in (omega (arith, ints), omega (arith, ints))
+  whole_admits truth _ (part.Span span) (form.Int f) _ h (valid.int lo hi first clamp x q) = let l = h.0 in let u = h.1 in let a = q.0 in let b = q.1 in (omega (arith, ints), omega (arith, ints))
   whole_admits truth _ (part.Facts known) (form.Hold f) _ h (valid.hold kinds first parts q) = λ atom outcome e. let none : get known atom ≡ None = rw h.0 (get-empty atom_cmp atom) in absurd (cc)
-  whole_admits truth _ part.Free (form.Nums added) _ h (valid.nums lo hi xs q) = tt
+  whole_admits truth _ part.Free (form.Nums added) _ h (valid.nums lo hi clamp xs q) = tt
   whole_admits truth _ part.Free (form.Words added) _ h (valid.words ts) = tt
   whole_admits truth _ now f _ h (valid.enum of first l q) = absurd h
-  whole_admits truth _ now f _ h (valid.int lo hi first x q) = absurd h
+  whole_admits truth _ now f _ h (valid.int lo hi first clamp x q) = absurd h
   whole_admits truth _ now f _ h (valid.hold kinds first parts q) = absurd h
-  whole_admits truth _ now f _ h (valid.nums lo hi xs q) = absurd h
+  whole_admits truth _ now f _ h (valid.nums lo hi clamp xs q) = absurd h
   whole_admits truth _ now f _ h (valid.words ts) = absurd h
 
   module _ (when : List Part) where
@@ -114,9 +114,9 @@ module _ (p : ScriptPlan) (c : ℕ) where
 
     pub own_fits : (cp : CellPlan) (now : Part) (f : Form) → slice_get p.cells c ≡ Some cp → slice_get when c ≡ Some now → IsCell p.enums cp → IsWholeCell p c cp now f → FormFits p when cp f
     own_fits (plan.Enum of first) (part.Set set) (form.Enum f) e g w h = own_label_fits of first set f e h
-    own_fits (plan.Int lo hi first) (part.Span span) (form.Int f) e g w h = fitting.of_number lo hi first f (own_number_fits lo hi first span f w.2 g h.0 h.1 h.2)
+    own_fits (plan.Int lo hi first clamp) (part.Span span) (form.Int f) e g w h = fitting.of_number lo hi first f (own_number_fits lo hi first span f w.2 g h.0 h.1 h.2)
     own_fits (plan.Hold kinds first) (part.Facts known) (form.Hold f) e g w h = rw h.1 (fitting.copied_parts kinds first c (record { first = first; is = e }))
-    own_fits (plan.Nums lo hi) part.Free (form.Nums added) e g w h = rw h (fitting.of_numbers lo hi [] (all_from (NumberFits lo hi when) [] (λ i x q. absurd (cc))))
+    own_fits (plan.Nums lo hi clamp) part.Free (form.Nums added) e g w h = rw h (fitting.of_numbers lo hi [] (all_from (NumberFits lo hi when) [] (λ i x q. absurd (cc))))
     own_fits plan.Words part.Free (form.Words added) e g w h = fitting.of_words added
     own_fits cp now f e g w h = absurd h
 
@@ -147,9 +147,9 @@ module _ (p : ScriptPlan) (c : ℕ) where
 
     pub own_taken : (cp : CellPlan) (now : Part) (f : Form) → slice_get when c ≡ Some now → IsWholeCell p c cp now f → IsTakenOn when f
     own_taken (plan.Enum of first) (part.Set set) (form.Enum f) e h = own_label_taken set f e h.1
-    own_taken (plan.Int lo hi first) (part.Span span) (form.Int f) e h = own_number_taken span f e h.2
+    own_taken (plan.Int lo hi first clamp) (part.Span span) (form.Int f) e h = own_number_taken span f e h.2
     own_taken (plan.Hold kinds first) (part.Facts known) (form.Hold f) e h = refl
-    own_taken (plan.Nums lo hi) part.Free (form.Nums added) e h = rw h tt
+    own_taken (plan.Nums lo hi clamp) part.Free (form.Nums added) e h = rw h tt
     own_taken plan.Words part.Free (form.Words added) e h = refl
     own_taken cp now f e h = absurd h
 
@@ -172,14 +172,14 @@ module _ (p : ScriptPlan) (c : ℕ) where
 
     pub own_same : (cp : CellPlan) (now : Part) (f : Form) (x : Cell) → slice_get s.cells c ≡ Some x → IsWholeCell p c cp now f → IsValidCell p.enums cp x → cell_at f s x ≡ x
     own_same _ (part.Set set) (form.Enum f) _ e h (valid.enum of first l q) = own_label_same (label_count p.enums of) l set f q e h
-    own_same _ (part.Span span) (form.Int f) _ e h (valid.int lo hi first x q) = own_number_same lo hi x span f q h.0 h.1 e h.2
+    own_same _ (part.Span span) (form.Int f) _ e h (valid.int lo hi first clamp x q) = own_number_same lo hi x span f q h.0 h.1 e h.2
     own_same _ (part.Facts known) (form.Hold f) _ e h (valid.hold kinds first parts q) = rw h.1 (ap (λ (ps : List Value). cell.Hold ps) (ap cell_parts e))
-    own_same _ part.Free (form.Nums added) _ e h (valid.nums lo hi xs q) = rw h (ap (λ (ys : List ℤ). cell.Nums ys) (append-nil xs))
+    own_same _ part.Free (form.Nums added) _ e h (valid.nums lo hi clamp xs q) = rw h (ap (λ (ys : List ℤ). cell.Nums ys) (append-nil xs))
     own_same _ part.Free (form.Words added) _ e h (valid.words ts) = rw h (ap (λ (ys : List (List ℕ)). cell.Words ys) (append-nil ts))
     own_same _ now f _ e h (valid.enum of first l q) = absurd h
-    own_same _ now f _ e h (valid.int lo hi first x q) = absurd h
+    own_same _ now f _ e h (valid.int lo hi first clamp x q) = absurd h
     own_same _ now f _ e h (valid.hold kinds first parts q) = absurd h
-    own_same _ now f _ e h (valid.nums lo hi xs q) = absurd h
+    own_same _ now f _ e h (valid.nums lo hi clamp xs q) = absurd h
     own_same _ now f _ e h (valid.words ts) = absurd h
 
 -- ---- all cells

@@ -30,10 +30,10 @@ pub record AreParameters (enums : List EnumPlan) (kinds params : List KindPlan)
 -- What `PartFits` says of a cell and its part.
 abbrev pub FitsPart : ScriptPlan → CellPlan → Part → Type 0
 FitsPart p (plan.Enum of first) now = IsSetPart (FitsEnum (label_count p.enums of)) now
-FitsPart p (plan.Int lo hi first) now = IsSpanPart (FitsRange lo hi) now
+FitsPart p (plan.Int lo hi first clamp) now = IsSpanPart (FitsRange lo hi) now
 FitsPart p (plan.Hold kinds first) now =
     IsFactsPart (λ (known : FactMap). All (Suits p kinds) (literals known)) now
-FitsPart p (plan.Nums lo hi) now = IsFreePart (Unit {0}) now
+FitsPart p (plan.Nums lo hi clamp) now = IsFreePart (Unit {0}) now
 FitsPart p plan.Words now = IsFreePart (Unit {0}) now
 
 abbrev pub FitsLabelForm : ScriptPlan → ℕ → EnumForm → Type 0
@@ -47,7 +47,7 @@ FitsHoldForm p kinds (hold.Copy c) = IsHoldCell p.cells c kinds
 -- What `FormFits` says of a cell and its form.
 abbrev pub FitsForm : ScriptPlan → List Part → CellPlan → Form → Type 0
 FitsForm p when (plan.Enum of first) f = IsEnumForm (FitsLabelForm p of) f
-FitsForm p when (plan.Int lo hi first) f = IsIntForm (NumberFits lo hi when) f
+FitsForm p when (plan.Int lo hi first clamp) f = IsIntForm (NumberFits lo hi when) f
 FitsForm p when (plan.Hold kinds first) f = IsHoldForm (FitsHoldForm p kinds) f
-FitsForm p when (plan.Nums lo hi) f = IsNumsForm (All (NumberFits lo hi when)) f
+FitsForm p when (plan.Nums lo hi clamp) f = IsNumsForm (All (NumberFits lo hi when)) f
 FitsForm p when plan.Words f = IsWordsForm (λ (added : List (List ℕ)). Unit {0}) f

@@ -1,5 +1,5 @@
 -- Paths that fit a script.
-use Rattle.std.specs.Prelude.{◌≡◌, ℕ, ℤ, ◌++◌, ◌<◌, ◌≤ℤ◌, IsTrue, List, Option, Some, None, slice_get}
+use Rattle.std.specs.Prelude.{◌≡◌, ℕ, ℤ, ◌++◌, ◌<◌, ◌≤ℤ◌, Bool, IsTrue, List, Option, Some, None, slice_get}
 use Rattle.std.specs.List.{All, AllZip}
 use Rattle.sym_base.specs.declared.values.value.Value.{Value}
 use Rattle.sym_check.specs.declared.plan.script.KindPlan.{KindPlan}
@@ -54,13 +54,13 @@ pub data PartFits (p : ScriptPlan) : CellPlan → Part → Type 0 where
   labels : (of first : ℕ) (set : LabelSet)
       → FitsEnum (label_count p.enums of) set
       → PartFits p (plan.Enum of first) (part.Set set)
-  numbers : (lo hi first : ℤ) (span : Span)
+  numbers : (lo hi first : ℤ) {clamp : Bool} (span : Span)
       → FitsRange lo hi span
-      → PartFits p (plan.Int lo hi first) (part.Span span)
+      → PartFits p (plan.Int lo hi first clamp) (part.Span span)
   parts : (kinds : List KindPlan) (first : List Value) (known : FactMap)
       → All (Suits p kinds) (literals known)
       → PartFits p (plan.Hold kinds first) (part.Facts known)
-  free_nums : (lo hi : ℤ) → PartFits p (plan.Nums lo hi) part.Free
+  free_nums : (lo hi : ℤ) {clamp : Bool} → PartFits p (plan.Nums lo hi clamp) part.Free
   free_words : PartFits p plan.Words part.Free
 
 -- A number that depends on a cell lies in a range at every point of the cell's span.
@@ -87,18 +87,18 @@ pub data FormFits (p : ScriptPlan) (when : List Part) : CellPlan → Form → Ty
   copied_label : (of first c : ℕ)
       → IsEnumCell p.cells c of
       → FormFits p when (plan.Enum of first) (form.Enum (label.Copy c))
-  of_number : (lo hi first : ℤ) (f : IntForm)
+  of_number : (lo hi first : ℤ) {clamp : Bool} (f : IntForm)
       → NumberFits lo hi when f
-      → FormFits p when (plan.Int lo hi first) (form.Int f)
+      → FormFits p when (plan.Int lo hi first clamp) (form.Int f)
   of_parts : (kinds : List KindPlan) (first parts : List Value)
       → AreOfKinds p.enums kinds parts
       → FormFits p when (plan.Hold kinds first) (form.Hold (hold.Const parts))
   copied_parts : (kinds : List KindPlan) (first : List Value) (c : ℕ)
       → IsHoldCell p.cells c kinds
       → FormFits p when (plan.Hold kinds first) (form.Hold (hold.Copy c))
-  of_numbers : (lo hi : ℤ) (added : List IntForm)
+  of_numbers : (lo hi : ℤ) {clamp : Bool} (added : List IntForm)
       → All (NumberFits lo hi when) added
-      → FormFits p when (plan.Nums lo hi) (form.Nums added)
+      → FormFits p when (plan.Nums lo hi clamp) (form.Nums added)
   of_words : (added : List (List ℕ)) → FormFits p when plan.Words (form.Words added)
 
 -- One form for each cell, taken on the constraint.

@@ -56,9 +56,9 @@ IsWholeHold c when f = IsFactsPart (λ (known : FactMap). IsHoldForm (λ (own : 
 -- and the form that leaves it as it is.
 abbrev pub IsWholeCell : ScriptPlan → ℕ → CellPlan → Part → Form → Type 0
 IsWholeCell p c (plan.Enum of first) when f = IsWholeEnum (label_count p.enums of) c when f
-IsWholeCell p c (plan.Int lo hi first) when f = IsWholeRange lo hi c when f
+IsWholeCell p c (plan.Int lo hi first clamp) when f = IsWholeRange lo hi c when f
 IsWholeCell p c (plan.Hold kinds first) when f = IsWholeHold c when f
-IsWholeCell p c (plan.Nums lo hi) when f =
+IsWholeCell p c (plan.Nums lo hi clamp) when f =
     IsFreePart (IsNumsForm (λ (added : List IntForm). added ≡ []) f) when
 IsWholeCell p c plan.Words when f =
     IsFreePart (IsWordsForm (λ (added : List (List ℕ)). added ≡ []) f) when

@@ -164,7 +164,7 @@ fn form_fits(plan: &Plan, when: &Constraint, cell: &CellPlan, form: &Form) -> bo
         (CellPlan::Hold { kinds, .. }, Form::Hold(form)) => {
             hold_form_fits(plan, kinds.as_slice(), form)
         }
-        (CellPlan::Nums { lo, hi }, Form::Nums(added)) => {
+        (CellPlan::Nums { lo, hi, .. }, Form::Nums(added)) => {
             numbers_fit(&Span { lo: *lo, hi: *hi }, when, added)
         }
         (CellPlan::Words, Form::Words(_)) => true,

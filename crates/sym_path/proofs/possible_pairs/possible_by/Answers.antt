@@ -18,3 +18,6 @@ can_follow-requires-clause-few c =
     let few = c.requires.known.cell_count in
     let here : length c.as_slice.result.now ≡ length c.args.p.now.when = ap length c.as_slice.ensures in
     omega (arith, here, count, few)
+
+pub can_follow-requires-clause-fixed : goal.can_follow-requires-clause-fixed
+can_follow-requires-clause-fixed c = c.well_formed_tests_are_fixed.ensures (script_plan c.args.plan.now) c.requires.known
