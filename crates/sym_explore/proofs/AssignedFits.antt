@@ -1,9 +1,10 @@
 -- Paths in which a cell has another form fit the script where the form fits the cell.
-use Rattle.std.proofs.Common.{◌≡◌, ℕ, ℤ, List, [], ◌∷◌, ◌++◌, Option, Some, refl, sym, ap, ◌∙◌, subst}
+use Rattle.std.proofs.Common.{◌≡◌, ℕ, ℤ, Bool, List, [], ◌∷◌, ◌++◌, Option, Some, refl, sym, ap, ◌∙◌, subst}
 use Rattle.std.proofs.lemmas.List.Elements.{All-append, All-cons}
 use Rattle.std.specs.Prelude.{slice_get}
 use Rattle.std.specs.List.{All}
 use Rattle.sym_base.specs.declared.values.value.Value.{Value}
+use Rattle.sym_check.specs.declared.plan.range.Range.{Range}
 use Rattle.sym_check.specs.declared.plan.script.CellPlan.{CellPlan}
 use Rattle.sym_check.specs.declared.plan.script.CellPlan.TheVariants as plan
 use Rattle.sym_check.specs.declared.plan.script.KindPlan.{KindPlan}
@@ -30,8 +31,9 @@ use Rattle.sym_path.specs.Fitting.{EndFits, FormFits, FormsFit, NumberFits, Path
 use Rattle.sym_path.specs.Fitting as fitting
 use Rattle.sym_path.specs.Taking.{IsTakenOn, NumberIsTakenTo}
 use Rattle.sym_explore.specs.Assigning.{HasLabel, added_numbers}
-use Rattle.sym_explore.specs.Ranging.{HasEnds, NumberFitsCell}
+use Rattle.sym_explore.specs.Ranging.{NumberFitsCell}
 use Rattle.sym_explore.proofs.AssignedForms.{nums_form}
+use Rattle.sym_explore.proofs.AssignedKnown.{int_plan, nums_plan, same_range}
 
 -- The forms of a path that goes on.
 pub going_forms : (end : PathEnd) → GoesOn end → (forms : List Form) × (end ≡ Next forms)
@@ -104,39 +106,32 @@ words_fit p path c added fits cell = forms_fit p path c (form.Words added) fits 
   taken = refl;
 })
 
--- The ends of the range of a cell are those that its plan names.
-ends_are : (o : Option CellPlan) (lo hi first least most : ℤ) → o ≡ Some (plan.Int least most first) → HasEnds o lo hi → (least ≡ lo) × (most ≡ hi)
-ends_are o lo hi first least most e h = rw e at h
-
-list_ends_are : (o : Option CellPlan) (lo hi least most : ℤ) → o ≡ Some (plan.Nums least most) → HasEnds o lo hi → (least ≡ lo) × (most ≡ hi)
-list_ends_are o lo hi least most e h = rw e at h
-
 pub number_fits : (p : ScriptPlan) (path : Path) (c : ℕ) (f : IntForm) → PathFits p path → IsIntCell p.cells c → NumberFitsCell p c path f → PathFits p (with_form path c (form.Int f))
 number_fits p path c f fits cell number =
-    let (least, most) = ends_are (slice_get p.cells c) number.lo number.hi cell.first cell.lo cell.hi cell.is number.range in
+    let same = same_range p.cells c (int_plan cell) _ number.range cell.is refl number.is in
     forms_fit p path c (form.Int f) fits (record {
-      kind = plan.Int cell.lo cell.hi cell.first;
+      kind = int_plan cell;
       is = cell.is;
-      fits = fitting.of_number cell.lo cell.hi cell.first f (rw (least, most) number.on.fits);
+      fits = fitting.of_number cell.lo cell.hi cell.first f (subst (λ (r : Range). NumberFits r.lo r.hi path.when f) same number.on.fits);
       taken = number.on.taken;
     })
 
-added_fit : (p : ScriptPlan) (when : List Part) (lo hi : ℤ) (added : List IntForm) → FormFits p when (plan.Nums lo hi) (form.Nums added) → All (NumberFits lo hi when) added
+added_fit : (p : ScriptPlan) (when : List Part) (lo hi : ℤ) {clamp : Bool} (added : List IntForm) → FormFits p when (plan.Nums lo hi clamp) (form.Nums added) → All (NumberFits lo hi when) added
 added_fit p when _ _ _ (fitting.of_numbers lo hi added h) = h
 
 pub numbers_fit : (p : ScriptPlan) (path : Path) (c : ℕ) (f : IntForm) → PathFits p path → IsNumsCell p.cells c → NumberFitsCell p c path f → PathFits p (with_form path c (form.Nums (added_numbers (form_of path.end c) ++ f ∷ [])))
 numbers_fit p path c f fits cell number =
-    let (least, most) = list_ends_are (slice_get p.cells c) number.lo number.hi cell.lo cell.hi cell.is number.range in
+    let same = same_range p.cells c (nums_plan cell) _ number.range cell.is refl number.is in
     let (forms, is) = going_forms path.end number.on.goes_on in
     let (added, at) = nums_form p path forms c fits is cell in
     let there : form_of path.end c ≡ Some (form.Nums added) = ap (λ (e : PathEnd). form_of e c) is ∙ at in
-    let (here, taken) = form_fits_there p path.when path.end c (plan.Nums cell.lo cell.hi) (form.Nums added) fits.end cell.is there in
-    let last : NumberFits cell.lo cell.hi path.when f = rw (least, most) number.on.fits in
+    let (here, taken) = form_fits_there p path.when path.end c (nums_plan cell) (form.Nums added) fits.end cell.is there in
+    let last : NumberFits cell.lo cell.hi path.when f = subst (λ (r : Range). NumberFits r.lo r.hi path.when f) same number.on.fits in
     let more : List IntForm = added ++ f ∷ [] in
     let old : added_numbers (form_of path.end c) ≡ added = ap added_numbers there in
     subst (λ (xs : List IntForm). PathFits p (with_form path c (form.Nums (xs ++ f ∷ [])))) (sym old)
     (forms_fit p path c (form.Nums more) fits (record {
-      kind = plan.Nums cell.lo cell.hi;
+      kind = nums_plan cell;
       is = cell.is;
       fits = fitting.of_numbers cell.lo cell.hi more (All-append (NumberFits cell.lo cell.hi path.when) added (f ∷ []) (added_fit p path.when cell.lo cell.hi added here) (All-cons (NumberFits cell.lo cell.hi path.when) f [] last (all_from (NumberFits cell.lo cell.hi path.when) [] (λ i x e. absurd (cc)))));
       taken = zip_both (NumberIsTakenTo path.when) added added f f number.on.taken taken;

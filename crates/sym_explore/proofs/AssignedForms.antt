@@ -33,6 +33,7 @@ use Rattle.sym_path.specs.Changing.{cell_or, changed, form_of, formed, with_form
 use Rattle.sym_path.specs.Fitting.{EndFits, FormFits, FormsFit, PartFits, PathFits}
 use Rattle.sym_path.specs.Fitting as fitting
 use Rattle.sym_path.specs.Giving.{cell_at, cells_at, end_at, given, nums_after, state_at, words_after}
+use Rattle.sym_explore.proofs.AssignedKnown.{nums_plan}
 use Rattle.sym_explore.specs.Assigning.{added_numbers, added_words, hold_form, parts_form}
 use Rattle.sym_explore.specs.Labels.{enum_form, label_form}
 
@@ -149,11 +150,11 @@ word_pushed truth p path s c w fits words = form_gives truth path s c more (λ t
 pub nums_form : (p : ScriptPlan) (path : Path) (forms : List Form) (c : ℕ) → PathFits p path → path.end ≡ Next forms → IsNumsCell p.cells c → (added : List IntForm) × (slice_get forms c ≡ Some (form.Nums added))
 nums_form p path forms c fits is nums =
     let fit : FormsFit p path.when forms = subst (λ (e : PathEnd). EndFits p path.when e) is fits.end in
-    let (f, at, q) = form_there p path.when forms c (plan.Nums nums.lo nums.hi) fit nums.is in
+    let (f, at, q) = form_there p path.when forms c (nums_plan nums) fit nums.is in
     let (added, same) = is_nums nums.lo nums.hi f q in
     (added, at ∙ ap (λ (g : Form). Some g) same)
   where
-    is_nums : (lo hi : ℤ) (f : Form) → FormFits p path.when (plan.Nums lo hi) f → (added : List IntForm) × (f ≡ form.Nums added)
+    is_nums : (lo hi : ℤ) {clamp : Bool} (f : Form) → FormFits p path.when (plan.Nums lo hi clamp) f → (added : List IntForm) × (f ≡ form.Nums added)
     is_nums _ _ _ (fitting.of_numbers lo hi added h) = (added, refl)
 
 pub number_pushed : (truth : Truth) (p : ScriptPlan) (path : Path) (s : State) (c : ℕ) (f : IntForm) → PathFits p path → IsNumsCell p.cells c → given truth (with_form path c (form.Nums (added_numbers (form_of path.end c) ++ f ∷ []))) s ≡ map (changed (λ t. with_cell t c (cell.Nums (nums_at t c ++ form_value f s ∷ [])))) (given truth path s)
@@ -165,7 +166,7 @@ number_pushed truth p path s c f fits nums = form_gives truth path s c more (λ 
     same : (forms : List Form) → path.end ≡ Next forms → Admits truth path.when s → formed c more s (state_at forms s) ≡ with_cell (state_at forms s) c (cell.Nums (nums_at (state_at forms s) c ++ form_value f s ∷ []))
     same forms is admitted =
         let (added, at) = nums_form p path forms c fits is nums in
-        let (x, at_x, now) = held truth p path s fits forms is admitted c (plan.Nums nums.lo nums.hi) (form.Nums added) nums.is at in
+        let (x, at_x, now) = held truth p path s fits forms is admitted c (nums_plan nums) (form.Nums added) nums.is at in
         let old : added_numbers (form_of path.end c) ≡ added = ap added_numbers (form_is path forms c is ∙ at) in
         let left : nums_after (added_numbers (form_of path.end c) ++ f ∷ []) s (cell_or (slice_get s.cells c)) ≡ cell_nums (Some x) ++ map (λ g. form_value g s) (added ++ f ∷ []) =
         (λ i. nums_after (old i ++ f ∷ []) s (cell_or (at_x i))) in

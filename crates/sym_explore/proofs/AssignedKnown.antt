@@ -1,18 +1,22 @@
 -- What well-formed assignments name.
-use Rattle.std.proofs.Common.{ℕ, refl}
+use Rattle.std.proofs.Common.{◌≡◌, ℕ, List, Some, ap}
+use Rattle.std.specs.Option.{option_and_then}
 use Rattle.std.specs.Prelude.{slice_get}
 use Rattle.sym_check.proofs.ValidSteps.{label_is}
 use Rattle.sym_check.specs.declared.plan.expression.LabelOf.{LabelOf}
+use Rattle.sym_check.specs.declared.plan.range.Range.{Range}
+use Rattle.sym_check.specs.declared.plan.script.CellPlan.{CellPlan}
+use Rattle.sym_check.specs.declared.plan.script.CellPlan.TheVariants as plan
 use Rattle.sym_check.specs.CellKinds.{IsIntCell, IsNumsCell}
 use Rattle.sym_check.specs.DoPlans.{PushNum, SetEnum, SetInt}
 use Rattle.sym_check.specs.FixedValues.{Environment, label_of}
 use Rattle.sym_check.specs.LinePlans.{TermPlan}
+use Rattle.sym_check.specs.Ranges.{range_at, range_of}
 use Rattle.sym_check.specs.ScriptPlans.{ScriptPlan}
 use Rattle.sym_check.specs.WellFormed.{IsDo, IsLabelOfCell, IsTerm, Kinds}
 use Rattle.sym_check.specs.WellFormed as well
 use Rattle.sym_explore.specs.Assigning.{HasLabel}
 use Rattle.sym_explore.specs.Knowing.{DoIsKnown, TermIsKnown}
-use Rattle.sym_explore.specs.Ranging.{HasEnds, IsRanged}
 
 set_int_is : (p : ScriptPlan) (k later : Kinds) (c : ℕ) (t : TermPlan) → IsDo p k (SetInt c t) later → IsIntCell p.cells c × IsTerm p.cells k t
 set_int_is p _ _ _ _ (well.set_int k c t cell term) = (cell, term)
@@ -23,15 +27,16 @@ push_num_is p _ _ _ _ (well.push_num k c t cell term) = (cell, term)
 set_enum_is : (p : ScriptPlan) (k later : Kinds) (c : ℕ) (l : LabelOf) → IsDo p k (SetEnum c l) later → IsLabelOfCell p k c l
 set_enum_is p _ _ _ _ (well.set_enum k c l h) = h
 
-pub int_ranged : (p : ScriptPlan) (c : ℕ) → IsIntCell p.cells c → IsRanged p c
-int_ranged p c cell =
-    let ends : HasEnds (slice_get p.cells c) cell.lo cell.hi = rw cell.is (refl, refl) in
-    record { lo = cell.lo; hi = cell.hi; range = ends }
+-- The plan of an integer cell, and that of a list of numbers.
+abbrev pub int_plan : {cells : List CellPlan} {c : ℕ} → IsIntCell cells c → CellPlan
+int_plan cell = plan.Int cell.lo cell.hi cell.first cell.clamp
 
-pub nums_ranged : (p : ScriptPlan) (c : ℕ) → IsNumsCell p.cells c → IsRanged p c
-nums_ranged p c cell =
-    let ends : HasEnds (slice_get p.cells c) cell.lo cell.hi = rw cell.is (refl, refl) in
-    record { lo = cell.lo; hi = cell.hi; range = ends }
+abbrev pub nums_plan : {cells : List CellPlan} {c : ℕ} → IsNumsCell cells c → CellPlan
+nums_plan cell = plan.Nums cell.lo cell.hi cell.clamp
+
+-- The range of the cell with this number is that of its plan.
+pub same_range : (cells : List CellPlan) (c : ℕ) (a : CellPlan) (own found : Range) → slice_get cells c ≡ Some a → range_of a ≡ Some own → range_at cells c ≡ Some found → found ≡ own
+same_range cells c a own found at of is = let there : range_at cells c ≡ range_of a = ap (option_and_then range_of) at in cc
 
 module _ (p : ScriptPlan) (k : Environment) (c : ℕ) where
   pub set_cell : (t : TermPlan) → DoIsKnown p k (SetInt c t) → IsIntCell p.cells c

@@ -1,9 +1,10 @@
 -- Lists of paths on which an assignment was run.
-use Rattle.std.proofs.Common.{◌≡◌, ◌≤◌, ◌+◌, ◌*◌, ℕ, ℤ, List, [], ◌∷◌, ◌++◌, map, length, refl, sym, ap, ◌∙◌, subst, arith}
+use Rattle.std.proofs.Common.{◌≡◌, ◌≤◌, ◌+◌, ◌*◌, ℕ, ℤ, Bool, false, List, [], ◌∷◌, ◌++◌, map, length, refl, sym, ap, ◌∙◌, subst, arith}
+use Rattle.std.proofs.Math.Nat.{mul-le-mul_left}
 use Rattle.std.proofs.lemmas.List.{append-nil, length-map, map-append}
 use Rattle.std.proofs.lemmas.List.Elements.{All-nil, All-cons, All-head, All-tail}
 use Rattle.std.proofs.lemmas.List.Sorted.{IsPermutation-refl}
-use Rattle.std.specs.Prelude.{OnOk, Result, Ok, Err}
+use Rattle.std.specs.Prelude.{OnOk, Result, Ok, Err, if◌then◌else◌}
 use Rattle.std.specs.List.{All, AllZip}
 use Rattle.std.specs.List.Sorted.{IsPermutation}
 use Rattle.sym_base.specs.declared.values.record.Record.{Record}
@@ -16,7 +17,7 @@ use Rattle.sym_base.specs.declared.values.state.Outcome.{Outcome}
 use Rattle.sym_base.specs.declared.values.state.Outcome.TheVariants.{Going}
 use Rattle.sym_base.specs.declared.values.state.Outcome.TheVariants as outcome
 use Rattle.sym_base.specs.declared.values.value.Value.{Value}
-use Rattle.sym_base.specs.States.{nums_at, with_cell}
+use Rattle.sym_base.specs.States.{with_cell}
 use Rattle.sym_check.specs.declared.evaluate.arithmetic.Arith.{Arith}
 use Rattle.sym_check.specs.Arithmetic.{and_then}
 use Rattle.sym_check.specs.Conditions.{test_truth}
@@ -25,8 +26,9 @@ use Rattle.sym_check.specs.Fitting.{FitsFault}
 use Rattle.sym_check.specs.FixedPlans.{FixedPlan}
 use Rattle.sym_check.specs.FixedValues.{Environment, fixed_values}
 use Rattle.sym_check.specs.LinePlans.{TermPlan}
+use Rattle.sym_check.specs.Ranges.{is_clamped}
 use Rattle.sym_check.specs.ScriptPlans.{ScriptPlan}
-use Rattle.sym_check.specs.Updates.{at_record, do_step, or_fault, stored}
+use Rattle.sym_check.specs.Updates.{at_record, do_step, or_fault, stored, with_int, with_pushed}
 use Rattle.sym_pred.specs.declared.form.HoldForm.TheVariants as hold
 use Rattle.sym_path.proofs.Changed.{faults_fit, faults_give}
 use Rattle.sym_path.proofs.Lists.{zip_all, zip_length}
@@ -39,20 +41,23 @@ use Rattle.sym_path.specs.Fitting.{PathFits, SegmentFits}
 use Rattle.sym_path.specs.Giving.{given, outcomes}
 use Rattle.sym_path.specs.Standing.{EndsAmong}
 use Rattle.sym_explore.specs.Assigning.{EndsNone, with_parts}
-use Rattle.sym_explore.specs.Counting.{do_ended, do_going}
+use Rattle.sym_explore.specs.Counting.{do_ended, do_going, store_ended, store_going}
 use Rattle.sym_explore.specs.Ending.{AreMoved, AreParted, IsChanged, WereRun}
 use Rattle.sym_explore.specs.Faulting.{EndAmong, EndsSo, HasNumber}
 use Rattle.sym_explore.specs.Knowing.{DoIsKnown, TermIsKnown}
 use Rattle.sym_explore.specs.Parting.{AllGoOn}
 use Rattle.sym_explore.specs.Stepping.{after_do}
-use Rattle.sym_explore.specs.Storing.{PlaceFits, after_store, store_do}
+use Rattle.sym_explore.specs.Placing.{PlaceFits, place_cell}
+use Rattle.sym_explore.specs.Storing.{after_store, store_do}
 use Rattle.sym_explore.specs.Terms.{ready_of}
-use Rattle.sym_explore.specs.declared.storing.Place.{Place}
-use Rattle.sym_explore.specs.declared.storing.Place.TheVariants as place
+use Rattle.sym_explore.specs.declared.placing.Place.{Place}
+use Rattle.sym_explore.specs.declared.placing.Place.TheVariants as place
+use Rattle.sym_explore.specs.declared.placing.Target.{Target}
 use Rattle.sym_explore.specs.declared.terms.Ready.{Ready}
 use Rattle.sym_explore.proofs.AssignedKnown.{push_cell, push_term, set_cell, set_term}
 use Rattle.sym_explore.proofs.AssignedParts.{parts_fit_kept, parts_kept}
 use Rattle.sym_explore.proofs.AssignedPaths.{formed_end}
+use Rattle.sym_explore.proofs.CountedPaths.{store_goes_on}
 use Rattle.sym_explore.proofs.PathRanges.{goes_among}
 use Rattle.sym_explore.proofs.StoredPaths.{store_is, were_run}
 use Rattle.sym_explore.proofs.TermForms.{ready_fails}
@@ -72,11 +77,11 @@ all_among records (x ∷ paths) h =
     (all_among records paths (All-tail (λ (q : Path). GoesOn q.end) x paths h))
 
 -- Nothing is added to the others.
-none_added : (p : ScriptPlan) (step : Outcome → Outcome) (old new before : List Path) → ((s : State) → outcomes (test_truth p.tests) new s ≡ map step (outcomes (test_truth p.tests) old s)) → AreParted p step old new before before
+none_added : (p : ScriptPlan) (step : Outcome → Outcome) (old new before : List Path) → ((s : State) → outcomes (test_truth p.tests) new s ≡ map step (outcomes (test_truth p.tests) old s)) → AreParted p false step old new before before
 none_added p step old new before e s few = record {
   added = [];
   others = sym (append-nil (outcomes (test_truth p.tests) before s));
-  over = refl;
+  over = λ ends. refl;
   gives = e s;
 }
 
@@ -151,21 +156,25 @@ module _ (p : ScriptPlan) (fault : Fault) where
 
 -- ---- the same step, and more paths
 
-pub run_as : (p : ScriptPlan) (f g : Outcome → Outcome) (n most_ended : ℕ) (old new before after : List Path) → ((o : Outcome) → f o ≡ g o) → WereRun p f n 1 most_ended old new before after → WereRun p g n 1 most_ended old new before after
-run_as p f g n e old new before after same h = subst (λ (step : Outcome → Outcome). WereRun p step n 1 e old new before after) (λ i o. same o i) h
+pub run_as : (p : ScriptPlan) (f g : Outcome → Outcome) (n most_going most_ended : ℕ) (old new before after : List Path) → ((o : Outcome) → f o ≡ g o) → WereRun p f n most_going most_ended old new before after → WereRun p g n most_going most_ended old new before after
+run_as p f g n m e old new before after same h = subst (λ (step : Outcome → Outcome). WereRun p step n m e old new before after) (λ i o. same o i) h
 
-pub run_more : (p : ScriptPlan) (step : Outcome → Outcome) (n : ℕ) (old new before after : List Path) → WereRun p step n 1 0 old new before after → WereRun p step n 1 2 old new before after
-run_more p step n old new before after h = record {
-  exact = h.exact;
-  fits = h.fits;
-  going = h.going;
-  ended_fit = h.ended_fit;
-  few = record { going = h.few.going; all = omega (arith, h.few.all) };
-  faults = h.faults;
-}
+pub run_more : (p : ScriptPlan) (step : Outcome → Outcome) (n g e : ℕ) (old new before after : List Path) → 1 ≤ g → WereRun p step n 1 0 old new before after → WereRun p step n g e old new before after
+run_more p step n g e old new before after some h =
+    let going : length old * 1 ≤ length old * g = mul-le-mul_left (length old) some in
+    let more : 1 + 0 ≤ g + e = omega arith in
+    let all : length old * (1 + 0) ≤ length old * (g + e) = mul-le-mul_left (length old) more in
+    record {
+      exact = h.exact;
+      fits = h.fits;
+      going = h.going;
+      ended_fit = h.ended_fit;
+      few = record { going = omega (arith, h.few.going, going); all = omega (arith, h.few.all, all) };
+      faults = h.faults;
+    }
 
 -- The counts of a statement that ends no path.
-pub run_none : (p : ScriptPlan) (step : Outcome → Outcome) (n : ℕ) (d : DoPlan) (old new before after : List Path) → EndsNone d → WereRun p step n 1 0 old new before after → WereRun p step n (do_going d) (do_ended d) old new before after
+pub run_none : (p : ScriptPlan) (step : Outcome → Outcome) (n : ℕ) (d : DoPlan) (old new before after : List Path) → EndsNone d → WereRun p step n 1 0 old new before after → WereRun p step n (do_going p.cells d) (do_ended p.cells d) old new before after
 run_none p step n (Let m e) old new before after none h = absurd none
 run_none p step n (SetInt c t) old new before after none h = absurd none
 run_none p step n (SetEnum c l) old new before after none h = h
@@ -235,22 +244,27 @@ module _ (p : ScriptPlan) (k : Environment) (n : ℕ) (at : Place) (t : TermPlan
   store_fails x e s = go at
     where
       go : (at : Place) → do_step p k (store_do at t) s ≡ Err cause.Arith
-      go (place.Cell c) = ap (λ (r : Result ℤ Arith). and_then (λ (y : ℤ). stored p c (cell.Int y) y s) (or_fault r)) (ready_fails k t x e s)
-      go (place.End c) = ap (λ (r : Result ℤ Arith). and_then (λ (y : ℤ). stored p c (cell.Nums (nums_at s c ++ y ∷ [])) y s) (or_fault r)) (ready_fails k t x e s)
+      go (place.Cell c) = ap (λ (r : Result ℤ Arith). and_then (λ (y : ℤ). stored p c (with_int c) y s) (or_fault r)) (ready_fails k t x e s)
+      go (place.End c) = ap (λ (r : Result ℤ Arith). and_then (λ (y : ℤ). stored p c (with_pushed c) y s) (or_fault r)) (ready_fails k t x e s)
 
   -- Its arithmetic failed.
-  pub store_failed : (x : Arith) (fault : Fault) (old new before after : List Path) → ready_of k t ≡ Err x → fault.kind ≡ cause.Arith → fault.no ≡ n → WereRun p (ended_by fault) fault.no 1 0 old new before after → WereRun p (after_do p k n (store_do at t)) n 1 2 old new before after
+  pub store_failed : (x : Arith) (fault : Fault) (old new before after : List Path) → ready_of k t ≡ Err x → fault.kind ≡ cause.Arith → fault.no ≡ n → WereRun p (ended_by fault) fault.no 1 0 old new before after → WereRun p (after_do p k n (store_do at t)) n (store_going p.cells (place_cell at)) (store_ended p.cells (place_cell at)) old new before after
   store_failed x fault old new before after e kind number h =
       let same : fault ≡ record { kind = cause.Arith; no = n } = λ i. record { kind = kind i; no = number i } in
       let own : WereRun p (ended_by (record { kind = cause.Arith; no = n })) n 1 0 old new before after = subst (λ (f : Fault). WereRun p (ended_by f) f.no 1 0 old new before after) same h in
-      run_more p (after_do p k n (store_do at t)) n old new before after
-      (run_as p (ended_by (record { kind = cause.Arith; no = n })) (after_do p k n (store_do at t)) n 0 old new before after (fails_as p k n (store_do at t) cause.Arith (store_fails x e)) own)
+      run_more p (after_do p k n (store_do at t)) n (store_going p.cells (place_cell at)) (store_ended p.cells (place_cell at)) old new before after (store_goes_on (is_clamped p.cells (place_cell at)))
+      (run_as p (ended_by (record { kind = cause.Arith; no = n })) (after_do p k n (store_do at t)) n 1 0 old new before after (fails_as p k n (store_do at t) cause.Arith (store_fails x e)) own)
 
-  -- It was stored, and those that ended were moved.
-  pub store_run : (r : Ready) (old mid new before between after : List Path) → ready_of k t ≡ Ok r → AreParted p (after_store p n at r) old mid before between → SegmentFits p mid → SegmentFits p between → length mid ≡ length old → length between ≤ length before + length old * 2 → ((records : List Record) → HasNumber n records → EndAmong records before → EndAmong records mid × EndAmong records between) → AreMoved mid new between after → AllGoOn new → WereRun p (after_do p k n (store_do at t)) n 1 2 old new before after
-  store_run r old mid new before between after e parted fits others same few faults moves goes =
-      run_as p (after_store p n at r) (after_do p k n (store_do at t)) n 2 old new before after (store_is p k n at t r e)
-      (were_run p (after_store p n at r) n 2 old mid new before between after parted fits others same few faults moves goes)
+  -- It was stored at the target.
+  pub store_run : (r : Ready) (target : Target) (clamps : Bool) (old new before after : List Path) → ready_of k t ≡ Ok r → target.place ≡ at → target.fault.no ≡ n → is_clamped p.cells (place_cell at) ≡ clamps →
+      WereRun p (after_store p target.fault.no target.place r) target.fault.no (if clamps then 3 else 1) (if clamps then 0 else 2) old new before after →
+      WereRun p (after_do p k n (store_do at t)) n (store_going p.cells (place_cell at)) (store_ended p.cells (place_cell at)) old new before after
+  store_run r target clamps old new before after e there number is h =
+      let own : WereRun p (after_store p n at r) n (if clamps then 3 else 1) (if clamps then 0 else 2) old new before after =
+      subst (λ (m : ℕ). WereRun p (after_store p m at r) m (if clamps then 3 else 1) (if clamps then 0 else 2) old new before after) number
+      (subst (λ (a : Place). WereRun p (after_store p target.fault.no a r) target.fault.no (if clamps then 3 else 1) (if clamps then 0 else 2) old new before after) there h) in
+      subst (λ (b : Bool). WereRun p (after_do p k n (store_do at t)) n (if b then 3 else 1) (if b then 0 else 2) old new before after) (sym is)
+      (run_as p (after_store p n at r) (after_do p k n (store_do at t)) n (if clamps then 3 else 1) (if clamps then 0 else 2) old new before after (store_is p k n at t r e) own)
 
 -- ---- values that fail
 
@@ -260,6 +274,6 @@ values_fail (Err x) kind e = let same : cause.Arith ≡ kind = cc in sym same
 
 pub values_failed : (p : ScriptPlan) (k : Environment) (n c : ℕ) (es : List FixedPlan) (kind : FaultKind) (old new before after : List Path) → or_fault (fixed_values k es) ≡ Err kind → WereRun p (ended_by (record { kind = kind; no = n })) n 1 0 old new before after → WereRun p (after_do p k n (Keep c es)) n 1 0 old new before after
 values_failed p k n c es kind old new before after e h =
-    run_as p (ended_by (record { kind = kind; no = n })) (after_do p k n (Keep c es)) n 0 old new before after
+    run_as p (ended_by (record { kind = kind; no = n })) (after_do p k n (Keep c es)) n 1 0 old new before after
     (fails_as p k n (Keep c es) kind (λ s. ap (λ (r : Result (List Value) FaultKind). and_then (λ (parts : List Value). Ok (with_cell s c (cell.Hold parts))) r) e))
     h

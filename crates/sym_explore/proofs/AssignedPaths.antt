@@ -1,8 +1,6 @@
 -- The paths that an assignment makes: how they end, and what they give.
-use Rattle.std.proofs.Common.{◌≡◌, ℕ, List, [], ◌∷◌, map, refl, sym, ap, ◌∙◌, subst}
+use Rattle.std.proofs.Common.{◌≡◌, ℕ, List, [], ◌∷◌, map, refl, sym, ap, ◌∙◌}
 use Rattle.std.specs.Prelude.{Result, Ok}
-use Rattle.sym_base.specs.declared.values.record.Record.{Record}
-use Rattle.sym_base.specs.declared.values.state.Fault.{Fault}
 use Rattle.sym_base.specs.declared.values.state.FaultKind.{FaultKind}
 use Rattle.sym_base.specs.declared.values.state.State.{State}
 use Rattle.sym_base.specs.declared.values.state.Outcome.{Outcome}
@@ -17,10 +15,9 @@ use Rattle.sym_path.specs.declared.form.Form.{Form}
 use Rattle.sym_path.specs.declared.path.PathEnd.{PathEnd}
 use Rattle.sym_path.specs.declared.path.PathEnd.TheVariants.{Next, Ended}
 use Rattle.sym_path.specs.declared.path.Path.{Path}
-use Rattle.sym_path.specs.Changing.{changed, end_with_form}
+use Rattle.sym_path.specs.Changing.{GoesOn, changed, end_with_form}
 use Rattle.sym_path.specs.Giving.{given}
-use Rattle.sym_path.specs.Standing.{EndsAmong}
-use Rattle.sym_explore.specs.Faulting.{EndsSo, FaultsCameAt}
+use Rattle.sym_explore.specs.Faulting.{EndsSo}
 use Rattle.sym_explore.specs.Stepping.{Becomes, after_do, going_on}
 
 -- ---- ends
@@ -29,15 +26,9 @@ pub formed_end : (c : ℕ) (f : Form) (end : PathEnd) → EndsSo end (end_with_f
 formed_end c f (Next forms) = tt
 formed_end c f (Ended fault) = refl
 
-ends_among : (records : List Record) (old new : PathEnd) → EndsSo old new → EndsAmong records old → EndsAmong records new
-ends_among records (Next fs) (Next gs) h e = tt
-ends_among records (Next fs) (Ended b) h e = absurd h
-ends_among records (Ended a) (Next gs) h e = absurd h
-ends_among records (Ended a) (Ended b) h e = subst (λ (x : Fault). EndsAmong records (Ended x)) (sym h) e
-
--- Faults of a path that ends the same way.
-pub faults_so : (n : ℕ) (old mid new : Path) (before after : List Path) → EndsSo mid.end new.end → FaultsCameAt n old before mid after → FaultsCameAt n old before new after
-faults_so n old mid new before after so faults = λ records has end ends. let (first, rest) = faults records has end ends in (ends_among records mid.end new.end so first, rest)
+pub form_goes : (c : ℕ) (f : Form) (end : PathEnd) → GoesOn end → GoesOn (end_with_form c f end)
+form_goes c f (Next forms) h = tt
+form_goes c f (Ended fault) h = absurd h
 
 -- ---- the same changes of outcomes
 

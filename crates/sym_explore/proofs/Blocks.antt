@@ -160,11 +160,11 @@ module _ (p : ScriptPlan) (rec : Record) (n : ℕ) (start : List Value) (whole :
       subst (λ (ds : DosPlan). AreRun p (after_dos p (environment rec start) n ds) old middle before ended) (sym is)
       (runs_then p (environment rec start) n d rest old middle middle before ended ended h more)
 
-  pub none_few : AreFewRun (do_going d) (do_ended d) old middle before ended → middle ≡ [] → AreFewRun (dos_going whole) (dos_ended whole) old middle before ended
+  pub none_few : AreFewRun (do_going p.cells d) (do_ended p.cells d) old middle before ended → middle ≡ [] → AreFewRun (dos_going p.cells whole) (dos_ended p.cells whole) old middle before ended
   none_few h none =
-      let more : AreFewRun (dos_going rest) (dos_ended rest) middle middle ended ended = subst (λ (ps : List Path). AreFewRun (dos_going rest) (dos_ended rest) ps ps ended ended) (sym none) (few_none (dos_going rest) (dos_ended rest) ended) in
-      subst (λ (ds : DosPlan). AreFewRun (dos_going ds) (dos_ended ds) old middle before ended) (sym is)
-      (few_then (do_going d) (do_ended d) (dos_going rest) (dos_ended rest) old middle middle before ended ended (updates_go_on rest) h more)
+      let more : AreFewRun (dos_going p.cells rest) (dos_ended p.cells rest) middle middle ended ended = subst (λ (ps : List Path). AreFewRun (dos_going p.cells rest) (dos_ended p.cells rest) ps ps ended ended) (sym none) (few_none (dos_going p.cells rest) (dos_ended p.cells rest) ended) in
+      subst (λ (ds : DosPlan). AreFewRun (dos_going p.cells ds) (dos_ended p.cells ds) old middle before ended) (sym is)
+      (few_then (do_going p.cells d) (do_ended p.cells d) (dos_going p.cells rest) (dos_ended p.cells rest) old middle middle before ended ended (updates_go_on p.cells rest) h more)
 
   pub then_exact : {A E : Type 0} (locals : List Value) → environment rec locals ≡ environment_after (environment rec start) d → (later : DosPlan) → later ≡ rest → (new after : List Path) (result : Result A E) → AreRun p (after_do p (environment rec start) n d) old middle before ended → OnOk result (AreRun p (after_dos p (environment rec locals) n later) middle new ended after) → OnOk result (AreRun p (after_dos p (environment rec start) n whole) old new before after)
   then_exact locals named later same new after result h more =
@@ -174,11 +174,11 @@ module _ (p : ScriptPlan) (rec : Record) (n : ℕ) (start : List Value) (whole :
       let R : DosPlan → Type 0 = λ ds. OnOk result (AreRun p (after_dos p k n ds) old new before after) in
       subst R (sym is) (on_each result (λ x step. runs_then p k n d rest old middle new before ended after h step) (subst P named (subst Q same more)))
 
-  pub then_few : {A E : Type 0} (later : DosPlan) → later ≡ rest → (new after : List Path) (result : Result A E) → AreFewRun (do_going d) (do_ended d) old middle before ended → OnOk result (AreFewRun (dos_going later) (dos_ended later) middle new ended after) → OnOk result (AreFewRun (dos_going whole) (dos_ended whole) old new before after)
+  pub then_few : {A E : Type 0} (later : DosPlan) → later ≡ rest → (new after : List Path) (result : Result A E) → AreFewRun (do_going p.cells d) (do_ended p.cells d) old middle before ended → OnOk result (AreFewRun (dos_going p.cells later) (dos_ended p.cells later) middle new ended after) → OnOk result (AreFewRun (dos_going p.cells whole) (dos_ended p.cells whole) old new before after)
   then_few later same new after result h more =
-      let Q : DosPlan → Type 0 = λ ds. OnOk result (AreFewRun (dos_going ds) (dos_ended ds) middle new ended after) in
-      let R : DosPlan → Type 0 = λ ds. OnOk result (AreFewRun (dos_going ds) (dos_ended ds) old new before after) in
-      subst R (sym is) (on_each result (λ x few. few_then (do_going d) (do_ended d) (dos_going rest) (dos_ended rest) old middle new before ended after (updates_go_on rest) h few) (subst Q same more))
+      let Q : DosPlan → Type 0 = λ ds. OnOk result (AreFewRun (dos_going p.cells ds) (dos_ended p.cells ds) middle new ended after) in
+      let R : DosPlan → Type 0 = λ ds. OnOk result (AreFewRun (dos_going p.cells ds) (dos_ended p.cells ds) old new before after) in
+      subst R (sym is) (on_each result (λ x few. few_then (do_going p.cells d) (do_ended p.cells d) (dos_going p.cells rest) (dos_ended p.cells rest) old middle new before ended after (updates_go_on p.cells rest) h few) (subst Q same more))
 
 -- ---- the end of a block
 
@@ -199,11 +199,11 @@ module _ (p : ScriptPlan) (rec : Record) (n : ℕ) (start : List Value) (c : Con
       subst (λ (ps : List Path). AreRun p (after_do p k0 n (If c a b)) old ps before after) (sym is)
       (runs_if p k0 n c a b old trues falses before failed begun then_paths ended else_paths after k other)
 
-  pub if_few : AreFewParts (branches_of c) old trues none falses before failed → (IsTrue (is_fixed c) → AreOfOneTruth old trues none falses before failed) → AreFewRun (dos_going a) (dos_ended a) trues then_paths failed ended → AreFewRun (dos_going b) (dos_ended b) falses else_paths ended after → AreFewRun (do_going (If c a b)) (do_ended (If c a b)) old now before after
+  pub if_few : AreFewParts (branches_of c) old trues none falses before failed → (IsTrue (is_fixed c) → AreOfOneTruth old trues none falses before failed) → AreFewRun (dos_going p.cells a) (dos_ended p.cells a) trues then_paths failed ended → AreFewRun (dos_going p.cells b) (dos_ended p.cells b) falses else_paths ended after → AreFewRun (do_going p.cells (If c a b)) (do_ended p.cells (If c a b)) old now before after
   if_few h one k l =
       let begun : AreFewParts (branches_of c) old trues [] falses before failed = subst (λ (ns : List Path). AreFewParts (branches_of c) old trues ns falses before failed) empty h in
       let single : IsTrue (is_fixed c) → AreOfOneTruth old trues [] falses before failed = λ f. subst (λ (ns : List Path). AreOfOneTruth old trues ns falses before failed) empty (one f) in
-      subst (λ (ps : List Path). AreFewRun (do_going (If c a b)) (do_ended (If c a b)) old ps before after) (sym is)
-      (few_if c a b old trues falses before failed then_paths ended else_paths after begun single k l)
+      subst (λ (ps : List Path). AreFewRun (do_going p.cells (If c a b)) (do_ended p.cells (If c a b)) old ps before after) (sym is)
+      (few_if p.cells c a b old trues falses before failed then_paths ended else_paths after begun single k l)
 
 -- ---- the same of an equal statement

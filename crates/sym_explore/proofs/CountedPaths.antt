@@ -1,5 +1,5 @@
 -- Counts of paths: the path bound is the smaller of their number and a million.
-use Rattle.std.proofs.Common.{◌≡◌, ℕ, ◌+◌, ◌*◌, ◌<◌, ◌≤◌, min, max, Bool, true, false, not, inl, inr, refl, ap, ◌∙◌, arith}
+use Rattle.std.proofs.Common.{◌≡◌, ℕ, ◌+◌, ◌*◌, ◌<◌, ◌≤◌, min, max, Bool, true, false, not, List, inl, inr, refl, ap, ◌∙◌, arith}
 use Rattle.std.proofs.Math.Nat.{zero-mul, mul_comm, mul-le-mul}
 use Rattle.std.proofs.lemmas.Bool.{cases_lt}
 use Rattle.std.specs.Prelude.{if◌then◌else◌}
@@ -11,8 +11,11 @@ use Rattle.sym_check.specs.CondPlans.{CondPlan, Compared, Words, CellIs, LabelIs
 use Rattle.sym_check.specs.Conditions.{is_fixed}
 use Rattle.sym_check.specs.DoPlans.{DoPlan, Let, SetInt, SetEnum, CopyEnum, Keep, KeepFrom, PushNum, PushWord, If, DosPlan, End, Then}
 use Rattle.sym_check.specs.PathBounds.{plus, times, counts, term_counts, do_ways, dos_ways, path_bound}
+use Rattle.sym_check.specs.Ranges.{is_clamped}
+use Rattle.sym_check.specs.ScriptPlans.{ScriptPlan}
 use Rattle.sym_check.specs.declared.path_bound.Counts.{Counts}
 use Rattle.sym_check.specs.declared.path_bound.Ways.{Ways}
+use Rattle.sym_check.specs.declared.plan.script.CellPlan.{CellPlan}
 use Rattle.sym_explore.specs.Counting.{term_branches, branches_of, do_going, dos_going, do_ended, dos_ended, made_paths}
 
 -- ---- numbers that stop at a limit
@@ -125,35 +128,40 @@ either_capped false c t f a b ag ae bg be h l r = (
   plus_is (t * ae) (f * be) (times c.true_paths a.ended) (times c.false_paths b.ended) (times_is t ae c.true_paths a.ended h.0 l.1) (times_is f be c.false_paths b.ended h.1 r.1),
 )
 
-mutual
-  do_capped : (d : DoPlan) → AreWays (do_ways d) (do_going d) (do_ended d)
-  do_capped (Let n e) = (refl, refl)
-  do_capped (SetInt c t) = (refl, refl)
-  do_capped (SetEnum c l) = (refl, refl)
-  do_capped (CopyEnum c d) = (refl, refl)
-  do_capped (Keep c es) = (refl, refl)
-  do_capped (KeepFrom c d) = (refl, refl)
-  do_capped (PushNum c t) = (refl, refl)
-  do_capped (PushWord c w) = (refl, refl)
-  do_capped (If c a b) = either_capped (is_fixed c) (counts c) (branches_of c true) (branches_of c false) (dos_ways a) (dos_ways b) (dos_going a) (dos_ended a) (dos_going b) (dos_ended b) (counts_capped c) (dos_capped a) (dos_capped b)
+store_capped : (clamps : Bool) → AreWays (if clamps then record { going = 3; ended = 0 } else record { going = 1; ended = 2 }) (if clamps then 3 else 1) (if clamps then 0 else 2)
+store_capped true = (refl, refl)
+store_capped false = (refl, refl)
 
-  dos_capped : (ds : DosPlan) → AreWays (dos_ways ds) (dos_going ds) (dos_ended ds)
-  dos_capped End = (refl, refl)
-  dos_capped (Then d rest) =
-      let l = do_capped d in
-      let r = dos_capped rest in (
-        times_is (do_going d) (dos_going rest) (do_ways d).going (dos_ways rest).going l.0 r.0,
-        plus_is (do_ended d) (do_going d * dos_ended rest) (do_ways d).ended (times (do_ways d).going (dos_ways rest).ended) l.1
-            (times_is (do_going d) (dos_ended rest) (do_ways d).going (dos_ways rest).ended l.0 r.1),
-      )
+module _ (cells : List CellPlan) where
+  mutual
+    do_capped : (d : DoPlan) → AreWays (do_ways cells d) (do_going cells d) (do_ended cells d)
+    do_capped (Let n e) = (refl, refl)
+    do_capped (SetInt c t) = store_capped (is_clamped cells c)
+    do_capped (SetEnum c l) = (refl, refl)
+    do_capped (CopyEnum c d) = (refl, refl)
+    do_capped (Keep c es) = (refl, refl)
+    do_capped (KeepFrom c d) = (refl, refl)
+    do_capped (PushNum c t) = store_capped (is_clamped cells c)
+    do_capped (PushWord c w) = (refl, refl)
+    do_capped (If c a b) = either_capped (is_fixed c) (counts c) (branches_of c true) (branches_of c false) (dos_ways cells a) (dos_ways cells b) (dos_going cells a) (dos_ended cells a) (dos_going cells b) (dos_ended cells b) (counts_capped c) (dos_capped a) (dos_capped b)
 
-pub bound_counts : (update : DosPlan) → path_bound update ≡ min (made_paths update) limit.PATHS_COUNTED
-bound_counts update =
-    let h = dos_capped update in
-    plus_is (dos_going update) (dos_ended update) (dos_ways update).going (dos_ways update).ended h.0 h.1
+    dos_capped : (ds : DosPlan) → AreWays (dos_ways cells ds) (dos_going cells ds) (dos_ended cells ds)
+    dos_capped End = (refl, refl)
+    dos_capped (Then d rest) =
+        let l = do_capped d in
+        let r = dos_capped rest in (
+          times_is (do_going cells d) (dos_going cells rest) (do_ways cells d).going (dos_ways cells rest).going l.0 r.0,
+          plus_is (do_ended cells d) (do_going cells d * dos_ended cells rest) (do_ways cells d).ended (times (do_ways cells d).going (dos_ways cells rest).ended) l.1
+              (times_is (do_going cells d) (dos_ended cells rest) (do_ways cells d).going (dos_ways cells rest).ended l.0 r.1),
+        )
 
-pub bound_is_count : (update : DosPlan) → path_bound update < limit.PATHS_COUNTED → made_paths update ≡ path_bound update
-bound_is_count update = exact (path_bound update) (made_paths update) limit.PATHS_COUNTED (bound_counts update)
+pub bound_counts : (p : ScriptPlan) → path_bound p ≡ min (made_paths p) limit.PATHS_COUNTED
+bound_counts p =
+    let h = dos_capped p.cells p.update in
+    plus_is (dos_going p.cells p.update) (dos_ended p.cells p.update) (dos_ways p.cells p.update).going (dos_ways p.cells p.update).ended h.0 h.1
+
+pub bound_is_count : (p : ScriptPlan) → path_bound p < limit.PATHS_COUNTED → made_paths p ≡ path_bound p
+bound_is_count p = exact (path_bound p) (made_paths p) limit.PATHS_COUNTED (bound_counts p)
   where
     exact : (bound number most : ℕ) → bound ≡ min number most → bound < most → number ≡ bound
     exact bound number most h less = omega arith
@@ -193,18 +201,23 @@ some-either : (fixed : Bool) (t f a b : ℕ) → 1 ≤ t → 1 ≤ a → 1 ≤ e
 some-either true t f a b h l = omega arith
 some-either false t f a b h l = some-plus (t * a) (f * b) (some-times t a h l)
 
-mutual
-  pub statement_goes_on : (d : DoPlan) → 1 ≤ do_going d
-  statement_goes_on (Let n e) = omega arith
-  statement_goes_on (SetInt c t) = omega arith
-  statement_goes_on (SetEnum c l) = omega arith
-  statement_goes_on (CopyEnum c d) = omega arith
-  statement_goes_on (Keep c es) = omega arith
-  statement_goes_on (KeepFrom c d) = omega arith
-  statement_goes_on (PushNum c t) = omega arith
-  statement_goes_on (PushWord c w) = omega arith
-  statement_goes_on (If c a b) = some-either (is_fixed c) (branches_of c true) (branches_of c false) (dos_going a) (dos_going b) (conditions_branch c true) (updates_go_on a)
+pub store_goes_on : (clamps : Bool) → 1 ≤ (if clamps then 3 else 1)
+store_goes_on true = omega arith
+store_goes_on false = omega arith
 
-  pub updates_go_on : (ds : DosPlan) → 1 ≤ dos_going ds
-  updates_go_on End = omega arith
-  updates_go_on (Then d rest) = some-times (do_going d) (dos_going rest) (statement_goes_on d) (updates_go_on rest)
+module _ (cells : List CellPlan) where
+  mutual
+    pub statement_goes_on : (d : DoPlan) → 1 ≤ do_going cells d
+    statement_goes_on (Let n e) = omega arith
+    statement_goes_on (SetInt c t) = store_goes_on (is_clamped cells c)
+    statement_goes_on (SetEnum c l) = omega arith
+    statement_goes_on (CopyEnum c d) = omega arith
+    statement_goes_on (Keep c es) = omega arith
+    statement_goes_on (KeepFrom c d) = omega arith
+    statement_goes_on (PushNum c t) = store_goes_on (is_clamped cells c)
+    statement_goes_on (PushWord c w) = omega arith
+    statement_goes_on (If c a b) = some-either (is_fixed c) (branches_of c true) (branches_of c false) (dos_going cells a) (dos_going cells b) (conditions_branch c true) (updates_go_on a)
+
+    pub updates_go_on : (ds : DosPlan) → 1 ≤ dos_going cells ds
+    updates_go_on End = omega arith
+    updates_go_on (Then d rest) = some-times (do_going cells d) (dos_going cells rest) (statement_goes_on d) (updates_go_on rest)

@@ -168,7 +168,7 @@ module _ (truth : Truth) (s : State) where
 -- ---- paths of which those that have ended move away
 
 module _ (p : ScriptPlan) (step : Outcome → Outcome) (old mid new before between after : List Path) where
-  pub run_exact : AreParted p step old mid before between → AreMoved mid new between after → AllGoOn new → AreRun p step old new before after
+  pub run_exact : AreParted p false step old mid before between → AreMoved mid new between after → AllGoOn new → AreRun p step old new before after
   run_exact parted moves goes s few =
       let T = test_truth p.tests in
       let at = parted s few in
@@ -185,7 +185,7 @@ module _ (p : ScriptPlan) (step : Outcome → Outcome) (old mid new before betwe
         going = sym (
             ap those_going whole
             ∙ going_append at.added (stay ++ over)
-            ∙ (λ i. at.over i ++ those_going (stay ++ over))
+            ∙ (λ i. at.over refl i ++ those_going (stay ++ over))
             ∙ going_append stay over
             ∙ (λ i. going.0 i ++ gone i)
             ∙ append-nil stay);
@@ -197,7 +197,7 @@ module _ (p : ScriptPlan) (step : Outcome → Outcome) (old mid new before betwe
             ∙ ap (λ (os : List Outcome). outcomes T before s ++ os) (sym (
             ap those_ended whole
             ∙ ended_append at.added (stay ++ over)
-            ∙ (λ i. none_going at.added at.over i ++ those_ended (stay ++ over))
+            ∙ (λ i. none_going at.added (at.over refl) i ++ those_ended (stay ++ over))
             ∙ ap (λ (os : List Outcome). at.added ++ os) (ended_append stay over ∙ (λ i. going.1 i ++ none_going over gone i))));
       }
 

@@ -1,5 +1,5 @@
 -- Segments taken a record further.
-use Rattle.std.proofs.Common.{◌≡◌, ◌≤◌, ◌<◌, ◌+◌, ◌*◌, ◌++◌, ◌∷◌, ℕ, Bool, true, List, [], map, length, refl, sym, ap, ◌∙◌, subst, arith, length-append}
+use Rattle.std.proofs.Common.{◌≡◌, ◌≤◌, ◌<◌, ◌+◌, ◌*◌, ◌++◌, ◌∷◌, ℕ, Bool, true, false, List, [], map, length, refl, sym, ap, ◌∙◌, subst, arith, length-append}
 use Rattle.std.proofs.Math.Nat.{mul-le-mul_left}
 use Rattle.std.proofs.lemmas.List.{append-nil, get_or_append_left, length-map}
 use Rattle.std.proofs.lemmas.List.Elements.{All-append, All-nil, All-push, All-weaker}
@@ -64,11 +64,11 @@ apart : (p : ScriptPlan) (old going none ended : List Path) → none ≡ [] → 
 apart p old going none ended empty moves on =
     run_exact p (λ o. o) old old going none none ended same moves on
   where
-    same : AreParted p (λ o. o) old old none none
+    same : AreParted p false (λ o. o) old old none none
     same s once = record {
       added = [];
       others = sym (append-nil (at_state p none s));
-      over = refl;
+      over = λ ends. refl;
       gives = sym (map_same (λ o. o) (at_state p old s) (λ o. refl));
     }
 
@@ -95,10 +95,10 @@ module _ (p : ScriptPlan) (rec : Record) (old going none ended new after now : L
       ∙ ap (λ zs. those_ended (map f os) ++ zs) at.going
       ∙ one_outcome (map f os) few
 
-  pub explored_few : AreFewRun (dos_going p.update) (dos_ended p.update) going new ended after → length now ≤ length old * made_paths p.update
+  pub explored_few : AreFewRun (dos_going p.cells p.update) (dos_ended p.cells p.update) going new ended after → length now ≤ length old * made_paths p
   explored_few h =
-      fewer (length going) (length ended) (length old) (made_paths p.update) (length now)
-      (omega (arith, moved_count old going none ended moves, ap length empty)) (omega (arith, updates_go_on p.update)) (omega (arith, ap length is, length-append after new, h.all))
+      fewer (length going) (length ended) (length old) (made_paths p) (length now)
+      (omega (arith, moved_count old going none ended moves, ap length empty)) (omega (arith, updates_go_on p.cells p.update)) (omega (arith, ap length is, length-append after new, h.all))
     where
       fewer : (g e o most n : ℕ) → g + e ≡ o → 1 ≤ most → n ≤ e + g * most → n ≤ o * most
       fewer g e o most n sum once h =
@@ -153,7 +153,7 @@ number_among records rec = Any-push (λ (r : Record). r.no ≡ rec.no) records r
 pub record IsExplored (p : ScriptPlan) (rec : Record) (old new : List Path) : Type 0 where
   pub exact : GivesAfter p rec old new
   pub fits : SegmentFits p new
-  pub few : length new ≤ length old * made_paths p.update
+  pub few : length new ≤ length old * made_paths p
   pub faults : (records : List Record) → HasNumber rec.no records → EndAmong records old → EndAmong records new
 
 -- The same of an equal plan and equal paths.
@@ -164,8 +164,8 @@ explored_of q p rec items old new same is h =
 pub record_of : (q p : ScriptPlan) (rec : Record) → q ≡ p → IsRecord p rec → IsRecord q rec
 record_of q p rec same h = subst (λ (plan : ScriptPlan). IsRecord plan rec) (sym same) h
 
-pub small_of : (q p : ScriptPlan) → q ≡ p → path_bound q.update ≤ limit.PATHS_MAX → path_bound p.update ≤ limit.PATHS_MAX
-small_of q p same h = subst (λ (plan : ScriptPlan). path_bound plan.update ≤ limit.PATHS_MAX) same h
+pub small_of : (q p : ScriptPlan) → q ≡ p → path_bound q ≤ limit.PATHS_MAX → path_bound p ≤ limit.PATHS_MAX
+small_of q p same h = subst (λ (plan : ScriptPlan). path_bound plan ≤ limit.PATHS_MAX) same h
 
 explored_stand : (p : ScriptPlan) (rec : Record) (records : List Record) (old new : List Path) → IsExplored p rec old new → StandsFor p records old → StandsFor p (records ++ rec ∷ []) new
 explored_stand p rec records old new h stand = record {
@@ -234,14 +234,14 @@ few_counted : (n : ℕ) → n ≤ limit.PATHS_MAX → n < limit.PATHS_COUNTED
 few_counted n h = omega arith
 
 -- The path bound of an accepted script is its count of paths.
-pub settled_few : (p : ScriptPlan) (rec : Record) (old new segment : List Path) → path_bound p.update ≤ limit.PATHS_MAX → IsExplored p rec old new → IsSettling new segment → length segment ≤ length old * path_bound p.update
+pub settled_few : (p : ScriptPlan) (rec : Record) (old new segment : List Path) → path_bound p ≤ limit.PATHS_MAX → IsExplored p rec old new → IsSettling new segment → length segment ≤ length old * path_bound p
 settled_few p rec old new segment small h settling =
-    within (length segment) (length new) (length old) (made_paths p.update) (path_bound p.update) (bound_is_count p.update (few_counted (path_bound p.update) small)) h.few settling.reduced.few
+    within (length segment) (length new) (length old) (made_paths p) (path_bound p) (bound_is_count p (few_counted (path_bound p) small)) h.few settling.reduced.few
   where
     within : (a b c d e : ℕ) → d ≡ e → b ≤ c * d → a ≤ b → a ≤ c * e
     within a b c d e same few less = let g : c * d ≡ c * e = ap (λ (n : ℕ). c * n) same in omega arith
 
-pub first_few : (p : ScriptPlan) (rec : Record) (path : Path) (new segment : List Path) → path_bound p.update ≤ limit.PATHS_MAX → IsExplored p rec (path ∷ []) new → IsSettling new segment → length segment ≤ path_bound p.update
+pub first_few : (p : ScriptPlan) (rec : Record) (path : Path) (new segment : List Path) → path_bound p ≤ limit.PATHS_MAX → IsExplored p rec (path ∷ []) new → IsSettling new segment → length segment ≤ path_bound p
 first_few p rec path new segment small h settling =
-    let few : length segment ≤ 1 * path_bound p.update = settled_few p rec (path ∷ []) new segment small h settling in
+    let few : length segment ≤ 1 * path_bound p = settled_few p rec (path ∷ []) new segment small h settling in
     omega arith

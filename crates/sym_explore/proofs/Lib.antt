@@ -6,6 +6,7 @@ pub mod AssignedNowhere
 pub mod AssignedParts
 pub mod AssignedPaths
 pub mod Blocks
+pub mod ClampedPaths
 pub mod ComparedPaths
 pub mod CountedPaths
 pub mod EndedFirst
@@ -15,6 +16,7 @@ pub mod Extended
 pub mod InOrder
 pub mod InPlace
 pub mod JudgedBranches
+pub mod KeptNumbers
 pub mod KnownParts
 pub mod LabelsHeld
 pub mod PartedConnected

@@ -14,6 +14,7 @@ use Rattle.sym_base.specs.declared.values.state.Outcome.{Outcome}
 use Rattle.sym_base.specs.declared.values.state.Outcome.TheVariants.{Going}
 use Rattle.sym_base.specs.declared.values.state.Outcome.TheVariants as outcome
 use Rattle.sym_check.specs.Conditions.{test_truth}
+use Rattle.sym_check.specs.Ranges.{kept}
 use Rattle.sym_check.specs.ScriptPlans.{ScriptPlan}
 use Rattle.sym_int.proofs.Products.{opposites, times_keeps}
 use Rattle.sym_int.specs.Fits.{IsFitted, IsInside, inside_span}
@@ -44,8 +45,10 @@ use Rattle.sym_path.specs.declared.path.PathEnd.TheVariants.{Next, Ended}
 use Rattle.sym_explore.proofs.PathNumbers.{number_is_held, given_none, given_in, given_out, no_point, wide_at}
 use Rattle.sym_explore.specs.Faulting.{EndAmong, FaultsCameAt, HasNumber}
 use Rattle.sym_explore.specs.Parting.{those_going}
-use Rattle.sym_explore.specs.Ranging.{IsPartPushed, IsPartedAt, IsWholeOn, NumberFitsOn, WideRanges, form_stored, wide_stored}
-use Rattle.sym_explore.specs.Stepping.{AreFewPaths, going_paths, most_paths, one_going}
+use Rattle.sym_explore.specs.Ranging.{IsPartPushed, IsPartedAt, IsWholeOn, NumberFitsOn, form_stored, kept_stored, ranged}
+use Rattle.sym_explore.specs.Placing.{TargetRanges, put_at, target_stored}
+use Rattle.sym_explore.specs.declared.placing.Target.{Target}
+use Rattle.sym_explore.proofs.KeptNumbers.{kept_in, kept_out}
 
 -- ---- paths, and one more
 
@@ -55,31 +58,11 @@ outcomes_push truth (x ∷ paths) q s =
     ap (λ (os : List Outcome). given truth x s ++ os) (outcomes_push truth paths q s)
     ∙ sym (append_assoc (given truth x s) (outcomes truth paths s) (given truth q s))
 
-pub going_push : (paths : List Path) (q : Path) → going_paths (paths ++ q ∷ []) ≡ going_paths paths + one_going q.end
-going_push [] q = omega arith
-going_push (x ∷ paths) q = let h = going_push paths q in omega (arith, h)
-
 -- ---- a path that ends by a fault
-
-ended_goes : (fault : Fault) (end : PathEnd) → one_going (end_by fault end) ≡ 0
-ended_goes fault (Next forms) = refl
-ended_goes fault (Ended old) = refl
-
-pub one_goes : (end : PathEnd) → GoesOn end → one_going end ≡ 1
-one_goes (Next forms) h = refl
-one_goes (Ended fault) h = absurd h
-
-pub going_most : (end : PathEnd) (most : ℕ) → GoesOn end → most_paths end most ≡ most
-going_most (Next forms) most h = refl
-going_most (Ended fault) most h = absurd h
 
 pub goes_among : (records : List Record) (end : PathEnd) → GoesOn end → EndsAmong records end
 goes_among records (Next forms) h = tt
 goes_among records (Ended fault) h = absurd h
-
-one_at_most : (end : PathEnd) → one_going end ≤ 1
-one_at_most (Next forms) = omega arith
-one_at_most (Ended fault) = omega arith
 
 fault_ends : (fault : Fault) (end : PathEnd) → ¬ (GoesOn (end_by fault end))
 fault_ends fault (Next forms) h = h
@@ -100,11 +83,11 @@ over_gives truth path s over = go path.end (admits truth path.when s.cells) over
     go (Ended fault) false h = refl
 
 -- Nothing is added to the others.
-pub nothing_added : (p : ScriptPlan) (step kept : Outcome → Outcome) (old : Path) (before : List Path) (path : Path) (s : State) → map kept (given (test_truth p.tests) path s) ≡ map step (given (test_truth p.tests) old s) → IsPartedAt p step kept old before path before s
-nothing_added p step kept old before path s e = record {
+pub nothing_added : (p : ScriptPlan) (clamps : Bool) (step stays : Outcome → Outcome) (old : Path) (before : List Path) (path : Path) (s : State) → map stays (given (test_truth p.tests) path s) ≡ map step (given (test_truth p.tests) old s) → IsPartedAt p clamps step stays old before path before s
+nothing_added p clamps step stays old before path s e = record {
   added = [];
   others = sym (append-nil (outcomes (test_truth p.tests) before s));
-  over = refl;
+  over = λ ends. refl;
   gives = e;
 }
 
@@ -114,13 +97,6 @@ module _ (p : ScriptPlan) (c : ℕ) (fault : Fault) (old : Path) where
   part_fits : (o : Option Span) (before after : List Path) → IsPartPushed p c o fault old before after → SegmentFits p before → SegmentFits p after
   part_fits None before after h others = subst (SegmentFits p) (sym h) others
   part_fits (Some span) before after h others = subst (SegmentFits p) (sym h.is) (All-push (PathFits p) before h.pushed others h.fits)
-
-  part_going : (o : Option Span) (before after : List Path) → IsPartPushed p c o fault old before after → going_paths after ≡ going_paths before
-  part_going None before after h = ap going_paths h
-  part_going (Some span) before after h =
-      let ended : one_going h.pushed.end ≡ 0 = ap one_going h.end ∙ ended_goes fault old.end in
-      let longer : going_paths after ≡ going_paths before + one_going h.pushed.end = ap going_paths h.is ∙ going_push before h.pushed in
-      omega (arith, ended, longer)
 
   part_length : (o : Option Span) (before after : List Path) → IsPartPushed p c o fault old before after → length after ≤ length before + 1
   part_length None before after h = let e = ap length h in omega (arith, e)
@@ -139,10 +115,10 @@ module _ (p : ScriptPlan) (c : ℕ) (fault : Fault) (old : Path) where
 -- ---- what the parts give
 
 -- What is given where the cell holds a number with the property, and nothing elsewhere.
-record IsGivenWhere (truth : Truth) (old : Path) (c : ℕ) (span : Span) (s : State) (property : ℤ → Type 0) (wanted gives : List Outcome) : Type 0 where
-  none : given truth old s ≡ [] → gives ≡ []
-  here : slice_get s.cells c ≡ Some (cell.Int (number_at s c)) → HasPoint span (number_at s c) → property (number_at s c) → gives ≡ wanted
-  away : slice_get s.cells c ≡ Some (cell.Int (number_at s c)) → HasPoint span (number_at s c) → ¬ (property (number_at s c)) → gives ≡ []
+pub record IsGivenWhere (truth : Truth) (old : Path) (c : ℕ) (span : Span) (s : State) (property : ℤ → Type 0) (wanted gives : List Outcome) : Type 0 where
+  pub none : given truth old s ≡ [] → gives ≡ []
+  pub here : slice_get s.cells c ≡ Some (cell.Int (number_at s c)) → HasPoint span (number_at s c) → property (number_at s c) → gives ≡ wanted
+  pub away : slice_get s.cells c ≡ Some (cell.Int (number_at s c)) → HasPoint span (number_at s c) → ¬ (property (number_at s c)) → gives ≡ []
 
 module _ (p : ScriptPlan) (c : ℕ) (old : Path) (span : Span) (s : State) where
   abbrev all : List Outcome
@@ -175,12 +151,6 @@ module _ (p : ScriptPlan) (c : ℕ) (old : Path) (span : Span) (s : State) where
         over_gives T q s (λ g. fault_ends fault old.end (subst GoesOn pushed.end g)),
       )
 
-pub stored_in : (number : Wide) (range : Span) (fault : Fault) (store : ℤ → State → State) (s : State) (os : List Outcome) → HasPoint range (wide_value number s) → map (wide_stored number range fault store s) os ≡ map (changed (store (wide_value number s))) os
-stored_in number range fault store s os h = ap (λ (b : Bool). map (if b then changed (store (wide_value number s)) else ended_by fault) os) ((point_decided range (wide_value number s)).1 h)
-
-pub stored_out : (number : Wide) (range : Span) (fault : Fault) (store : ℤ → State → State) (s : State) (os : List Outcome) → ¬ (HasPoint range (wide_value number s)) → map (wide_stored number range fault store s) os ≡ map (ended_by fault) os
-stored_out number range fault store s os n = ap (λ (b : Bool). map (if b then changed (store (wide_value number s)) else ended_by fault) os) (no_point range (wide_value number s) n)
-
 pub map_same : (os : List Outcome) → map (λ (o : Outcome). o) os ≡ os
 map_same [] = refl
 map_same (o ∷ os) = ap (λ (rest : List Outcome). o ∷ rest) (map_same os)
@@ -195,54 +165,87 @@ second_of a b d w e f g = rw (e, f, g) (append-nil w)
 third_of : (a b d w : List Outcome) → a ≡ [] → b ≡ [] → d ≡ w → a ++ (b ++ d) ≡ w
 third_of a b d w e f g = rw (e, f, g) refl
 
-module _ (p : ScriptPlan) (c : ℕ) (old : Path) (span range : Span) (number : Wide) (fault : Fault) (is : slice_get old.when c ≡ Some (part.Span span)) (names : wide_cell number ≡ Some c) where
-  -- Below, above and within the range, the parts give what comes of the number.
-  parts_give : (store : ℤ → State → State) (s : State) (low high mid : List Outcome) →
-      IsGivenWhere (test_truth p.tests) old c span s (Below span number range.lo) (map (ended_by fault) (given (test_truth p.tests) old s)) low →
-      IsGivenWhere (test_truth p.tests) old c span s (Above span number range.hi) (map (ended_by fault) (given (test_truth p.tests) old s)) high →
-      IsGivenWhere (test_truth p.tests) old c span s (Within span number range) (map (changed (store (wide_value number s))) (given (test_truth p.tests) old s)) mid →
-      low ++ (high ++ mid) ≡ map (wide_stored number range fault store s) (given (test_truth p.tests) old s)
-  parts_give store s low high mid l h m = elim (number_is_held (test_truth p.tests) old s c span is) [
-    | inl none ↦ first_of low high mid _ (l.none none ∙ sym (ap (map (wide_stored number range fault store s)) none)) (h.none none) (m.none none)
-    | inr (held, point) ↦
-        let x : ℤ = number_at s c in
-        let same : wide_value number s ≡ wide_on number x = wide_at number c s names in
-        let ordered : range.lo ≤ℤ range.hi = range.ordered in
-        by_lt_z (wide_on number x) range.lo
-        (λ low_is.
-        let out : ¬ (HasPoint range (wide_value number s)) = λ g. let k = g.0 in omega (arith, ints, same, k, low_is) in
-        first_of low high mid _ (l.here held point (point, low_is) ∙ sym (stored_out number range fault store s _ out))
-        (h.away held point (λ g. let k = g.1 in omega (arith, ints, k, low_is, ordered)))
-        (m.away held point (λ g. let k = g.1.0 in omega (arith, ints, k, low_is))))
-        (λ not_low.
-        by_lt_z range.hi (wide_on number x)
-        (λ high_is.
-        let out : ¬ (HasPoint range (wide_value number s)) = λ g. let k = g.1 in omega (arith, ints, same, k, high_is) in
-        second_of low high mid _
-        (l.away held point (λ g. let k = g.1 in omega (arith, ints, k, not_low)))
-        (h.here held point (point, high_is) ∙ sym (stored_out number range fault store s _ out))
-        (m.away held point (λ g. let k = g.1.1 in omega (arith, ints, k, high_is))))
-        (λ not_high.
-        let there : HasPoint range (wide_on number x) = (omega (arith, ints), omega (arith, ints)) in
-        let inside : HasPoint range (wide_value number s) = subst (HasPoint range) (sym same) there in
-        third_of low high mid _
-        (l.away held point (λ g. let k = g.1 in omega (arith, ints, k, not_low)))
-        (h.away held point (λ g. let k = g.1 in omega (arith, ints, k, not_high)))
-        (m.here held point (point, there) ∙ sym (stored_in number range fault store s _ inside))))
-  ]
+-- What is given on a span of the cell, where the same becomes of all that it gives.
+pub narrowed_given : (truth : Truth) (old path : Path) (c : ℕ) (span part_span : Span) (s : State) (property : ℤ → Type 0) (change : Outcome → Outcome) (gives : List Outcome) → IsPart property (Some part_span) → GivesWhere old c (part.Span part_span) path → gives ≡ map change (given truth path s) → IsGivenWhere truth old c span s property (map change (given truth old s)) gives
+narrowed_given truth old path c span part_span s property change gives is narrowed e = record {
+  none = λ none. e ∙ ap (map change) (given_none truth old path c part_span s narrowed none);
+  here = λ h x g. e ∙ ap (map change) (given_in truth old path c part_span s (number_at s c) narrowed h ((is (number_at s c)).1 g));
+  away = λ h x n. e ∙ ap (map change) (given_out truth old path c part_span s (number_at s c) narrowed h (λ g. n ((is (number_at s c)).0 g)));
+}
 
-  -- No number over the cell is in the range: the path ends.
-  pub none_inside : (before : List Path) → IsPart (Within span number range) None → WideRanges p number range fault old before (with_fault old fault) before None
-  none_inside before outside store s = nothing_added p (wide_stored number range fault store s) (λ (o : Outcome). o) old before (with_fault old fault) s
-      (elim (number_is_held (test_truth p.tests) old s c span is) [
-        | inl none ↦ same_map (faults_give (test_truth p.tests) s old fault ∙ ap (map (ended_by fault)) none) ∙ sym (ap (map (wide_stored number range fault store s)) none)
+-- What is given on a part that isn't there.
+pub nothing_given : (truth : Truth) (old : Path) (c : ℕ) (span : Span) (s : State) (property : ℤ → Type 0) (wanted : List Outcome) → IsPart property None → IsGivenWhere truth old c span s property wanted []
+nothing_given truth old c span s property wanted is = record {
+  none = λ e. refl;
+  here = λ h x g. absurd (is (number_at s c) g);
+  away = λ h x n. refl;
+}
+
+module _ (p : ScriptPlan) (c : ℕ) (old : Path) (span range : Span) (number : Wide) (is : slice_get old.when c ≡ Some (part.Span span)) (names : wide_cell number ≡ Some c) where
+  -- Below, above and within the range, the parts give what comes of the number.
+  pub parts_give : (made below above within : Outcome → Outcome) (s : State) (low high mid : List Outcome) →
+      (wide_value number s <ℤ range.lo → made ≡ below) →
+      (range.hi <ℤ wide_value number s → made ≡ above) →
+      (HasPoint range (wide_value number s) → made ≡ within) →
+      IsGivenWhere (test_truth p.tests) old c span s (Below span number range.lo) (map below (given (test_truth p.tests) old s)) low →
+      IsGivenWhere (test_truth p.tests) old c span s (Above span number range.hi) (map above (given (test_truth p.tests) old s)) high →
+      IsGivenWhere (test_truth p.tests) old c span s (Within span number range) (map within (given (test_truth p.tests) old s)) mid →
+      low ++ (high ++ mid) ≡ map made (given (test_truth p.tests) old s)
+  parts_give made below above within s low high mid is_below is_above is_within l h m =
+      let os : List Outcome = given (test_truth p.tests) old s in
+      let same_map : (f : Outcome → Outcome) → made ≡ f → map f os ≡ map made os = λ f e. ap (λ (g : Outcome → Outcome). map g os) (sym e) in
+      elim (number_is_held (test_truth p.tests) old s c span is) [
+        | inl none ↦ first_of low high mid _ (l.none none ∙ sym (ap (map made) none)) (h.none none) (m.none none)
         | inr (held, point) ↦
-            let out : ¬ (HasPoint range (wide_value number s)) = λ g. outside (number_at s c) (point, subst (HasPoint range) (wide_at number c s names) g) in
-            same_map (faults_give (test_truth p.tests) s old fault) ∙ sym (stored_out number range fault store s _ out)
-      ])
-    where
-      same_map : {os rest : List Outcome} → os ≡ rest → map (λ (o : Outcome). o) os ≡ rest
-      same_map {os = os} e = map_same os ∙ e
+            let x : ℤ = number_at s c in
+            let same : wide_value number s ≡ wide_on number x = wide_at number c s names in
+            let ordered : range.lo ≤ℤ range.hi = range.ordered in
+            by_lt_z (wide_on number x) range.lo
+            (λ low_is.
+            first_of low high mid _ (l.here held point (point, low_is) ∙ same_map below (is_below (omega (arith, ints, same, low_is))))
+            (h.away held point (λ g. let k = g.1 in omega (arith, ints, k, low_is, ordered)))
+            (m.away held point (λ g. let k = g.1.0 in omega (arith, ints, k, low_is))))
+            (λ not_low.
+            by_lt_z range.hi (wide_on number x)
+            (λ high_is.
+            second_of low high mid _
+            (l.away held point (λ g. let k = g.1 in omega (arith, ints, k, not_low)))
+            (h.here held point (point, high_is) ∙ same_map above (is_above (omega (arith, ints, same, high_is))))
+            (m.away held point (λ g. let k = g.1.1 in omega (arith, ints, k, high_is))))
+            (λ not_high.
+            let there : HasPoint range (wide_on number x) = (omega (arith, ints), omega (arith, ints)) in
+            let inside : HasPoint range (wide_value number s) = subst (HasPoint range) (sym same) there in
+            third_of low high mid _
+            (l.away held point (λ g. let k = g.1 in omega (arith, ints, k, not_low)))
+            (h.away held point (λ g. let k = g.1 in omega (arith, ints, k, not_high)))
+            (m.here held point (point, there) ∙ same_map within (is_within inside))))
+      ]
+
+-- ---- what the range of a target keeps
+
+module _ (wide : Wide) (target : Target) (s : State) where
+  pub kept_makes : (x : ℤ) → kept (ranged target.clamps target.ends) (wide_value wide s) ≡ Some x → target_stored wide target s ≡ changed (put_at target.place x)
+  kept_makes x e = ap (λ (o : Option ℤ). kept_stored o target.fault (put_at target.place)) e
+
+  pub none_makes : kept (ranged target.clamps target.ends) (wide_value wide s) ≡ None → target_stored wide target s ≡ ended_by target.fault
+  none_makes e = ap (λ (o : Option ℤ). kept_stored o target.fault (put_at target.place)) e
+
+  pub inside_makes : HasPoint target.ends (wide_value wide s) → target_stored wide target s ≡ changed (put_at target.place (wide_value wide s))
+  inside_makes h = kept_makes (wide_value wide s) (kept_in target.clamps target.ends (wide_value wide s) h)
+
+-- No number over the cell is in the range: the path ends.
+pub none_inside : (p : ScriptPlan) (c : ℕ) (old : Path) (span : Span) (number : Wide) (target : Target) → target.clamps ≡ false → slice_get old.when c ≡ Some (part.Span span) → wide_cell number ≡ Some c → (before : List Path) → IsPart (Within span number target.ends) None → TargetRanges p target number old before (with_fault old target.fault) before None
+none_inside p c old span number target ends is names before outside s =
+    let T = test_truth p.tests in
+    let os : List Outcome = given T old s in
+    nothing_added p target.clamps (target_stored number target s) (λ (o : Outcome). o) old before (with_fault old target.fault) s
+    (elim (number_is_held T old s c span is) [
+      | inl none ↦ map_same (given T (with_fault old target.fault) s) ∙ faults_give T s old target.fault ∙ ap (map (ended_by target.fault)) none ∙ sym (ap (map (target_stored number target s)) none)
+      | inr (held, point) ↦
+          let out : ¬ (HasPoint target.ends (wide_value number s)) = λ g. outside (number_at s c) (point, subst (HasPoint target.ends) (wide_at number c s names) g) in
+          map_same (given T (with_fault old target.fault) s) ∙ faults_give T s old target.fault
+          ∙ ap (λ (f : Outcome → Outcome). map f os) (sym (none_makes number target s (kept_out target.clamps target.ends (wide_value number s) ends out)))
+    ])
 
 -- ---- the number on the path
 
@@ -308,34 +311,29 @@ line_between (negsuc k) b lo hi x first last l h p q r t =
     let g = opposites (negsuc k) hi in
     (omega (arith, ints), omega (arith, ints))
 
-module _ (c : ℕ) (old : Path) (range : Span) (number : Wide) (f : IntForm) (names : wide_cell number ≡ Some c) (whole : IsWholeOn number c range old f) where
-  pub whole_ranges : (p : ScriptPlan) (fault : Fault) (before : List Path) → WideRanges p number range fault old before old before (Some f)
-  whole_ranges p fault before store s =
+module _ (c : ℕ) (old : Path) (target : Target) (number : Wide) (f : IntForm) (names : wide_cell number ≡ Some c) (whole : IsWholeOn number c target.ends old f) where
+  pub whole_ranges : (p : ScriptPlan) (before : List Path) → TargetRanges p target number old before old before (Some f)
+  whole_ranges p before s =
       let T = test_truth p.tests in
       let os : List Outcome = given T old s in
-      nothing_added p (wide_stored number range fault store s) (form_stored (Some f) store s) old before old s
+      let put : ℤ → State → State = put_at target.place in
+      nothing_added p target.clamps (target_stored number target s) (form_stored (Some f) put s) old before old s
       (elim (number_is_held T old s c whole.span whole.is) [
-        | inl none ↦ ap (map (form_stored (Some f) store s)) none ∙ sym (ap (map (wide_stored number range fault store s)) none)
+        | inl none ↦ ap (map (form_stored (Some f) put s)) none ∙ sym (ap (map (target_stored number target s)) none)
         | inr (held, point) ↦
             let cell_in : IsCellIn (wide_cell number) whole.span s = subst (λ (o : Option ℕ). IsCellIn o whole.span s) (sym names) point in
-            let inside : HasPoint range (wide_value number s) = subst (HasPoint range) (sym (wide_at number c s names)) (whole.within (number_at s c) point) in
-            ap (λ (y : ℤ). map (changed (store y)) os) (whole.value s cell_in) ∙ sym (stored_in number range fault store s os inside)
+            let inside : HasPoint target.ends (wide_value number s) = subst (HasPoint target.ends) (sym (wide_at number c s names)) (whole.within (number_at s c) point) in
+            ap (λ (y : ℤ). map (changed (put y)) os) (whole.value s cell_in) ∙ ap (λ (g : Outcome → Outcome). map g os) (sym (inside_makes number target s inside))
       ])
 
-  pub whole_number : GoesOn old.end → NumberFitsOn range.lo range.hi old f
+  pub whole_number : GoesOn old.end → NumberFitsOn target.ends.lo target.ends.hi old f
   whole_number goes =
       let taken : IsTaken (wide_on number) (Some c) whole.span f = subst (λ (o : Option ℕ). IsTaken (wide_on number) o whole.span f) names whole.form in
       record {
         goes_on = goes;
-        fits = taken_fits old.when c whole.span range (wide_on number) whole.is whole.within f taken;
-        taken = taken_is_taken old.when c whole.span range (wide_on number) whole.is whole.within f taken;
+        fits = taken_fits old.when c whole.span target.ends (wide_on number) whole.is whole.within f taken;
+        taken = taken_is_taken old.when c whole.span target.ends (wide_on number) whole.is whole.within f taken;
       }
-
-pub few_stay : (path : Path) (before : List Path) → GoesOn path.end → AreFewPaths 1 2 path before path before
-few_stay path before goes =
-    let a = one_goes path.end goes in
-    let b = going_most path.end 3 goes in
-    record { going = omega (arith, a); all = omega (arith, b) }
 
 -- ---- the parts of a fitted span
 
@@ -345,11 +343,14 @@ part_narrows (Some q) property span old e h within =
     let narrower : IsSubspan span q = ends_of_points q span (λ x point. within x ((h x).0 point)) in
     subst (NarrowsNumbers q) (sym e) narrower
 
+pub below_narrows : (span range : Span) (number : Wide) (fitted : Fitted) → IsFitted span number range fitted → (old : Option Part) → old ≡ Some (part.Span span) → IfSome fitted.below (λ q. NarrowsNumbers q old)
+below_narrows span range number fitted fits old is = part_narrows fitted.below (Below span number range.lo) span old is fits.below (λ x h. h.0)
+
 pub above_narrows : (span range : Span) (number : Wide) (fitted : Fitted) → IsFitted span number range fitted → (old : Option Part) → old ≡ Some (part.Span span) → IfSome fitted.above (λ q. NarrowsNumbers q old)
 above_narrows span range number fitted fits old is = part_narrows fitted.above (Above span number range.hi) span old is fits.above (λ x h. h.0)
 
 -- The path on the part inside, with the number of its form there.
-inside_given : (p : ScriptPlan) (c : ℕ) (old path : Path) (span range : Span) (number : Wide) (inside : Inside) → wide_cell number ≡ Some c → IsPart (Within span number range) (Some inside.span) → IsInside number inside → GivesWhere old c (part.Span inside.span) path → (store : ℤ → State → State) (s : State) →
+pub inside_given : (p : ScriptPlan) (c : ℕ) (old path : Path) (span range : Span) (number : Wide) (inside : Inside) → wide_cell number ≡ Some c → IsPart (Within span number range) (Some inside.span) → IsInside number inside → GivesWhere old c (part.Span inside.span) path → (store : ℤ → State → State) (s : State) →
     IsGivenWhere (test_truth p.tests) old c span s (Within span number range) (map (changed (store (wide_value number s))) (given (test_truth p.tests) old s)) (map (form_stored (Some inside.form) store s) (given (test_truth p.tests) path s))
 inside_given p c old path span range number inside names is inside_form gives store s =
     let T = test_truth p.tests in
@@ -367,10 +368,10 @@ inside_given p c old path span range number inside names is inside_form gives st
 
 -- The number of the part inside, on a path with this span.
 module _ (c : ℕ) (span range : Span) (number : Wide) (fitted : Fitted) (inside : Inside) (names : wide_cell number ≡ Some c) (fits : IsFitted span number range fitted) (some : fitted.inside ≡ Some inside) where
-  inside_points : IsPart (Within span number range) (Some inside.span)
+  pub inside_points : IsPart (Within span number range) (Some inside.span)
   inside_points = subst (λ (o : Option Inside). IsPart (Within span number range) (inside_span o)) some fits.inside
 
-  inside_is : IsInside number inside
+  pub inside_is : IsInside number inside
   inside_is = subst (λ (o : Option Inside). IfSome o (IsInside number)) some fits.form
 
   pub parts_number : (path : Path) → GoesOn path.end → slice_get path.when c ≡ Some (part.Span inside.span) → NumberFitsOn range.lo range.hi path inside.form
@@ -383,22 +384,30 @@ module _ (c : ℕ) (span range : Span) (number : Wide) (fitted : Fitted) (inside
         taken = taken_is_taken path.when c inside.span range (wide_on number) has in_range inside.form taken;
       }
 
-pub parts_range : (p : ScriptPlan) (c : ℕ) (old path : Path) (span range : Span) (number : Wide) (fault : Fault) (fitted : Fitted) (inside : Inside) (before between after : List Path) →
-    slice_get old.when c ≡ Some (part.Span span) → wide_cell number ≡ Some c → IsFitted span number range fitted → fitted.inside ≡ Some inside →
-    IsPartPushed p c fitted.below fault old before between → IsPartPushed p c fitted.above fault old between after →
-    GivesWhere old c (part.Span inside.span) path → WideRanges p number range fault old before path after (Some inside.form)
-parts_range p c old path span range number fault fitted inside before between after is names fits some low high gives store s =
+pub parts_range : (p : ScriptPlan) (c : ℕ) (old path : Path) (span : Span) (number : Wide) (target : Target) (fitted : Fitted) (inside : Inside) (before between after : List Path) → target.clamps ≡ false →
+    slice_get old.when c ≡ Some (part.Span span) → wide_cell number ≡ Some c → IsFitted span number target.ends fitted → fitted.inside ≡ Some inside →
+    IsPartPushed p c fitted.below target.fault old before between → IsPartPushed p c fitted.above target.fault old between after →
+    GivesWhere old c (part.Span inside.span) path → TargetRanges p target number old before path after (Some inside.form)
+parts_range p c old path span number target fitted inside before between after ends is names fits some low high gives s =
     let T = test_truth p.tests in
-    let points = inside_points c span range number fitted inside names fits some in
-    let form_is = inside_is c span range number fitted inside names fits some in
-    let under = part_given p c old span s fitted.below (Below span number range.lo) fault before between fits.below low in
-    let over = part_given p c old span s fitted.above (Above span number range.hi) fault between after fits.above high in
-    let mid = map (form_stored (Some inside.form) store s) (given T path s) in
+    let put : ℤ → State → State = put_at target.place in
+    let x : ℤ = wide_value number s in
+    let points = inside_points c span target.ends number fitted inside names fits some in
+    let form_is = inside_is c span target.ends number fitted inside names fits some in
+    let under = part_given p c old span s fitted.below (Below span number target.ends.lo) target.fault before between fits.below low in
+    let over = part_given p c old span s fitted.above (Above span number target.ends.hi) target.fault between after fits.above high in
+    let mid = map (form_stored (Some inside.form) put s) (given T path s) in
+    let ended : ¬ (HasPoint target.ends x) → target_stored number target s ≡ ended_by target.fault = λ out. none_makes number target s (kept_out target.clamps target.ends x ends out) in
     record {
       added = under.0 ++ over.0;
       others = over.1 ∙ ap (λ (os : List Outcome). os ++ over.0) under.1 ∙ append_assoc (outcomes T before s) under.0 over.0;
-      over = going_append under.0 over.0 ∙ (λ i. under.3 i ++ over.3 i);
-      gives = append_assoc under.0 over.0 mid ∙ parts_give p c old span range number fault is names store s under.0 over.0 mid under.2 over.2 (inside_given p c old path span range number inside names points form_is gives store s);
+      over = λ q. going_append under.0 over.0 ∙ (λ i. under.3 i ++ over.3 i);
+      gives = append_assoc under.0 over.0 mid
+          ∙ parts_give p c old span target.ends number is names (target_stored number target s) (ended_by target.fault) (ended_by target.fault) (changed (put x)) s under.0 over.0 mid
+          (λ less. ended (λ h. let k = h.0 in omega (arith, ints, k, less)))
+          (λ more. ended (λ h. let k = h.1 in omega (arith, ints, k, more)))
+          (inside_makes number target s)
+          under.2 over.2 (inside_given p c old path span target.ends number inside names points form_is gives put s);
     }
 
 module _ (p : ScriptPlan) (c : ℕ) (old : Path) (fault : Fault) (fitted : Fitted) (before between after : List Path)
@@ -406,20 +415,11 @@ module _ (p : ScriptPlan) (c : ℕ) (old : Path) (fault : Fault) (fitted : Fitte
   pub parts_fit : SegmentFits p before → SegmentFits p after
   parts_fit others = part_fits p c fault old fitted.above between after high (part_fits p c fault old fitted.below before between low others)
 
-  pub parts_few : (path : Path) → GoesOn old.end → AreFewPaths 1 2 old before path after
-  parts_few path goes = record {
-    going =
-        let a = part_going p c fault old fitted.below before between low in
-        let b = part_going p c fault old fitted.above between after high in
-        let d = one_goes old.end goes in
-        let e = one_at_most path.end in
-        omega (arith, a, b, d, e);
-    all =
-        let a = part_length p c fault old fitted.below before between low in
-        let b = part_length p c fault old fitted.above between after high in
-        let d = going_most old.end 3 goes in
-        omega (arith, a, b, d);
-  }
+  pub parts_few : length after ≤ length before + 2
+  parts_few =
+      let a = part_length p c fault old fitted.below before between low in
+      let b = part_length p c fault old fitted.above between after high in
+      omega (arith, a, b)
 
   pub parts_faults : (path : Path) → GoesOn old.end → GoesOn path.end → FaultsCameAt fault.no old before path after
   parts_faults path goes goes_on records here ends others = (

@@ -3,6 +3,7 @@ use Rattle.std.proofs.Common.{◌≡◌, ◌≤◌, ◌+◌, ◌-◌, ◌*◌, i
 use Rattle.std.proofs.Math.Nat.{mul-le-mul_left, mul-le-mul_right, mul_assoc}
 use Rattle.std.proofs.lemmas.Nat.{mul-le}
 use Rattle.std.specs.Prelude.{if◌then◌else◌, IsTrue}
+use Rattle.sym_check.specs.declared.plan.script.CellPlan.{CellPlan}
 use Rattle.sym_check.specs.CondPlans.{CondPlan}
 use Rattle.sym_check.specs.Conditions.{is_fixed}
 use Rattle.sym_check.specs.DoPlans.{If, DosPlan}
@@ -107,13 +108,13 @@ same_few c ga gb ea eb x fixed old new before after h =
     let Q : ℕ → Type 0 = λ n. AreFewRun (if x then max ga gb else branches_of c true * ga + branches_of c false * gb) n old new before after in
     subst P (sym (if_most c ga gb x fixed)) (subst Q (sym (if_most c ea eb x fixed)) h)
 
-pub few_if : (c : CondPlan) (a b : DosPlan) (old trues falses before failed then_paths ended else_paths after : List Path) → AreFewParts (branches_of c) old trues [] falses before failed → (IsTrue (is_fixed c) → AreOfOneTruth old trues [] falses before failed) → AreFewRun (dos_going a) (dos_ended a) trues then_paths failed ended → AreFewRun (dos_going b) (dos_ended b) falses else_paths ended after → AreFewRun (do_going (If c a b)) (do_ended (If c a b)) old (then_paths ++ else_paths) before after
-few_if c a b old trues falses before failed then_paths ended else_paths after h one k l = fixed_or_not (is_fixed c) refl
+pub few_if : (cells : List CellPlan) (c : CondPlan) (a b : DosPlan) (old trues falses before failed then_paths ended else_paths after : List Path) → AreFewParts (branches_of c) old trues [] falses before failed → (IsTrue (is_fixed c) → AreOfOneTruth old trues [] falses before failed) → AreFewRun (dos_going cells a) (dos_ended cells a) trues then_paths failed ended → AreFewRun (dos_going cells b) (dos_ended cells b) falses else_paths ended after → AreFewRun (do_going cells (If c a b)) (do_ended cells (If c a b)) old (then_paths ++ else_paths) before after
+few_if cells c a b old trues falses before failed then_paths ended else_paths after h one k l = fixed_or_not (is_fixed c) refl
   where
-    fixed_or_not : (x : Bool) → is_fixed c ≡ x → AreFewRun (do_going (If c a b)) (do_ended (If c a b)) old (then_paths ++ else_paths) before after
+    fixed_or_not : (x : Bool) → is_fixed c ≡ x → AreFewRun (do_going cells (If c a b)) (do_ended cells (If c a b)) old (then_paths ++ else_paths) before after
     fixed_or_not true fixed =
-        let few = few_one (dos_going a) (dos_ended a) (dos_going b) (dos_ended b) (updates_go_on a) (updates_go_on b) old trues falses before failed then_paths ended else_paths after k l (one fixed) in
-        same_few c (dos_going a) (dos_going b) (dos_ended a) (dos_ended b) true fixed old (then_paths ++ else_paths) before after few
+        let few = few_one (dos_going cells a) (dos_ended cells a) (dos_going cells b) (dos_ended cells b) (updates_go_on cells a) (updates_go_on cells b) old trues falses before failed then_paths ended else_paths after k l (one fixed) in
+        same_few c (dos_going cells a) (dos_going cells b) (dos_ended cells a) (dos_ended cells b) true fixed old (then_paths ++ else_paths) before after few
     fixed_or_not false fixed =
-        let few = few_cut (dos_going a) (dos_ended a) (dos_going b) (dos_ended b) (updates_go_on a) (updates_go_on b) old trues falses before failed then_paths ended else_paths after k l (branches_of c) h in
-        same_few c (dos_going a) (dos_going b) (dos_ended a) (dos_ended b) false fixed old (then_paths ++ else_paths) before after few
+        let few = few_cut (dos_going cells a) (dos_ended cells a) (dos_going cells b) (dos_ended cells b) (updates_go_on cells a) (updates_go_on cells b) old trues falses before failed then_paths ended else_paths after k l (branches_of c) h in
+        same_few c (dos_going cells a) (dos_going cells b) (dos_ended cells a) (dos_ended cells b) false fixed old (then_paths ++ else_paths) before after few

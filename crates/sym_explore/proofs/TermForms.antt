@@ -39,6 +39,7 @@ use Rattle.sym_path.specs.declared.part.Part.TheVariants as part
 use Rattle.sym_path.specs.declared.path.Path.{Path}
 use Rattle.sym_path.specs.declared.path.PathEnd.{PathEnd}
 use Rattle.sym_path.specs.declared.path.PathEnd.TheVariants.{Next, Ended}
+use Rattle.sym_explore.proofs.AssignedKnown.{int_plan}
 use Rattle.sym_explore.specs.Knowing.{TermIsKnown}
 use Rattle.sym_explore.specs.Terms.{HasSpan, IsPairOver, IsReadyOver, ReadyFits, int_form, is_fixed_ready, number_form, ready_number, ready_of, span_in}
 use Rattle.sym_explore.specs.declared.terms.Ready.{Ready}
@@ -87,13 +88,13 @@ ready_fits p k (OfLine l) r known e = go (pair k l) refl e
 
 -- ---- the form of an integer cell
 
-int_fits : (p : ScriptPlan) (when : List Part) (lo hi first : ℤ) (f : Form) → FormFits p when (plan.Int lo hi first) f → (g : IntForm) × (f ≡ form.Int g) × NumberFits lo hi when g
+int_fits : (p : ScriptPlan) (when : List Part) (lo hi first : ℤ) {clamp : Bool} (f : Form) → FormFits p when (plan.Int lo hi first clamp) f → (g : IntForm) × (f ≡ form.Int g) × NumberFits lo hi when g
 int_fits p when lo hi first _ (fitting.of_number _ _ _ g h) = (g, refl, h)
 
 -- Where the path goes on, an integer cell has a number form, which lies in the cell's range.
 pub number_form_fits : (p : ScriptPlan) (when : List Part) (forms : List Form) (c : ℕ) → IsIntCell p.cells c → FormsFit p when forms → (f : IntForm) × (lo : ℤ) × (hi : ℤ) × (slice_get forms c ≡ Some (form.Int f)) × NumberFits lo hi when f
 number_form_fits p when forms c cell fits =
-    let found = zip_get (FormFits p when) p.cells forms c (plan.Int cell.lo cell.hi cell.first) fits.each cell.is in
+    let found = zip_get (FormFits p when) p.cells forms c (int_plan cell) fits.each cell.is in
     let of = int_fits p when cell.lo cell.hi cell.first found.0 found.2 in
     (of.0, cell.lo, cell.hi, found.1 ∙ ap (λ (g : Form). Some g) of.1, of.2)
 
@@ -122,7 +123,7 @@ going_state truth when forms first later = go (admits truth when first.cells) re
 
 number_after : (truth : Truth) (p : ScriptPlan) (when : List Part) (forms : List Form) (c : ℕ) (f : IntForm) (first later : State) → AllZip (PartFits p) p.cells when → IsIntCell p.cells c → slice_get forms c ≡ Some (form.Int f) → Admits truth when first → later ≡ state_at forms first → number_at later c ≡ form_value f first
 number_after truth p when forms c f first later parts cell at a is =
-    let need = zip_get (PartFits p) p.cells when c (plan.Int cell.lo cell.hi cell.first) parts cell.is in
+    let need = zip_get (PartFits p) p.cells when c (int_plan cell) parts cell.is in
     let held = zip_get (PartAdmits truth) when first.cells c need.0 a need.1 in
     let there : slice_get (cells_at forms first first.cells) c ≡ Some (cell_at (form.Int f) first held.0) = cells_at_get forms first first.cells c (form.Int f) held.0 at held.1 in
     ap (λ (s : State). number_at s c) is ∙ ap cell_number there

@@ -1,16 +1,21 @@
--- A path on which the number of a term has to lie in the range of a cell.
-use Rattle.std.proofs.Common.{◌≡◌, ℕ, ℤ, ◌≤ℤ◌, pos, Bool, true, false, List, [], ◌∷◌, Option, Some, None, map, refl, sym, ap, ◌∙◌, subst}
-use Rattle.std.specs.Prelude.{slice_get, IfOk, IfSome, if◌then◌else◌, Result, Ok, Err}
+-- A path on which the number of a term is stored at a target.
+use Rattle.std.proofs.Common.{◌≡◌, ℤ, true, List, [], ◌∷◌, Option, Some, None, map, refl, sym, ap, ◌∙◌, subst}
+use Rattle.std.specs.Option.{option_and_then, ok_or}
+use Rattle.std.specs.Prelude.{IfOk, IfSome, Result, Ok, Err}
 use Rattle.sym_base.specs.declared.values.state.Fault.{Fault}
+use Rattle.sym_base.specs.declared.values.state.FaultKind.{FaultKind}
 use Rattle.sym_base.specs.declared.values.state.FaultKind.TheVariants as cause
 use Rattle.sym_base.specs.declared.values.state.State.{State}
+use Rattle.sym_base.specs.declared.values.state.Outcome.{Outcome}
 use Rattle.sym_base.specs.declared.values.state.Outcome.TheVariants.{Going}
-use Rattle.sym_check.specs.declared.plan.script.CellPlan.{CellPlan}
-use Rattle.sym_check.specs.declared.plan.script.CellPlan.TheVariants as plan
+use Rattle.sym_base.specs.declared.values.state.Outcome.TheVariants as outcome
+use Rattle.sym_check.specs.declared.plan.range.Range.{Range}
+use Rattle.sym_check.specs.Arithmetic.{and_then}
 use Rattle.sym_check.specs.Conditions.{test_truth}
+use Rattle.sym_check.specs.Ranges.{kept}
 use Rattle.sym_check.specs.ScriptPlans.{ScriptPlan}
-use Rattle.sym_check.specs.Updates.{at_record, in_range}
-use Rattle.sym_int.specs.Lines.{form_cell, form_on, form_value, wide_value}
+use Rattle.sym_check.specs.Updates.{at_record, stored}
+use Rattle.sym_int.specs.Lines.{wide_value}
 use Rattle.sym_int.specs.declared.form.IntForm.{IntForm}
 use Rattle.sym_int.specs.declared.form.IntForm.TheVariants as number
 use Rattle.sym_int.specs.declared.span.Span.{Span}
@@ -18,17 +23,17 @@ use Rattle.sym_int.specs.declared.wide.WideNumber.{WideNumber}
 use Rattle.sym_int.specs.declared.wide.Wide.{Wide}
 use Rattle.sym_int.specs.declared.wide.Wide.TheVariants as wide
 use Rattle.sym_path.proofs.Changed.{faults_give}
-use Rattle.sym_path.specs.Admitting.{has_point}
-use Rattle.sym_path.specs.Changing.{GoesOn, changed, ended_by}
-use Rattle.sym_path.specs.Fitting.{NumberFits}
+use Rattle.sym_path.specs.Changing.{GoesOn, changed}
 use Rattle.sym_path.specs.Giving.{given}
-use Rattle.sym_path.specs.Taking.{NumberIsTakenTo}
 use Rattle.sym_path.specs.declared.path.Path.{Path}
+use Rattle.sym_explore.proofs.KeptNumbers.{kept_some, kept_within}
 use Rattle.sym_explore.proofs.PathNumbers.{map_going}
-use Rattle.sym_explore.proofs.PathRanges.{map_same, nothing_added, stored_in, stored_out}
-use Rattle.sym_explore.specs.Ranging.{HasEnds, IsRangeOf, KnownRanges, NumberFitsOn, ReadyRanges, WideRanges, form_stored, ready_stored, wide_stored}
-use Rattle.sym_explore.specs.Stepping.{going_on}
-use Rattle.sym_explore.specs.Terms.{IsReadyOver}
+use Rattle.sym_explore.proofs.PathRanges.{kept_makes, map_same, none_makes, nothing_added}
+use Rattle.sym_explore.specs.Placing.{AllAreStored, IsConstantIn, TargetFits, TargetRanges, place_cell, put_at, target_stored}
+use Rattle.sym_explore.specs.Ranging.{KnownRanges, NumberFitsOn, form_stored, kept_stored, ranged}
+use Rattle.sym_explore.specs.Storing.{ReadyStores, after_store}
+use Rattle.sym_explore.specs.Terms.{IsReadyOver, ready_number}
+use Rattle.sym_explore.specs.declared.placing.Target.{Target}
 use Rattle.sym_explore.specs.declared.terms.Ready.{Ready}
 
 pub if_ok_as : {A E : Type 0} (r : Result A E) (P Q : A → Type 0) → ((x : A) → P x → Q x) → IfOk r P → IfOk r Q
@@ -37,70 +42,69 @@ if_ok_as (Err e) P Q f h = tt
 
 -- ---- a number that is known
 
-constant_form : (f : IntForm) → form_cell f ≡ None → (s : State) → form_value f s ≡ form_on f (pos 0)
-constant_form (number.Const n) e s = refl
-constant_form (number.Line line) e s = absurd (cc)
+-- A constant of a range, on a path that goes on.
+pub constant_fits : (ends : Span) (path : Path) (f : IntForm) → IsConstantIn ends f → GoesOn path.end → NumberFitsOn ends.lo ends.hi path f
+constant_fits ends path (number.Const n) h goes = record {
+  goes_on = goes;
+  fits = h;
+  taken = record { one = λ c x named o. absurd (cc); more = λ none. refl };
+}
+constant_fits ends path (number.Line line) h goes = absurd h
 
-constant_fits : (f : IntForm) (path : Path) (lo hi x : ℤ) → form_cell f ≡ None → ((y : ℤ) → form_on f y ≡ x) → (lo ≤ℤ x) × (x ≤ℤ hi) → NumberFits lo hi path.when f
-constant_fits (number.Const n) path lo hi x e is h = subst (λ (y : ℤ). (lo ≤ℤ y) × (y ≤ℤ hi)) (sym (is (pos 0))) h
-constant_fits (number.Line line) path lo hi x e is h = absurd (cc)
+module _ (target : Target) (x : WideNumber) (old new : Path) where
+  abbrev found : Option ℤ
+  found = kept (ranged target.clamps target.ends) x.value
 
-constant_taken : (f : IntForm) (path : Path) → form_cell f ≡ None → NumberIsTakenTo path.when f f
-constant_taken f path e = record { one = λ c x named o. absurd (cc); more = λ none. refl }
-
-module _ (x : WideNumber) (range : Span) (fault : Fault) (old new : Path) where
-  pub known_ranges : (p : ScriptPlan) (before : List Path) (o : Option IntForm) → KnownRanges x.value range fault old new o → WideRanges p (wide.Const x) range fault old before new before o
-  known_ranges p before (Some f) h store s =
+  pub known_ranges : (p : ScriptPlan) (before : List Path) (o : Option IntForm) → KnownRanges found target.fault old new o → TargetRanges p target (wide.Const x) old before new before o
+  known_ranges p before (Some (number.Const n)) h s =
       let T = test_truth p.tests in
-      let value : form_value f s ≡ x.value = constant_form f h.2 s ∙ h.1 (pos 0) in
-      nothing_added p (wide_stored (wide.Const x) range fault store s) (form_stored (Some f) store s) old before new s
-      (ap (λ (path : Path). map (form_stored (Some f) store s) (given T path s)) h.3
-      ∙ ap (λ (y : ℤ). map (changed (store y)) (given T old s)) value
-      ∙ sym (stored_in (wide.Const x) range fault store s (given T old s) h.0))
-  known_ranges p before None h store s =
+      nothing_added p target.clamps (target_stored (wide.Const x) target s) (form_stored (Some (number.Const n)) (put_at target.place) s) old before new s
+      (ap (λ (path : Path). map (changed (put_at target.place n.value)) (given T path s)) h.1
+      ∙ ap (λ (g : Outcome → Outcome). map g (given T old s)) (sym (kept_makes (wide.Const x) target s n.value h.0)))
+  known_ranges p before (Some (number.Line line)) h s = absurd h
+  known_ranges p before None h s =
       let T = test_truth p.tests in
-      nothing_added p (wide_stored (wide.Const x) range fault store s) (form_stored None store s) old before new s
+      nothing_added p target.clamps (target_stored (wide.Const x) target s) (form_stored None (put_at target.place) s) old before new s
       (map_same (given T new s)
       ∙ ap (λ (path : Path). given T path s) h.1
-      ∙ faults_give T s old fault
-      ∙ sym (stored_out (wide.Const x) range fault store s (given T old s) h.0))
+      ∙ faults_give T s old target.fault
+      ∙ ap (λ (g : Outcome → Outcome). map g (given T old s)) (sym (none_makes (wide.Const x) target s h.0)))
 
-  pub known_number : (o : Option IntForm) → KnownRanges x.value range fault old new o → GoesOn old.end → IfSome o (NumberFitsOn range.lo range.hi new)
-  known_number (Some f) h goes = record {
-    goes_on = subst (λ (path : Path). GoesOn path.end) (sym h.3) goes;
-    fits = constant_fits f new range.lo range.hi x.value h.2 h.1 h.0;
-    taken = constant_taken f new h.2;
-  }
+  pub known_number : (o : Option IntForm) → KnownRanges found target.fault old new o → GoesOn old.end → IfSome o (NumberFitsOn target.ends.lo target.ends.hi new)
+  known_number (Some (number.Const n)) h goes =
+      constant_fits target.ends new (number.Const n) (kept_within target.clamps target.ends x.value n.value h.0) (subst (λ (path : Path). GoesOn path.end) (sym h.1) goes)
+  known_number (Some (number.Line line)) h goes = absurd h
   known_number None h goes = tt
+
+  pub known_stored : (o : Option IntForm) (before : List Path) → KnownRanges found target.fault old new o → AllAreStored target.clamps o before before
+  known_stored (Some f) before h clamps = (refl, λ all. all)
+  known_stored None before h clamps = absurd (kept_some target.clamps target.ends x.value clamps h.0)
 
 -- ---- a term
 
--- The range of the cell decides what is stored.
-same_range : (o : Option CellPlan) (range : Span) (x : ℤ) → HasEnds o range.lo range.hi → in_range o x ≡ has_point range x
-same_range None range x h = absurd h
-same_range (Some (plan.Int lo hi first)) range x h = rw (h.0, h.1) refl
-same_range (Some (plan.Nums lo hi)) range x h = rw (h.0, h.1) refl
-same_range (Some plan.Words) range x h = absurd h
-same_range (Some (plan.Hold kinds first)) range x h = absurd h
-same_range (Some (plan.Enum of first)) range x h = absurd h
-
-pub ready_ranges : (p : ScriptPlan) (r : Ready) (n c : ℕ) (wide : Wide) (range : Span) (old path : Path) (before after : List Path) (form : Option IntForm) → IsReadyOver p r old wide → IsRangeOf p c range → WideRanges p wide range (record { kind = cause.Over c; no = n }) old before path after form → ReadyRanges p r n c old before path after form
-ready_ranges p r n c wide range old path before after form over ends ranges store s =
+pub ready_ranges : (p : ScriptPlan) (r : Ready) (target : Target) (wide : Wide) (old path : Path) (before after : List Path) (form : Option IntForm) → TargetFits p target → IsReadyOver p r old wide → TargetRanges p target wide old before path after form → ReadyStores p target r old before path after form
+ready_ranges p r target wide old path before after form fits over ranges s =
     let T = test_truth p.tests in
-    let at = ranges store s in
+    let at = ranges s in
     record {
       added = at.added;
       others = at.others;
       over = at.over;
-      gives = at.gives ∙ map_going T old s (wide_stored wide range (record { kind = cause.Over c; no = n }) store s) (going_on n (ready_stored p r c store)) over.goes_on step;
+      gives = at.gives ∙ map_going T old s (target_stored wide target s) (after_store p target.fault.no target.place r) over.goes_on step;
     }
   where
-    decided : (later : State) (x : ℤ) (a : Bool) → (if a then changed (store x) else ended_by (record { kind = cause.Over c; no = n })) (Going later) ≡ at_record n (if a then Ok (store x later) else Err (cause.Over c))
-    decided later x true = refl
-    decided later x false = refl
+    put : ℤ → State → State
+    put = put_at target.place
 
-    step : (later : State) → given (test_truth p.tests) old s ≡ Going later ∷ [] → wide_stored wide range (record { kind = cause.Over c; no = n }) store s (Going later) ≡ going_on n (ready_stored p r c store) (Going later)
+    storing : State → Option ℤ → Result State FaultKind
+    storing later o = and_then (λ (y : ℤ). Ok (put y later)) (ok_or o (cause.Over (place_cell target.place)))
+
+    decided : (later : State) (o : Option ℤ) → kept_stored o target.fault put (Going later) ≡ at_record target.fault.no (storing later o)
+    decided later (Some y) = refl
+    decided later None = ap (λ (k : FaultKind). outcome.Ended (record { kind = k; no = target.fault.no })) fits.fault
+
+    step : (later : State) → given (test_truth p.tests) old s ≡ Going later ∷ [] → target_stored wide target s (Going later) ≡ after_store p target.fault.no target.place r (Going later)
     step later g =
-        decided later (wide_value wide s) (has_point range (wide_value wide s))
-        ∙ ap (λ (a : Bool). at_record n (if a then Ok (store (wide_value wide s) later) else Err (cause.Over c))) (sym (same_range (slice_get p.cells c) range (wide_value wide s) ends))
-        ∙ ap (λ (x : ℤ). at_record n (if in_range (slice_get p.cells c) x then Ok (store x later) else Err (cause.Over c))) (sym (over.number s later g))
+        decided later (kept (ranged target.clamps target.ends) (wide_value wide s))
+        ∙ ap (λ (o : Option Range). at_record target.fault.no (storing later (option_and_then (λ q. kept q (wide_value wide s)) o))) (sym fits.range)
+        ∙ ap (λ (x : ℤ). at_record target.fault.no (stored p (place_cell target.place) put x later)) (sym (over.number s later g))

@@ -1,11 +1,14 @@
 -- How many paths the symbolic execution of one record can have at most: the path bound, in sums and
 -- products that don't stop at a million.
-use Rattle.std.specs.Prelude.{ℕ, ◌+◌, ◌*◌, max, Bool, true, false, not, if◌then◌else◌}
+use Rattle.std.specs.Prelude.{ℕ, ◌+◌, ◌*◌, max, Bool, true, false, not, List, if◌then◌else◌}
 use Rattle.sym_check.specs.LinePlans.{TermPlan, OfNum, OfLine}
 use Rattle.sym_check.specs.CondPlans.{CondPlan, Compared, Words, CellIs, LabelIs, Test, Not, And, Or}
 use Rattle.sym_check.specs.Conditions.{is_fixed}
 use Rattle.sym_check.specs.DoPlans.{DoPlan, Let, SetInt, SetEnum, CopyEnum, Keep, KeepFrom, PushNum, PushWord, If, DosPlan, End, Then}
 use Rattle.sym_base.specs.declared.tree.compare.Compare.{Compare}
+use Rattle.sym_check.specs.Ranges.{is_clamped}
+use Rattle.sym_check.specs.ScriptPlans.{ScriptPlan}
+use Rattle.sym_check.specs.declared.plan.script.CellPlan.{CellPlan}
 use Rattle.sym_int.specs.Cuts.{most_with}
 
 abbrev pub term_branches : Compare → TermPlan → Bool → ℕ
@@ -29,41 +32,50 @@ branches_of (Or c d) false = branches_of c false * branches_of d false
 abbrev pub if_paths : CondPlan → ℕ → ℕ → ℕ
 if_paths c a b = if is_fixed c then max a b else branches_of c true * a + branches_of c false * b
 
+-- At most how many paths that go on a stored number makes of one, and how many more with those
+-- that end: it is below the range of the cell, in it or above it. Outside it a path goes on where
+-- the range clamps, and else it ends.
+abbrev pub store_going : List CellPlan → ℕ → ℕ
+store_going cells c = if is_clamped cells c then 3 else 1
+
+abbrev pub store_ended : List CellPlan → ℕ → ℕ
+store_ended cells c = if is_clamped cells c then 0 else 2
+
 -- At most how many paths that go on statements make of one.
 abbrev mutual
-  pub do_going : DoPlan → ℕ
-  do_going (Let n e) = 1
-  do_going (SetInt c t) = 1
-  do_going (SetEnum c l) = 1
-  do_going (CopyEnum c d) = 1
-  do_going (Keep c es) = 1
-  do_going (KeepFrom c d) = 1
-  do_going (PushNum c t) = 1
-  do_going (PushWord c w) = 1
-  do_going (If c a b) = if_paths c (dos_going a) (dos_going b)
+  pub do_going : List CellPlan → DoPlan → ℕ
+  do_going cells (Let n e) = 1
+  do_going cells (SetInt c t) = store_going cells c
+  do_going cells (SetEnum c l) = 1
+  do_going cells (CopyEnum c d) = 1
+  do_going cells (Keep c es) = 1
+  do_going cells (KeepFrom c d) = 1
+  do_going cells (PushNum c t) = store_going cells c
+  do_going cells (PushWord c w) = 1
+  do_going cells (If c a b) = if_paths c (dos_going cells a) (dos_going cells b)
 
-  pub dos_going : DosPlan → ℕ
-  dos_going End = 1
-  dos_going (Then d rest) = do_going d * dos_going rest
+  pub dos_going : List CellPlan → DosPlan → ℕ
+  dos_going cells End = 1
+  dos_going cells (Then d rest) = do_going cells d * dos_going cells rest
 
 -- How many more there can be with those that end. Arithmetic that fails ends a path in the place of
 -- one that goes on, so only the sum of the two counts bounds the paths that end.
 abbrev mutual
-  pub do_ended : DoPlan → ℕ
-  do_ended (Let n e) = 0
-  do_ended (SetInt c t) = 2
-  do_ended (SetEnum c l) = 0
-  do_ended (CopyEnum c d) = 0
-  do_ended (Keep c es) = 0
-  do_ended (KeepFrom c d) = 0
-  do_ended (PushNum c t) = 2
-  do_ended (PushWord c w) = 0
-  do_ended (If c a b) = if_paths c (dos_ended a) (dos_ended b)
+  pub do_ended : List CellPlan → DoPlan → ℕ
+  do_ended cells (Let n e) = 0
+  do_ended cells (SetInt c t) = store_ended cells c
+  do_ended cells (SetEnum c l) = 0
+  do_ended cells (CopyEnum c d) = 0
+  do_ended cells (Keep c es) = 0
+  do_ended cells (KeepFrom c d) = 0
+  do_ended cells (PushNum c t) = store_ended cells c
+  do_ended cells (PushWord c w) = 0
+  do_ended cells (If c a b) = if_paths c (dos_ended cells a) (dos_ended cells b)
 
-  pub dos_ended : DosPlan → ℕ
-  dos_ended End = 0
-  dos_ended (Then d rest) = do_ended d + do_going d * dos_ended rest
+  pub dos_ended : List CellPlan → DosPlan → ℕ
+  dos_ended cells End = 0
+  dos_ended cells (Then d rest) = do_ended cells d + do_going cells d * dos_ended cells rest
 
--- At most how many paths an update makes of one.
-abbrev pub made_paths : DosPlan → ℕ
-made_paths update = dos_going update + dos_ended update
+-- At most how many paths the update of a script makes of one.
+abbrev pub made_paths : ScriptPlan → ℕ
+made_paths p = dos_going p.cells p.update + dos_ended p.cells p.update

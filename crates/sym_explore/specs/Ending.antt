@@ -1,5 +1,5 @@
 -- Paths that have ended, which move out of a list of paths.
-use Rattle.std.specs.Prelude.{◌≡◌, ◌≤◌, ℕ, List, [], ◌++◌, map, length}
+use Rattle.std.specs.Prelude.{◌≡◌, ◌≤◌, ℕ, Bool, false, List, [], ◌++◌, map, length}
 use Rattle.std.specs.List.{All}
 use Rattle.std.specs.List.Sorted.{IsPermutation}
 use Rattle.sym_base.specs.declared.values.record.Record.{Record}
@@ -22,19 +22,20 @@ pub record AreMoved (old new before after : List Path) : Type 0 where
   pub over : All (λ (path : Path). ¬ (GoesOn path.end)) moved
 
 -- Paths that were changed where they stand, and other paths before and after: at a state, what was
--- added to what the others give has ended, and with what the new paths give it is what the step
--- makes of what the old ones gave.
-pub record ArePartedAt (p : ScriptPlan) (step : Outcome → Outcome)
+-- added to what the others give, with what the new paths give, is what the step makes of what the
+-- old ones gave. Where no number is clamped, what was added has ended.
+pub record ArePartedAt (p : ScriptPlan) (clamps : Bool) (step : Outcome → Outcome)
     (old new before after : List Path) (s : State) : Type 0 where
   pub added : List Outcome
   pub others : at_state p after s ≡ at_state p before s ++ added
-  pub over : those_going added ≡ []
+  pub over : clamps ≡ false → those_going added ≡ []
   pub gives : added ++ at_state p new s ≡ map step (at_state p old s)
 
 abbrev pub AreParted :
-    ScriptPlan → (Outcome → Outcome) → List Path → List Path → List Path → List Path → Type 0
-AreParted p step old new before after = (s : State) →
-    length (at_state p old s) ≤ 1 → ArePartedAt p step old new before after s
+    ScriptPlan → Bool → (Outcome → Outcome) →
+    List Path → List Path → List Path → List Path → Type 0
+AreParted p clamps step old new before after = (s : State) →
+    length (at_state p old s) ≤ 1 → ArePartedAt p clamps step old new before after s
 
 -- A step was run on the old paths at the record with this number: the first list has those that go
 -- on, and those that ended were put after the others.

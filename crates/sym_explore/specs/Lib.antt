@@ -10,6 +10,7 @@ pub mod Growing
 pub mod Knowing
 pub mod Labels
 pub mod Parting
+pub mod Placing
 pub mod Ranging
 pub mod Running
 pub mod Stepping

@@ -1,6 +1,6 @@
 -- What a statement makes of a path: paths whose states are those of the path, with no state in two
 -- of them.
-use Rattle.std.specs.Prelude.{◌≡◌, ◌≤◌, ◌+◌, ◌*◌, ℕ, List, [], ◌∷◌, map, length, Result}
+use Rattle.std.specs.Prelude.{◌≡◌, ℕ, map, Result}
 use Rattle.sym_base.specs.declared.values.record.Record.{Record}
 use Rattle.sym_base.specs.declared.values.state.FaultKind.{FaultKind}
 use Rattle.sym_base.specs.declared.values.state.State.{State}
@@ -12,8 +12,6 @@ use Rattle.sym_check.specs.DoPlans.{DoPlan, DosPlan}
 use Rattle.sym_check.specs.FixedValues.{Environment}
 use Rattle.sym_check.specs.ScriptPlans.{ScriptPlan}
 use Rattle.sym_check.specs.Updates.{at_record, do_step, dos_step, step}
-use Rattle.sym_path.specs.declared.path.PathEnd.{PathEnd}
-use Rattle.sym_path.specs.declared.path.PathEnd.TheVariants.{Next, Ended}
 use Rattle.sym_path.specs.declared.path.Path.{Path}
 use Rattle.sym_path.specs.Giving.{given}
 
@@ -37,22 +35,3 @@ after_record p rec o = step p o rec
 abbrev pub Becomes : ScriptPlan → (Outcome → Outcome) → Path → Path → Type 0
 Becomes p f old new = (s : State) →
     given (test_truth p.tests) new s ≡ map f (given (test_truth p.tests) old s)
-
--- How many paths go on.
-abbrev pub one_going : PathEnd → ℕ
-one_going (Next forms) = 1
-one_going (Ended fault) = 0
-
-abbrev pub going_paths : List Path → ℕ
-going_paths [] = 0
-going_paths (path ∷ paths) = one_going path.end + going_paths paths
-
--- So many, where the path goes on; a path that has ended stays one.
-abbrev pub most_paths : PathEnd → ℕ → ℕ
-most_paths (Next forms) most = most
-most_paths (Ended fault) most = 1
-
--- A path becomes at most so many that go on, and at most so many in all.
-pub record AreFewPaths (most_going most_ended : ℕ) (old : Path) (before : List Path) (path : Path) (after : List Path) : Type 0 where
-  pub going : going_paths after + one_going path.end ≤ going_paths before + one_going old.end * most_going
-  pub all : length after + 1 ≤ length before + most_paths old.end (most_going + most_ended)

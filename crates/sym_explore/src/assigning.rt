@@ -25,7 +25,8 @@ ghost use Rattle.sym_explore.specs.Stepping.{Becomes, after_do};
 use crate::ending::fail_all;
 use crate::forms::{add_word, put_label};
 use crate::labels::label_form;
-use crate::storing::{Place, store_all};
+use crate::placing::Place;
+use crate::storing::store_all;
 use std::alloc::Global;
 use std::mem;
 use sym_base::{Fault, NoMemory, Text, Values};
@@ -267,7 +268,8 @@ fn assign_each(
     requires ended_fit { SegmentFits (script_plan plan.now) ended.old.items }
     ensures { let d = do_plan statement.now in
         let step = after_do (script_plan plan.now) (known_values known.now) no d in
-        OnOk result (WereRun (script_plan plan.now) step no (do_going d) (do_ended d)
+        let cells = (script_plan plan.now).cells in
+        OnOk result (WereRun (script_plan plan.now) step no (do_going cells d) (do_ended cells d)
         paths.old.items paths.new.items ended.old.items ended.new.items) }
 {
     match statement {
@@ -312,7 +314,8 @@ pub(crate) fn assign_all(
     ensures going { OnOk result (AllGoOn paths.new.items) }
     ensures ended_fit { OnOk result (SegmentFits (script_plan plan.now) ended.new.items) }
     ensures few { let d = do_plan statement.now in
-        OnOk result (AreFewRun (do_going d) (do_ended d)
+        let cells = (script_plan plan.now).cells in
+        OnOk result (AreFewRun (do_going cells d) (do_ended cells d)
         paths.old.items paths.new.items ended.old.items ended.new.items) }
     ensures faults { (records : List OneRecord) → HasNumber no records →
         EndAmong records ended.old.items → OnOk result (EndAmong records ended.new.items) }

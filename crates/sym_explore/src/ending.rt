@@ -10,8 +10,19 @@ ghost use Rattle.sym_explore.specs.Running.{failed_paths};
 
 use crate::moving::{move_all, move_from};
 use std::alloc::Global;
-use sym_base::{Fault, NoMemory};
+use sym_base::{Fault, FaultKind, NoMemory};
 use sym_path::Path;
+
+/// The fault of arithmetic that fails at the record with this number.
+pub(crate) fn arith(no: u64) -> Fault
+    ensures kind { result.kind ≡ FaultKind.Arith }
+    ensures no { result.no ≡ no }
+{
+    Fault {
+        kind: FaultKind::Arith,
+        no,
+    }
+}
 
 /// Ends each of the paths by a fault.
 fn fail_each(paths: &mut [Path], fault: Fault)

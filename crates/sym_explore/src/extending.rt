@@ -57,7 +57,7 @@ fn explore_each(
     ensures exact { IfOk result (λ new.
         GivesAfter (script_plan plan.now) rec.now paths.items new.items) }
     ensures fits { IfOk result (λ new. SegmentFits (script_plan plan.now) new.items) }
-    ensures few { let most = made_paths (script_plan plan.now).update in
+    ensures few { let most = made_paths (script_plan plan.now) in
         IfOk result (λ new. length new.items ≤ length paths.items * most) }
     ensures faults { (records : List OneRecord) → HasNumber rec.now.no records →
         EndAmong records paths.items → IfOk result (λ new. EndAmong records new.items) }
@@ -97,7 +97,7 @@ pub fn fresh(alloc: Global, checked: &Checked, rec: &Record) -> Result<Segment, 
     requires { IsRecord (checked_plan checked.now) rec.now }
     ensures settled { IfOk result IsSettled }
     ensures fits { IfOk result (SegmentFits (checked_plan checked.now)) }
-    ensures few { let most = path_bound (checked_plan checked.now).update in
+    ensures few { let most = path_bound (checked_plan checked.now) in
         IfOk result (λ segment. length segment ≤ most) }
     ensures stands { IfOk result (StandsFor (checked_plan checked.now) (rec.now ∷ [])) }
 {
@@ -115,7 +115,7 @@ pub fn fresh_with(
     requires { IsRecord (checked_plan checked.now) rec.now }
     ensures settled { IfOk result IsSettled }
     ensures fits { IfOk result (SegmentFits (checked_plan checked.now)) }
-    ensures few { let most = path_bound (checked_plan checked.now).update in
+    ensures few { let most = path_bound (checked_plan checked.now) in
         IfOk result (λ segment. length segment ≤ most) }
     ensures stands { IfOk result (StandsFor (checked_plan checked.now) (rec.now ∷ [])) }
 {
@@ -143,7 +143,7 @@ pub fn extend(
     ensures settled { IfOk result (λ grown. IsSettled (grown_paths grown)) }
     ensures fits { IfOk result (λ grown.
         SegmentFits (checked_plan checked.now) (grown_paths grown)) }
-    ensures few { let most = path_bound (checked_plan checked.now).update in
+    ensures few { let most = path_bound (checked_plan checked.now) in
         IfOk result (λ grown. length (grown_paths grown) ≤ length segment.now * most) }
     ensures stands { IfOk result (λ grown. (records : List OneRecord) →
         StandsFor (checked_plan checked.now) records segment.now →
@@ -169,7 +169,7 @@ pub fn grow(
     ensures settled { IfOk result (λ grown. IsSettled (grown_paths grown)) }
     ensures fits { IfOk result (λ grown.
         SegmentFits (checked_plan checked.now) (grown_paths grown)) }
-    ensures few { let most = path_bound (checked_plan checked.now).update in
+    ensures few { let most = path_bound (checked_plan checked.now) in
         IfOk result (λ grown. length (grown_paths grown) ≤ length segment * most) }
     ensures stands { IfOk result (λ grown. (records : List OneRecord) →
         StandsFor (checked_plan checked.now) records segment →
@@ -196,7 +196,7 @@ pub fn grow_with(
     ensures settled { IfOk result (λ grown. IsSettled (grown_paths grown)) }
     ensures fits { IfOk result (λ grown.
         SegmentFits (checked_plan checked.now) (grown_paths grown)) }
-    ensures few { let most = path_bound (checked_plan checked.now).update in
+    ensures few { let most = path_bound (checked_plan checked.now) in
         IfOk result (λ grown. length (grown_paths grown) ≤ length segment * most) }
     ensures stands { IfOk result (λ grown. (records : List OneRecord) →
         StandsFor (checked_plan checked.now) records segment →

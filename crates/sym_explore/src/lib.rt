@@ -4,16 +4,17 @@
 mod assigning;
 mod branch;
 mod calling;
+mod clamping;
 mod comparing;
 mod conditions;
 mod ending;
 mod extending;
 mod forms;
-mod knowing;
 mod labels;
 pub mod laws;
 mod moving;
 mod parting;
+mod placing;
 mod ranging;
 mod statements;
 mod storing;

@@ -13,8 +13,7 @@ ghost use Rattle.sym_explore.specs.Parting.{AllGoOn, AreFewParts, AreOfOneTruth,
 use crate::branch::{Branch, put_all};
 use crate::calling::call;
 use crate::comparing::{Bound, compare_ready};
-use crate::ending::fail_all;
-use crate::knowing::arith;
+use crate::ending::{arith, fail_all};
 use crate::labels::cell_is;
 use crate::moving::{move_all, move_from};
 use crate::terms::Ready;

@@ -1,60 +1,50 @@
-//! Numbers that have to lie in the range of a cell.
-ghost use Rattle.std.specs.Prelude.{◌≡◌, ◌+ℤ◌, ◌*ℤ◌, IfOk, OnOk, IfSome, IsTrue, Some, slice_get};
+//! Numbers that are stored in cells that have a range.
+ghost use Rattle.std.specs.Prelude.{◌≡◌, ◌≤◌, ◌+◌, ◌+ℤ◌, ◌*ℤ◌, IfOk, OnOk, IfSome, IsTrue, Some, false, length, slice_get};
 ghost use Rattle.sym_check.specs.Fitting.{FitsFault};
+ghost use Rattle.sym_check.specs.Ranges.{kept};
 ghost use Rattle.sym_check.specs.ScriptPlans.{script_plan};
 ghost use Rattle.sym_check.specs.WellFormed.{IsWellFormed};
 ghost use Rattle.sym_int.specs.Lines.{wide_cell};
 ghost use Rattle.sym_int.specs.Parts.{IsWithin};
-ghost use Rattle.sym_int.specs.Points.{AreEnds, HasPoint};
+ghost use Rattle.sym_int.specs.Points.{HasPoint};
 ghost use Rattle.sym_path.specs.Changing.{GoesOn};
 ghost use Rattle.sym_path.specs.Fitting.{PathFits, SegmentFits};
 ghost use Rattle.sym_path.specs.Narrowing.{GivesWhere, IsSubspan, NarrowsNumbers};
 ghost use Rattle.sym_path.specs.declared.part.Part.TheVariants as part;
 ghost use Rattle.sym_explore.specs.Faulting.{FaultsCameAt};
-ghost use Rattle.sym_explore.specs.Ranging.{IsFailedPushed, IsPartPushed, KnownRanges, IsRangeOf, IsRanged, IsWholeOn, NumberFitsCell, NumberFitsOn, ReadyRanges, WideRanges};
-ghost use Rattle.sym_explore.specs.Stepping.{AreFewPaths};
+ghost use Rattle.sym_explore.specs.Placing.{AllAreStored, TargetFits, TargetRanges};
+ghost use Rattle.sym_explore.specs.Ranging.{IsFailedPushed, IsPartPushed, IsWholeOn, KnownRanges, NumberFitsOn, ranged};
+ghost use Rattle.sym_explore.specs.Storing.{ReadyStores};
 ghost use Rattle.sym_explore.specs.Terms.{HasSpan, ReadyFits};
 
+use crate::clamping::clamp_line;
+use crate::placing::Target;
 use crate::terms::{Ready, ready_form, span_of};
 use std::alloc::Global;
-use sym_base::{Fault, FaultKind, NoMemory};
-use sym_check::{CellPlan, Plan};
+use sym_base::{Fault, NoMemory};
+use sym_check::{Plan, Range};
 use sym_int::{IntForm, Number, Span, Wide, WideLine, WideNumber, fit};
 use sym_path::Path;
 
-/// The span with these ends.
-fn span_between(lo: &i64, hi: &i64) -> Span
-    requires { AreEnds lo.now hi.now }
-    ensures lo { result.lo ≡ lo.now }
-    ensures hi { result.hi ≡ hi.now }
-{
-    Span { lo: *lo, hi: *hi }
-}
-
-/// The range of the cell with this number.
-fn range_of(plan: &Plan, cell: u16) -> Span
-    requires known { IsWellFormed (script_plan plan.now) }
-    requires ranged { IsRanged (script_plan plan.now) cell }
-    ensures { IsRangeOf (script_plan plan.now) cell result }
-{
-    match plan.cells.get(usize::from(cell)) {
-        Some(CellPlan::Int { lo, hi, .. }) => span_between(lo, hi),
-        Some(CellPlan::Nums { lo, hi }) => span_between(lo, hi),
-        _ => unreachable!(),
-    }
-}
-
-/// A path on which the number is known goes on with it, or ends where it isn't in the range.
-fn range_known(range: &Span, number: &WideNumber, fault: Fault, path: &mut Path) -> Option<IntForm>
+/// A path on which the number is known goes on with what the target's range keeps of it; where that
+/// is nothing, it ends.
+fn range_known(target: &Target, number: &WideNumber, path: &mut Path) -> Option<IntForm>
     requires { GoesOn path.old.end }
-    ensures { KnownRanges number.now.value range.now fault path.old path.new result }
+    ensures { KnownRanges (kept (ranged target.now.clamps target.now.ends) number.now.value)
+        target.now.fault path.old path.new result }
 {
-    if range.lo as i128 <= number.value && number.value <= range.hi as i128 {
-        let value = number.value as i64;
-        return Some(IntForm::Const(Number { value }));
+    let range = Range {
+        lo: target.ends.lo,
+        hi: target.ends.hi,
+        clamps: target.clamps,
+    };
+    match range.kept(number.value) {
+        Some(value) => Some(IntForm::Const(Number { value })),
+        None => {
+            path.fail(target.fault);
+            None
+        }
     }
-    path.fail(fault);
-    None
 }
 
 /// Puts the part of the path on this span of the cell, ended by the fault, after the other paths.
@@ -106,7 +96,7 @@ fn push_part(
 }
 
 /// Narrows the path to a span within that of the cell, if it isn't the same one.
-fn narrow_within(plan: &Plan, cell: u16, own: &Span, span: &Span, path: &mut Path)
+pub(crate) fn narrow_within(plan: &Plan, cell: u16, own: &Span, span: &Span, path: &mut Path)
     requires known { IsWellFormed (script_plan plan.now) }
     requires fits { PathFits (script_plan plan.now) path.old }
     requires own { slice_get path.old.when cell ≡ Some (part.Span own.now) }
@@ -121,16 +111,15 @@ fn narrow_within(plan: &Plan, cell: u16, own: &Span, span: &Span, path: &mut Pat
     }
 }
 
-/// Parts the path by whether a number over the span of the cell is in the range. Where it isn't the
-/// path ends; where it is in some of the states the path goes on with these.
+/// Parts the path by whether a number over the span of the cell is in the target's range. Where it
+/// isn't the path ends; where it is in some of the states the path goes on with these.
 #[inline(never)]
-fn range_line(
+fn end_line(
     alloc: Global,
     plan: &Plan,
     cell: u16,
     wide: &Wide,
-    range: &Span,
-    fault: Fault,
+    target: &Target,
     path: &mut Path,
     out: &mut Vec<Path>,
 ) -> Result<Option<IntForm>, NoMemory>
@@ -138,31 +127,69 @@ fn range_line(
     requires fits { PathFits (script_plan plan.now) path.old }
     requires others { SegmentFits (script_plan plan.now) out.old.items }
     requires goes_on { GoesOn path.old.end }
-    requires fault { FitsFault (script_plan plan.now) fault.kind }
+    requires fault { FitsFault (script_plan plan.now) target.now.fault.kind }
+    requires ends { target.now.clamps ≡ false }
     requires cell { wide_cell wide.now ≡ Some cell }
     requires span { HasSpan path.old (Some cell) }
-    ensures exact { IfOk result (WideRanges (script_plan plan.now) wide.now range.now fault
+    ensures exact { IfOk result (TargetRanges (script_plan plan.now) target.now wide.now
         path.old out.old.items path.new out.new.items) }
     ensures fits { OnOk result (PathFits (script_plan plan.now) path.new) }
     ensures others { OnOk result (SegmentFits (script_plan plan.now) out.new.items) }
     ensures number { IfOk result (λ number. IfSome number
-        (NumberFitsOn range.now.lo range.now.hi path.new)) }
-    ensures few { OnOk result (AreFewPaths 1 2 path.old out.old.items path.new out.new.items) }
-    ensures faults { OnOk result (FaultsCameAt fault.no
+        (NumberFitsOn target.now.ends.lo target.now.ends.hi path.new)) }
+    ensures few { OnOk result (length out.new.items ≤ length out.old.items + 2) }
+    ensures faults { OnOk result (FaultsCameAt target.now.fault.no
         path.old out.old.items path.new out.new.items) }
 {
     let Some(span) = span_of(path, cell) else {
         unreachable!()
     };
-    let fitted = fit(&span, wide, range);
+    let fitted = fit(&span, wide, &target.ends);
     let Some(inside) = fitted.inside else {
-        path.fail(fault);
+        path.fail(target.fault);
         return Ok(None);
     };
-    push_part(alloc, plan, cell, fitted.below, fault, path, out)?;
-    push_part(alloc, plan, cell, fitted.above, fault, path, out)?;
+    push_part(alloc, plan, cell, fitted.below, target.fault, path, out)?;
+    push_part(alloc, plan, cell, fitted.above, target.fault, path, out)?;
     narrow_within(plan, cell, &span, &inside.span, path);
     Ok(Some(inside.form))
+}
+
+/// Parts the path by whether a number over the span of the cell is in the target's range.
+fn part_line(
+    alloc: Global,
+    plan: &Plan,
+    cell: u16,
+    wide: &Wide,
+    target: &Target,
+    path: &mut Path,
+    out: &mut Vec<Path>,
+) -> Result<Option<IntForm>, NoMemory>
+    requires known { IsWellFormed (script_plan plan.now) }
+    requires target { TargetFits (script_plan plan.now) target.now }
+    requires fits { PathFits (script_plan plan.now) path.old }
+    requires others { SegmentFits (script_plan plan.now) out.old.items }
+    requires goes_on { GoesOn path.old.end }
+    requires cell { wide_cell wide.now ≡ Some cell }
+    requires span { HasSpan path.old (Some cell) }
+    ensures exact { IfOk result (TargetRanges (script_plan plan.now) target.now wide.now
+        path.old out.old.items path.new out.new.items) }
+    ensures fits { OnOk result (PathFits (script_plan plan.now) path.new) }
+    ensures others { OnOk result (SegmentFits (script_plan plan.now) out.new.items) }
+    ensures number { IfOk result (λ number. IfSome number
+        (NumberFitsOn target.now.ends.lo target.now.ends.hi path.new)) }
+    ensures few { OnOk result (length out.new.items ≤ length out.old.items + 2) }
+    ensures faults { OnOk result (FaultsCameAt target.now.fault.no
+        path.old out.old.items path.new out.new.items) }
+    ensures stored { IfOk result (λ number. AllAreStored target.now.clamps number
+        out.old.items out.new.items) }
+{
+    if target.clamps {
+        let form = clamp_line(alloc, plan, cell, wide, target, path, out)?;
+        Ok(Some(form))
+    } else {
+        end_line(alloc, plan, cell, wide, target, path, out)
+    }
 }
 
 /// Whether the line's number at the first point of the span is in the range.
@@ -204,77 +231,74 @@ fn whole_form(wide: &Wide, line: &WideLine, range: &Span, path: &Path) -> Option
     None
 }
 
-/// Parts the path by whether a number over the state before it is in the range.
+/// Parts the path by whether a number over the state before it is in the target's range.
 #[inline(always)]
 fn range_wide(
     alloc: Global,
     plan: &Plan,
     wide: &Wide,
-    range: &Span,
-    fault: Fault,
+    target: &Target,
     path: &mut Path,
     out: &mut Vec<Path>,
 ) -> Result<Option<IntForm>, NoMemory>
     requires known { IsWellFormed (script_plan plan.now) }
+    requires target { TargetFits (script_plan plan.now) target.now }
     requires fits { PathFits (script_plan plan.now) path.old }
     requires others { SegmentFits (script_plan plan.now) out.old.items }
     requires goes_on { GoesOn path.old.end }
-    requires fault { FitsFault (script_plan plan.now) fault.kind }
     requires span { HasSpan path.old (wide_cell wide.now) }
-    ensures exact { IfOk result (WideRanges (script_plan plan.now) wide.now range.now fault
+    ensures exact { IfOk result (TargetRanges (script_plan plan.now) target.now wide.now
         path.old out.old.items path.new out.new.items) }
     ensures fits { OnOk result (PathFits (script_plan plan.now) path.new) }
     ensures others { OnOk result (SegmentFits (script_plan plan.now) out.new.items) }
     ensures number { IfOk result (λ number. IfSome number
-        (NumberFitsOn range.now.lo range.now.hi path.new)) }
-    ensures few { OnOk result (AreFewPaths 1 2 path.old out.old.items path.new out.new.items) }
-    ensures faults { OnOk result (FaultsCameAt fault.no
+        (NumberFitsOn target.now.ends.lo target.now.ends.hi path.new)) }
+    ensures few { OnOk result (length out.new.items ≤ length out.old.items + 2) }
+    ensures faults { OnOk result (FaultsCameAt target.now.fault.no
         path.old out.old.items path.new out.new.items) }
+    ensures stored { IfOk result (λ number. AllAreStored target.now.clamps number
+        out.old.items out.new.items) }
 {
     match wide {
-        Wide::Const(number) => Ok(range_known(range, number, fault, path)),
-        Wide::Line(line) => match whole_form(wide, line, range, path) {
+        Wide::Const(number) => Ok(range_known(target, number, path)),
+        Wide::Line(line) => match whole_form(wide, line, &target.ends, path) {
             Some(form) => Ok(Some(form)),
-            None => range_line(alloc, plan, line.cell, wide, range, fault, path, out),
+            None => part_line(alloc, plan, line.cell, wide, target, path, out),
         },
     }
 }
 
-/// The number of a ready term, which has to lie in the range of the cell with this number. The path
-/// goes on where it does, and the answer is the form of the number there; where it doesn't, the
-/// path ends.
+/// The form of the number that is to be stored at the target for a ready term. The path goes on
+/// where there is one; where the term's number is outside a range that doesn't clamp, it ends.
 #[inline(always)]
 pub(crate) fn range_ready(
     alloc: Global,
     plan: &Plan,
-    no: u64,
-    cell: u16,
     ready: &Ready,
+    target: &Target,
     path: &mut Path,
     out: &mut Vec<Path>,
 ) -> Result<Option<IntForm>, NoMemory>
     requires known { IsWellFormed (script_plan plan.now) }
     requires ready { ReadyFits (script_plan plan.now) ready.now }
-    requires ranged { IsRanged (script_plan plan.now) cell }
+    requires target { TargetFits (script_plan plan.now) target.now }
     requires fits { PathFits (script_plan plan.now) path.old }
     requires others { SegmentFits (script_plan plan.now) out.old.items }
-    ensures exact { IfOk result (ReadyRanges (script_plan plan.now) ready.now no cell
+    requires goes_on { GoesOn path.old.end }
+    ensures exact { IfOk result (ReadyStores (script_plan plan.now) target.now ready.now
         path.old out.old.items path.new out.new.items) }
     ensures fits { OnOk result (PathFits (script_plan plan.now) path.new) }
     ensures others { OnOk result (SegmentFits (script_plan plan.now) out.new.items) }
     ensures number { IfOk result (λ number. IfSome number
-        (NumberFitsCell (script_plan plan.now) cell path.new)) }
-    ensures few { OnOk result (AreFewPaths 1 2 path.old out.old.items path.new out.new.items) }
-    ensures faults { OnOk result (FaultsCameAt no
+        (NumberFitsOn target.now.ends.lo target.now.ends.hi path.new)) }
+    ensures few { OnOk result (length out.new.items ≤ length out.old.items + 2) }
+    ensures faults { OnOk result (FaultsCameAt target.now.fault.no
         path.old out.old.items path.new out.new.items) }
+    ensures stored { IfOk result (λ number. AllAreStored target.now.clamps number
+        out.old.items out.new.items) }
 {
-    let range = range_of(plan, cell);
-    let fault = Fault {
-        kind: FaultKind::Over(cell),
-        no,
+    let Some(wide) = ready_form(plan, ready, path) else {
+        unreachable!()
     };
-    match ready_form(plan, ready, path) {
-        None => Ok(None),
-        Some(wide) => range_wide(alloc, plan, &wide, &range, fault, path, out),
-    }
+    range_wide(alloc, plan, &wide, target, path, out)
 }

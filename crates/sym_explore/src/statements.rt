@@ -19,11 +19,10 @@ ghost use Rattle.sym_explore.specs.Stepping.{after_do, after_dos};
 use crate::assigning::assign_all;
 use crate::conditions::part;
 use crate::ending::fail_all;
-use crate::knowing::known_in;
 use crate::moving::move_all;
 use std::alloc::Global;
 use sym_base::{Fault, NoMemory, Record};
-use sym_check::{Cond, Do, Dos, Fixed, Plan};
+use sym_check::{Cond, Do, Dos, Fixed, Plan, known_in};
 use sym_path::Path;
 use sym_plain::{Buffers, Stop, fixed_value, name_local, shorten};
 
@@ -97,7 +96,8 @@ fn run_all(
     ensures going { OnOk result (AllGoOn paths.new.items) }
     ensures ended_fit { OnOk result (SegmentFits (script_plan plan.now) ended.new.items) }
     ensures few { let ds = dos_plan statements.now in
-        OnOk result (AreFewRun (dos_going ds) (dos_ended ds)
+        let cells = (script_plan plan.now).cells in
+        OnOk result (AreFewRun (dos_going cells ds) (dos_ended cells ds)
         paths.old.items paths.new.items ended.old.items ended.new.items) }
     ensures faults { (records : List OneRecord) → HasNumber rec.now.no records →
         EndAmong records ended.old.items → OnOk result (EndAmong records ended.new.items) }
@@ -140,7 +140,8 @@ pub(crate) fn run_block(
     ensures going { OnOk result (AllGoOn paths.new.items) }
     ensures ended_fit { OnOk result (SegmentFits (script_plan plan.now) ended.new.items) }
     ensures few { let ds = dos_plan statements.now in
-        OnOk result (AreFewRun (dos_going ds) (dos_ended ds)
+        let cells = (script_plan plan.now).cells in
+        OnOk result (AreFewRun (dos_going cells ds) (dos_ended cells ds)
         paths.old.items paths.new.items ended.old.items ended.new.items) }
     ensures faults { (records : List OneRecord) → HasNumber rec.now.no records →
         EndAmong records ended.old.items → OnOk result (EndAmong records ended.new.items) }
@@ -186,7 +187,8 @@ fn run(
     ensures going { OnOk result (AllGoOn paths.new.items) }
     ensures ended_fit { OnOk result (SegmentFits (script_plan plan.now) ended.new.items) }
     ensures few { let d = do_plan statement.now in
-        OnOk result (AreFewRun (do_going d) (do_ended d)
+        let cells = (script_plan plan.now).cells in
+        OnOk result (AreFewRun (do_going cells d) (do_ended cells d)
         paths.old.items paths.new.items ended.old.items ended.new.items) }
     ensures faults { (records : List OneRecord) → HasNumber rec.now.no records →
         EndAmong records ended.old.items → OnOk result (EndAmong records ended.new.items) }
@@ -238,7 +240,8 @@ fn choose(
     ensures going { OnOk result (AllGoOn paths.new.items) }
     ensures ended_fit { OnOk result (SegmentFits (script_plan plan.now) ended.new.items) }
     ensures few { let d = If (cond_plan condition.now) (dos_plan then.now) (dos_plan otherwise.now) in
-        OnOk result (AreFewRun (do_going d) (do_ended d)
+        let cells = (script_plan plan.now).cells in
+        OnOk result (AreFewRun (do_going cells d) (do_ended cells d)
         paths.old.items paths.new.items ended.old.items ended.new.items) }
     ensures faults { (records : List OneRecord) → HasNumber rec.now.no records →
         EndAmong records ended.old.items → OnOk result (EndAmong records ended.new.items) }

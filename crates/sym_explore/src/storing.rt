@@ -1,129 +1,104 @@
 //! Numbers that are stored in the cells of paths.
-ghost use Rattle.std.specs.Prelude.{◌≤◌, ◌+◌, ◌*◌, List, IfOk, OnOk, IsTrue, length};
+ghost use Rattle.std.specs.Prelude.{◌≡◌, ◌≤◌, ◌+◌, ◌*◌, List, IfOk, OnOk, IsTrue, false, length, true};
 ghost use Rattle.sym_base.specs.declared.values.record.Record.{Record as OneRecord};
-ghost use Rattle.sym_check.specs.CellKinds.{IsIntCell, IsNumsCell};
 ghost use Rattle.sym_check.specs.KnownValues.{known_values};
 ghost use Rattle.sym_check.specs.LinePlans.{term_plan};
+ghost use Rattle.sym_check.specs.Ranges.{is_clamped};
 ghost use Rattle.sym_check.specs.ScriptPlans.{script_plan};
 ghost use Rattle.sym_check.specs.WellFormed.{IsWellFormed};
+ghost use Rattle.sym_int.specs.Points.{AreEnds};
 ghost use Rattle.sym_path.specs.Changing.{GoesOn};
 ghost use Rattle.sym_path.specs.Fitting.{PathFits, SegmentFits};
+ghost use Rattle.sym_path.specs.declared.path.Path.{Path as OnePath};
+ghost use Rattle.sym_explore.specs.Counting.{store_ended, store_going};
 ghost use Rattle.sym_explore.specs.Ending.{AreParted, WereRun};
 ghost use Rattle.sym_explore.specs.Faulting.{EndAmong, FaultsCameAt, HasNumber};
 ghost use Rattle.sym_explore.specs.Knowing.{DoIsKnown};
 ghost use Rattle.sym_explore.specs.Parting.{AllGoOn};
-ghost use Rattle.sym_explore.specs.Stepping.{AreFewPaths, after_do};
-ghost use Rattle.sym_explore.specs.Storing.{IsParted, PlaceFits, after_store, store_do};
+ghost use Rattle.sym_explore.specs.Placing.{PlaceFits, TargetFits, place_cell};
+ghost use Rattle.sym_explore.specs.Stepping.{after_do};
+ghost use Rattle.sym_explore.specs.Storing.{IsParted, StoresAll, after_store, store_do};
 ghost use Rattle.sym_explore.specs.Terms.{ReadyFits};
 
-use crate::ending::{fail_all, move_ended};
-use crate::forms::{add_number, put_number};
-use crate::knowing::arith;
+use crate::ending::{arith, fail_all, move_ended};
+use crate::moving::move_all;
+use crate::placing::{Place, Target, put};
 use crate::ranging::range_ready;
 use crate::terms::{Ready, ready_of};
 use std::alloc::Global;
-use sym_base::NoMemory;
-use sym_check::{Known, Plan, Term};
+use sym_base::{Fault, FaultKind, NoMemory};
+use sym_check::{Known, Plan, Range, Term};
+use sym_int::Span;
 use sym_path::Path;
 
-/// Where a number is stored.
-#[derive(Clone, Copy)]
-pub enum Place {
-    /// In the integer cell with this number.
-    Cell(u16),
-    /// At the end of the list of the cell with this number.
-    End(u16),
-}
-
-/// Assigns the number of a ready term to an integer cell.
-fn set_ready(
-    alloc: Global,
-    plan: &Plan,
-    no: u64,
-    cell: u16,
-    ready: &Ready,
-    path: &mut Path,
-    out: &mut Vec<Path>,
-) -> Result<(), NoMemory>
-    requires known { IsWellFormed (script_plan plan.now) }
-    requires ready { ReadyFits (script_plan plan.now) ready.now }
-    requires cell { IsIntCell (script_plan plan.now).cells cell }
-    requires fits { PathFits (script_plan plan.now) path.old }
-    requires others { SegmentFits (script_plan plan.now) out.old.items }
-    ensures exact { OnOk result (IsParted (script_plan plan.now)
-        (after_store (script_plan plan.now) no (Place.Cell cell) ready.now)
-        path.old out.old.items path.new out.new.items) }
-    ensures fits { OnOk result (PathFits (script_plan plan.now) path.new) }
-    ensures others { OnOk result (SegmentFits (script_plan plan.now) out.new.items) }
-    ensures few { OnOk result (AreFewPaths 1 2 path.old out.old.items path.new out.new.items) }
-    ensures faults { OnOk result (FaultsCameAt no
-        path.old out.old.items path.new out.new.items) }
+/// The span with the ends of a range.
+fn span_of_range(range: &Range) -> Span
+    requires { AreEnds range.now.lo range.now.hi }
+    ensures lo { result.lo ≡ range.now.lo }
+    ensures hi { result.hi ≡ range.now.hi }
 {
-    if let Some(form) = range_ready(alloc, plan, no, cell, ready, path, out)? {
-        put_number(path, cell, form);
+    Span {
+        lo: range.lo,
+        hi: range.hi,
     }
-    Ok(())
 }
 
-/// Pushes the number of a ready term to the list of a cell.
-fn push_ready(
-    alloc: Global,
-    plan: &Plan,
-    no: u64,
-    cell: u16,
-    ready: &Ready,
-    path: &mut Path,
-    out: &mut Vec<Path>,
-) -> Result<(), NoMemory>
+/// The place with the range of its cell.
+fn target_of(plan: &Plan, no: u64, place: Place) -> Target
     requires known { IsWellFormed (script_plan plan.now) }
-    requires ready { ReadyFits (script_plan plan.now) ready.now }
-    requires cell { IsNumsCell (script_plan plan.now).cells cell }
-    requires fits { PathFits (script_plan plan.now) path.old }
-    requires others { SegmentFits (script_plan plan.now) out.old.items }
-    ensures exact { OnOk result (IsParted (script_plan plan.now)
-        (after_store (script_plan plan.now) no (Place.End cell) ready.now)
-        path.old out.old.items path.new out.new.items) }
-    ensures fits { OnOk result (PathFits (script_plan plan.now) path.new) }
-    ensures others { OnOk result (SegmentFits (script_plan plan.now) out.new.items) }
-    ensures few { OnOk result (AreFewPaths 1 2 path.old out.old.items path.new out.new.items) }
-    ensures faults { OnOk result (FaultsCameAt no
-        path.old out.old.items path.new out.new.items) }
+    requires place { PlaceFits (script_plan plan.now) place }
+    ensures fits { TargetFits (script_plan plan.now) result }
+    ensures place { result.place ≡ place }
+    ensures number { result.fault.no ≡ no }
+    ensures clamps { result.clamps ≡ is_clamped (script_plan plan.now).cells (place_cell place) }
 {
-    if let Some(form) = range_ready(alloc, plan, no, cell, ready, path, out)? {
-        add_number(alloc, path, cell, form)?;
+    let cell = place.cell();
+    let Some(range) = plan.range_at(cell) else {
+        unreachable!()
+    };
+    Target {
+        place,
+        ends: span_of_range(&range),
+        clamps: range.clamps,
+        fault: Fault {
+            kind: FaultKind::Over(cell),
+            no,
+        },
     }
-    Ok(())
 }
 
-/// Stores the number of a ready term at a place of a path. The parts that end by a number outside
-/// the cell's range are put into `out`; where no part goes on, the path is one that has ended.
+/// Stores the number of a ready term at a target of a path. The parts of the path on which the
+/// number is outside the range are put into `out`; where there is no other part, the path itself is
+/// one of them.
 fn store(
     alloc: Global,
     plan: &Plan,
-    no: u64,
-    place: Place,
+    target: &Target,
     ready: &Ready,
     path: &mut Path,
     out: &mut Vec<Path>,
 ) -> Result<(), NoMemory>
     requires known { IsWellFormed (script_plan plan.now) }
     requires ready { ReadyFits (script_plan plan.now) ready.now }
-    requires place { PlaceFits (script_plan plan.now) place }
+    requires target { TargetFits (script_plan plan.now) target.now }
     requires fits { PathFits (script_plan plan.now) path.old }
+    requires goes_on { GoesOn path.old.end }
     requires others { SegmentFits (script_plan plan.now) out.old.items }
-    ensures exact { OnOk result (IsParted (script_plan plan.now)
-        (after_store (script_plan plan.now) no place ready.now)
+    ensures exact { OnOk result (IsParted (script_plan plan.now) target.now.clamps
+        (after_store (script_plan plan.now) target.now.fault.no target.now.place ready.now)
         path.old out.old.items path.new out.new.items) }
     ensures fits { OnOk result (PathFits (script_plan plan.now) path.new) }
     ensures others { OnOk result (SegmentFits (script_plan plan.now) out.new.items) }
-    ensures few { OnOk result (AreFewPaths 1 2 path.old out.old.items path.new out.new.items) }
-    ensures faults { OnOk result (FaultsCameAt no
+    ensures few { OnOk result (length out.new.items ≤ length out.old.items + 2) }
+    ensures faults { OnOk result (FaultsCameAt target.now.fault.no
         path.old out.old.items path.new out.new.items) }
+    ensures stored { OnOk result (StoresAll target.now.clamps
+        path.new out.old.items out.new.items) }
 {
-    match place {
-        Place::Cell(cell) => set_ready(alloc, plan, no, cell, ready, path, out),
-        Place::End(cell) => push_ready(alloc, plan, no, cell, ready, path, out),
+    if let Some(form) = range_ready(alloc, plan, ready, target, path, out)? {
+        put(alloc, plan, target.place, form, path)?;
     }
+    Ok(())
 }
 
 /// Whether the path goes on, and those before it did.
@@ -138,36 +113,90 @@ fn still_going(before: bool, path: &Path) -> bool
 pub(crate) fn store_each(
     alloc: Global,
     plan: &Plan,
-    no: u64,
-    place: Place,
+    target: &Target,
     ready: &Ready,
     paths: &mut [Path],
     out: &mut Vec<Path>,
 ) -> Result<bool, NoMemory>
     requires known { IsWellFormed (script_plan plan.now) }
     requires ready { ReadyFits (script_plan plan.now) ready.now }
-    requires place { PlaceFits (script_plan plan.now) place }
+    requires target { TargetFits (script_plan plan.now) target.now }
     requires fits { SegmentFits (script_plan plan.now) paths.old }
     requires going { AllGoOn paths.old }
     requires others { SegmentFits (script_plan plan.now) out.old.items }
-    ensures exact { OnOk result (AreParted (script_plan plan.now)
-        (after_store (script_plan plan.now) no place ready.now)
+    ensures exact { OnOk result (AreParted (script_plan plan.now) target.now.clamps
+        (after_store (script_plan plan.now) target.now.fault.no target.now.place ready.now)
         paths.old paths.new out.old.items out.new.items) }
     ensures fits { OnOk result (SegmentFits (script_plan plan.now) paths.new) }
     ensures next { IfOk result (λ all. IsTrue all → AllGoOn paths.new) }
     ensures others { OnOk result (SegmentFits (script_plan plan.now) out.new.items) }
     ensures few { OnOk result
         (length out.new.items ≤ length out.old.items + length paths.old * 2) }
-    ensures faults { (records : List OneRecord) → HasNumber no records →
+    ensures faults { (records : List OneRecord) → HasNumber target.now.fault.no records →
         EndAmong records out.old.items →
         OnOk result (EndAmong records paths.new × EndAmong records out.new.items) }
+    ensures stored { target.now.clamps ≡ true → AllGoOn out.old.items →
+        OnOk result (AllGoOn paths.new × AllGoOn out.new.items) }
 {
     let mut all_go_on = true;
     'paths: for path in paths.iter_mut() {
-        store(alloc, plan, no, place, ready, path, out)?;
+        store(alloc, plan, target, ready, path, out)?;
         all_go_on = still_going(all_go_on, path);
     }
     Ok(all_go_on)
+}
+
+/// Stores the number of a ready term at a target that clamps: the paths that are added for numbers
+/// outside the range go on too.
+fn clamp_each(
+    alloc: Global,
+    plan: &Plan,
+    target: &Target,
+    ready: &Ready,
+    paths: &mut Vec<Path>,
+) -> Result<(), NoMemory>
+    requires known { IsWellFormed (script_plan plan.now) }
+    requires ready { ReadyFits (script_plan plan.now) ready.now }
+    requires target { TargetFits (script_plan plan.now) target.now }
+    requires clamps { target.now.clamps ≡ true }
+    requires fits { SegmentFits (script_plan plan.now) paths.old.items }
+    requires going { AllGoOn paths.old.items }
+    ensures { (ended : List OnePath) → SegmentFits (script_plan plan.now) ended →
+        let n = target.now.fault.no in
+        let step = after_store (script_plan plan.now) n target.now.place ready.now in
+        OnOk result (WereRun (script_plan plan.now) step n 3 0
+        paths.old.items paths.new.items ended ended) }
+{
+    let mut more = Vec::new(alloc);
+    store_each(alloc, plan, target, ready, paths, &mut more)?;
+    move_all(&mut more, paths)
+}
+
+/// Stores it at a target that doesn't: paths that end go into `ended`.
+fn end_each(
+    alloc: Global,
+    plan: &Plan,
+    target: &Target,
+    ready: &Ready,
+    paths: &mut Vec<Path>,
+    ended: &mut Vec<Path>,
+) -> Result<(), NoMemory>
+    requires known { IsWellFormed (script_plan plan.now) }
+    requires ready { ReadyFits (script_plan plan.now) ready.now }
+    requires target { TargetFits (script_plan plan.now) target.now }
+    requires ends { target.now.clamps ≡ false }
+    requires fits { SegmentFits (script_plan plan.now) paths.old.items }
+    requires going { AllGoOn paths.old.items }
+    requires ended_fit { SegmentFits (script_plan plan.now) ended.old.items }
+    ensures { let n = target.now.fault.no in
+        let step = after_store (script_plan plan.now) n target.now.place ready.now in
+        OnOk result (WereRun (script_plan plan.now) step n 1 2
+        paths.old.items paths.new.items ended.old.items ended.new.items) }
+{
+    if store_each(alloc, plan, target, ready, paths, ended)? {
+        return Ok(());
+    }
+    move_ended(paths, ended)
 }
 
 /// Stores the number of a term at a place of all of the paths: those that go on stay in `paths`,
@@ -190,14 +219,19 @@ pub(crate) fn store_all(
     requires ended_fit { SegmentFits (script_plan plan.now) ended.old.items }
     ensures { let step = after_do (script_plan plan.now) (known_values known.now) no
         (store_do place (term_plan term.now)) in
-        OnOk result (WereRun (script_plan plan.now) step no 1 2
+        let cells = (script_plan plan.now).cells in
+        let c = place_cell place in
+        OnOk result (WereRun (script_plan plan.now) step no
+        (store_going cells c) (store_ended cells c)
         paths.old.items paths.new.items ended.old.items ended.new.items) }
 {
     let Ok(ready) = ready_of(known, term) else {
         return fail_all(arith(no), paths, ended);
     };
-    if store_each(alloc, plan, no, place, &ready, paths, ended)? {
-        return Ok(());
+    let target = target_of(plan, no, place);
+    if target.clamps {
+        clamp_each(alloc, plan, &target, &ready, paths)
+    } else {
+        end_each(alloc, plan, &target, &ready, paths, ended)
     }
-    move_ended(paths, ended)
 }

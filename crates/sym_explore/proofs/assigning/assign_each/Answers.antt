@@ -26,5 +26,5 @@ returns-in_default c =
     let these : c.deref_mut.result.now ≡ old = c.deref_mut.ensures.value in
     let back = written_back _ _ old (omega (arith, c.change_each.auto.paths, ap length these)) (omega (arith, c.change_each.auto.paths, c.deref_mut.ensures.len)) in
     let zip : OnOk c.change_each.result (AllZip (IsChanged p step) old new) = subst (λ (ps : List Path). OnOk c.change_each.result (AllZip (IsChanged p step) ps new)) these (c.change_each.ensures c.args.no) in
-    subst (λ (ps : List Path). OnOk c.change_each.result (WereRun p step c.args.no (do_going d) (do_ended d) old ps before before)) (sym back)
+    subst (λ (ps : List Path). OnOk c.change_each.result (WereRun p step c.args.no (do_going p.cells d) (do_ended p.cells d) old ps before before)) (sym back)
     (on_ok c.change_each.result (λ z. run_none p step c.args.no d old new before before none (changed_run p step c.args.no old new before z c.requires.fits c.requires.going c.requires.ended_fit)) zip)

@@ -25,7 +25,7 @@ returns-clause-few c =
     let explored = explored_of (script_plan c.plan.result.now) (checked_plan c.args.checked.now) c.args.rec.now c.into_vec.result.items c.args.segment c.in_ok-explored.explored.items c.plan.ensures.same c.into_vec.ensures
     (record { exact = c.in_ok-explored.ensures.exact; fits = c.in_ok-explored.ensures.fits; few = c.in_ok-explored.ensures.few; faults = c.in_ok-explored.ensures.faults }) in
     let small = small_of (script_plan c.plan.result.now) (checked_plan c.args.checked.now) c.plan.ensures.same c.plan.ensures.accepted.few in
-    subst (λ (segment : List Path). length segment ≤ length c.args.segment * path_bound (checked_plan c.args.checked.now).update) (sym c.told.ensures.same)
+    subst (λ (segment : List Path). length segment ≤ length c.args.segment * path_bound (checked_plan c.args.checked.now)) (sym c.told.ensures.same)
     (settled_few (checked_plan c.args.checked.now) c.args.rec.now c.args.segment c.in_ok-explored.explored.items c.in_ok-settled.settled small explored c.in_ok-settled.ensures)
 
 pub returns-clause-stands : goal.returns-clause-stands

@@ -10,7 +10,7 @@ use Rattle.sym_explore.proofs.storing.store_each.Given as goal
 
 abbrev pub invariant-paths : goal.invariant-paths
 invariant-paths l = record {
-  stored : Threaded (IsStored (script_plan l.plan) l.no (after_store (script_plan l.plan) l.no l.place l.ready)) l.initial.paths l.initial.out.items l.paths l.out.items l.path-index;
+  stored : Threaded (IsStored (script_plan l.plan) l.target.fault.no l.target.clamps (after_store (script_plan l.plan) l.target.fault.no l.target.place l.ready)) l.initial.paths l.initial.out.items l.paths l.out.items l.path-index;
   others : SegmentFits (script_plan l.plan) l.out.items;
   going : Threaded TellsGoing l.initial.paths true l.paths l.all_go_on l.path-index;
 }
