@@ -104,7 +104,7 @@ pub(crate) fn record(
 }
 
 /// Whether each of the segment's paths fits the script.
-fn fits(checked: &Checked, segment: &Segment) -> bool
+pub(crate) fn fits(checked: &Checked, segment: &Segment) -> bool
     ensures { IsTrue result ↔ SegmentFits (checked_plan checked.now) segment.now }
 {
     segment.paths().iter().all(|path| path.fits(checked))

@@ -61,7 +61,7 @@ const KINDS: Case = Case {
     ..ONE
 };
 
-const CASES: [Case; 18] = [
+const CASES: [Case; 19] = [
     ONE,
     // Each record may leave the range.
     Case {
@@ -196,6 +196,16 @@ const CASES: [Case; 18] = [
         paths: 2,
         numbers: (0, 1),
         labels: 2,
+        ..ONE
+    },
+    // Numbers become the nearest end of a range, where they are assigned and where they are pushed.
+    Case {
+        script: "field x: num; state n: int [0..9] = 0 clamp; state xs: nums [-3..3] clamp; \
+            update { push xs n - 4; n = 2 * n - x; } report { n = n; }",
+        lines: "3 -4",
+        paths: 5,
+        numbers: (0, 10),
+        pushed: 20,
         ..ONE
     },
     DOUBLES,

@@ -2,6 +2,8 @@
 #![tactic(auto)]
 
 #[cfg(test)]
+mod clamping;
+#[cfg(test)]
 mod comparing;
 #[cfg(test)]
 mod composing;
