@@ -23,7 +23,9 @@ pub mod JoiningGives
 pub mod JoiningJoined
 pub mod JoiningTaken
 pub mod JoiningUnited
+pub mod Led
 pub mod Lists
+pub mod ListsOut
 pub mod Narrowed
 pub mod NarrowedEnds
 pub mod NarrowedFits

@@ -10,6 +10,7 @@ pub mod Identity
 pub mod Joining
 pub mod Joins
 pub mod Kinds
+pub mod Leading
 pub mod Left
 pub mod Narrowing
 pub mod Pairs

@@ -1,5 +1,5 @@
 //! What a path makes of a state that it admits.
-ghost use Rattle.std.specs.Prelude.{◌≡◌, ℤ, All, IfOk, length};
+ghost use Rattle.std.specs.Prelude.{◌≡◌, ℤ, All, IfOk, OnOk, length, slice_get};
 ghost use Rattle.sym_base.specs.declared.values.state.State.{State as OneState};
 ghost use Rattle.sym_check.specs.CheckedScripts.{checked_plan};
 ghost use Rattle.sym_check.specs.Conditions.{test_truth};
@@ -11,12 +11,17 @@ ghost use Rattle.sym_base.specs.Limits.{IsNumber};
 ghost use Rattle.sym_int.specs.Lines.{form_value};
 ghost use Rattle.sym_path.specs.Admitting.{Admits};
 ghost use Rattle.sym_path.specs.Fitting.{PathFits};
+ghost use Rattle.sym_path.specs.Following.{AdmitsOutcome, end_after};
 ghost use Rattle.sym_path.specs.Giving.{cell_at, cells_at, end_at, HasNumbers, nums_after, words_after};
+ghost use Rattle.sym_path.specs.Leading.{IsListOut, is_list};
 
 use crate::form::Form;
 use crate::path::{Path, PathEnd};
 use std::alloc::Global;
-use sym_base::{Cell, Cells, NoMemory, Nums, Outcome, Sequence, State, Text, Words};
+use std::mem;
+use sym_base::{
+    Cell, Cells, Fault, FaultKind, NoMemory, Nums, Outcome, Sequence, State, Text, Words,
+};
 use sym_check::{Checked, Plan};
 use sym_int::IntForm;
 use sym_vector::ListForm;
@@ -26,13 +31,13 @@ fn numbers_after(
     alloc: Global,
     added: &ListForm<IntForm>,
     state: &State,
-    old: &Cell,
+    old: Cell,
 ) -> Result<Nums, NoMemory>
     requires { All (λ f. IsNumber (form_value f state.now)) added.now }
-    ensures { IfOk result (λ xs. xs ≡ nums_after added.now state.now old.now) }
+    ensures { IfOk result (λ xs. xs ≡ nums_after added.now state.now old) }
 {
     let mut numbers = match old {
-        Cell::Nums(numbers) => numbers.copy(alloc)?,
+        Cell::Nums(numbers) => numbers,
         _ => Nums::new(alloc),
     };
     'added: for index in 0..added.len() {
@@ -45,11 +50,11 @@ fn numbers_after(
 }
 
 /// The words of a list cell after a path.
-fn words_of(alloc: Global, added: &ListForm<Text>, old: &Cell) -> Result<Words, NoMemory>
-    ensures { IfOk result (λ ts. ts ≡ words_after added.now old.now) }
+fn words_of(alloc: Global, added: &ListForm<Text>, old: Cell) -> Result<Words, NoMemory>
+    ensures { IfOk result (λ ts. ts ≡ words_after added.now old) }
 {
     let mut words = match old {
-        Cell::Words(words) => words.copy(alloc)?,
+        Cell::Words(words) => words,
         _ => Words::new(alloc),
     };
     'added: for index in 0..added.len() {
@@ -63,9 +68,9 @@ fn words_of(alloc: Global, added: &ListForm<Text>, old: &Cell) -> Result<Words, 
 
 impl Form {
     /// What a cell holds by the form at a state, in which it holds `old`.
-    fn cell_at(&self, alloc: Global, state: &State, old: &Cell) -> Result<Cell, NoMemory>
+    fn cell_at(&self, alloc: Global, state: &State, old: Cell) -> Result<Cell, NoMemory>
         requires { HasNumbers state.now self.now }
-        ensures { IfOk result (λ c. c ≡ cell_at self.now state.now old.now) }
+        ensures { IfOk result (λ c. c ≡ cell_at self.now state.now old) }
     {
         match self {
             Form::Enum(form) => Ok(Cell::Enum(form.value(state))),
@@ -77,18 +82,51 @@ impl Form {
     }
 }
 
-/// What the cells hold by their forms.
-fn cells_of(alloc: Global, forms: &[Form], state: &State) -> Result<Cells, NoMemory>
-    requires numbers { All (HasNumbers state.now) forms.now }
-    requires lengths { length forms.now ≡ length state.now.cells }
-    ensures { IfOk result (λ cells. cells ≡ cells_at forms.now state.now state.now.cells) }
+/// Whether the cell with this number, counted from 0, is a list cell.
+fn has_list(state: &State, index: usize) -> bool
+    ensures { result ≡ is_list (slice_get state.now.cells index) }
 {
-    let old = state.cells.as_slice();
-    let mut cells = Vec::with_capacity(alloc, old.len())?;
-    'cells: for index in 0..old.len() {
-        cells.push(forms[index].cell_at(alloc, state, &old[index])?)?;
+    match state.cells.get(index) {
+        Some(Cell::Nums(_)) => true,
+        Some(Cell::Words(_)) => true,
+        _ => false,
+    }
+}
+
+/// A cell with the list of this one, which is moved out of the state. Forms read no list.
+fn list_out(state: &mut State, index: usize) -> Cell
+    ensures { IsListOut index state.old state.new result }
+{
+    if !has_list(state, index) {
+        return Cell::Enum(0);
+    }
+    match state.cells.replace(index, Cell::Enum(0)) {
+        Some(list) => list,
+        None => unreachable!(),
+    }
+}
+
+/// What the cells hold by their forms. The lists of the state are moved.
+fn cells_of(alloc: Global, forms: &[Form], state: State) -> Result<Cells, NoMemory>
+    requires numbers { All (HasNumbers state) forms.now }
+    requires lengths { length forms.now ≡ length state.cells }
+    ensures { IfOk result (λ cells. cells ≡ cells_at forms.now state state.cells) }
+{
+    let mut left = state;
+    let mut cells = Vec::with_capacity(alloc, forms.len())?;
+    'cells: for index in 0..forms.len() {
+        let old = list_out(&mut left, index);
+        cells.push(forms[index].cell_at(alloc, &left, old)?)?;
     }
     Ok(Sequence::of(cells))
+}
+
+/// What stands in the place of an outcome while that is changed. It takes no memory.
+fn no_outcome() -> Outcome {
+    Outcome::Ended(Fault {
+        kind: FaultKind::Arith,
+        no: 0,
+    })
 }
 
 impl Path {
@@ -107,17 +145,17 @@ impl Path {
         ensures value { IfOk result (λ o. o ≡ end_at self.now.end state.now) }
         ensures valid { IfOk result (IsValidOutcome (checked_plan checked.now)) }
     {
-        self.gives_by(alloc, checked.plan(), state)
+        self.gives_by(alloc, checked.plan(), state.copy(alloc)?)
     }
 
-    /// The same by a plan alone.
-    fn gives_by(&self, alloc: Global, _plan: &Plan, state: &State) -> Result<Outcome, NoMemory>
+    /// The same by a plan alone, of a state that is given away.
+    fn gives_by(&self, alloc: Global, _plan: &Plan, state: State) -> Result<Outcome, NoMemory>
         requires known { IsWellFormed (script_plan _plan.now) }
         requires fits { PathFits (script_plan _plan.now) self.now }
-        requires valid { IsValid (script_plan _plan.now) state.now }
+        requires valid { IsValid (script_plan _plan.now) state }
         requires admitted { Admits (test_truth (script_plan _plan.now).tests)
-            self.now.when state.now }
-        ensures value { IfOk result (λ o. o ≡ end_at self.now.end state.now) }
+            self.now.when state }
+        ensures value { IfOk result (λ o. o ≡ end_at self.now.end state) }
         ensures valid { IfOk result (IsValidOutcome (script_plan _plan.now)) }
     {
         match &self.end {
@@ -126,6 +164,30 @@ impl Path {
                 Ok(Outcome::Going(State { cells }))
             }
             PathEnd::Ended(fault) => Ok(Outcome::Ended(*fault)),
+        }
+    }
+
+    /// Puts what the path makes of an outcome that it admits in its place. The lists of the state
+    /// are moved. After an `Err` the outcome is unspecified.
+    pub fn lead(
+        &self,
+        alloc: Global,
+        checked: &Checked,
+        outcome: &mut Outcome,
+    ) -> Result<(), NoMemory>
+        requires fits { PathFits (checked_plan checked.now) self.now }
+        requires valid { IsValidOutcome (checked_plan checked.now) outcome.old }
+        requires admitted { AdmitsOutcome (test_truth (checked_plan checked.now).tests)
+            self.now.when outcome.old }
+        ensures value { OnOk result (outcome.new ≡ end_after self.now.end outcome.old) }
+        ensures valid { OnOk result (IsValidOutcome (checked_plan checked.now) outcome.new) }
+    {
+        match mem::replace(outcome, no_outcome()) {
+            Outcome::Going(state) => {
+                *outcome = self.gives_by(alloc, checked.plan(), state)?;
+                Ok(())
+            }
+            Outcome::Ended(_) => unreachable!(),
         }
     }
 }

@@ -13,6 +13,7 @@ mod giving;
 mod identity;
 mod joining;
 pub mod laws;
+mod leading;
 mod narrowing;
 mod part;
 mod path;

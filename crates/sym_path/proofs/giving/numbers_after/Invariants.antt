@@ -5,4 +5,4 @@ use Rattle.sym_int.specs.Lines.{form_value}
 use Rattle.sym_path.proofs.giving.numbers_after.Given as goal
 
 abbrev pub invariant-added : goal.invariant-added
-invariant-added l = l.numbers ≡ cell_nums (Some l.old) ++ map (λ f. form_value f l.state) (take l.index l.added)
+invariant-added l = l.numbers ≡ cell_nums (Some l.fn.old) ++ map (λ f. form_value f l.state) (take l.index l.added)

@@ -4,4 +4,4 @@ use Rattle.sym_base.specs.States.{cell_words}
 use Rattle.sym_path.proofs.giving.words_of.Given as goal
 
 abbrev pub invariant-added : goal.invariant-added
-invariant-added l = l.words ≡ cell_words (Some l.old) ++ take l.index l.added
+invariant-added l = l.words ≡ cell_words (Some l.fn.old) ++ take l.index l.added

@@ -1,0 +1,10 @@
+-- None of the paths so far admits the state.
+use Rattle.std.proofs.Common.{◌≡◌, ◌<◌, ℕ, Some, slice_get}
+use Rattle.sym_check.specs.CheckedScripts.{checked_plan}
+use Rattle.sym_check.specs.Conditions.{test_truth}
+use Rattle.sym_path.specs.Admitting.{Admits}
+use Rattle.sym_path.specs.declared.path.Path.{Path}
+use Rattle.sym_path.proofs.segment.Segment.path_for.Given as goal
+
+abbrev pub invariant-paths : goal.invariant-paths
+invariant-paths l = (i : ℕ) (other : Path) → i < l.index → slice_get l.self i ≡ Some other → Admits (test_truth (checked_plan l.checked).tests) other.when l.state → ⊥
