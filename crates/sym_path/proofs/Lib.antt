@@ -31,6 +31,7 @@ pub mod NarrowedEnds
 pub mod NarrowedFits
 pub mod OnlyOutcomes
 pub mod PairCounts
+pub mod PairsWithin
 pub mod PossibleStates
 pub mod Possibly
 pub mod Pulled

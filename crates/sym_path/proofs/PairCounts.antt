@@ -1,8 +1,8 @@
 -- Numbers of pairs: there is one, it is that of both parts where a list is cut, and it isn't large.
-use Rattle.std.proofs.Common.{◌≡◌, ◌≤◌, ◌+◌, ◌*◌, ◌↔◌, ℕ, zero, suc, Bool, true, false, cond, List, [], ◌∷◌, ◌++◌, map, length, refl, sym, ap, ◌∙◌, subst, arith}
+use Rattle.std.proofs.Common.{◌≡◌, ◌≤◌, ◌+◌, ◌*◌, ◌↔◌, ℕ, suc, Bool, true, false, cond, List, [], ◌∷◌, ◌++◌, map, length, refl, sym, ap, ◌∙◌, subst, arith}
 use Rattle.std.proofs.lemmas.Grind.{flat_map-append}
 use Rattle.std.proofs.lemmas.List.Sums.{count_by-le-length, sum_by-append, sum_by-cons}
-use Rattle.std.specs.List.{AllZip, count_by, flat_map}
+use Rattle.std.specs.List.{AllZip, count_by}
 use Rattle.std.specs.Prelude.{IsTrue, Some, slice_get, take}
 use Rattle.sym_base.specs.Tests.{Truth}
 use Rattle.sym_path.specs.declared.path.PathEnd.{PathEnd}
@@ -116,17 +116,23 @@ going_pairs truth path others n goes a = record {
       omega (arith, none);
 }
 
-none_of : List Path → List Bool
+pub none_of : {A : Type 0} → List A → List Bool
 none_of [] = []
-none_of (q ∷ others) = false ∷ none_of others
+none_of (x ∷ xs) = false ∷ none_of xs
 
-none-count : (others : List Path) → yes (none_of others) ≡ 0
+pub none-count : {A : Type 0} (xs : List A) → yes (none_of xs) ≡ 0
 unfolding none_of
 none-count [] = refl
-none-count (q ∷ others) =
-    let first = count_first (λ (answer : Bool). answer) false (none_of others) in
-    let rest = none-count others in
+none-count (x ∷ xs) =
+    let first = count_first (λ (answer : Bool). answer) false (none_of xs) in
+    let rest = none-count xs in
     omega (arith, first, rest)
+
+-- Nothing is found.
+pub none_found : {A : Type 0} (P : A → Type 0) (xs : List A) → AllZip (λ (x : A) (mark : Bool). IsTrue mark → P x) xs (none_of xs)
+unfolding none_of
+none_found P [] = tt
+none_found P (x ∷ xs) = (λ e. absurd (cc), none_found P xs)
 
 none_possible : (truth : Truth) (path : Path) (others : List Path) → ((q : Path) → IsPossiblePair truth path q → ⊥) → AllZip (λ (next : Path) (answer : Bool). IsAnswer truth (path, next) answer) others (none_of others)
 unfolding none_of

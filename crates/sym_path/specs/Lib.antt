@@ -19,3 +19,4 @@ pub mod Pulling
 pub mod Settling
 pub mod Standing
 pub mod Taking
+pub mod Within

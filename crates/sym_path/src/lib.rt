@@ -22,6 +22,7 @@ mod pulling;
 mod segment;
 mod settling;
 mod suiting;
+mod within;
 
 pub use composing::compose;
 pub use counting::pairs;
@@ -33,3 +34,4 @@ pub use path::{Path, PathEnd};
 pub use possible_pairs::possible;
 pub use segment::Segment;
 pub use settling::settle;
+pub use within::{Composition, compose_within};

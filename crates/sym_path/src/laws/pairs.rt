@@ -3,6 +3,7 @@ ghost use Rattle.std.specs.Prelude.{◌≡◌, ◌≤◌, ◌+◌, ◌*◌, ℕ,
 ghost use Rattle.sym_base.specs.Tests.{Truth};
 ghost use Rattle.sym_path.specs.declared.path.Path.{Path as OnePath};
 ghost use Rattle.sym_path.specs.Pairs.{ArePairs};
+ghost use Rattle.sym_path.specs.Within.{HavePairs};
 
 /// Two segments have one number of pairs.
 pub fn pairs_are_one_number()
@@ -14,4 +15,10 @@ pub fn pairs_are_one_number()
 pub fn pairs_are_few()
     ensures { (truth : Truth) (left right : List OnePath) (n : ℕ) →
         ArePairs truth left right n → n ≤ length left + length left * length right }
+{}
+
+/// Where two segments have at least some pairs, their number is at least that.
+pub fn pairs_are_at_least_those_found()
+    ensures { (truth : Truth) (left right : List OnePath) (least n : ℕ) →
+        HavePairs truth left right least → ArePairs truth left right n → least ≤ n }
 {}

@@ -1,0 +1,40 @@
+use Rattle.std.proofs.Common.{◌≡◌, ◌<◌, ◌+◌, ℕ, cond, Some, length, refl, arith, take}
+use Rattle.std.proofs.lemmas.Option.{slice_get_read}
+use Rattle.std.specs.Prelude.{slice_get}
+use Rattle.sym_base.specs.Tests.{Truth}
+use Rattle.sym_check.specs.CheckedScripts.{checked_plan}
+use Rattle.sym_check.specs.Conditions.{test_truth}
+use Rattle.sym_path.specs.Pairs.{AreFollowers}
+use Rattle.sym_path.proofs.PairCounts.{followers_next}
+use Rattle.sym_path.proofs.PairsWithin.{followers_found}
+use Rattle.sym_path.proofs.within.followers_within.Goals.{then-possible+else-count-most, else-possible}
+use Rattle.sym_path.proofs.within.followers_within.Goals as goal
+
+pub returns-then-count-most : goal.returns-then-count-most
+returns-then-count-most c =
+    let truth : Truth = test_truth (checked_plan c.args.checked.now).tests in
+    let i : ℕ = c.others.next-index in
+    let within : i < length c.args.others.now = omega arith in
+    let at : slice_get c.args.others.now i ≡ Some c.next-item.result = slice_get_read c.args.others.now (length c.args.others.now) i c.next-item.result refl within c.next-item.is in
+    let sum : c.args.most + 1 ≡ c.others.count + cond c.possible.result 1 0 = rw c.if-possible.true (omega arith) in
+    let next : AreFollowers truth c.args.path.now (take (i + 1) c.args.others.now) (c.args.most + 1) =
+    followers_next truth c.args.path.now c.next-item.result c.args.others.now i c.others.count (c.args.most + 1) c.possible.result at c.possible.ensures sum c.others.invariant.number in
+    followers_found truth c.args.path.now c.args.others.now (i + 1) (c.args.most + 1) next
+
+pub others-preserved : goal.others-preserved
+others-preserved c =
+    let i : ℕ = c.others.next-index in
+    let within : i < length c.args.others.now = omega arith in
+    let at : slice_get c.args.others.now i ≡ Some c.next-item.result = slice_get_read c.args.others.now (length c.args.others.now) i c.next-item.result refl within c.next-item.is in
+    let sum : c.if-possible.count ≡ c.others.count + cond c.possible.result 1 0 = elim c.if-possible.branch [
+      | then-possible+else-count-most w ↦ rw w.if-possible.true (omega (arith, w.count-is))
+      | else-possible w ↦ rw w.if-possible.false (omega (arith, w.count-is))
+    ] in
+    let few = c.others.invariant.few in
+    record {
+      number = followers_next (test_truth (checked_plan c.args.checked.now).tests) c.args.path.now c.next-item.result c.args.others.now i c.others.count c.if-possible.count c.possible.result at c.possible.ensures sum c.others.invariant.number;
+      few = elim c.if-possible.branch [
+        | then-possible+else-count-most w ↦ omega (arith, w.count-is, w.if-count-most.false, few)
+        | else-possible w ↦ omega (arith, w.count-is, few)
+      ];
+    }
