@@ -60,7 +60,7 @@ known_update p rec locals none well is =
 -- ---- one record
 
 -- Paths of which those that have ended are moved away: no outcome changes.
-apart : (p : ScriptPlan) (old going none ended : List Path) → none ≡ [] → AreMoved old going none ended → AllGoOn going → AreRun p (λ o. o) old going none ended
+pub apart : (p : ScriptPlan) (old going none ended : List Path) → none ≡ [] → AreMoved old going none ended → AllGoOn going → AreRun p (λ o. o) old going none ended
 apart p old going none ended empty moves on =
     run_exact p (λ o. o) old old going none none ended same moves on
   where
@@ -230,7 +230,7 @@ settled_gives p rec old new segment h settling s once =
 
 -- ---- how many
 
-few_counted : (n : ℕ) → n ≤ limit.PATHS_MAX → n < limit.PATHS_COUNTED
+pub few_counted : (n : ℕ) → n ≤ limit.PATHS_MAX → n < limit.PATHS_COUNTED
 few_counted n h = omega arith
 
 -- The path bound of an accepted script is its count of paths.

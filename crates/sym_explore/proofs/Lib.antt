@@ -19,6 +19,7 @@ pub mod JudgedBranches
 pub mod KeptNumbers
 pub mod KnownParts
 pub mod LabelsHeld
+pub mod Limited
 pub mod PartedConnected
 pub mod PartedCounts
 pub mod PartedInPlace

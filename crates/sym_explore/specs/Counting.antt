@@ -1,6 +1,7 @@
 -- How many paths the symbolic execution of one record can have at most: the path bound, in sums and
 -- products that don't stop at a million.
 use Rattle.std.specs.Prelude.{ℕ, ◌+◌, ◌*◌, max, Bool, true, false, not, List, if◌then◌else◌}
+use Rattle.std.specs.List.{sum_by}
 use Rattle.sym_check.specs.LinePlans.{TermPlan, OfNum, OfLine}
 use Rattle.sym_check.specs.CondPlans.{CondPlan, Compared, Words, CellIs, LabelIs, Test, Not, And, Or}
 use Rattle.sym_check.specs.Conditions.{is_fixed}
@@ -10,6 +11,9 @@ use Rattle.sym_check.specs.Ranges.{is_clamped}
 use Rattle.sym_check.specs.ScriptPlans.{ScriptPlan}
 use Rattle.sym_check.specs.declared.plan.script.CellPlan.{CellPlan}
 use Rattle.sym_int.specs.Cuts.{most_with}
+use Rattle.sym_path.specs.declared.path.PathEnd.{PathEnd}
+use Rattle.sym_path.specs.declared.path.PathEnd.TheVariants.{Next, Ended}
+use Rattle.sym_path.specs.declared.path.Path.{Path}
 
 abbrev pub term_branches : Compare → TermPlan → Bool → ℕ
 term_branches compare (OfNum n) x = 1
@@ -79,3 +83,12 @@ abbrev mutual
 -- At most how many paths the update of a script makes of one.
 abbrev pub made_paths : ScriptPlan → ℕ
 made_paths p = dos_going p.cells p.update + dos_ended p.cells p.update
+
+-- So many paths, where the path goes on; one that has ended stays one.
+abbrev pub most_paths : PathEnd → ℕ → ℕ
+most_paths (Next forms) most = most
+most_paths (Ended fault) most = 1
+
+-- The same of all paths.
+abbrev pub most_grown : ℕ → List Path → ℕ
+most_grown most paths = sum_by (λ (path : Path). most_paths path.end most) paths

@@ -9,6 +9,7 @@ pub mod Faulting
 pub mod Growing
 pub mod Knowing
 pub mod Labels
+pub mod Limiting
 pub mod Parting
 pub mod Placing
 pub mod Ranging

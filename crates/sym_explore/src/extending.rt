@@ -9,7 +9,7 @@ ghost use Rattle.sym_check.specs.WellFormed.{IsWellFormed};
 ghost use Rattle.sym_path.specs.Fitting.{SegmentFits};
 ghost use Rattle.sym_path.specs.Joining.{IsSettled};
 ghost use Rattle.sym_path.specs.Standing.{StandsFor};
-ghost use Rattle.sym_explore.specs.Counting.{made_paths};
+ghost use Rattle.sym_explore.specs.Counting.{made_paths, most_grown};
 ghost use Rattle.sym_explore.specs.Faulting.{EndAmong, HasNumber};
 ghost use Rattle.sym_explore.specs.Growing.{GivesAfter, grown_paths, IsToldBy};
 
@@ -44,7 +44,7 @@ impl Grown {
 }
 
 /// Takes paths through the update of a record. Those that have ended stay as they are.
-fn explore_each(
+pub(crate) fn explore_each(
     alloc: Global,
     plan: &Plan,
     rec: &Record,
@@ -59,6 +59,8 @@ fn explore_each(
     ensures fits { IfOk result (λ new. SegmentFits (script_plan plan.now) new.items) }
     ensures few { let most = made_paths (script_plan plan.now) in
         IfOk result (λ new. length new.items ≤ length paths.items * most) }
+    ensures each_few { let most = made_paths (script_plan plan.now) in
+        IfOk result (λ new. length new.items ≤ most_grown most paths.items) }
     ensures faults { (records : List OneRecord) → HasNumber rec.now.no records →
         EndAmong records paths.items → IfOk result (λ new. EndAmong records new.items) }
 {

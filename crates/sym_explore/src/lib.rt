@@ -12,6 +12,7 @@ mod extending;
 mod forms;
 mod labels;
 pub mod laws;
+mod limiting;
 mod moving;
 mod parting;
 mod placing;
@@ -21,3 +22,4 @@ mod storing;
 mod terms;
 
 pub use extending::{Grown, extend, fresh, fresh_with, grow, grow_with};
+pub use limiting::{Extension, extend_within};

@@ -1,6 +1,7 @@
 use Rattle.std.proofs.Common.{◌≡◌, [], refl, rules}
 use Rattle.sym_check.specs.ScriptPlans.{script_plan}
 use Rattle.sym_explore.proofs.Extended.{ended_came, ended_fit, explored_faults, explored_few, explored_gives, going_fit, known_update}
+use Rattle.sym_explore.proofs.Limited.{explored_each_few}
 use Rattle.sym_explore.proofs.extending.explore_each.Goals as goal
 
 pub run_block-requires-clause-well : goal.run_block-requires-clause-well
@@ -29,3 +30,7 @@ pub returns-clause-faults : goal.returns-clause-faults
 returns-clause-faults c = λ records has ends.
     let before = ended_came (script_plan c.args.plan.now) c.args.paths.items c.in_ok-going.going.items [] c.take_going.new.paths.items refl c.in_ok-going.ensures.moved records ends in
     explored_faults (script_plan c.args.plan.now) c.args.rec.now c.args.paths.items c.in_ok-going.going.items [] c.take_going.new.paths.items c.run_block.new.paths.items c.run_block.new.ended.items c.move_all.new.to.items refl c.in_ok-going.ensures.moved c.in_ok-going.ensures.going c.in_ok-move_all.ensures.to records c.in_ok-run_block.ensures.going (c.in_ok-run_block.ensures.faults records has before)
+
+pub returns-clause-each_few : goal.returns-clause-each_few
+returns-clause-each_few c =
+    explored_each_few (script_plan c.args.plan.now) c.args.paths.items c.in_ok-going.going.items [] c.take_going.new.paths.items c.run_block.new.paths.items c.run_block.new.ended.items c.move_all.new.to.items refl c.in_ok-going.ensures.moved c.in_ok-going.ensures.going c.in_ok-move_all.ensures.to c.in_ok-run_block.ensures.few

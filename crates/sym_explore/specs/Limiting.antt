@@ -1,0 +1,55 @@
+-- Segments that are taken a record further where a limit of paths allows it.
+use Rattle.std.specs.Prelude.{◌≡◌, ◌≤◌, ◌<◌, ◌++◌, ◌∷◌, [], ℕ, ◌*◌, Bool, true, false, not, List, length}
+use Rattle.std.specs.List.{filter}
+use Rattle.sym_base.specs.declared.values.record.Record.{Record}
+use Rattle.sym_check.specs.PathBounds.{path_bound}
+use Rattle.sym_check.specs.ScriptPlans.{ScriptPlan}
+use Rattle.sym_path.specs.declared.path.Path.{Path}
+use Rattle.sym_path.specs.Fitting.{SegmentFits}
+use Rattle.sym_path.specs.Joining.{IsSettled}
+use Rattle.sym_path.specs.Pairs.{has_ended}
+use Rattle.sym_path.specs.Settling.{IsSettling}
+use Rattle.sym_path.specs.Standing.{StandsFor}
+use Rattle.sym_explore.specs.Growing.{GivesAfter}
+use Rattle.sym_explore.specs.declared.limiting.Extension.{Extension}
+use Rattle.sym_explore.specs.declared.limiting.Extension.TheVariants.{Fits, Over}
+
+-- The paths that have ended, or those that go on, in order.
+abbrev pub is_chosen : Bool → Path → Bool
+is_chosen true path = has_ended path
+is_chosen false path = not (has_ended path)
+
+abbrev pub chosen : Bool → List Path → List Path
+chosen ended paths = filter (is_chosen ended) paths
+
+-- A segment that was taken through the update of one more record.
+pub record IsLonger (p : ScriptPlan) (rec : Record) (old new : List Path) : Type 0 where
+  pub settled : IsSettled new
+  pub fits : SegmentFits p new
+  pub few : length new ≤ length old * path_bound p
+  pub stands : (records : List Record) → StandsFor p records old →
+      StandsFor p (records ++ rec ∷ []) new
+  pub gives : GivesAfter p rec old new
+
+-- There is such a segment, and it has more paths than the limit says.
+pub record IsTooLong (p : ScriptPlan) (rec : Record) (old : List Path) (limit : ℕ) : Type 0 where
+  pub new : List Path
+  pub longer : IsLonger p rec old new
+  pub over : limit < length new
+
+-- The longer segment is within the limit, or the old one is as it was, since the longer one isn't.
+abbrev pub IsExtended : ScriptPlan → Record → List Path → ℕ → Extension → Type 0
+IsExtended p rec old limit (Fits new) = IsLonger p rec old new × (length new ≤ limit)
+IsExtended p rec old limit (Over same) = (same ≡ old) × IsTooLong p rec old limit
+
+-- What the old paths that have ended and others are settled to is within the limit, or the old
+-- segment is as it was, since that isn't.
+pub record IsOver (old others : List Path) (limit : ℕ) : Type 0 where
+  pub new : List Path
+  pub settling : IsSettling (chosen true old ++ others) new
+  pub over : limit < length new
+
+abbrev pub IsExtendedBy : List Path → List Path → ℕ → Extension → Type 0
+IsExtendedBy old others limit (Fits new) =
+    IsSettling (chosen true old ++ others) new × (length new ≤ limit)
+IsExtendedBy old others limit (Over same) = (same ≡ old) × IsOver old others limit

@@ -1,0 +1,154 @@
+//! Segments that are taken a record further where a limit of paths allows it.
+ghost use Rattle.std.specs.Prelude.{◌≡◌, ◌≤◌, true, false, IfOk, IsTrue, length};
+ghost use Rattle.sym_check.specs.CheckedScripts.{checked_plan};
+ghost use Rattle.sym_check.specs.Validity.{IsRecord};
+ghost use Rattle.sym_path.specs.Fitting.{SegmentFits};
+ghost use Rattle.sym_explore.specs.Counting.{most_grown, most_paths};
+ghost use Rattle.sym_explore.specs.Limiting.{IsExtended, IsExtendedBy, chosen, is_chosen};
+
+use crate::extending::explore_each;
+use std::alloc::Global;
+use sym_base::{NoMemory, Record};
+use sym_check::Checked;
+use sym_path::{Path, Segment, settle};
+use sym_plain::Buffers;
+
+/// A segment that was taken a record further, if the limit of paths allows it.
+#[derive(PartialEq, Eq, Drop)]
+pub enum Extension {
+    /// The longer segment, which has at most as many paths as the limit says.
+    Fits(Segment),
+    /// The segment as it was given, since the longer one has more paths.
+    Over(Segment),
+}
+
+impl Extension {
+    /// An equal answer of its own.
+    pub fn copy(&self, alloc: Global) -> Result<Extension, NoMemory>
+        ensures { IfOk result (λ extension. extension ≡ self.now) }
+    {
+        match self {
+            Extension::Fits(segment) => Ok(Extension::Fits(segment.copy(alloc)?)),
+            Extension::Over(segment) => Ok(Extension::Over(segment.copy(alloc)?)),
+        }
+    }
+}
+
+/// At most how many paths a path becomes where one that goes on becomes at most `most`.
+fn most_of(path: &Path, most: u32) -> u32
+    ensures { result ≡ most_paths path.now.end most }
+{
+    if path.goes_on() { most } else { 1 }
+}
+
+/// Whether the paths are within the limit after any record: those that have ended stay, and each
+/// other one becomes at most `most`.
+fn surely_fit(paths: &[Path], most: u32, limit: u32) -> bool
+    ensures { IsTrue result → most_grown most paths.now ≤ limit }
+{
+    let mut left = limit;
+    'paths: for path in paths {
+        let more = most_of(path, most);
+        if left < more {
+            return false;
+        }
+        left -= more;
+    }
+    true
+}
+
+/// Whether the path has ended, or goes on.
+fn is_chosen(path: &Path, ended: bool) -> bool
+    ensures { result ≡ is_chosen ended path.now }
+{
+    if ended {
+        !path.goes_on()
+    } else {
+        path.goes_on()
+    }
+}
+
+/// The number of paths that have ended.
+fn count_ended(paths: &[Path]) -> usize
+    ensures { result ≡ length (chosen true paths.now) }
+{
+    let mut count = 0;
+    'paths: for path in paths {
+        if is_chosen(path, true) {
+            count += 1;
+        }
+    }
+    count
+}
+
+/// Copies of the paths that have ended, or of those that go on.
+fn copies_of(alloc: Global, paths: &[Path], ended: bool) -> Result<Vec<Path>, NoMemory>
+    ensures { IfOk result (λ copies. copies.items ≡ chosen ended paths.now) }
+{
+    let mut copies = Vec::new(alloc);
+    'paths: for path in paths {
+        if is_chosen(path, ended) {
+            copies.push(path.copy(alloc)?)?;
+        }
+    }
+    Ok(copies)
+}
+
+/// Lets the paths that go on go.
+fn keep_ended(paths: &mut Vec<Path>)
+    ensures { paths.new.items ≡ chosen true paths.old.items }
+{
+    paths.retain(|path| is_chosen(path, true));
+}
+
+/// Settles the segment's paths that have ended with what those that go on became. They are moved
+/// where the limit can't be passed, and else copied.
+fn extend_by(
+    alloc: Global,
+    segment: Segment,
+    grown: Vec<Path>,
+    limit: u32,
+) -> Result<Extension, NoMemory>
+    ensures { IfOk result (IsExtendedBy segment grown.items limit) }
+{
+    let mut grown = grown;
+    if count_ended(segment.paths()).saturating_add(grown.len()) <= limit as usize {
+        let mut paths = segment.into_vec();
+        keep_ended(&mut paths);
+        paths.append(&mut grown)?;
+        return Ok(Extension::Fits(settle(alloc, paths)?));
+    }
+    let mut paths = copies_of(alloc, segment.paths(), true)?;
+    paths.append(&mut grown)?;
+    let settled = settle(alloc, paths)?;
+    if settled.paths().len() <= limit as usize {
+        Ok(Extension::Fits(settled))
+    } else {
+        Ok(Extension::Over(segment))
+    }
+}
+
+/// `grow_with` if the longer segment is within the limit; else the segment is given back as it was.
+/// The paths are changed where they lie if the path bound keeps them within the limit. Else those
+/// that go on are copied before. After an `Err` the segment is dropped.
+pub fn extend_within(
+    alloc: Global,
+    checked: &Checked,
+    segment: Segment,
+    rec: &Record,
+    limit: u32,
+    buffers: &mut Buffers,
+) -> Result<Extension, NoMemory>
+    requires fits { SegmentFits (checked_plan checked.now) segment }
+    requires rec { IsRecord (checked_plan checked.now) rec.now }
+    ensures { IfOk result (IsExtended (checked_plan checked.now) rec.now segment limit) }
+{
+    let plan = checked.plan();
+    if surely_fit(segment.paths(), checked.path_bound(), limit) {
+        let grown = explore_each(alloc, plan, rec, buffers, segment.into_vec())?;
+        return Ok(Extension::Fits(settle(alloc, grown)?));
+    }
+    let going = copies_of(alloc, segment.paths(), false)?;
+    let grown = explore_each(alloc, plan, rec, buffers, going)?;
+    extend_by(alloc, segment, grown, limit)
+}
