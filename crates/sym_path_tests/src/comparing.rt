@@ -10,7 +10,7 @@ use std::alloc::Global;
 use sym_base::{Cell, NoMemory, Outcome, Record, Sequence, State, Text, Value, Values};
 use sym_check::Checked;
 use sym_enum::EnumForm;
-use sym_explore::{Grown, extend, fresh, fresh_with, grow, grow_with};
+use sym_explore::{Extension, Grown, extend, extend_within, fresh, fresh_with, grow, grow_with};
 use sym_path::{Form, Path, PathEnd, Segment};
 use sym_plain::{Buffers, step};
 use sym_pred::HoldForm;
@@ -128,6 +128,28 @@ fn first(
     }
 }
 
+/// Whether the call that gives a segment back if the longer one has too many paths does so.
+fn is_extended(
+    alloc: Global,
+    checked: &Checked,
+    segment: &Segment,
+    rec: &Record,
+    limit: u32,
+    used: &mut Buffers,
+    grown: &Grown,
+) -> Result<bool, NoMemory>
+    requires segment { SegmentFits (checked_plan checked.now) segment.now }
+    requires rec { IsRecord (checked_plan checked.now) rec.now }
+{
+    match extend_within(alloc, checked, segment.copy(alloc)?, rec, limit, used)? {
+        Extension::Fits(longer) => Ok(Grown::Fits(longer) == *grown),
+        Extension::Over(same) => match grown {
+            Grown::Fits(_) => Ok(false),
+            Grown::Over(_) => Ok(same == *segment),
+        },
+    }
+}
+
 /// Whether the calls that take a segment of their own give the same.
 fn is_grown(
     alloc: Global,
@@ -143,7 +165,8 @@ fn is_grown(
 {
     Ok(
         grow(alloc, checked, segment.copy(alloc)?, rec, limit)? == *grown
-            && grow_with(alloc, checked, segment.copy(alloc)?, rec, limit, used)? == *grown,
+            && grow_with(alloc, checked, segment.copy(alloc)?, rec, limit, used)? == *grown
+            && is_extended(alloc, checked, segment, rec, limit, used, grown)?,
     )
 }
 
@@ -330,6 +353,42 @@ fn given(
     Ok(Some(path.gives(alloc, checked, state)?))
 }
 
+/// What the segment's records make of a state that is given away.
+fn led(
+    alloc: Global,
+    checked: &Checked,
+    segment: &Segment,
+    state: State,
+) -> Result<Option<Outcome>, NoMemory>
+    requires { IsValid (checked_plan checked.now) state }
+    ensures { IfOk result (λ found. IfSome found (IsValidOutcome (checked_plan checked.now))) }
+{
+    if !fits(checked, segment) {
+        return Ok(None);
+    }
+    let mut outcome = Outcome::Going(state);
+    segment.lead(alloc, checked, &mut outcome)?;
+    Ok(Some(outcome))
+}
+
+/// What a state comes to by the segment; `None` where the calls differ.
+fn given_of(
+    alloc: Global,
+    checked: &Checked,
+    segment: &Segment,
+    state: State,
+) -> Result<Option<Outcome>, NoMemory>
+    requires { IsValid (checked_plan checked.now) state }
+    ensures { IfOk result (λ found. IfSome found (IsValidOutcome (checked_plan checked.now))) }
+{
+    let wanted = given(alloc, checked, segment, &state)?;
+    if led(alloc, checked, segment, state)? == wanted {
+        Ok(wanted)
+    } else {
+        Ok(None)
+    }
+}
+
 /// What an outcome comes to by the segment.
 fn given_next(
     alloc: Global,
@@ -341,7 +400,7 @@ fn given_next(
     ensures { IfOk result (λ found. IfSome found (IsValidOutcome (checked_plan checked.now))) }
 {
     match outcome {
-        Outcome::Going(state) => given(alloc, checked, segment, &state),
+        Outcome::Going(state) => given_of(alloc, checked, segment, state),
         Outcome::Ended(fault) => Ok(Some(Outcome::Ended(fault))),
     }
 }

@@ -3,8 +3,9 @@ use crate::setting::{number, span};
 use std::alloc::Global;
 use sym_base::{Fault, FaultKind, NoMemory, Sequence, Text, Value};
 use sym_enum::{EnumForm, LabelSet};
+use sym_explore::Extension;
 use sym_int::IntForm;
-use sym_path::{Form, Forms, Part, Path, PathEnd, Segment};
+use sym_path::{Composition, Form, Forms, Part, Path, PathEnd, Segment};
 use sym_pred::{Facts, HoldForm, Literal};
 use sym_vector::ListForm;
 
@@ -113,9 +114,29 @@ fn is_segment_copied(alloc: Global, segment: &Segment) -> Result<bool, NoMemory>
     Ok(copied == *segment && copied.into_vec().len() == 2)
 }
 
+fn is_composition_copied(alloc: Global, segment: &Segment) -> Result<bool, NoMemory> {
+    let one = Composition::One(segment.copy(alloc)?);
+    let apart = Composition::Apart(segment.copy(alloc)?, segment.copy(alloc)?);
+    Ok(one.copy(alloc)? == one && apart.copy(alloc)? == apart)
+}
+
+fn is_extension_copied(alloc: Global, segment: &Segment) -> Result<bool, NoMemory> {
+    let fits = Extension::Fits(segment.copy(alloc)?);
+    let over = Extension::Over(segment.copy(alloc)?);
+    Ok(fits.copy(alloc)? == fits && over.copy(alloc)? == over)
+}
+
+fn are_answers_copied(alloc: Global, segment: &Segment) -> Result<bool, NoMemory> {
+    Ok(is_composition_copied(alloc, segment)? && is_extension_copied(alloc, segment)?)
+}
+
 fn segments_are_copied(alloc: Global) -> Result<bool, NoMemory> {
     let segment = segment(alloc)?;
-    Ok(are_paths_copied(alloc, &segment)? && is_segment_copied(alloc, &segment)?)
+    Ok(
+        are_paths_copied(alloc, &segment)?
+            && is_segment_copied(alloc, &segment)?
+            && are_answers_copied(alloc, &segment)?,
+    )
 }
 
 #[test]
