@@ -205,7 +205,8 @@ impl<'a> Cutter<'a> {
 
     /// The next chunk: as many rows as a chunk has, or the fewer that are left. `None` exactly
     /// where no row is left. A chunk fits each script that the header fits. After an `Err` each
-    /// later call answers one.
+    /// later call answers one. For callers who keep the chunks: the program cuts over rows that are
+    /// done with, by `next_over`.
     pub fn next(&mut self, alloc: Global) -> Result<Option<Chunk>, NoMemory>
         ensures cuts { Cuts self.old self.new result }
         ensures fits { (fields : List OneField) → FitsHeader fields self.old.header →
@@ -217,9 +218,8 @@ impl<'a> Cutter<'a> {
         self.next_over(alloc, &mut spare)
     }
 
-    /// The next chunk, as `next` gives it, read over the memory of rows that are done with. For
-    /// callers who take many chunks: once these rows have grown to the largest, no row is
-    /// allocated.
+    /// The next chunk, as `next` gives it, read over the memory of rows that are done with. Once
+    /// these rows have grown to the largest, none is allocated.
     pub fn next_over(&mut self, alloc: Global, spare: &mut Spare) -> Result<Option<Chunk>, NoMemory>
         ensures cuts { Cuts self.old self.new result }
         ensures fits { (fields : List OneField) → FitsHeader fields self.old.header →
@@ -249,7 +249,7 @@ impl<'a> Cutter<'a> {
     }
 
     /// Reads the next row over the memory of `row`: whether there was one. After an `Err` each
-    /// later call answers one, and `row` may be any.
+    /// later call answers one, and `row` may be any. For callers who take one row at a time.
     pub fn next_row(&mut self, row: &mut Row) -> Result<bool, NoMemory>
         ensures takes { Takes self.old self.new row.new result }
         ensures header { self.new.header ≡ self.old.header }
