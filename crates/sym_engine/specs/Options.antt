@@ -4,7 +4,7 @@ use Rattle.sym_base.specs.declared.limits.TheConstants as limit
 use Rattle.sym_engine.specs.declared.options.Options.{Options}
 use Rattle.sym_engine.specs.declared.options.TheConstants as own
 
--- Each option is in its range. No file is read past its most bytes, which may be 0.
+-- Each option is in its range. The most bytes may be 0.
 pub record InRange (o : Options) : Type 0 where
   pub some_rows : 1 ≤ o.chunk
   pub most_rows : o.chunk ≤ limit.CHUNK_MAX

@@ -1,7 +1,7 @@
 //! Rounds of chunks, and what takes them.
 ghost use Rattle.std.specs.Prelude.{◌≡◌, ℕ, List, IfOk};
 ghost use Rattle.sym_base.specs.declared.values.record.Record.{Record as OneRecord};
-ghost use Rattle.sym_check.specs.CheckedScripts.{checked_plan};
+ghost use Rattle.sym_check.specs.CheckedScripts.{checked_plan, checked_tree};
 ghost use Rattle.sym_check.specs.ScriptPlans.{ScriptPlan};
 ghost use Rattle.sym_table.specs.Reading.{Row as OneRow};
 ghost use Rattle.sym_engine.specs.Rounds.{IsLimit, IsRound, Takes, round_records, stands_by};
@@ -30,6 +30,22 @@ impl Drop for Work {
     }
 }
 
+impl Work {
+    /// An equal work of its own.
+    pub fn copy(&self, alloc: Global) -> Result<Work, NoMemory>
+        ensures script { IfOk result (λ w. checked_tree w.checked ≡ checked_tree self.now.checked) }
+        ensures plan { IfOk result (λ w. checked_plan w.checked ≡ checked_plan self.now.checked) }
+        ensures chunks { IfOk result (λ w. w.chunks ≡ self.now.chunks) }
+        ensures limit { IfOk result (λ w. w.limit ≡ self.now.limit) }
+    {
+        Ok(Work {
+            checked: self.checked.copy(alloc)?,
+            chunks: self.chunks.copy(alloc)?,
+            limit: self.limit,
+        })
+    }
+}
+
 /// What a round came to.
 #[derive(Clone, Copy, Debug, PartialEq, Eq)]
 pub enum Took {
@@ -49,7 +65,7 @@ pub trait Rounds {
 
     /// Takes the records of a round's rows, each row as it is shown, after those for which the
     /// value stands; or `Bad` exactly where one of the rows is no record: the first such row.
-    /// After `Bad` and after an `Err` the value is unspecified.
+    /// After `Bad` and after an `Err` nothing is known of the value but what it shows, which stays.
     fn take(&mut self, alloc: Global, work: &Work) -> Result<Took, NoMemory>
         requires round { IsRound (checked_plan work.now.checked).fields work.now.chunks }
         requires limit { IsLimit work.now.limit }
