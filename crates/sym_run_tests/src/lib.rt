@@ -11,6 +11,8 @@ mod passes;
 #[cfg(test)]
 mod plain;
 #[cfg(test)]
+mod rounds;
+#[cfg(test)]
 mod runs;
 #[cfg(test)]
 mod scripts;
