@@ -310,9 +310,9 @@ const REPORTS: [Run; 25] = [
     // The group line's order is that of the names and values, whatever the file's.
     Run {
         script: BY_ALL,
-        files: &["day,user,what\n3,ann,busy\n3,bob,busy\n3,ann,idle\n3,ann,busy\n"],
+        files: &["day,user,what\n3,ann,busy\n3,bob,busy\n3,ann,idle\n4,ann,busy\n3,ann,busy\n"],
         out: "what | user | day | n\nbusy | ann | 3 | 2\nbusy | bob | 3 | 1\n\
-            idle | ann | 3 | 1\n--\n",
+            idle | ann | 3 | 1\nbusy | ann | 4 | 1\n--\n",
         ..DONE
     },
     Run {
