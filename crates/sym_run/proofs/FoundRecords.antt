@@ -1,0 +1,122 @@
+-- The records of neighbouring chunks, or the first of their rows that is none.
+use Rattle.std.proofs.Common.{◌≡◌, ◌∙◌, ap, ap₂, sym, refl, subst, arith, ℕ, false, is_some, ◌+◌, ◌-◌, ◌≤◌, List, [], ◌∷◌, ◌++◌, Option, Some, None, Result, Ok, Err, take, drop}
+use Rattle.std.proofs.Math.Seq.{take-add}
+use Rattle.std.proofs.lemmas.List.{append-nil, append_assoc, drop-drop}
+use Rattle.std.specs.Option.{option_or}
+use Rattle.std.specs.Prelude.{slice_get, slice_range}
+use Rattle.std.proofs.lemmas.Option.{slice_get_within}
+use Rattle.sym_base.specs.declared.values.value.Key.{Key}
+use Rattle.sym_base.specs.declared.values.record.Record.{Record}
+use Rattle.sym_check.specs.ScriptPlans.{ScriptPlan}
+use Rattle.sym_path.specs.declared.path.Path.{Path}
+use Rattle.sym_table.specs.declared.bad.Bad.{Bad}
+use Rattle.sym_table.specs.declared.chunk.Chunk.{Chunk}
+use Rattle.sym_table.specs.ChunkRecords.{all_records, chunk_records}
+use Rattle.sym_table.specs.RowRecords.{in_turn}
+use Rattle.sym_path.proofs.Lists.{drop_get}
+use Rattle.sym_run.specs.declared.runs.Run.{Run}
+use Rattle.sym_run.specs.Runs.{AreTight, GroupsFit, GroupsStandFor, HasFound, IsFromTo, StandsForChunks}
+
+abbrev Found : Type 0
+Found = Result (List Record) Bad
+
+none_first : (r : Found) → r ≡ in_turn (Ok []) r
+none_first (Ok found) = refl
+none_first (Err bad) = refl
+
+pub none_after : (r : Found) → in_turn r (Ok []) ≡ r
+none_after (Ok found) = ap Ok (append-nil found)
+none_after (Err bad) = refl
+
+in_turn_assoc : (x y z : Found) → in_turn x (in_turn y z) ≡ in_turn (in_turn x y) z
+in_turn_assoc (Err bad) y z = refl
+in_turn_assoc (Ok first) (Err bad) z = refl
+in_turn_assoc (Ok first) (Ok next) (Err bad) = refl
+in_turn_assoc (Ok first) (Ok next) (Ok rest) = ap Ok (sym (append_assoc first next rest))
+
+-- The records of some chunks and more.
+pub all_records-append : (p : ScriptPlan) (xs ys : List Chunk) → all_records p (xs ++ ys) ≡ in_turn (all_records p xs) (all_records p ys)
+all_records-append p [] ys = none_first (all_records p ys)
+all_records-append p (x ∷ xs) ys =
+    ap (in_turn (chunk_records p x)) (all_records-append p xs ys) ∙ in_turn_assoc (chunk_records p x) (all_records p xs) (all_records p ys)
+
+-- Two neighbouring parts of a list in one.
+ranges : {A : Type 0} (xs : List A) (lo mid hi : ℕ) → lo ≤ mid → mid ≤ hi → slice_range xs lo hi ≡ slice_range xs lo mid ++ slice_range xs mid hi
+ranges xs lo mid hi first rest =
+    let whole : hi - lo ≡ (mid - lo) + (hi - mid) = omega arith in
+    let there : lo + (mid - lo) ≡ mid = omega arith in
+    ap (λ n. take n (drop lo xs)) whole
+    ∙ take-add (mid - lo) (hi - mid) (drop lo xs)
+    ∙ ap (λ ys. take (mid - lo) (drop lo xs) ++ take (hi - mid) ys) (drop-drop (mid - lo) lo xs ∙ ap (λ n. drop n xs) there)
+
+pub found_in_turn : (p : ScriptPlan) (chunks : List Chunk) (lo mid hi : ℕ) → lo ≤ mid → mid ≤ hi
+    → all_records p (slice_range chunks lo hi) ≡ in_turn (all_records p (slice_range chunks lo mid)) (all_records p (slice_range chunks mid hi))
+found_in_turn p chunks lo mid hi first rest =
+    ap (all_records p) (ranges chunks lo mid hi first rest) ∙ all_records-append p (slice_range chunks lo mid) (slice_range chunks mid hi)
+
+-- Neither of two runs has a bad row, where none is the first.
+pub both_none : (bad next : Option Bad) → is_some (option_or bad next) ≡ false → (bad ≡ None) × (next ≡ None)
+both_none None None e = (refl, refl)
+both_none None (Some b) e = cc
+both_none (Some b) next e = cc
+
+-- What two runs found, in one: the first bad row of the left, or else of the right, or the joined groups.
+pub found_joined : (p : ScriptPlan) (limit : ℕ) (found others : Result (List Record) Bad) (bad next : Option Bad) (left right groups : List (Key × List (List Path)))
+    → HasFound p limit found bad left → HasFound p limit others next right
+    → (bad ≡ None → next ≡ None → AreTight p limit groups)
+    → (bad ≡ None → next ≡ None → (first rest : List Record) → GroupsStandFor p first left → GroupsStandFor p rest right → GroupsStandFor p (first ++ rest) groups)
+    → HasFound p limit (in_turn found others) (option_or bad next) groups
+found_joined p limit (Ok first) (Ok rest) bad next left right groups h k tight stand =
+    (ap (λ (b : Option Bad). option_or b next) h.0 ∙ k.0, tight h.0 k.0, stand h.0 k.0 first rest h.2 k.2)
+found_joined p limit (Ok first) (Err other) bad next left right groups h k tight stand = ap (λ (b : Option Bad). option_or b next) h.0 ∙ k
+found_joined p limit (Err first) others bad next left right groups h k tight stand = ap (λ (b : Option Bad). option_or b next) h
+
+-- The run of two neighbouring ones.
+pub run_joined : (p : ScriptPlan) (limit : ℕ) (chunks : List Chunk) (left right joined : Run) → left.hi ≡ right.lo → StandsForChunks p limit chunks left → StandsForChunks p limit chunks right
+    → IsFromTo left.lo right.hi joined → joined.bad ≡ option_or left.bad right.bad → GroupsFit p joined.groups
+    → (left.bad ≡ None → right.bad ≡ None → AreTight p limit joined.groups)
+    → (left.bad ≡ None → right.bad ≡ None → (first rest : List Record) → GroupsStandFor p first left.groups → GroupsStandFor p rest right.groups → GroupsStandFor p (first ++ rest) joined.groups)
+    → StandsForChunks p limit chunks joined
+run_joined p limit chunks left right joined meet h k ends bad fits tight stand =
+    let first : left.lo ≤ left.hi = h.order in
+    let rest : left.hi ≤ right.hi = subst (λ (n : ℕ). n ≤ right.hi) (sym meet) k.order in
+    let whole : all_records p (slice_range chunks joined.lo joined.hi) ≡ in_turn (all_records p (slice_range chunks left.lo left.hi)) (all_records p (slice_range chunks right.lo right.hi)) =
+    ap₂ (λ (lo hi : ℕ). all_records p (slice_range chunks lo hi)) ends.from ends.to
+    ∙ found_in_turn p chunks left.lo left.hi right.hi first rest
+    ∙ ap (λ (mid : ℕ). in_turn (all_records p (slice_range chunks left.lo left.hi)) (all_records p (slice_range chunks mid right.hi))) meet in
+    record {
+      order = rw (ends.from, ends.to) (omega arith);
+      within = rw ends.to k.within;
+      fits = fits;
+      found =
+          subst (λ (found : Result (List Record) Bad). HasFound p limit found joined.bad joined.groups) (sym whole)
+          (subst (λ (b : Option Bad). HasFound p limit (in_turn (all_records p (slice_range chunks left.lo left.hi)) (all_records p (slice_range chunks right.lo right.hi))) b joined.groups) (sym bad)
+          (found_joined p limit (all_records p (slice_range chunks left.lo left.hi)) (all_records p (slice_range chunks right.lo right.hi)) left.bad right.bad left.groups right.groups joined.groups
+          h.found k.found tight stand));
+    }
+
+-- The run of one chunk.
+pub run_of_one : (p : ScriptPlan) (limit : ℕ) (chunks : List Chunk) (n : ℕ) (c : Chunk) (run : Run) → slice_get chunks n ≡ Some c → IsFromTo n (n + 1) run → GroupsFit p run.groups
+    → HasFound p limit (chunk_records p c) run.bad run.groups → StandsForChunks p limit chunks run
+run_of_one p limit chunks n c run at ends fits found =
+    let within = slice_get_within chunks n c at in
+    let from = ends.from in
+    let to = ends.to in
+    let one : (n + 1) - n ≡ 1 = omega arith in
+    let part : slice_range chunks run.lo run.hi ≡ c ∷ [] =
+    ap₂ (λ (lo hi : ℕ). slice_range chunks lo hi) from to
+    ∙ ap₂ (λ (m : ℕ) (cs : List Chunk). take m cs) one (drop_get chunks n c at) in
+    record {
+      order = omega arith;
+      within = omega arith;
+      fits = fits;
+      found = subst (λ (r : Result (List Record) Bad). HasFound p limit r run.bad run.groups) (sym (ap (all_records p) part ∙ none_after (chunk_records p c))) found;
+    }
+
+-- The chains of a run without a bad row are tight.
+pub run_tight : (p : ScriptPlan) (limit : ℕ) (chunks : List Chunk) (run : Run) → StandsForChunks p limit chunks run → run.bad ≡ None → AreTight p limit run.groups
+run_tight p limit chunks run h none = of (all_records p (slice_range chunks run.lo run.hi)) h.found
+  where
+    of : (found : Result (List Record) Bad) → HasFound p limit found run.bad run.groups → AreTight p limit run.groups
+    of (Ok records) found = found.1
+    of (Err bad) found = let other : Some bad ≡ None = sym found ∙ none in absurd (cc)

@@ -1,0 +1,160 @@
+-- Groups that take on the records of keys, one key after the other.
+use Rattle.std.proofs.Common.{◌≡◌, ◌∙◌, ap, sym, refl, subst, ℕ, Bool, true, false, not, cond, ◌||◌, if◌then◌else◌, List, [], ◌∷◌, ◌++◌, Option, Some, None}
+use Rattle.std.proofs.lemmas.List.{append_assoc, append-nil}
+use Rattle.std.proofs.lemmas.List.Elements.{All-weaker, filter-append}
+use Rattle.std.specs.List.{All, filter}
+use Rattle.std.specs.Map.{keys_of, lookup}
+use Rattle.sym_base.specs.declared.values.value.Key.{Key}
+use Rattle.sym_base.specs.declared.values.record.Record.{Record}
+use Rattle.sym_check.specs.Groups.{is_among, is_key, key_of, keys, not_among, records_of}
+use Rattle.sym_check.specs.ScriptPlans.{ScriptPlan}
+use Rattle.sym_check.proofs.GroupLaws.{keys_append, none_of, records_of_append}
+use Rattle.sym_check.proofs.Keys.{equal_keys, keys_equiv, same_key}
+use Rattle.sym_path.specs.declared.path.Path.{Path}
+use Rattle.sym_plain.specs.Pairs.{put}
+use Rattle.sym_run.specs.Chains.{ChainFits, ChainStandsFor, IsTight}
+use Rattle.sym_run.specs.Growing.{AreJoined, FoundStandsFor, Grows}
+use Rattle.sym_run.specs.Runs.{AreTight, GroupsFit, GroupsStandFor}
+use Rattle.sym_run.proofs.GroupPuts.{absent_key, all_found, all_put, keys-put}
+
+abbrev pub Chains : Type 0
+Chains = List (Key × List (List Path))
+
+-- ---- keys among others
+among-append : (k : Key) (xs ys : List Key) → is_among k (xs ++ ys) ≡ (is_among k xs || is_among k ys)
+among-append k [] ys = refl
+among-append k (x ∷ xs) ys = ap (λ (b : Bool). is_key k x || b) (among-append k xs ys) ∙ of (is_key k x)
+  where
+    of : (b : Bool) → (b || (is_among k xs || is_among k ys)) ≡ ((b || is_among k xs) || is_among k ys)
+    of true = refl
+    of false = refl
+
+filter-none : (t : Key → Bool) (k : Key) (ks : List Key) → is_among k ks ≡ false → is_among k (filter t ks) ≡ false
+filter-none t k [] h = refl
+filter-none t k (x ∷ ks) h = of (is_key k x) (t x) refl h (filter-none t k ks)
+  where
+    of : (b c : Bool) → is_key k x ≡ b → (b || is_among k ks) ≡ false → (is_among k ks ≡ false → is_among k (filter t ks) ≡ false) → is_among k (cond c (x ∷ filter t ks) (filter t ks)) ≡ false
+    of true c e g later = cc
+    of false true e g later = ap (λ (b : Bool). b || is_among k (filter t ks)) e ∙ later g
+    of false false e g later = later g
+
+one_more : (k : Key) (ks done : List Key) → not_among ks (done ++ k ∷ []) ≡ not_among ks done ++ (if is_among k ks then [] else k ∷ [])
+one_more k ks done = filter-append (λ key. not (is_among key ks)) done (k ∷ []) ∙ ap (λ rest. not_among ks done ++ rest) (of (is_among k ks))
+  where
+    of : (b : Bool) → cond (not b) (k ∷ []) [] ≡ (if b then [] else k ∷ [])
+    of true = refl
+    of false = refl
+
+or_false : (b : Bool) → (b || false) ≡ b
+or_false true = refl
+or_false false = refl
+
+-- Another key is among more exactly where it was.
+among_other : (j k : Key) (done : List Key) → is_key k j ≡ false → is_among j (done ++ k ∷ []) ≡ is_among j done
+among_other j k done e =
+    among-append j done (k ∷ []) ∙ ap (λ (b : Bool). is_among j done || (b || false)) (keys_equiv.symm j k ∙ e) ∙ or_false (is_among j done)
+
+among_last : (j k : Key) (done : List Key) → is_key k j ≡ true → is_among j (done ++ k ∷ []) ≡ true
+among_last j k done e =
+    among-append j done (k ∷ []) ∙ ap (λ (b : Bool). is_among j done || (b || false)) (keys_equiv.symm j k ∙ e) ∙ of (is_among j done)
+  where
+    of : (b : Bool) → (b || (true || false)) ≡ true
+    of true = refl
+    of false = refl
+
+-- ---- the records of a key, of which those of some keys are taken on
+abbrev taken : ScriptPlan → List Record → List Record → List Key → Key → List Record
+taken p first rest done k = records_of p k first ++ (if is_among k done then records_of p k rest else [])
+
+module _ (p : ScriptPlan) (limit : ℕ) (first rest : List Record) where
+  joined_keys : (done : List Key) (k : Key) (old : Chains) (chain : List (List Path)) → is_among k done ≡ false
+      → keys_of old ≡ keys p first ++ not_among (keys p first) done
+      → keys_of (put old k chain) ≡ keys p first ++ not_among (keys p first) (done ++ k ∷ [])
+  joined_keys done k old chain apart e =
+      keys-put k chain old
+      ∙ ap (λ (ks : List Key). if is_among k ks then ks else ks ++ k ∷ []) e
+      ∙ ap (λ (b : Bool). if b then keys p first ++ not_among (keys p first) done else (keys p first ++ not_among (keys p first) done) ++ k ∷ [])
+      (among-append k (keys p first) (not_among (keys p first) done)
+      ∙ ap (λ (b : Bool). is_among k (keys p first) || b) (filter-none (λ key. not (is_among key (keys p first))) k done apart)
+      ∙ or_false (is_among k (keys p first)))
+      ∙ of (is_among k (keys p first))
+      ∙ ap (λ (ks : List Key). keys p first ++ ks) (sym (one_more k (keys p first) done))
+    where
+      of : (b : Bool) → (if b then keys p first ++ not_among (keys p first) done else (keys p first ++ not_among (keys p first) done) ++ k ∷ [])
+          ≡ keys p first ++ (not_among (keys p first) done ++ (if b then [] else k ∷ []))
+      of true = ap (λ (ks : List Key). keys p first ++ ks) (sym (append-nil (not_among (keys p first) done)))
+      of false = append_assoc (keys p first) (not_among (keys p first) done) (k ∷ [])
+
+  -- What was found for a key stands for its records among the first ones.
+  found_stands : (done : List Key) (k : Key) (old : Chains) → is_among k done ≡ false → AreJoined p first rest done old
+      → FoundStandsFor p (records_of p k first) (lookup (is_key k) old)
+  found_stands done k old apart h = of (lookup (is_key k) old) refl
+    where
+      none_before : (b : Bool) → is_among k (keys p first) ≡ b → (b || is_among k (not_among (keys p first) done)) ≡ false → is_among k (keys p first) ≡ false
+      none_before true e g = cc
+      none_before false e g = e
+
+      of : (found : Option (List (List Path))) → lookup (is_key k) old ≡ found → FoundStandsFor p (records_of p k first) found
+      of None e =
+          none_of p k first (none_before (is_among k (keys p first)) refl
+          (sym (among-append k (keys p first) (not_among (keys p first) done)) ∙ ap (is_among k) (sym h.keys_are) ∙ absent_key k old e))
+      of (Some v) e =
+          subst (λ (rs : List Record). ChainStandsFor p rs v)
+          (ap (λ (b : Bool). records_of p k first ++ (if b then records_of p k rest else [])) apart ∙ append-nil (records_of p k first))
+          (all_found (λ j u. ChainStandsFor p (taken p first rest done j) u) k v old h.each e)
+
+  -- One key further.
+  pub joined_on : (done : List Key) (k : Key) (Adds : List Record → Type 0) (old new : Chains) → is_among k done ≡ false → Grows p limit k Adds old new → Adds (records_of p k rest)
+      → AreJoined p first rest done old → AreJoined p first rest (done ++ k ∷ []) new
+  joined_on done k Adds old new apart g adds h = record {
+    keys_are = ap keys_of g.is ∙ joined_keys done k old g.chain apart h.keys_are;
+    each = subst (λ (groups : Chains). All (λ (group : Key × List (List Path)). ChainStandsFor p (taken p first rest (done ++ k ∷ []) group.0) group.1) groups) (sym g.is)
+        (all_put (λ j u. ChainStandsFor p (taken p first rest done j) u) (λ j u. ChainStandsFor p (taken p first rest (done ++ k ∷ []) j) u) k g.chain
+        (λ j u e s. subst (λ (b : Bool). ChainStandsFor p (records_of p j first ++ (if b then records_of p j rest else [])) u) (sym (among_other j k done e)) s)
+        (λ j e. subst (λ (i : Key). ChainStandsFor p (taken p first rest (done ++ k ∷ []) i) g.chain) (equal_keys k j e)
+        (subst (λ (b : Bool). ChainStandsFor p (records_of p k first ++ (if b then records_of p k rest else [])) g.chain) (sym (among_last k k done (same_key k)))
+        (g.stands (records_of p k first) (records_of p k rest) (found_stands done k old apart h) adds)))
+        old (same_key k) h.each);
+  }
+
+  -- At first, and at the end.
+  pub joined_none : (groups : Chains) → GroupsStandFor p first groups → AreJoined p first rest [] groups
+  joined_none groups h = record {
+    keys_are = h.keys_are ∙ sym (append-nil (keys p first));
+    each = All-weaker (λ (group : Key × List (List Path)). ChainStandsFor p (records_of p group.0 first) group.1)
+        (λ (group : Key × List (List Path)). ChainStandsFor p (taken p first rest [] group.0) group.1)
+        (λ group s. subst (λ (rs : List Record). ChainStandsFor p rs group.1) (sym (append-nil (records_of p group.0 first))) s) groups h.each;
+  }
+
+  taken_all : (k : Key) → taken p first rest (keys p rest) k ≡ records_of p k (first ++ rest)
+  taken_all k = ap (λ (rs : List Record). records_of p k first ++ rs) (of (is_among k (keys p rest)) refl) ∙ sym (records_of_append p k first rest)
+    where
+      of : (b : Bool) → is_among k (keys p rest) ≡ b → (if b then records_of p k rest else []) ≡ records_of p k rest
+      of true e = refl
+      of false e = sym (none_of p k rest e)
+
+  pub joined_all : (groups : Chains) → AreJoined p first rest (keys p rest) groups → GroupsStandFor p (first ++ rest) groups
+  joined_all groups h = record {
+    keys_are = h.keys_are ∙ sym (keys_append p first rest);
+    each = All-weaker (λ (group : Key × List (List Path)). ChainStandsFor p (taken p first rest (keys p rest) group.0) group.1)
+        (λ (group : Key × List (List Path)). ChainStandsFor p (records_of p group.0 (first ++ rest)) group.1)
+        (λ group s. subst (λ (rs : List Record). ChainStandsFor p rs group.1) (taken_all group.0) s) groups h.each;
+  }
+
+-- The groups of one record more.
+pub one_record : (p : ScriptPlan) (limit : ℕ) (records : List Record) (rec : Record) (old new : Chains) → Grows p limit (key_of p rec) (λ rest. rest ≡ rec ∷ []) old new → GroupsStandFor p records old
+    → GroupsStandFor p (records ++ rec ∷ []) new
+one_record p limit records rec old new g h =
+    joined_all p limit records (rec ∷ []) new
+    (joined_on p limit records (rec ∷ []) [] (key_of p rec) (λ rest. rest ≡ rec ∷ []) old new refl g
+    (ap (λ (b : Bool). cond b (rec ∷ []) []) (same_key (key_of p rec)))
+    (joined_none p limit records (rec ∷ []) old h))
+
+-- ---- what a key that takes on records keeps of all groups
+pub grown_fit : (p : ScriptPlan) (limit : ℕ) (k : Key) (Adds : List Record → Type 0) (old new : Chains) → Grows p limit k Adds old new → GroupsFit p old → GroupsFit p new
+grown_fit p limit k Adds old new g h =
+    subst (GroupsFit p) (sym g.is) (all_put (λ j u. ChainFits p u) (λ j u. ChainFits p u) k g.chain (λ j u e s. s) (λ j e. g.fits) old (same_key k) h)
+
+pub grown_tight : (p : ScriptPlan) (limit : ℕ) (k : Key) (Adds : List Record → Type 0) (old new : Chains) → Grows p limit k Adds old new → AreTight p limit old → AreTight p limit new
+grown_tight p limit k Adds old new g h =
+    subst (AreTight p limit) (sym g.is) (all_put (λ j u. IsTight p limit u) (λ j u. IsTight p limit u) k g.chain (λ j u e s. s) (λ j e. g.tight) old (same_key k) h)

@@ -1,0 +1,11 @@
+pub mod AppliedRuns
+pub mod Beginning
+pub mod ChainCuts
+pub mod ChainLeads
+pub mod FoundRecords
+pub mod GroupPuts
+pub mod JoinedGroups
+pub mod LedGroups
+pub mod Stepping
+pub mod Taking
+pub mod TightChains

@@ -1,0 +1,102 @@
+-- The rows of a chunk, taken into groups one after the other.
+use Rattle.std.proofs.Common.{◌≡◌, ◌∙◌, ap, ap₂, sym, refl, subst, arith, ℕ, ◌+◌, List, [], ◌∷◌, ◌++◌, Option, Some, None, is_some, true, false, Result, Ok, Err, length, take, drop}
+use Rattle.std.proofs.lemmas.List.{length-take-le}
+use Rattle.std.proofs.lemmas.Option.{slice_get_within}
+use Rattle.std.specs.Prelude.{slice_get}
+use Rattle.sym_base.specs.declared.values.value.Value.{Value}
+use Rattle.sym_base.specs.declared.values.record.Record.{Record}
+use Rattle.sym_check.specs.Arithmetic.{and_then}
+use Rattle.sym_check.specs.Groups.{key_of}
+use Rattle.sym_check.specs.ScriptPlans.{ScriptPlan}
+use Rattle.sym_path.proofs.Lists.{drop_get, take_and_drop, take_get}
+use Rattle.sym_table.specs.declared.bad.Bad.{Bad}
+use Rattle.sym_table.specs.declared.bad.BadCause.{BadCause}
+use Rattle.sym_table.specs.declared.bad.Decoded.{Decoded}
+use Rattle.sym_table.specs.declared.bad.Decoded.TheVariants as decoded
+use Rattle.sym_table.specs.declared.header.Header.{Header}
+use Rattle.sym_table.specs.Decoding.{Fills, numbered}
+use Rattle.sym_table.specs.Reading.{Row}
+use Rattle.sym_table.specs.RowRecords.{in_turn, record_or_bad, records_or_bad}
+use Rattle.sym_table.specs.Rows.{read_row}
+use Rattle.sym_table.proofs.RecordsAgree.{rows_append}
+use Rattle.sym_run.specs.Growing.{Grows}
+use Rattle.sym_run.specs.Runs.{AreTight, GroupsFit, GroupsStandFor, HasFound}
+use Rattle.sym_run.proofs.JoinedGroups.{Chains, grown_fit, grown_tight, one_record}
+
+-- The groups stand for the records of the first rows.
+pub record IsTaking (p : ScriptPlan) (limit : ℕ) (header : Header) (n : ℕ) (rows : List Row) (groups : Chains) : Type 0 where
+  pub records : List Record
+  pub are : records_or_bad p header n rows ≡ Ok records
+  pub stand : GroupsStandFor p records groups
+  pub fits : GroupsFit p groups
+  pub tight : AreTight p limit groups
+
+-- ---- one row
+record_is : (n : ℕ) (read : Result (List Value) BadCause) (rec : Record) → numbered n read ≡ decoded.Is rec → record_or_bad n read ≡ Ok rec
+record_is n (Ok values) rec e = let same : record { no = n; fields = values } ≡ rec = cc in ap Ok same
+record_is n (Err why) rec e = cc
+
+bad_is : (n : ℕ) (read : Result (List Value) BadCause) (bad : Bad) → numbered n read ≡ decoded.Bad bad → record_or_bad n read ≡ Err bad
+bad_is n (Ok values) bad e = cc
+bad_is n (Err why) bad e = let same : record { no = n; cause = why } ≡ bad = cc in ap Err same
+
+one_row : (p : ScriptPlan) (header : Header) (n : ℕ) (row : Row) (rec : Record) → numbered n (read_row p.enums p.fields header row) ≡ decoded.Is rec → records_or_bad p header n (row ∷ []) ≡ Ok (rec ∷ [])
+one_row p header n row rec e =
+    ap (λ (found : Result Record Bad). and_then (λ rec. and_then (λ others. Ok (rec ∷ others)) (Ok [])) found)
+    (record_is n (read_row p.enums p.fields header row) rec e)
+
+bad_row : (p : ScriptPlan) (header : Header) (n : ℕ) (row : Row) (rows : List Row) (bad : Bad) → numbered n (read_row p.enums p.fields header row) ≡ decoded.Bad bad → records_or_bad p header n (row ∷ rows) ≡ Err bad
+bad_row p header n row rows bad e =
+    ap (λ (found : Result Record Bad). and_then (λ rec. and_then (λ others. Ok (rec ∷ others)) (records_or_bad p header (n + 1) rows)) found)
+    (bad_is n (read_row p.enums p.fields header row) bad e)
+
+-- ---- rows so far, and the next
+taken_length : (rows : List Row) (i : ℕ) (row : Row) → slice_get rows i ≡ Some row → length (take i rows) ≡ i
+taken_length rows i row at = let within = slice_get_within rows i row at in length-take-le i rows (omega arith)
+
+pub taking_on : (p : ScriptPlan) (limit : ℕ) (header : Header) (n : ℕ) (rows : List Row) (i : ℕ) (row : Row) (rec : Record) (old new : Chains) → IsTaking p limit header n (take i rows) old → slice_get rows i ≡ Some row
+    → numbered (n + i) (read_row p.enums p.fields header row) ≡ decoded.Is rec → Grows p limit (key_of p rec) (λ rest. rest ≡ rec ∷ []) old new → IsTaking p limit header n (take (i + 1) rows) new
+taking_on p limit header n rows i row rec old new h at is g = record {
+  records = h.records ++ rec ∷ [];
+  are =
+      ap (records_or_bad p header n) (take_get rows i row at)
+      ∙ rows_append p header n (take i rows) (row ∷ [])
+      ∙ ap₂ in_turn h.are (ap (λ m. records_or_bad p header (n + m) (row ∷ [])) (taken_length rows i row at) ∙ one_row p header (n + i) row rec is);
+  stand = one_record p limit h.records rec old new g h.stand;
+  fits = grown_fit p limit (key_of p rec) (λ rest. rest ≡ rec ∷ []) old new g h.fits;
+  tight = grown_tight p limit (key_of p rec) (λ rest. rest ≡ rec ∷ []) old new g h.tight;
+}
+
+-- The row is the first that is no record.
+pub taken_bad : (p : ScriptPlan) (limit : ℕ) (header : Header) (n : ℕ) (rows : List Row) (i : ℕ) (row : Row) (bad : Bad) (groups : Chains) → IsTaking p limit header n (take i rows) groups → slice_get rows i ≡ Some row
+    → numbered (n + i) (read_row p.enums p.fields header row) ≡ decoded.Bad bad → records_or_bad p header n rows ≡ Err bad
+taken_bad p limit header n rows i row bad groups h at is =
+    ap (records_or_bad p header n) (sym (take_and_drop i rows) ∙ ap (λ (rs : List Row). take i rows ++ rs) (drop_get rows i row at))
+    ∙ rows_append p header n (take i rows) (row ∷ drop (i + 1) rows)
+    ∙ ap₂ in_turn h.are (ap (λ m. records_or_bad p header (n + m) (row ∷ drop (i + 1) rows)) (taken_length rows i row at) ∙ bad_row p header (n + i) row (drop (i + 1) rows) bad is)
+
+pub taking_none : (p : ScriptPlan) (limit : ℕ) (header : Header) (n : ℕ) (groups : Chains) → groups ≡ [] → IsTaking p limit header n [] groups
+taking_none p limit header n groups none =
+    subst (IsTaking p limit header n []) (sym none) (record {
+      records = [];
+      are = refl;
+      stand = record { keys_are = refl; each = λ k d lt. absurd (omega arith) };
+      fits = λ k d lt. absurd (omega arith);
+      tight = λ k d lt. absurd (omega arith);
+    })
+
+-- All rows are records.
+pub taken_all : (p : ScriptPlan) (limit : ℕ) (header : Header) (n : ℕ) (rows : List Row) (groups : Chains) → IsTaking p limit header n rows groups → HasFound p limit (records_or_bad p header n rows) None groups
+taken_all p limit header n rows groups h =
+    subst (λ (found : Result (List Record) Bad). HasFound p limit found None groups) (sym h.are) (refl, h.tight, h.stand)
+
+-- ---- what decoding told
+pub record_told : (bad : Option Bad) (rec : Record) (d : Decoded) → is_some bad ≡ false → Fills bad rec d → d ≡ decoded.Is rec
+record_told None rec d e h = h
+record_told (Some bad) rec d e h = cc
+
+pub bad_told : (p : ScriptPlan) (limit : ℕ) (header : Header) (n : ℕ) (rows : List Row) (i : ℕ) (row : Row) (bad : Option Bad) (rec : Record) (groups : Chains) → IsTaking p limit header n (take i rows) groups → slice_get rows i ≡ Some row
+    → is_some bad ≡ true → Fills bad rec (numbered (n + i) (read_row p.enums p.fields header row)) → HasFound p limit (records_or_bad p header n rows) bad groups
+bad_told p limit header n rows i row None rec groups h at e told = cc
+bad_told p limit header n rows i row (Some bad) rec groups h at e told =
+    subst (λ (found : Result (List Record) Bad). HasFound p limit found (Some bad) groups) (sym (taken_bad p limit header n rows i row bad groups h at told)) refl

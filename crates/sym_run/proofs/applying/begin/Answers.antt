@@ -1,0 +1,17 @@
+use Rattle.std.proofs.Common.{◌≡◌, ◌∙◌, ap}
+use Rattle.std.proofs.lemmas.Result.{on_ok_weaker}
+use Rattle.sym_base.specs.declared.values.state.State.{State}
+use Rattle.sym_base.specs.declared.values.state.Outcome.TheVariants.{Going}
+use Rattle.sym_check.specs.CheckedScripts.{checked_plan}
+use Rattle.sym_check.specs.Updates.{after, initial}
+use Rattle.sym_run.proofs.LedGroups.{begun_led}
+use Rattle.sym_run.proofs.applying.begin.Goals as goal
+
+pub returns-clause-leads : goal.returns-clause-leads
+returns-clause-leads c = λ records s.
+    let p = checked_plan c.args.checked.now in
+    let is : c.lead.new.outcome ≡ after p records (Going (initial p)) =
+    c.in_ok-lead.ensures.value records s ∙ ap (λ (s : State). after p records (Going s)) c.in_ok-initial.ensures in
+    on_ok_weaker c.begin.result
+    (λ e. e ∙ begun_led p records c.args.key c.args.groups.now c.lead.new.outcome c.requires.new is)
+    c.begin.ensures.ok

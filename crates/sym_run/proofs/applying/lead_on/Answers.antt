@@ -1,0 +1,19 @@
+use Rattle.std.proofs.Common.{sym}
+use Rattle.sym_base.specs.declared.values.value.Key.{Key}
+use Rattle.sym_base.specs.declared.values.state.Outcome.{Outcome}
+use Rattle.sym_check.specs.CheckedScripts.{checked_plan}
+use Rattle.sym_check.specs.Validity.{IsValidOutcome}
+use Rattle.sym_check.proofs.Keys.{same_key}
+use Rattle.sym_run.proofs.GroupPuts.{all_found, all_put}
+use Rattle.sym_run.proofs.applying.lead_on.Goals as goal
+
+pub lead-requires-clause-valid : goal.lead-requires-clause-valid
+lead-requires-clause-valid c =
+    let p = checked_plan c.args.checked.now in
+    all_found (λ (k : Key) (o : Outcome). IsValidOutcome p o) c.args.key.now c.in-Some.outcome.now c.args.groups.now c.requires.valid (sym c.in-Some.ensures.outcome)
+
+pub returns-in_ok-lead-in-Some-clause-valid : goal.returns-in_ok-lead-in-Some-clause-valid
+returns-in_ok-lead-in-Some-clause-valid c =
+    let p = checked_plan c.args.checked.now in
+    all_put (λ (k : Key) (o : Outcome). IsValidOutcome p o) (λ (k : Key) (o : Outcome). IsValidOutcome p o) c.args.key.now c.lead.new.outcome
+    (λ j o e s. s) (λ j e. c.in_ok-lead-in-Some.ensures.valid) c.args.groups.now (same_key c.args.key.now) c.requires.valid

@@ -1,0 +1,17 @@
+-- The segments so far have led the outcome on.
+use Rattle.std.proofs.Common.{List, drop}
+use Rattle.sym_base.specs.declared.values.record.Record.{Record}
+use Rattle.sym_check.specs.CheckedScripts.{checked_plan}
+use Rattle.sym_check.specs.Updates.{after}
+use Rattle.sym_check.specs.Validity.{IsValidOutcome}
+use Rattle.sym_run.specs.Chains.{ChainStandsFor}
+use Rattle.sym_run.proofs.ChainLeads.{IsLed}
+use Rattle.sym_run.proofs.chains.Chain.lead.Given as goal
+
+abbrev pub invariant-segments : goal.invariant-segments
+invariant-segments l =
+    let p = checked_plan l.fn.checked in
+    record {
+      valid : IsValidOutcome p l.outcome;
+      led : (records : List Record) → ChainStandsFor p records l.fn.self → IsLed p (drop l.segment-index l.segment-items) l.outcome (after p records l.fn.outcome);
+    }

@@ -1,0 +1,50 @@
+-- What groups come to where the records of a run follow.
+use Rattle.std.specs.Prelude.{◌≡◌, Bool, true, false, List, Option, Some, None, Result, Ok, Err}
+use Rattle.std.specs.List.{All}
+use Rattle.std.specs.Map.{lookup}
+use Rattle.sym_base.specs.declared.values.value.Key.{Key}
+use Rattle.sym_base.specs.declared.values.record.Record.{Record}
+use Rattle.sym_base.specs.declared.values.state.Outcome.{Outcome}
+use Rattle.sym_check.specs.ScriptPlans.{ScriptPlan}
+use Rattle.sym_check.specs.Groups.{is_key}
+use Rattle.sym_check.specs.Updates.{after}
+use Rattle.sym_check.specs.Validity.{IsValidOutcome}
+use Rattle.sym_plain.specs.Pairs.{after_records, put, standing}
+use Rattle.sym_table.specs.declared.bad.Bad.{Bad as BadRow}
+use Rattle.sym_run.specs.declared.runs.Applied.{Applied}
+use Rattle.sym_run.specs.declared.runs.Applied.TheVariants.{Done, Bad}
+
+-- The groups that go on do so with valid states.
+abbrev pub AreValid : ScriptPlan → List (Key × Outcome) → Type 0
+AreValid p groups = All (λ group. IsValidOutcome p group.1) groups
+
+-- The row that is no record.
+abbrev pub bad_of : Applied → Option BadRow
+bad_of (Done groups) = None
+bad_of (Bad bad) = Some bad
+
+abbrev pub IfDone : Applied → (List (Key × Outcome) → Type 0) → Type 0
+IfDone (Done groups) P = P groups
+IfDone (Bad bad) P = Unit {0}
+
+-- The groups after records, or the row that is none.
+abbrev pub applied_to : ScriptPlan → Result (List Record) BadRow → List (Key × Outcome) → Applied
+applied_to p (Ok records) groups = Done (after_records p records groups)
+applied_to p (Err bad) groups = Bad bad
+
+-- The groups where the one with this key has been led on by records; a new one begins with the
+-- initial state.
+abbrev pub led_on : ScriptPlan → List Record → Key → List (Key × Outcome) → List (Key × Outcome)
+led_on p records key groups =
+    put groups key (after p records (standing p (lookup (is_key key) groups)))
+
+-- Where there is a group with the key, it is led on.
+abbrev pub LeadsOn : ScriptPlan → List Record → Key
+    → List (Key × Outcome) → Bool → List (Key × Outcome) → Type 0
+LeadsOn p records key old true new = new ≡ led_on p records key old
+LeadsOn p records key old false new = Unit {0}
+
+-- Where there is none, the groups stay.
+abbrev pub StaysUnless : Key → List (Key × Outcome) → Bool → List (Key × Outcome) → Type 0
+StaysUnless key old true new = Unit {0}
+StaysUnless key old false new = (lookup (is_key key) old ≡ None) × (new ≡ old)

@@ -1,0 +1,6 @@
+pub mod Applying
+pub mod Bracketing
+pub mod Chains
+pub mod Growing
+pub mod Holding
+pub mod Runs

@@ -1,0 +1,72 @@
+//! Runs of chunks that are joined in any order.
+ghost use Rattle.std.specs.Prelude.{◌≡◌, ◌≤◌, ◌+◌, IfOk, length};
+ghost use Rattle.std.specs.List.{All};
+ghost use Rattle.sym_check.specs.CheckedScripts.{checked_plan};
+ghost use Rattle.sym_table.specs.Rows.{FitsChunk};
+ghost use Rattle.sym_run.specs.Applying.{AreValid, applied_to};
+ghost use Rattle.sym_run.specs.Bracketing.{chunk_count};
+ghost use Rattle.sym_table.specs.ChunkRecords.{all_records};
+ghost use Rattle.sym_run.specs.Runs.{IsFromTo, StandsForChunks};
+
+use crate::chunks::of_chunk;
+use crate::runs::{Applied, Run};
+use std::alloc::Global;
+use sym_base::NoMemory;
+use sym_check::Checked;
+use sym_plain::Groups;
+use sym_table::Chunk;
+
+/// An order in which the runs of consecutive chunks are joined.
+#[derive(Drop)]
+pub enum JoinTree {
+    /// The run of one chunk.
+    Chunk,
+    /// The run of some chunks and that of the next ones, joined.
+    Joined(Box<JoinTree>, Box<JoinTree>),
+}
+
+/// The run of as many chunks as the tree has, from the one with this number on, joined in the order
+/// of the tree.
+pub fn join_all(
+    alloc: Global,
+    checked: &Checked,
+    chunks: &[Chunk],
+    first: u32,
+    tree: &JoinTree,
+    limit: u32,
+) -> Result<Run, NoMemory>
+    requires fit { All (FitsChunk (checked_plan checked.now).fields) chunks.now }
+    requires few { length chunks.now ≤ 64 }
+    requires within { first + chunk_count tree.now ≤ length chunks.now }
+    ensures chunks { IfOk result (IsFromTo first (first + chunk_count tree.now)) }
+    ensures stands { IfOk result (StandsForChunks (checked_plan checked.now) limit chunks.now) }
+{
+    match tree {
+        JoinTree::Chunk => of_chunk(alloc, checked, &chunks[first as usize], first, limit),
+        JoinTree::Joined(left, right) => {
+            let run = join_all(alloc, checked, chunks, first, left, limit)?;
+            let next = join_all(alloc, checked, chunks, run.hi, right, limit)?;
+            run.join(alloc, checked, next, limit)
+        }
+    }
+}
+
+/// What the runs of all chunks come to on groups, joined in the order of the tree: in every order
+/// the same groups, or the same row that is no record.
+pub fn apply_joined(
+    alloc: Global,
+    checked: &Checked,
+    chunks: &[Chunk],
+    tree: &JoinTree,
+    groups: Groups,
+    limit: u32,
+) -> Result<Applied, NoMemory>
+    requires fit { All (FitsChunk (checked_plan checked.now).fields) chunks.now }
+    requires few { length chunks.now ≤ 64 }
+    requires count { chunk_count tree.now ≡ length chunks.now }
+    requires valid { AreValid (checked_plan checked.now) groups }
+    ensures { let p = checked_plan checked.now in IfOk result (λ applied.
+        applied ≡ applied_to p (all_records p chunks.now) groups) }
+{
+    join_all(alloc, checked, chunks, 0, tree, limit)?.apply(alloc, checked, groups)
+}

@@ -1,0 +1,82 @@
+//! The run of one chunk.
+ghost use Rattle.std.specs.Prelude.{◌≡◌, ◌<◌, ◌+◌, [], List, Some, IfOk, slice_get};
+ghost use Rattle.sym_check.specs.CheckedScripts.{checked_plan};
+ghost use Rattle.sym_plain.specs.Pairs.{HaveDistinctKeys};
+ghost use Rattle.sym_table.specs.ChunkRecords.{chunk_records};
+ghost use Rattle.sym_table.specs.Rows.{FitsChunk};
+ghost use Rattle.sym_table.specs.declared.chunk.Chunk.{Chunk as OneChunk};
+ghost use Rattle.sym_run.specs.Runs.{GroupsFit, HasFound, IsFromTo, StandsForChunks};
+
+use crate::chains::Chain;
+use crate::grouping::take_record;
+use crate::run_groups::RunGroups;
+use crate::runs::Run;
+use indexmap::IndexMap;
+use std::alloc::Global;
+use sym_base::{Key, NoMemory, Record, Values};
+use sym_check::Checked;
+use sym_plain::Buffers;
+use sym_table::{Bad, Chunk, decode_into};
+
+/// Takes the records of a chunk's rows into the chains of their keys, up to the first row that is
+/// no record.
+fn take_rows(
+    alloc: Global,
+    checked: &Checked,
+    chunk: &Chunk,
+    map: &mut IndexMap<Key, Chain>,
+    limit: u32,
+) -> Result<Option<Bad>, NoMemory>
+    requires chunk { FitsChunk (checked_plan checked.now).fields chunk.now }
+    requires empty { map.old.entries ≡ [] }
+    requires distinct { HaveDistinctKeys map.old.entries }
+    ensures found { let p = checked_plan checked.now in IfOk result (λ bad.
+        HasFound p limit (chunk_records p chunk.now) bad map.new.entries) }
+    ensures fits { IfOk result (λ bad. GroupsFit (checked_plan checked.now) map.new.entries) }
+    ensures distinct { HaveDistinctKeys map.new.entries }
+{
+    let mut key = Key {
+        values: Values::new(alloc),
+    };
+    let mut buffers = Buffers::new(alloc);
+    let mut rec = Record {
+        no: 0,
+        fields: Values::new(alloc),
+    };
+    'rows: for (index, row) in chunk.rows.as_slice().iter().enumerate() {
+        let no = chunk.first_no + index as u64;
+        let bad = decode_into(alloc, checked, &chunk.header, row, no, &mut rec)?;
+        if bad.is_some() {
+            return Ok(bad);
+        }
+        take_record(alloc, checked, map, &rec, limit, &mut key, &mut buffers)?;
+    }
+    Ok(None)
+}
+
+/// The run of the chunk with this number. Each row that is a record is taken into the chain of its
+/// key: the last segment is extended, or, if that gives more than `limit` paths, the record's own
+/// is pushed. The first row that is no record ends the run. Rows are read where they are.
+pub fn of_chunk(
+    alloc: Global,
+    checked: &Checked,
+    chunk: &Chunk,
+    number: u32,
+    limit: u32,
+) -> Result<Run, NoMemory>
+    requires chunk { FitsChunk (checked_plan checked.now).fields chunk.now }
+    requires number { number < 64 }
+    ensures chunks { IfOk result (IsFromTo number (number + 1)) }
+    ensures fits { IfOk result (λ run. GroupsFit (checked_plan checked.now) run.groups) }
+    ensures stands { (chunks : List OneChunk) → slice_get chunks number ≡ Some chunk.now →
+        IfOk result (StandsForChunks (checked_plan checked.now) limit chunks) }
+{
+    let mut map = IndexMap::new(alloc);
+    let bad = take_rows(alloc, checked, chunk, &mut map, limit)?;
+    Ok(Run {
+        lo: number,
+        hi: number + 1,
+        groups: RunGroups::of_map(map),
+        bad,
+    })
+}

@@ -1,0 +1,21 @@
+//! Runs: what the records of some chunks do to each group, whatever its state is before them. A run
+//! has a chain of segments for each key. Neighbouring runs are joined, and a run is applied to
+//! groups.
+#![tactic(auto)]
+
+mod applying;
+mod bracketing;
+mod chains;
+mod chunks;
+mod grouping;
+mod joining;
+mod pushing;
+mod run_groups;
+mod runs;
+
+pub use bracketing::{JoinTree, apply_joined, join_all};
+pub use chains::Chain;
+pub use chunks::of_chunk;
+pub use pushing::push;
+pub use run_groups::RunGroups;
+pub use runs::{Applied, Run};

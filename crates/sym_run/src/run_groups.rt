@@ -1,0 +1,119 @@
+//! The chains of a run, by group.
+ghost use Rattle.std.specs.Prelude.{◌≡◌, [], IfOk, length, slice_get};
+ghost use Rattle.std.specs.Map.Iter.{deref_pair};
+ghost use Rattle.std.specs.Option.{option_map};
+ghost use Rattle.sym_plain.specs.Pairs.{HaveDistinctKeys};
+ghost use Rattle.sym_run.specs.Runs.{added};
+
+use crate::chains::Chain;
+use indexmap::IndexMap;
+use std::alloc::Global;
+use std::marker::Model;
+use sym_base::{Key, NoMemory};
+
+// The entries are inserted in order, each with the hash of its key.
+fn copy_map(alloc: Global, map: &IndexMap<Key, Chain>) -> Result<IndexMap<Key, Chain>, NoMemory>
+    ensures { IfOk result (λ copied. copied.entries ≡ map.now.entries) }
+{
+    let mut copied = IndexMap::with_capacity(alloc, map.len())?;
+    'entries: for (key, chain) in map.iter() {
+        drop(copied.insert(key.copy(alloc)?, chain.copy(alloc)?)?);
+    }
+    Ok(copied)
+}
+
+/// Each key of some records with the chain of its records. A contract sees a list of pairs with
+/// distinct keys.
+pub struct RunGroups {
+    pub(crate) map: IndexMap<Key, Chain>,
+}
+
+// Written here so that the crates above don't prove it for each type inside.
+impl Drop for RunGroups {
+    fn drop(self) {
+        let RunGroups { map: _map } = self;
+    }
+}
+
+impl Model for RunGroups {
+    ghost use Rattle.std.specs.Prelude.{List};
+    ghost use Rattle.sym_base.specs.declared.values.value.Key.{Key as OneKey};
+    ghost use Rattle.sym_path.specs.declared.path.Path.{Path as OnePath};
+    ghost use Rattle.sym_base.specs.contracts.values.value.Key as key;
+    ghost use Rattle.sym_path.specs.contracts.path.Path as path;
+    ghost use Rattle.std.specs.Coded.{coded_list, coded×};
+    ghost use Rattle.sym_plain.specs.Pairs.{HaveDistinctKeys};
+
+    ghost Value = { List (OneKey × List (List OnePath)) };
+
+    ghost coded = { coded_list (coded× (key.the_row).coded (coded_list (coded_list (path.the_row).coded))) };
+
+    ghost view = { λ groups. groups.map.entries };
+
+    ghost invariant = { λ groups. HaveDistinctKeys groups.map.entries };
+}
+
+impl RunGroups {
+    /// No groups. It takes no memory.
+    pub fn new(alloc: Global) -> RunGroups
+        ensures { result ≡ [] }
+    {
+        RunGroups {
+            map: IndexMap::new(alloc),
+        }
+    }
+
+    /// The groups of a map. It takes no memory.
+    pub(crate) fn of_map(map: IndexMap<Key, Chain>) -> RunGroups
+        requires { HaveDistinctKeys map.entries }
+        ensures { result ≡ map.entries }
+    {
+        RunGroups { map }
+    }
+
+    /// The map of the groups. It takes no memory.
+    pub(crate) fn into_map(self) -> IndexMap<Key, Chain>
+        ensures same { result.entries ≡ self }
+        ensures distinct { HaveDistinctKeys result.entries }
+    {
+        let RunGroups { map } = self;
+        map
+    }
+
+    /// The number of groups.
+    pub fn len(&self) -> usize
+        ensures len { result ≡ length self.now }
+        ensures distinct { HaveDistinctKeys self.now }
+    {
+        self.map.len()
+    }
+
+    /// The group at `index`, counted from 0; `None` exactly where `index >= len`.
+    pub fn at(&self, index: usize) -> Option<(&Key, &Chain)>
+        ensures { option_map deref_pair result ≡ slice_get self.now index }
+    {
+        self.map.get_index(index)
+    }
+
+    /// The groups and one more, which goes last; `None` exactly where its key is there. Then, and
+    /// after an `Err`, all are dropped.
+    pub fn add(self, _alloc: Global, key: Key, chain: Chain) -> Result<Option<RunGroups>, NoMemory>
+        ensures { IfOk result (λ groups. groups ≡ added self key chain) }
+    {
+        let mut map = self.into_map();
+        let old = map.insert(key, chain)?;
+        if old.is_some() {
+            return Ok(None);
+        }
+        Ok(Some(RunGroups::of_map(map)))
+    }
+
+    /// Equal groups of their own.
+    pub fn copy(&self, alloc: Global) -> Result<RunGroups, NoMemory>
+        ensures { IfOk result (λ groups. groups ≡ self.now) }
+    {
+        Ok(RunGroups {
+            map: copy_map(alloc, &self.map)?,
+        })
+    }
+}

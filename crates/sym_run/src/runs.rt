@@ -1,0 +1,171 @@
+//! Runs of chunks: their groups, or the first of their rows that is no record.
+ghost use Rattle.std.specs.Prelude.{◌≡◌, List, None, IfOk};
+ghost use Rattle.sym_base.specs.declared.values.record.Record.{Record as OneRecord};
+ghost use Rattle.sym_check.specs.CheckedScripts.{checked_plan};
+ghost use Rattle.sym_plain.specs.Pairs.{after_records};
+ghost use Rattle.sym_table.specs.declared.chunk.Chunk.{Chunk as OneChunk};
+ghost use Rattle.sym_run.specs.Applying.{AreValid, IfDone, bad_of};
+ghost use Rattle.sym_run.specs.Runs.{AreTight, GroupsFit, GroupsStandFor, IsFromTo, StandsForChunks};
+
+use crate::applying::apply_all;
+use crate::joining::join_groups;
+use crate::run_groups::RunGroups;
+use std::alloc::Global;
+use sym_base::NoMemory;
+use sym_check::Checked;
+use sym_plain::Groups;
+use sym_table::Bad;
+
+/// What the records of neighbouring chunks do to each group, or the first of their rows that is no
+/// record.
+pub struct Run {
+    /// The number of the first chunk.
+    pub lo: u32,
+    /// The number of the chunk after the last.
+    pub hi: u32,
+    /// The chains by group. Where there is a bad row, they fit the script and are otherwise
+    /// unspecified.
+    pub groups: RunGroups,
+    /// The first row that is no record.
+    pub bad: Option<Bad>,
+}
+
+// Written here so that the crates above don't prove it for each type inside.
+impl Drop for Run {
+    fn drop(self) {
+        let Run {
+            lo: _lo,
+            hi: _hi,
+            groups: _groups,
+            bad: _bad,
+        } = self;
+    }
+}
+
+/// What a run comes to on groups.
+pub enum Applied {
+    /// The groups after the run's records.
+    Done(Groups),
+    /// The run's first row that is no record.
+    Bad(Bad),
+}
+
+// Written here so that the crates above don't prove it for each type inside.
+impl Drop for Applied {
+    fn drop(self) {
+        match self {
+            Applied::Done(_groups) => {}
+            Applied::Bad(_bad) => {}
+        }
+    }
+}
+
+impl Applied {
+    /// An equal answer of its own.
+    pub fn copy(&self, alloc: Global) -> Result<Applied, NoMemory>
+        ensures { IfOk result (λ applied. applied ≡ self.now) }
+    {
+        match self {
+            Applied::Done(groups) => Ok(Applied::Done(groups.copy(alloc)?)),
+            Applied::Bad(bad) => Ok(Applied::Bad(*bad)),
+        }
+    }
+}
+
+impl Run {
+    /// An equal run of its own.
+    pub fn copy(&self, alloc: Global) -> Result<Run, NoMemory>
+        ensures { IfOk result (λ run. run ≡ self.now) }
+    {
+        Ok(Run {
+            lo: self.lo,
+            hi: self.hi,
+            groups: self.groups.copy(alloc)?,
+            bad: self.bad,
+        })
+    }
+
+    /// The run of this one's chunks and then the right one's. The left's bad row comes before the
+    /// right's, and so do its keys; the chains of a key in both are joined. Keys and chains are
+    /// moved.
+    pub fn join(
+        self,
+        alloc: Global,
+        checked: &Checked,
+        right: Run,
+        limit: u32,
+    ) -> Result<Run, NoMemory>
+        requires meet { self.hi ≡ right.lo }
+        requires left { GroupsFit (checked_plan checked.now) self.groups }
+        requires right { GroupsFit (checked_plan checked.now) right.groups }
+        requires tight { self.bad ≡ None → right.bad ≡ None →
+            AreTight (checked_plan checked.now) limit self.groups
+            × AreTight (checked_plan checked.now) limit right.groups }
+        ensures chunks { IfOk result (IsFromTo self.lo right.hi) }
+        ensures fits { IfOk result (λ run. GroupsFit (checked_plan checked.now) run.groups) }
+        ensures stands { (chunks : List OneChunk) →
+            StandsForChunks (checked_plan checked.now) limit chunks self →
+            StandsForChunks (checked_plan checked.now) limit chunks right →
+            IfOk result (StandsForChunks (checked_plan checked.now) limit chunks) }
+    {
+        let Run {
+            lo,
+            hi: _hi,
+            groups,
+            bad,
+        } = self;
+        let Run {
+            lo: _lo,
+            hi,
+            groups: next,
+            bad: next_bad,
+        } = right;
+        let bad = bad.or(next_bad);
+        if bad.is_some() {
+            return Ok(Run {
+                lo,
+                hi,
+                groups,
+                bad,
+            });
+        }
+        Ok(Run {
+            lo,
+            hi,
+            groups: join_groups(alloc, checked, groups, next, limit)?,
+            bad: None,
+        })
+    }
+
+    /// The groups after the run's records; `Bad` exactly where the run has a bad row. A group that
+    /// is there is led on in place, a new one goes last from the initial state, and all others stay.
+    pub fn apply(
+        self,
+        alloc: Global,
+        checked: &Checked,
+        groups: Groups,
+    ) -> Result<Applied, NoMemory>
+        requires fits { GroupsFit (checked_plan checked.now) self.groups }
+        requires valid { AreValid (checked_plan checked.now) groups }
+        ensures bad { IfOk result (λ applied. bad_of applied ≡ self.bad) }
+        ensures valid { IfOk result (λ applied.
+            IfDone applied (AreValid (checked_plan checked.now))) }
+        ensures groups { (records : List OneRecord) →
+            GroupsStandFor (checked_plan checked.now) records self.groups →
+            IfOk result (λ applied. IfDone applied (λ g.
+            g ≡ after_records (checked_plan checked.now) records groups)) }
+    {
+        let Run {
+            lo: _lo,
+            hi: _hi,
+            groups: chains,
+            bad,
+        } = self;
+        if let Some(bad) = bad {
+            return Ok(Applied::Bad(bad));
+        }
+        let mut groups = groups;
+        apply_all(alloc, checked, chains, &mut groups)?;
+        Ok(Applied::Done(groups))
+    }
+}
