@@ -1,0 +1,11 @@
+//! Tests of chains and runs, over the public calls of `sym_run`.
+#![tactic(auto)]
+
+#[cfg(test)]
+mod chains;
+#[cfg(test)]
+mod logs;
+#[cfg(test)]
+mod orders;
+#[cfg(test)]
+mod setting;

@@ -1,0 +1,266 @@
+//! The runs of chunks, joined in every order and applied, against the sequential pass.
+ghost use Rattle.std.specs.Prelude.{◌≡◌, ◌≤◌, ◌<◌, IfOk};
+ghost use Rattle.std.specs.List.{All};
+ghost use Rattle.sym_check.specs.CheckedScripts.{checked_plan};
+ghost use Rattle.sym_table.specs.Rows.{FitsChunk};
+ghost use Rattle.sym_run.specs.Bracketing.{chunk_count};
+
+use crate::logs::{CHANGES, NUMBERS, SESSIONS, SUMS, TOGGLE, VISITS};
+use crate::setting::{Case, check_cases, chunks_of, passed, same_groups};
+use std::alloc::Global;
+use std::test::Fail;
+use sym_base::NoMemory;
+use sym_check::Checked;
+use sym_plain::Groups;
+use sym_run::{Applied, JoinTree, apply_joined};
+use sym_table::Chunk;
+
+/// How many trees of joins there are over so many chunks.
+const TREES: [usize; 9] = [0, 1, 1, 2, 5, 14, 42, 132, 429];
+
+fn trees_over(chunks: usize) -> usize {
+    if chunks < TREES.len() {
+        TREES[chunks]
+    } else {
+        0
+    }
+}
+
+/// How many chunks the left side of the tree with this number has, and the number of its sides.
+fn split_of(chunks: usize, number: usize) -> (usize, usize)
+    requires { 2 ≤ chunks }
+    ensures some { 1 ≤ result.0 }
+    ensures fewer { result.0 < chunks }
+{
+    let mut rest = number;
+    'splits: for left in 1..chunks {
+        let trees = trees_over(left).saturating_mul(trees_over(chunks - left));
+        if rest < trees {
+            return (left, rest);
+        }
+        rest -= trees;
+    }
+    (1, 0)
+}
+
+/// The tree of joins with this number, counted from 0, over so many chunks. Over more than eight it
+/// is the one that joins each run with all later ones.
+fn tree(alloc: Global, chunks: usize, number: usize) -> Result<Box<JoinTree>, NoMemory>
+    requires { 1 ≤ chunks }
+    ensures { IfOk result (λ tree. chunk_count tree.value ≡ chunks) }
+{
+    if chunks == 1 {
+        return Ok(Box::new(alloc, JoinTree::Chunk)?);
+    }
+    let (left, rest) = split_of(chunks, number);
+    let rights = trees_over(chunks - left).max(1);
+    let first = tree(alloc, left, rest / rights)?;
+    let second = tree(alloc, chunks - left, rest % rights)?;
+    Ok(Box::new(alloc, JoinTree::Joined(first, second))?)
+}
+
+fn is_wanted(applied: &Applied, wanted: &Groups) -> bool {
+    match applied {
+        Applied::Done(groups) => same_groups(groups, wanted),
+        Applied::Bad(_) => false,
+    }
+}
+
+/// Whether the runs of the chunks, joined in the order of this number, give the groups.
+fn order_holds(
+    alloc: Global,
+    checked: &Checked,
+    chunks: &[Chunk],
+    number: usize,
+    wanted: &Groups,
+    limit: u32,
+) -> Result<bool, NoMemory>
+    requires fit { All (FitsChunk (checked_plan checked.now).fields) chunks.now }
+{
+    if chunks.is_empty() || chunks.len() > 64 {
+        return Ok(false);
+    }
+    let order = tree(alloc, chunks.len(), number)?;
+    let applied = apply_joined(alloc, checked, chunks, &order, Groups::new(alloc), limit)?;
+    Ok(is_wanted(&applied, wanted))
+}
+
+fn orders_hold(
+    alloc: Global,
+    checked: &Checked,
+    chunks: &[Chunk],
+    wanted: &Groups,
+    limit: u32,
+) -> Result<bool, NoMemory>
+    requires fit { All (FitsChunk (checked_plan checked.now).fields) chunks.now }
+{
+    'orders: for number in 0..trees_over(chunks.len()).max(1) {
+        if !order_holds(alloc, checked, chunks, number, wanted, limit)? {
+            return Ok(false);
+        }
+    }
+    Ok(true)
+}
+
+/// A script and a log, cut into chunks of so many rows.
+#[derive(Clone, Copy)]
+struct Orders {
+    script: &'static str,
+    log: &'static str,
+    rows: u32,
+    limit: u32,
+}
+
+impl Case for Orders {
+    fn script(&self) -> &str {
+        self.script
+    }
+
+    fn holds(&self, alloc: Global, checked: &Checked) -> Result<bool, NoMemory> {
+        let wanted = passed(alloc, checked, self.log)?;
+        let chunks = chunks_of(alloc, checked, self.log, self.rows)?;
+        orders_hold(alloc, checked, &chunks, &wanted, self.limit)
+    }
+}
+
+#[test]
+fn each_order_of_eight_chunks_gives_the_groups_of_the_pass(rt: HostRuntime) -> Result<(), Fail> {
+    let sums = Orders {
+        script: SUMS,
+        log: CHANGES,
+        rows: 3,
+        limit: 1,
+    };
+    let sessions = Orders {
+        script: SESSIONS,
+        log: VISITS,
+        rows: 2,
+        limit: 2,
+    };
+    let toggles = Orders {
+        script: TOGGLE,
+        log: NUMBERS,
+        rows: 1,
+        limit: 1,
+    };
+    let cases = [
+        sums,
+        Orders { limit: 16, ..sums },
+        sessions,
+        Orders {
+            limit: 256,
+            ..sessions
+        },
+        toggles,
+    ];
+    check_cases(&rt, rt.alloc(), &cases)
+}
+
+/// A script and a log, cut into chunks of several sizes, with several limits.
+#[derive(Drop)]
+struct Sizes {
+    script: &'static str,
+    log: &'static str,
+}
+
+impl Sizes {
+    fn limits_hold(&self, alloc: Global, checked: &Checked, rows: u32) -> Result<bool, NoMemory> {
+        let wanted = passed(alloc, checked, self.log)?;
+        let chunks = chunks_of(alloc, checked, self.log, rows)?;
+        'limits: for limit in [1, 2, 16, 256] {
+            if !order_holds(alloc, checked, &chunks, 0, &wanted, limit)? {
+                return Ok(false);
+            }
+        }
+        Ok(true)
+    }
+}
+
+impl Case for Sizes {
+    fn script(&self) -> &str {
+        self.script
+    }
+
+    fn holds(&self, alloc: Global, checked: &Checked) -> Result<bool, NoMemory> {
+        'sizes: for rows in [1, 2, 3, 7, 1_024] {
+            if !self.limits_hold(alloc, checked, rows)? {
+                return Ok(false);
+            }
+        }
+        Ok(true)
+    }
+}
+
+#[test]
+fn chunks_and_limits_of_all_sizes_give_the_groups_of_the_pass(rt: HostRuntime) -> Result<(), Fail> {
+    let cases = [
+        Sizes {
+            script: SUMS,
+            log: CHANGES,
+        },
+        Sizes {
+            script: SESSIONS,
+            log: VISITS,
+        },
+        Sizes {
+            script: TOGGLE,
+            log: NUMBERS,
+        },
+    ];
+    check_cases(&rt, rt.alloc(), &cases)
+}
+
+/// A log with rows that are no records.
+#[derive(Drop)]
+struct BadRows {
+    log: &'static str,
+    rows: u32,
+    /// The number of the first.
+    first: u64,
+}
+
+fn is_bad(applied: &Applied, first: u64) -> bool {
+    match applied {
+        Applied::Bad(bad) => bad.no == first,
+        Applied::Done(_) => false,
+    }
+}
+
+impl Case for BadRows {
+    fn script(&self) -> &str {
+        SUMS
+    }
+
+    fn holds(&self, alloc: Global, checked: &Checked) -> Result<bool, NoMemory> {
+        let chunks = chunks_of(alloc, checked, self.log, self.rows)?;
+        if chunks.is_empty() || chunks.len() > 64 {
+            return Ok(false);
+        }
+        let order = tree(alloc, chunks.len(), 0)?;
+        let applied = apply_joined(alloc, checked, &chunks, &order, Groups::new(alloc), 16)?;
+        Ok(is_bad(&applied, self.first))
+    }
+}
+
+#[test]
+fn the_first_bad_row_is_found(rt: HostRuntime) -> Result<(), Fail> {
+    let log = "user,x\na,1\nb,2\na,3\na,4\nb,x\na,5,6\nb,y\n";
+    let cases = [
+        BadRows {
+            log,
+            rows: 1,
+            first: 5,
+        },
+        BadRows {
+            log,
+            rows: 2,
+            first: 5,
+        },
+        BadRows {
+            log,
+            rows: 1_024,
+            first: 5,
+        },
+    ];
+    check_cases(&rt, rt.alloc(), &cases)
+}

@@ -1,0 +1,178 @@
+//! Scripts, and the chunks and the groups of a log, for these tests.
+ghost use Rattle.std.specs.Prelude.{IfOk};
+ghost use Rattle.std.specs.List.{All};
+ghost use Rattle.sym_check.specs.CheckedScripts.{checked_plan};
+ghost use Rattle.sym_table.specs.Rows.{FitsChunk, FitsHeader};
+
+use std::alloc::Global;
+use std::process::Abort;
+use std::test::Fail;
+use sym_base::{NoMemory, Record, Values};
+use sym_check::{Checked, check};
+use sym_parse::parse;
+use sym_plain::{Groups, fold_into};
+use sym_table::{Chunk, Cutter, Row, decode_into};
+
+/// The most rows of a log in these tests.
+const ROWS: usize = 400;
+
+/// A test under a script and a log.
+pub(crate) trait Case {
+    fn script(&self) -> &str;
+
+    fn holds(&self, alloc: Global, checked: &Checked) -> Result<bool, NoMemory>;
+}
+
+/// The script of a text; `None` if the text is refused.
+fn accepted(alloc: Global, text: &str) -> Option<Checked> {
+    if text.len() >= 10_000 {
+        return None;
+    }
+    match parse(alloc, text.as_bytes()) {
+        Ok(script) => check(alloc, script).ok(),
+        Err(_) => None,
+    }
+}
+
+fn case_holds<C: Case>(alloc: Global, case: &C) -> Result<bool, NoMemory> {
+    match accepted(alloc, case.script()) {
+        Some(checked) => case.holds(alloc, &checked),
+        None => Ok(false),
+    }
+}
+
+/// Fails the test at the first case that doesn't hold.
+pub(crate) fn check_cases<C: Case>(
+    rt: &impl Abort,
+    alloc: Global,
+    cases: &[C],
+) -> Result<(), Fail> {
+    'cases: for (place, case) in cases.iter().enumerate() {
+        if !case_holds(alloc, case)? {
+            panic!(rt; "case {place}");
+        }
+    }
+    Ok(())
+}
+
+/// The next chunk, if there is one, goes last.
+fn push_chunk(
+    alloc: Global,
+    checked: &Checked,
+    cutter: &mut Cutter<'_>,
+    chunks: &mut Vec<Chunk>,
+) -> Result<(), NoMemory>
+    requires header { FitsHeader (checked_plan checked.now).fields cutter.old.header }
+    requires fit { All (FitsChunk (checked_plan checked.now).fields) chunks.old.items }
+    ensures header { FitsHeader (checked_plan checked.now).fields cutter.new.header }
+    ensures fit { All (FitsChunk (checked_plan checked.now).fields) chunks.new.items }
+{
+    if let Some(chunk) = cutter.next(alloc)? {
+        chunks.push(chunk)?;
+    }
+    Ok(())
+}
+
+fn chunks_by(alloc: Global, checked: &Checked, cutter: Cutter<'_>) -> Result<Vec<Chunk>, NoMemory>
+    requires { FitsHeader (checked_plan checked.now).fields cutter.entry.header }
+    ensures { IfOk result (λ chunks.
+        All (FitsChunk (checked_plan checked.now).fields) chunks.items) }
+{
+    let mut cutter = cutter;
+    let mut chunks = Vec::new(alloc);
+    'chunks: for _place in 0..64 {
+        push_chunk(alloc, checked, &mut cutter, &mut chunks)?;
+    }
+    Ok(chunks)
+}
+
+/// The first 64 chunks of a log, of so many rows; none where the log has no header of the script.
+pub(crate) fn chunks_of(
+    alloc: Global,
+    checked: &Checked,
+    log: &str,
+    rows: u32,
+) -> Result<Vec<Chunk>, NoMemory>
+    ensures { IfOk result (λ chunks.
+        All (FitsChunk (checked_plan checked.now).fields) chunks.items) }
+{
+    if log.len() >= 100_000 || rows < 1 || rows > 1_024 {
+        return Ok(Vec::new(alloc));
+    }
+    match Cutter::open(alloc, checked, log.as_bytes(), 1, rows) {
+        Ok(cutter) => chunks_by(alloc, checked, cutter),
+        Err(_) => Ok(Vec::new(alloc)),
+    }
+}
+
+/// Folds the record of the next row; false where there is none.
+fn fold_row(
+    alloc: Global,
+    checked: &Checked,
+    cutter: &mut Cutter<'_>,
+    no: u64,
+    rec: &mut Record,
+    groups: &mut Groups,
+) -> Result<bool, NoMemory>
+    requires header { FitsHeader (checked_plan checked.now).fields cutter.old.header }
+    ensures header { FitsHeader (checked_plan checked.now).fields cutter.new.header }
+{
+    let mut row = Row::new(alloc);
+    if !cutter.next_row(&mut row)? {
+        return Ok(false);
+    }
+    if decode_into(alloc, checked, cutter.header(), &row, no, rec)?.is_some() {
+        return Ok(false);
+    }
+    fold_into(alloc, checked, groups, rec)?;
+    Ok(true)
+}
+
+fn passed_by(alloc: Global, checked: &Checked, cutter: Cutter<'_>) -> Result<Groups, NoMemory>
+    requires { FitsHeader (checked_plan checked.now).fields cutter.entry.header }
+{
+    let mut cutter = cutter;
+    let mut groups = Groups::new(alloc);
+    let mut rec = Record {
+        no: 0,
+        fields: Values::new(alloc),
+    };
+    'rows: for place in 0..ROWS {
+        let no = place as u64 + 1;
+        if !fold_row(alloc, checked, &mut cutter, no, &mut rec, &mut groups)? {
+            break;
+        }
+    }
+    Ok(groups)
+}
+
+/// The groups of the sequential pass over the records of a log, up to the first row that is none.
+pub(crate) fn passed(alloc: Global, checked: &Checked, log: &str) -> Result<Groups, NoMemory> {
+    if log.len() >= 100_000 {
+        return Ok(Groups::new(alloc));
+    }
+    match Cutter::open(alloc, checked, log.as_bytes(), 1, 1) {
+        Ok(cutter) => passed_by(alloc, checked, cutter),
+        Err(_) => Ok(Groups::new(alloc)),
+    }
+}
+
+fn same_group(left: &Groups, right: &Groups, index: usize) -> bool {
+    match (left.at(index), right.at(index)) {
+        (Some((key, outcome)), Some((other, stands))) => key == other && outcome == stands,
+        _ => false,
+    }
+}
+
+/// Whether the groups are the same, in the same order.
+pub(crate) fn same_groups(left: &Groups, right: &Groups) -> bool {
+    if left.len() != right.len() {
+        return false;
+    }
+    'groups: for index in 0..left.len() {
+        if !same_group(left, right, index) {
+            return false;
+        }
+    }
+    true
+}
