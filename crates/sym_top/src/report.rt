@@ -15,9 +15,13 @@ use crate::status::Status;
 use std::alloc::Global;
 use sym_base::{NoMemory, Store};
 use sym_check::Checked;
-use sym_engine::{CHUNK_DEFAULT, LIMIT_DEFAULT, Options, WORKERS_DEFAULT, pass};
+use sym_engine::{LIMIT_DEFAULT, Options, WORKERS_DEFAULT, pass};
 use sym_plain::Groups;
 use sym_report::{Heads, TableForm, heads, report_row};
+
+// The rows of a chunk. Rows are folded in their order, so that the groups don't depend on it: a
+// round is small enough that its rows are still in the cache when they are folded.
+const CHUNK_ROWS: u32 = 16;
 
 /// A report's text, and the status with which it is written.
 #[derive(Drop)]
@@ -136,7 +140,7 @@ pub fn report_files<F: Store>(
     ensures later { (other : List ℕ) → F.faults files.old other ≤ F.faults files.new other }
 {
     let options = Options {
-        chunk: CHUNK_DEFAULT,
+        chunk: CHUNK_ROWS,
         limit: LIMIT_DEFAULT,
         workers: WORKERS_DEFAULT,
         max_bytes,
