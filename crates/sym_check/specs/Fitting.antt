@@ -30,7 +30,7 @@ pub data FitsCell : CellPlan → Cell → Type 0 where
 abbrev pub FitsState : ScriptPlan → State → Type 0
 FitsState p s = AllZip FitsCell p.cells s.cells
 
--- A fault by a number names a cell that has a range, which an assignment or a push can leave.
+-- A fault by a number names a cell that has a range, whether or not it clamps.
 abbrev pub FitsFault : ScriptPlan → FaultKind → Type 0
 FitsFault p (fault.Over c) = IsSome (range_at p.cells c)
 FitsFault p fault.Arith = Unit {0}

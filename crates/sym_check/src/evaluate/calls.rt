@@ -1,4 +1,6 @@
-//! What the expressions of a checked script stand for at a record.
+//! What the expressions of a checked script stand for at a record. A name that stands for nothing,
+//! or for a value of another kind, counts as 0, the empty word or the label 0. So these calls need
+//! no condition; in a plan of a checked script no name does.
 ghost use Rattle.std.specs.Prelude.{◌≡◌, IfOk};
 ghost use Rattle.sym_check.specs.CheckedScripts.{checked_plan};
 ghost use Rattle.sym_check.specs.Conditions.{test_truth};
@@ -19,9 +21,6 @@ use crate::evaluate::truth::answer_at;
 use crate::plan::expression::{Fixed, Line, Num};
 use std::alloc::Global;
 use sym_base::{NoMemory, Record, Values};
-
-// A name that stands for nothing, or for a value of another kind, counts as 0, the empty word or
-// the label 0. So these calls need no condition; in a plan of a checked script no name does.
 
 /// The number of a fixed expression at a record. `locals` are those that were named so far, by
 /// their numbers. `Arith` is returned exactly where a step of it leaves `-NUM_MAX` to `NUM_MAX`
