@@ -74,7 +74,7 @@ fn push_chunk(
 }
 
 fn chunks_by(alloc: Global, checked: &Checked, cutter: Cutter<'_>) -> Result<Vec<Chunk>, NoMemory>
-    requires { FitsHeader (checked_plan checked.now).fields cutter.entry.header }
+    requires { FitsHeader (checked_plan checked.now).fields cutter.header }
     ensures { IfOk result (λ chunks.
         All (FitsChunk (checked_plan checked.now).fields) chunks.items) }
 {
@@ -129,7 +129,7 @@ fn fold_row(
 }
 
 fn passed_by(alloc: Global, checked: &Checked, cutter: Cutter<'_>) -> Result<Groups, NoMemory>
-    requires { FitsHeader (checked_plan checked.now).fields cutter.entry.header }
+    requires { FitsHeader (checked_plan checked.now).fields cutter.header }
 {
     let mut cutter = cutter;
     let mut groups = Groups::new(alloc);
