@@ -4,8 +4,8 @@ use Rattle.std.proofs.Math.Nat.{suc-mul}
 use Rattle.sym_base.specs.declared.values.record.Record.{Record}
 use Rattle.sym_base.specs.declared.values.state.Outcome.{Outcome}
 use Rattle.sym_base.specs.declared.values.state.Outcome.TheVariants.{Going}
-use Rattle.sym_check.specs.ScriptPlans.{ScriptPlan}
-use Rattle.sym_check.specs.Updates.{after, initial}
+use Rattle.sym_check.specs.Plan.ScriptPlans.{ScriptPlan}
+use Rattle.sym_check.specs.Meaning.Updates.{after, initial}
 use Rattle.sym_check.proofs.PlanLaws.{after_append}
 use Rattle.sym_bench.specs.declared.chain.Chain.{Chain}
 use Rattle.sym_bench.specs.Chains.{IsChainOf}

@@ -2,9 +2,9 @@
 ghost use Rattle.std.specs.Prelude.{◌≡◌, ◌++◌, ◌∷◌, [], List, All, IfOk};
 ghost use Rattle.sym_base.specs.declared.values.record.Record.{Record as OneRecord};
 ghost use Rattle.sym_base.specs.declared.values.state.Outcome.TheVariants.{Going};
-ghost use Rattle.sym_check.specs.CheckedScripts.{checked_plan};
-ghost use Rattle.sym_check.specs.Updates.{after, initial};
-ghost use Rattle.sym_check.specs.Validity.{IsRecord, IsValid, IsValidOutcome};
+ghost use Rattle.sym_check.specs.Checking.CheckedScripts.{checked_plan};
+ghost use Rattle.sym_check.specs.Meaning.Updates.{after, initial};
+ghost use Rattle.sym_check.specs.Meaning.Validity.{IsRecord, IsValid, IsValidOutcome};
 ghost use Rattle.sym_path.specs.Standing.{StandsFor};
 ghost use Rattle.sym_bench.specs.Chains.{IsChainOf};
 

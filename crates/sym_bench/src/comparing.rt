@@ -1,8 +1,8 @@
 //! Exploring beside the sequential step, over the same records.
 ghost use Rattle.std.specs.Prelude.{◌≡◌, ◌*◌, All, IfOk, length};
-ghost use Rattle.sym_check.specs.CheckedScripts.{checked_plan};
-ghost use Rattle.sym_check.specs.Updates.{after};
-ghost use Rattle.sym_check.specs.Validity.{IsRecord};
+ghost use Rattle.sym_check.specs.Checking.CheckedScripts.{checked_plan};
+ghost use Rattle.sym_check.specs.Meaning.Updates.{after};
+ghost use Rattle.sym_check.specs.Meaning.Validity.{IsRecord};
 ghost use Rattle.sym_bench.specs.Comparing.{Agree};
 
 use crate::chain::{Chain, explored, no_chain, outcome_of};

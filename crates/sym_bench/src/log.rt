@@ -1,8 +1,8 @@
 //! The records that are explored: a thousand, which are used in turn under running numbers.
 ghost use Rattle.std.specs.Prelude.{All, IfOk};
-ghost use Rattle.sym_check.specs.CheckedScripts.{checked_plan};
-ghost use Rattle.sym_check.specs.ScriptPlans.{ScriptPlan};
-ghost use Rattle.sym_check.specs.Validity.{IsRecord};
+ghost use Rattle.sym_check.specs.Checking.CheckedScripts.{checked_plan};
+ghost use Rattle.sym_check.specs.Plan.ScriptPlans.{ScriptPlan};
+ghost use Rattle.sym_check.specs.Meaning.Validity.{IsRecord};
 
 use crate::stop::Stop;
 use std::alloc::{AllocError, Global};

@@ -1,6 +1,6 @@
 //! Paths that follow one another, and paths that are settled.
 ghost use Rattle.std.specs.Prelude.{IfOk};
-ghost use Rattle.sym_check.specs.CheckedScripts.{checked_plan};
+ghost use Rattle.sym_check.specs.Checking.CheckedScripts.{checked_plan};
 ghost use Rattle.sym_path.specs.Fitting.{PathFits, SegmentFits};
 
 use crate::stop::Stop;

@@ -1,5 +1,5 @@
 //! The chains of runs: their segments by the limit, and copies.
-ghost use Rattle.sym_check.specs.CheckedScripts.{checked_plan};
+ghost use Rattle.sym_check.specs.Checking.CheckedScripts.{checked_plan};
 ghost use Rattle.sym_table.specs.Rows.{FitsChunk};
 
 use crate::logs::{SESSIONS, TOGGLE};

@@ -1,7 +1,7 @@
 //! Scripts, and the chunks and the groups of a log, for these tests.
 ghost use Rattle.std.specs.Prelude.{IfOk};
 ghost use Rattle.std.specs.List.{All};
-ghost use Rattle.sym_check.specs.CheckedScripts.{checked_plan};
+ghost use Rattle.sym_check.specs.Checking.CheckedScripts.{checked_plan};
 ghost use Rattle.sym_table.specs.Rows.{FitsChunk, FitsHeader};
 
 use std::alloc::Global;

@@ -19,23 +19,23 @@ use Rattle.sym_base.proofs.Numbers.{number-Decides}
 use Rattle.sym_check.specs.declared.plan.script.FieldPlan.{FieldPlan}
 use Rattle.sym_check.specs.declared.plan.script.KindPlan.{KindPlan}
 use Rattle.sym_check.specs.declared.plan.script.CellPlan.{CellPlan}
-use Rattle.sym_check.specs.ShowPlans.{ShowPlan}
-use Rattle.sym_check.specs.Columns.{ShownAs, Shows, IsColumn}
-use Rattle.sym_check.specs.Columns as columns
-use Rattle.sym_check.specs.ScriptPlans.{ScriptPlan, TestOf}
+use Rattle.sym_check.specs.Plan.ShowPlans.{ShowPlan}
+use Rattle.sym_check.specs.Meaning.Columns.{ShownAs, Shows, IsColumn}
+use Rattle.sym_check.specs.Meaning.Columns as columns
+use Rattle.sym_check.specs.Plan.ScriptPlans.{ScriptPlan, TestOf}
 use Rattle.sym_check.specs.declared.elaborate.scope.Variable.TheVariants as var
 use Rattle.sym_check.specs.declared.elaborate.scope.View.TheVariants as view
 use Rattle.sym_check.specs.declared.elaborate.scope.Meaning.{Meaning}
 use Rattle.sym_check.specs.declared.elaborate.scope.Meaning.TheVariants as meaning
-use Rattle.sym_check.specs.Scopes.{Scope, entry, is_label, hidden, in_tests, in_update, in_report}
-use Rattle.sym_check.specs.InOrder.{Each, none, one_more}
-use Rattle.sym_check.specs.Declarations.{unfinished, IsKindOf, IsLiteral, IsDefault, IsLabelDecl, IsEnumDecl, IsFieldDecl, IsGroupField, AreParts, IsCellDecl, IsStateDecl, IsParamDecl, IsTestDecl}
-use Rattle.sym_check.specs.Declarations as is
-use Rattle.sym_check.specs.Reports.{IsShown, IsColumnDecl}
-use Rattle.sym_check.specs.Reports as report
-use Rattle.sym_check.specs.Scripts.{names, IsAccepted}
-use Rattle.sym_check.specs.Validity.{IsOfKind, AreOfKinds, field_kinds}
-use Rattle.sym_check.specs.WellFormed.{IsKind, IsField, IsCell, IsTest, parameter_kinds, known_kinds, IsEnum, IsWellFormed}
+use Rattle.sym_check.specs.Rules.Scopes.{Scope, entry, is_label, hidden, in_tests, in_update, in_report}
+use Rattle.sym_check.specs.Rules.InOrder.{Each, none, one_more}
+use Rattle.sym_check.specs.Rules.Declarations.{unfinished, IsKindOf, IsLiteral, IsDefault, IsLabelDecl, IsEnumDecl, IsFieldDecl, IsGroupField, AreParts, IsCellDecl, IsStateDecl, IsParamDecl, IsTestDecl}
+use Rattle.sym_check.specs.Rules.Declarations as is
+use Rattle.sym_check.specs.Rules.Reports.{IsShown, IsColumnDecl}
+use Rattle.sym_check.specs.Rules.Reports as report
+use Rattle.sym_check.specs.Rules.Scripts.{names, IsAccepted}
+use Rattle.sym_check.specs.Meaning.Validity.{IsOfKind, AreOfKinds, field_kinds}
+use Rattle.sym_check.specs.Plan.WellFormed.{IsKind, IsField, IsCell, IsTest, parameter_kinds, known_kinds, IsEnum, IsWellFormed}
 use Rattle.sym_check.proofs.ScopesNamed.{IsThere, AreThere, there_more, there_both, there_seen, stands_there, both_true, unsigned_number, condition_well}
 use Rattle.sym_check.proofs.BlocksNamed.{expr_leaves, block_well}
 

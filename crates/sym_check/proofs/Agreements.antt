@@ -4,13 +4,13 @@ use Rattle.std.specs.Bool.{Decides}
 use Rattle.std.proofs.lemmas.Bool.Decides.{not_from_Decides}
 use Rattle.std.proofs.Common.{Bool, true, false, if◌then◌else◌, ◌≡◌, refl, sym, ap, subst, ◌∙◌, ℕ, ◌⊎◌, inl, inr, Option, Some, None, Result, Ok, Err}
 use Rattle.sym_base.specs.declared.tree.name.Name.{Name}
-use Rattle.sym_check.specs.Arithmetic.{and_then}
+use Rattle.sym_check.specs.Meaning.Arithmetic.{and_then}
 use Rattle.sym_check.specs.declared.elaborate.error.CheckErr.{CheckErr}
 use Rattle.sym_check.specs.declared.elaborate.error.CheckErr.TheVariants as broken
 use Rattle.sym_check.specs.declared.elaborate.scope.Meaning.{Meaning}
-use Rattle.sym_check.specs.Scopes.{Scope, find, Stands, IsFree}
-use Rattle.sym_check.specs.Elaborate.{kind_at}
-use Rattle.sym_check.specs.ElaborateStatements.{unless_taken}
+use Rattle.sym_check.specs.Rules.Scopes.{Scope, find, Stands, IsFree}
+use Rattle.sym_check.specs.Elaborate.Expressions.{kind_at}
+use Rattle.sym_check.specs.Elaborate.Statements.{unless_taken}
 
 pub record Agrees {A : Type 0} (Is : A → Type 0) (Broken : CheckErr → Type 0) (r : Result A CheckErr) : Type 0 where
   pub complete : (a : A) → Is a → r ≡ Ok a

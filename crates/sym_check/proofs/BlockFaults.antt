@@ -6,25 +6,25 @@ use Rattle.sym_base.specs.declared.tree.name.Name.{Name}
 use Rattle.sym_base.specs.Trees.{ExprTree, ExprsTree, StmtTree, Set, Push, Keep, KeepFrom, StmtsTree}
 use Rattle.sym_check.specs.declared.plan.script.KindPlan.{KindPlan}
 use Rattle.sym_check.specs.declared.plan.script.KindPlan.TheVariants as kind
-use Rattle.sym_check.specs.Arithmetic.{and_then}
-use Rattle.sym_check.specs.FixedPlans.{FixedPlan}
-use Rattle.sym_check.specs.FixedPlans as fixed
-use Rattle.sym_check.specs.LinePlans as line
-use Rattle.sym_check.specs.CondPlans.{CondPlan}
-use Rattle.sym_check.specs.DoPlans.{DoPlan}
-use Rattle.sym_check.specs.DoPlans as plan
+use Rattle.sym_check.specs.Meaning.Arithmetic.{and_then}
+use Rattle.sym_check.specs.Plan.FixedPlans.{FixedPlan}
+use Rattle.sym_check.specs.Plan.FixedPlans as fixed
+use Rattle.sym_check.specs.Plan.LinePlans as line
+use Rattle.sym_check.specs.Plan.CondPlans.{CondPlan}
+use Rattle.sym_check.specs.Plan.DoPlans.{DoPlan}
+use Rattle.sym_check.specs.Plan.DoPlans as plan
 use Rattle.sym_check.specs.declared.elaborate.error.CheckErr.{CheckErr}
 use Rattle.sym_check.specs.declared.elaborate.error.CheckErr.TheVariants as broken
 use Rattle.sym_check.specs.declared.elaborate.scope.Meaning.{Meaning}
 use Rattle.sym_check.specs.declared.elaborate.scope.Meaning.TheVariants as meaning
-use Rattle.sym_check.specs.Scopes.{Scope, find, Stands}
-use Rattle.sym_check.specs.Typing.{Typed, Number, Word, Label, EnumCell, HoldCell, Truth, Means, IsValue, IsCondition}
-use Rattle.sym_check.specs.Typing as typing
-use Rattle.sym_check.specs.Breaks.{place, WrongValue}
-use Rattle.sym_check.specs.Elaborate.{kind_at, same_kind, infer, operands, condition}
-use Rattle.sym_check.specs.BreaksStatements.{IsAssignedCell, IsPushedCell, IsKeptCell, BreaksName, Names, HasNoPlan, BreaksStmt, BreaksBlock}
-use Rattle.sym_check.specs.BreaksStatements as rule
-use Rattle.sym_check.specs.ElaborateStatements.{unless_taken, let_value, Target, ToInt, ToEnum, ToNums, ToWords, assigned, pushed, Kept, kept, placed_in, kept_from, PlannedDo, statement, block}
+use Rattle.sym_check.specs.Rules.Scopes.{Scope, find, Stands}
+use Rattle.sym_check.specs.Rules.Typing.{Typed, Number, Word, Label, EnumCell, HoldCell, Truth, Means, IsValue, IsCondition}
+use Rattle.sym_check.specs.Rules.Typing as typing
+use Rattle.sym_check.specs.Breaks.Expressions.{place, WrongValue}
+use Rattle.sym_check.specs.Elaborate.Expressions.{kind_at, same_kind, infer, operands, condition}
+use Rattle.sym_check.specs.Breaks.Statements.{IsAssignedCell, IsPushedCell, IsKeptCell, BreaksName, Names, HasNoPlan, BreaksStmt, BreaksBlock}
+use Rattle.sym_check.specs.Breaks.Statements as rule
+use Rattle.sym_check.specs.Elaborate.Statements.{unless_taken, let_value, Target, ToInt, ToEnum, ToNums, ToWords, assigned, pushed, Kept, kept, placed_in, kept_from, PlannedDo, statement, block}
 use Rattle.sym_check.proofs.SameKinds.{same_number, other_number}
 use Rattle.sym_check.proofs.ExpressionsComplete.{means_inferred, condition_inferred}
 use Rattle.sym_check.proofs.OperatorsFound.{is_num, is_word, is_label, is_condition}

@@ -3,11 +3,11 @@
 use Rattle.std.proofs.Common.{◌≡◌, sym, ap, ◌∙◌, subst, ℕ, ◌⊎◌, inl, inr, Result, Ok, Err}
 use Rattle.sym_base.specs.Trees.{StmtTree, StmtsTree}
 use Rattle.sym_check.specs.declared.elaborate.error.CheckErr.{CheckErr}
-use Rattle.sym_check.specs.DoPlans.{DoPlan, DosPlan}
-use Rattle.sym_check.specs.Scopes.{Scope}
-use Rattle.sym_check.specs.Statements.{IsStmt, IsBlock}
-use Rattle.sym_check.specs.BreaksStatements.{BreaksStmt, BreaksBlock}
-use Rattle.sym_check.specs.ElaborateStatements.{PlannedDo, PlannedDos, statement, block}
+use Rattle.sym_check.specs.Plan.DoPlans.{DoPlan, DosPlan}
+use Rattle.sym_check.specs.Rules.Scopes.{Scope}
+use Rattle.sym_check.specs.Rules.Statements.{IsStmt, IsBlock}
+use Rattle.sym_check.specs.Breaks.Statements.{BreaksStmt, BreaksBlock}
+use Rattle.sym_check.specs.Elaborate.Statements.{PlannedDo, PlannedDos, statement, block}
 use Rattle.sym_check.proofs.Agreements.{Agrees}
 use Rattle.sym_check.proofs.BlocksComplete as complete
 use Rattle.sym_check.proofs.BlocksFound.{StmtOutcome, planned, unplanned, stmt_outcome, BlockOutcome, block_is, block_breaks, block_outcome}

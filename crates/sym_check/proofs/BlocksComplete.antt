@@ -2,19 +2,19 @@
 use Rattle.std.proofs.Common.{◌≡◌, refl, ℕ, length, Ok, Err}
 use Rattle.sym_base.specs.Trees.{ExprTree, StmtTree, StmtsTree}
 use Rattle.sym_check.specs.declared.plan.script.KindPlan.{KindPlan}
-use Rattle.sym_check.specs.FixedPlans.{FixedPlan}
-use Rattle.sym_check.specs.LinePlans as line
-use Rattle.sym_check.specs.DoPlans.{DoPlan, DosPlan}
+use Rattle.sym_check.specs.Plan.FixedPlans.{FixedPlan}
+use Rattle.sym_check.specs.Plan.LinePlans as line
+use Rattle.sym_check.specs.Plan.DoPlans.{DoPlan, DosPlan}
 use Rattle.sym_check.specs.declared.elaborate.error.CheckErr.{CheckErr}
-use Rattle.sym_check.specs.Scopes.{Scope}
-use Rattle.sym_check.specs.Typing.{Typed, Number, Word, Label, EnumCell, HoldCell, Truth, IsValue}
-use Rattle.sym_check.specs.Typing as typing
-use Rattle.sym_check.specs.Breaks.{place}
-use Rattle.sym_check.specs.Elaborate.{infer}
-use Rattle.sym_check.specs.Statements.{local_entry, IsStmt, IsBlock}
-use Rattle.sym_check.specs.Statements as rule
-use Rattle.sym_check.specs.BreaksStatements.{HasNoPlan}
-use Rattle.sym_check.specs.ElaborateStatements.{let_value, statement, block}
+use Rattle.sym_check.specs.Rules.Scopes.{Scope}
+use Rattle.sym_check.specs.Rules.Typing.{Typed, Number, Word, Label, EnumCell, HoldCell, Truth, IsValue}
+use Rattle.sym_check.specs.Rules.Typing as typing
+use Rattle.sym_check.specs.Breaks.Expressions.{place}
+use Rattle.sym_check.specs.Elaborate.Expressions.{infer}
+use Rattle.sym_check.specs.Rules.Statements.{local_entry, IsStmt, IsBlock}
+use Rattle.sym_check.specs.Rules.Statements as rule
+use Rattle.sym_check.specs.Breaks.Statements.{HasNoPlan}
+use Rattle.sym_check.specs.Elaborate.Statements.{let_value, statement, block}
 use Rattle.sym_check.proofs.SameKinds.{same_kinds, same_number, other_number}
 use Rattle.sym_check.proofs.ExpressionsComplete.{num_inferred, word_inferred, label_inferred, term_inferred, condition_inferred, ValuesInferred, values_inferred}
 

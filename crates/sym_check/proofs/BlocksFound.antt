@@ -7,26 +7,26 @@ use Rattle.sym_base.specs.Trees.{ExprTree, ExprsTree, StmtTree, Let, Set, Push, 
 use Rattle.sym_check.specs.declared.plan.expression.LabelOf.{LabelOf}
 use Rattle.sym_check.specs.declared.plan.script.KindPlan.{KindPlan}
 use Rattle.sym_check.specs.declared.plan.script.KindPlan.TheVariants as kind
-use Rattle.sym_check.specs.FixedPlans.{FixedPlan}
-use Rattle.sym_check.specs.FixedPlans as fixed
-use Rattle.sym_check.specs.LinePlans as line
-use Rattle.sym_check.specs.CondPlans.{CondPlan}
-use Rattle.sym_check.specs.DoPlans.{DoPlan, DosPlan}
-use Rattle.sym_check.specs.DoPlans as plan
+use Rattle.sym_check.specs.Plan.FixedPlans.{FixedPlan}
+use Rattle.sym_check.specs.Plan.FixedPlans as fixed
+use Rattle.sym_check.specs.Plan.LinePlans as line
+use Rattle.sym_check.specs.Plan.CondPlans.{CondPlan}
+use Rattle.sym_check.specs.Plan.DoPlans.{DoPlan, DosPlan}
+use Rattle.sym_check.specs.Plan.DoPlans as plan
 use Rattle.sym_check.specs.declared.elaborate.error.CheckErr.{CheckErr}
 use Rattle.sym_check.specs.declared.elaborate.error.CheckErr.TheVariants as broken
 use Rattle.sym_check.specs.declared.elaborate.scope.Meaning.{Meaning}
 use Rattle.sym_check.specs.declared.elaborate.scope.Meaning.TheVariants as meaning
-use Rattle.sym_check.specs.Scopes.{Scope, find, Stands, IsFree}
-use Rattle.sym_check.specs.Typing.{Typed, Number, Word, Label, EnumCell, HoldCell, Truth, Means, IsLabel, IsValue, IsCondition}
-use Rattle.sym_check.specs.Typing as typing
-use Rattle.sym_check.specs.Breaks.{place, AreOperands}
-use Rattle.sym_check.specs.Elaborate.{kind_at, same_kind, Located, infer, operands, condition}
-use Rattle.sym_check.specs.Statements.{local_entry, IsStmt, IsBlock}
-use Rattle.sym_check.specs.Statements as fits
-use Rattle.sym_check.specs.BreaksStatements.{IsAssignedCell, IsPushedCell, IsKeptCell, BreaksName, Names, HasNoPlan, BreaksStmt, BreaksBlock}
-use Rattle.sym_check.specs.BreaksStatements as rule
-use Rattle.sym_check.specs.ElaborateStatements.{let_value, assigned, pushed, kept, PlannedDo, PlannedDos, statement, block}
+use Rattle.sym_check.specs.Rules.Scopes.{Scope, find, Stands, IsFree}
+use Rattle.sym_check.specs.Rules.Typing.{Typed, Number, Word, Label, EnumCell, HoldCell, Truth, Means, IsLabel, IsValue, IsCondition}
+use Rattle.sym_check.specs.Rules.Typing as typing
+use Rattle.sym_check.specs.Breaks.Expressions.{place, AreOperands}
+use Rattle.sym_check.specs.Elaborate.Expressions.{kind_at, same_kind, Located, infer, operands, condition}
+use Rattle.sym_check.specs.Rules.Statements.{local_entry, IsStmt, IsBlock}
+use Rattle.sym_check.specs.Rules.Statements as fits
+use Rattle.sym_check.specs.Breaks.Statements.{IsAssignedCell, IsPushedCell, IsKeptCell, BreaksName, Names, HasNoPlan, BreaksStmt, BreaksBlock}
+use Rattle.sym_check.specs.Breaks.Statements as rule
+use Rattle.sym_check.specs.Elaborate.Statements.{let_value, assigned, pushed, kept, PlannedDo, PlannedDos, statement, block}
 use Rattle.sym_check.proofs.SameKinds.{kinds_are_same, same_number, numbers_are_same}
 use Rattle.sym_check.proofs.ExpressionsComplete.{one_meaning}
 use Rattle.sym_check.proofs.OperatorsFound.{is_num, is_term, is_word, is_label, is_condition}

@@ -7,16 +7,16 @@ use Rattle.sym_base.specs.Lawful.{is_lawful_name, has_some, has_lawful_leaves, h
 use Rattle.sym_base.specs.Trees.{ExprTree, ExprsTree, End, More, StmtTree, StmtsTree}
 use Rattle.sym_check.specs.declared.plan.script.KindPlan.{KindPlan}
 use Rattle.sym_check.specs.declared.plan.script.KindPlan.TheVariants as kind
-use Rattle.sym_check.specs.DoPlans.{DoPlan, DosPlan}
-use Rattle.sym_check.specs.ScriptPlans.{ScriptPlan}
+use Rattle.sym_check.specs.Plan.DoPlans.{DoPlan, DosPlan}
+use Rattle.sym_check.specs.Plan.ScriptPlans.{ScriptPlan}
 use Rattle.sym_check.specs.declared.elaborate.scope.Variable.TheVariants as var
 use Rattle.sym_check.specs.declared.elaborate.scope.Meaning.{Meaning}
 use Rattle.sym_check.specs.declared.elaborate.scope.Meaning.TheVariants as meaning
-use Rattle.sym_check.specs.Scopes.{Scope}
-use Rattle.sym_check.specs.Statements.{local_entry, IsStmt, IsBlock}
-use Rattle.sym_check.specs.Statements as is
-use Rattle.sym_check.specs.WellFormed.{Kinds, with_kind, IsDo, IsDos}
-use Rattle.sym_check.specs.WellFormed as well
+use Rattle.sym_check.specs.Rules.Scopes.{Scope}
+use Rattle.sym_check.specs.Rules.Statements.{local_entry, IsStmt, IsBlock}
+use Rattle.sym_check.specs.Rules.Statements as is
+use Rattle.sym_check.specs.Plan.WellFormed.{Kinds, with_kind, IsDo, IsDos}
+use Rattle.sym_check.specs.Plan.WellFormed as well
 use Rattle.sym_check.proofs.ScopesNamed.{IsThere, AreThere, there_more, there_as, stands_there, both_true, term_well, value_well, values_well, condition_well, fixed_word_well, fixed_label_well}
 
 -- Lists that grow.

@@ -5,15 +5,15 @@ use Rattle.std.proofs.Math.Seq.{take-append_seam, drop-append_seam}
 use Rattle.sym_base.specs.declared.tree.name.Name.{Name}
 use Rattle.sym_base.specs.Trees.{ExprTree, Call, ExprsTree, More}
 use Rattle.sym_check.specs.declared.plan.script.KindPlan.{KindPlan}
-use Rattle.sym_check.specs.Arithmetic.{and_then}
-use Rattle.sym_check.specs.FixedPlans.{FixedPlan}
-use Rattle.sym_check.specs.CondPlans as cond
+use Rattle.sym_check.specs.Meaning.Arithmetic.{and_then}
+use Rattle.sym_check.specs.Plan.FixedPlans.{FixedPlan}
+use Rattle.sym_check.specs.Plan.CondPlans as cond
 use Rattle.sym_check.specs.declared.elaborate.error.CheckErr.{CheckErr}
-use Rattle.sym_check.specs.Scopes.{Scope, Stands}
+use Rattle.sym_check.specs.Rules.Scopes.{Scope, Stands}
 use Rattle.sym_check.specs.declared.elaborate.scope.Meaning.TheVariants as meaning
-use Rattle.sym_check.specs.Typing.{Typed, HoldCell, Truth}
-use Rattle.sym_check.specs.Breaks.{place, IsFirst}
-use Rattle.sym_check.specs.Elaborate.{kind_at, Located, TestNamed, Arguments, values_of, called_on, infer, operands}
+use Rattle.sym_check.specs.Rules.Typing.{Typed, HoldCell, Truth}
+use Rattle.sym_check.specs.Breaks.Expressions.{place, IsFirst}
+use Rattle.sym_check.specs.Elaborate.Expressions.{kind_at, Located, TestNamed, Arguments, values_of, called_on, infer, operands}
 use Rattle.sym_check.proofs.SameKinds.{same_kinds, other_kinds, same_number, other_number}
 use Rattle.sym_check.proofs.OperandOutcomes.{first_passes}
 

@@ -6,10 +6,10 @@ use Rattle.std.specs.Cmp.Lexicographic.{pointwise}
 use Rattle.sym_check.specs.declared.elaborate.error.CheckErr.{CheckErr}
 use Rattle.sym_check.specs.declared.elaborate.error.CheckErr.TheVariants as broken
 use Rattle.sym_check.specs.declared.plan.script.KindPlan.{KindPlan}
-use Rattle.sym_check.specs.Arithmetic.{and_then}
-use Rattle.sym_check.specs.CondPlans as cond
-use Rattle.sym_check.specs.Elaborate.{TestNamed, Arguments, same_kind, values_of, called_on}
-use Rattle.sym_check.specs.Typing.{HoldCell, Truth}
+use Rattle.sym_check.specs.Meaning.Arithmetic.{and_then}
+use Rattle.sym_check.specs.Plan.CondPlans as cond
+use Rattle.sym_check.specs.Elaborate.Expressions.{TestNamed, Arguments, same_kind, values_of, called_on}
+use Rattle.sym_check.specs.Rules.Typing.{HoldCell, Truth}
 
 -- The rest of a list, cut out of it.
 pub rest-whole : {A : Type 0} (n : ℕ) (xs : List A) → take (length xs - n) (drop n xs) ≡ drop n xs

@@ -17,14 +17,14 @@ use Rattle.sym_check.specs.declared.plan.script.KindPlan.TheVariants as kind
 use Rattle.sym_check.specs.declared.plan.script.CellPlan.TheVariants as plan
 use Rattle.sym_check.specs.declared.plan.expression.LabelOf.TheVariants as label
 use Rattle.sym_check.specs.declared.plan.show.ShowFn.TheVariants as show_fn
-use Rattle.sym_check.specs.FixedPlans as fixed
-use Rattle.sym_check.specs.LinePlans as line
-use Rattle.sym_check.specs.CondPlans as cond
-use Rattle.sym_check.specs.DoPlans as do_
-use Rattle.sym_check.specs.ShowPlans as show
-use Rattle.sym_check.specs.ScriptPlans.{ScriptPlan}
+use Rattle.sym_check.specs.Plan.FixedPlans as fixed
+use Rattle.sym_check.specs.Plan.LinePlans as line
+use Rattle.sym_check.specs.Plan.CondPlans as cond
+use Rattle.sym_check.specs.Plan.DoPlans as do_
+use Rattle.sym_check.specs.Plan.ShowPlans as show
+use Rattle.sym_check.specs.Plan.ScriptPlans.{ScriptPlan}
 use Rattle.sym_check.specs.declared.elaborate.error.CheckErr.TheVariants as broken
-use Rattle.sym_check.specs.Scripts.{plan_of}
+use Rattle.sym_check.specs.Rules.Scripts.{plan_of}
 
 abbrev n_at : ℕ → Name
 n_at at = record { text = codes "n"; at = at }

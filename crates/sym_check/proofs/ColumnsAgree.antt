@@ -3,25 +3,25 @@ use Rattle.std.proofs.Common.{◌≡◌, refl, subst, ℕ, Bool, true, false, if
 use Rattle.sym_base.specs.declared.tree.name.Name.{Name}
 use Rattle.sym_base.specs.Trees.{ColumnTree, ExprTree, Named}
 use Rattle.sym_check.specs.declared.plan.script.KindPlan.{KindPlan}
-use Rattle.sym_check.specs.Columns.{ShownAs, as_number, as_word, as_list}
-use Rattle.sym_check.specs.Conditions.{same_word}
-use Rattle.sym_check.specs.ShowPlans.{ShowPlan}
-use Rattle.sym_check.specs.ShowPlans as show
-use Rattle.sym_check.specs.ScriptPlans.{ColumnOf}
+use Rattle.sym_check.specs.Meaning.Columns.{ShownAs, as_number, as_word, as_list}
+use Rattle.sym_check.specs.Meaning.Conditions.{same_word}
+use Rattle.sym_check.specs.Plan.ShowPlans.{ShowPlan}
+use Rattle.sym_check.specs.Plan.ShowPlans as show
+use Rattle.sym_check.specs.Plan.ScriptPlans.{ColumnOf}
 use Rattle.sym_check.specs.declared.elaborate.error.CheckErr.{CheckErr}
 use Rattle.sym_check.specs.declared.elaborate.error.CheckErr.TheVariants as broken
 use Rattle.sym_check.specs.declared.elaborate.scope.View.{View}
 use Rattle.sym_check.specs.declared.elaborate.scope.View.TheVariants as view
 use Rattle.sym_check.specs.declared.elaborate.scope.Meaning.{Meaning}
 use Rattle.sym_check.specs.declared.elaborate.scope.Meaning.TheVariants as meaning
-use Rattle.sym_check.specs.Scopes.{Scope, entry, find, Stands, IsFree, shows, visible, in_report}
-use Rattle.sym_check.specs.Breaks.{place}
-use Rattle.sym_check.specs.InOrder.{Planned}
-use Rattle.sym_check.specs.Reports.{IsShown, IsColumnDecl}
-use Rattle.sym_check.specs.Reports as is
-use Rattle.sym_check.specs.BreaksReports.{BreaksShown, BreaksColumn}
-use Rattle.sym_check.specs.BreaksReports as breaks
-use Rattle.sym_check.specs.ElaborateReports.{Seen, Numeral, Number, Word, NumList, WordList, Parts, shown, column_decl}
+use Rattle.sym_check.specs.Rules.Scopes.{Scope, entry, find, Stands, IsFree, shows, visible, in_report}
+use Rattle.sym_check.specs.Breaks.Expressions.{place}
+use Rattle.sym_check.specs.Rules.InOrder.{Planned}
+use Rattle.sym_check.specs.Rules.Reports.{IsShown, IsColumnDecl}
+use Rattle.sym_check.specs.Rules.Reports as is
+use Rattle.sym_check.specs.Breaks.Reports.{BreaksShown, BreaksColumn}
+use Rattle.sym_check.specs.Breaks.Reports as breaks
+use Rattle.sym_check.specs.Elaborate.Reports.{Seen, Numeral, Number, Word, NumList, WordList, Parts, shown, column_decl}
 use Rattle.sym_check.proofs.Agreements.{in_words, then_agrees, then_made, IsKinded, of_kind, of_no_kind, free_agrees}
 use Rattle.sym_check.proofs.ListsAgree.{Plans}
 use Rattle.sym_check.proofs.StatesAgree.{TakenOr}

@@ -10,19 +10,19 @@ use Rattle.sym_base.specs.declared.values.value.Value.{Value}
 use Rattle.sym_base.specs.declared.values.value.Value.TheVariants as value
 use Rattle.sym_check.specs.declared.plan.script.KindPlan.{KindPlan}
 use Rattle.sym_check.specs.declared.plan.script.KindPlan.TheVariants as kind
-use Rattle.sym_check.specs.Arithmetic.{and_then}
+use Rattle.sym_check.specs.Meaning.Arithmetic.{and_then}
 use Rattle.sym_check.specs.declared.elaborate.error.CheckErr.{CheckErr}
 use Rattle.sym_check.specs.declared.elaborate.error.CheckErr.TheVariants as broken
 use Rattle.sym_check.specs.declared.elaborate.scope.Variable.TheVariants as var
 use Rattle.sym_check.specs.declared.elaborate.scope.Meaning.{Meaning}
 use Rattle.sym_check.specs.declared.elaborate.scope.Meaning.TheVariants as meaning
-use Rattle.sym_check.specs.Scopes.{Scope, find, Stands, IsFree}
-use Rattle.sym_check.specs.Elaborate.{kind_at}
-use Rattle.sym_check.specs.Declarations.{IsKindOf, IsLiteral, IsDefault}
-use Rattle.sym_check.specs.Declarations as is
-use Rattle.sym_check.specs.BreaksDeclarations.{BreaksKind, literal_place, IsVisible, BreaksLiteral}
-use Rattle.sym_check.specs.BreaksDeclarations as breaks
-use Rattle.sym_check.specs.ElaborateDeclarations.{enum_named, label_named, field_named, kind_of, no_label, literal_of, default_of}
+use Rattle.sym_check.specs.Rules.Scopes.{Scope, find, Stands, IsFree}
+use Rattle.sym_check.specs.Elaborate.Expressions.{kind_at}
+use Rattle.sym_check.specs.Rules.Declarations.{IsKindOf, IsLiteral, IsDefault}
+use Rattle.sym_check.specs.Rules.Declarations as is
+use Rattle.sym_check.specs.Breaks.Declarations.{BreaksKind, literal_place, IsVisible, BreaksLiteral}
+use Rattle.sym_check.specs.Breaks.Declarations as breaks
+use Rattle.sym_check.specs.Elaborate.Declarations.{enum_named, label_named, field_named, kind_of, no_label, literal_of, default_of}
 use Rattle.sym_check.proofs.Agreements.{Agrees, in_words, only_value, only_fault, then_made, IsKinded, of_kind, of_no_kind, where_true, named_agrees, stands_once, stands_or_free}
 
 -- The enum that a name stands for, by what it stands for; so too a label and a field.

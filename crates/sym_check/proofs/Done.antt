@@ -5,9 +5,9 @@ use Rattle.sym_base.specs.declared.tree.declaration.Part.{Part}
 use Rattle.sym_base.specs.declared.values.value.Value.{Value}
 use Rattle.sym_check.specs.declared.plan.script.KindPlan.{KindPlan}
 use Rattle.sym_check.specs.declared.elaborate.error.CheckErr.{CheckErr}
-use Rattle.sym_check.specs.Scopes.{Scope}
-use Rattle.sym_check.specs.InOrder.{Planned, each}
-use Rattle.sym_check.specs.ElaborateDeclarations.{PlannedParts, parts_of}
+use Rattle.sym_check.specs.Rules.Scopes.{Scope}
+use Rattle.sym_check.specs.Rules.InOrder.{Planned, each}
+use Rattle.sym_check.specs.Elaborate.Declarations.{PlannedParts, parts_of}
 
 abbrev pub behind : {B : Type 0} → List B → Result (Planned (List B)) CheckErr → Result (Planned (List B)) CheckErr
 behind bs (Ok r) = Ok (record { plan = bs ++ r.plan; scope = r.scope })

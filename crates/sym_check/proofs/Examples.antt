@@ -13,18 +13,18 @@ use Rattle.sym_check.specs.declared.plan.expression.LabelOf.TheVariants as label
 use Rattle.sym_check.specs.declared.plan.script.FieldPlan.{FieldPlan}
 use Rattle.sym_check.specs.declared.plan.script.KindPlan.TheVariants as kind
 use Rattle.sym_check.specs.declared.plan.script.CellPlan.TheVariants as plan
-use Rattle.sym_check.specs.FixedPlans as fixed
-use Rattle.sym_check.specs.LinePlans as line
-use Rattle.sym_check.specs.CondPlans.{CondPlan, Compared, CellIs, LabelIs, Test, And, Or}
-use Rattle.sym_check.specs.DoPlans.{Let, SetInt, SetEnum, Keep, PushNum, If, DosPlan, End, Then}
-use Rattle.sym_check.specs.ScriptPlans.{ScriptPlan}
-use Rattle.sym_check.specs.Arithmetic.{failed, calculated}
-use Rattle.sym_check.specs.FixedValues.{Environment, number}
-use Rattle.sym_check.specs.LineValues.{pair}
-use Rattle.sym_check.specs.Conditions.{truth, no_test, no_cells, test_truth}
-use Rattle.sym_check.specs.Updates.{initial, step, after}
-use Rattle.sym_check.specs.Groups.{key_of, pass}
-use Rattle.sym_check.specs.PathBounds.{path_bound}
+use Rattle.sym_check.specs.Plan.FixedPlans as fixed
+use Rattle.sym_check.specs.Plan.LinePlans as line
+use Rattle.sym_check.specs.Plan.CondPlans.{CondPlan, Compared, CellIs, LabelIs, Test, And, Or}
+use Rattle.sym_check.specs.Plan.DoPlans.{Let, SetInt, SetEnum, Keep, PushNum, If, DosPlan, End, Then}
+use Rattle.sym_check.specs.Plan.ScriptPlans.{ScriptPlan}
+use Rattle.sym_check.specs.Meaning.Arithmetic.{failed, calculated}
+use Rattle.sym_check.specs.Meaning.FixedValues.{Environment, number}
+use Rattle.sym_check.specs.Meaning.LineValues.{pair}
+use Rattle.sym_check.specs.Meaning.Conditions.{truth, no_test, no_cells, test_truth}
+use Rattle.sym_check.specs.Meaning.Updates.{initial, step, after}
+use Rattle.sym_check.specs.Meaning.Groups.{key_of, pass}
+use Rattle.sym_check.specs.Meaning.PathBounds.{path_bound}
 
 abbrev nothing : Environment
 nothing = record { fields = []; locals = []; params = [] }

@@ -8,12 +8,12 @@ use Rattle.sym_check.specs.declared.elaborate.error.CheckErr.{CheckErr}
 use Rattle.sym_check.specs.declared.elaborate.error.CheckErr.TheVariants as broken
 use Rattle.sym_check.specs.declared.elaborate.scope.Meaning.{Meaning}
 use Rattle.sym_check.specs.declared.elaborate.scope.Meaning.TheVariants as meaning
-use Rattle.sym_check.specs.Scopes.{Scope, Stands}
-use Rattle.sym_check.specs.Typing.{Typed, Number, Word, Label, EnumCell, HoldCell, Truth, Means, HasMeaning}
-use Rattle.sym_check.specs.Typing as typing
-use Rattle.sym_check.specs.Breaks.{place, IsOperand, IsLeft, IsFirst, TakesNumbers, AreOperands, WrongCall, Breaks, BreaksOperands}
-use Rattle.sym_check.specs.Breaks as rule
-use Rattle.sym_check.specs.Elaborate.{kind_at, TestNamed, Arguments, test_named, negated, inverted, called_on, joined, infer, operands}
+use Rattle.sym_check.specs.Rules.Scopes.{Scope, Stands}
+use Rattle.sym_check.specs.Rules.Typing.{Typed, Number, Word, Label, EnumCell, HoldCell, Truth, Means, HasMeaning}
+use Rattle.sym_check.specs.Rules.Typing as typing
+use Rattle.sym_check.specs.Breaks.Expressions.{place, IsOperand, IsLeft, IsFirst, TakesNumbers, AreOperands, WrongCall, Breaks, BreaksOperands}
+use Rattle.sym_check.specs.Breaks.Expressions as rule
+use Rattle.sym_check.specs.Elaborate.Expressions.{kind_at, TestNamed, Arguments, test_named, negated, inverted, called_on, joined, infer, operands}
 use Rattle.sym_check.proofs.OperandOutcomes.{operand_passes, no_operand, first_passes, no_first, left_passes, no_left, bin_outcome}
 use Rattle.sym_check.proofs.CallOutcomes.{call_outcome, wrong_number_called, wrong_cell_called, right_cell_called}
 use Rattle.sym_check.proofs.ExpressionsComplete.{means_inferred}

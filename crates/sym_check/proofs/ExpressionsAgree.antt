@@ -3,11 +3,11 @@
 use Rattle.std.proofs.Common.{◌≡◌, subst, ℕ, ◌⊎◌, inl, inr, List, length, Ok, Err}
 use Rattle.sym_base.specs.Trees.{ExprTree, ExprsTree}
 use Rattle.sym_check.specs.declared.elaborate.error.CheckErr.{CheckErr}
-use Rattle.sym_check.specs.CondPlans.{CondPlan}
-use Rattle.sym_check.specs.Scopes.{Scope}
-use Rattle.sym_check.specs.Typing.{Typed, Truth, Means, HasMeaning, IsCondition}
-use Rattle.sym_check.specs.Breaks.{AreOperands, Breaks, BreaksOperands}
-use Rattle.sym_check.specs.Elaborate.{Located, infer, operands}
+use Rattle.sym_check.specs.Plan.CondPlans.{CondPlan}
+use Rattle.sym_check.specs.Rules.Scopes.{Scope}
+use Rattle.sym_check.specs.Rules.Typing.{Typed, Truth, Means, HasMeaning, IsCondition}
+use Rattle.sym_check.specs.Breaks.Expressions.{AreOperands, Breaks, BreaksOperands}
+use Rattle.sym_check.specs.Elaborate.Expressions.{Located, infer, operands}
 use Rattle.sym_check.proofs.Agreements.{Agrees}
 use Rattle.sym_check.proofs.ExpressionsComplete as complete
 use Rattle.sym_check.proofs.OperatorsFound.{is_condition}

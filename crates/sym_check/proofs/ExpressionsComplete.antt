@@ -5,16 +5,16 @@ use Rattle.sym_base.specs.Trees.{ExprTree, Named, ExprsTree}
 use Rattle.sym_check.specs.declared.plan.expression.WordOf.{WordOf}
 use Rattle.sym_check.specs.declared.plan.expression.LabelOf.{LabelOf}
 use Rattle.sym_check.specs.declared.plan.script.KindPlan.{KindPlan}
-use Rattle.sym_check.specs.FixedPlans.{NumPlan, FixedPlan}
-use Rattle.sym_check.specs.LinePlans.{LinePlan, TermPlan}
-use Rattle.sym_check.specs.LinePlans as line
-use Rattle.sym_check.specs.CondPlans.{CondPlan}
+use Rattle.sym_check.specs.Plan.FixedPlans.{NumPlan, FixedPlan}
+use Rattle.sym_check.specs.Plan.LinePlans.{LinePlan, TermPlan}
+use Rattle.sym_check.specs.Plan.LinePlans as line
+use Rattle.sym_check.specs.Plan.CondPlans.{CondPlan}
 use Rattle.sym_check.specs.declared.elaborate.error.CheckErr.{CheckErr}
-use Rattle.sym_check.specs.Scopes.{Scope}
-use Rattle.sym_check.specs.Typing.{Typed, Number, Word, Label, EnumCell, HoldCell, Truth, IsNum, IsWord, IsLabel, IsLine, IsTerm, IsValue, AreValues, IsCondition, Means, HasMeaning}
-use Rattle.sym_check.specs.Typing as typing
-use Rattle.sym_check.specs.Breaks.{place, IsOperand}
-use Rattle.sym_check.specs.Elaborate.{Located, value_of, values_of, infer, operands}
+use Rattle.sym_check.specs.Rules.Scopes.{Scope}
+use Rattle.sym_check.specs.Rules.Typing.{Typed, Number, Word, Label, EnumCell, HoldCell, Truth, IsNum, IsWord, IsLabel, IsLine, IsTerm, IsValue, AreValues, IsCondition, Means, HasMeaning}
+use Rattle.sym_check.specs.Rules.Typing as typing
+use Rattle.sym_check.specs.Breaks.Expressions.{place, IsOperand}
+use Rattle.sym_check.specs.Elaborate.Expressions.{Located, value_of, values_of, infer, operands}
 use Rattle.sym_check.proofs.SameKinds.{same_number}
 use Rattle.sym_check.proofs.CallOutcomes.{call_outcome, right_cell_called}
 use Rattle.sym_check.proofs.OperandOutcomes.{operand_passes, bin_outcome, joined_numbers, joined_compared, joined_turned}

@@ -10,23 +10,23 @@ use Rattle.sym_check.specs.declared.plan.expression.WordOf.TheVariants as word
 use Rattle.sym_check.specs.declared.plan.expression.LabelOf.TheVariants as label
 use Rattle.sym_check.specs.declared.plan.script.KindPlan.{KindPlan}
 use Rattle.sym_check.specs.declared.plan.script.KindPlan.TheVariants as kind
-use Rattle.sym_check.specs.FixedPlans.{NumPlan, FixedPlan}
-use Rattle.sym_check.specs.FixedPlans as fixed
-use Rattle.sym_check.specs.LinePlans.{TermPlan}
-use Rattle.sym_check.specs.LinePlans as line
-use Rattle.sym_check.specs.CondPlans.{CondPlan}
-use Rattle.sym_check.specs.CondPlans as cond
+use Rattle.sym_check.specs.Plan.FixedPlans.{NumPlan, FixedPlan}
+use Rattle.sym_check.specs.Plan.FixedPlans as fixed
+use Rattle.sym_check.specs.Plan.LinePlans.{TermPlan}
+use Rattle.sym_check.specs.Plan.LinePlans as line
+use Rattle.sym_check.specs.Plan.CondPlans.{CondPlan}
+use Rattle.sym_check.specs.Plan.CondPlans as cond
 use Rattle.sym_check.specs.declared.elaborate.error.CheckErr.{CheckErr}
 use Rattle.sym_check.specs.declared.elaborate.error.CheckErr.TheVariants as broken
 use Rattle.sym_check.specs.declared.elaborate.scope.Variable.{Variable}
 use Rattle.sym_check.specs.declared.elaborate.scope.Meaning.{Meaning}
 use Rattle.sym_check.specs.declared.elaborate.scope.Meaning.TheVariants as meaning
-use Rattle.sym_check.specs.Scopes.{Scope, find, Stands}
-use Rattle.sym_check.specs.Typing.{num_variable, word_variable, label_variable, Typed, Number, Word, Label, EnumCell, HoldCell, Truth, Means, HasMeaning, AreValues}
-use Rattle.sym_check.specs.Typing as typing
-use Rattle.sym_check.specs.Breaks.{place, IsOperand, IsLeft, IsFirst, TakesNumbers, AreOperands, WrongValue, WrongCall, Breaks, BreaksOperands}
-use Rattle.sym_check.specs.Breaks as rule
-use Rattle.sym_check.specs.Elaborate.{kind_at, same_kind, Located, test_named, called_on, joined, infer, operands}
+use Rattle.sym_check.specs.Rules.Scopes.{Scope, find, Stands}
+use Rattle.sym_check.specs.Rules.Typing.{num_variable, word_variable, label_variable, Typed, Number, Word, Label, EnumCell, HoldCell, Truth, Means, HasMeaning, AreValues}
+use Rattle.sym_check.specs.Rules.Typing as typing
+use Rattle.sym_check.specs.Breaks.Expressions.{place, IsOperand, IsLeft, IsFirst, TakesNumbers, AreOperands, WrongValue, WrongCall, Breaks, BreaksOperands}
+use Rattle.sym_check.specs.Breaks.Expressions as rule
+use Rattle.sym_check.specs.Elaborate.Expressions.{kind_at, same_kind, Located, test_named, called_on, joined, infer, operands}
 use Rattle.sym_check.proofs.SameKinds.{same_kinds, kinds_are_same, same_number, numbers_are_same}
 use Rattle.sym_check.proofs.OperandOutcomes.{operand_passes, no_operand, first_passes, no_first, left_passes, no_left, bin_outcome}
 use Rattle.sym_check.proofs.CallOutcomes.{call_outcome, wrong_number_called, wrong_cell_called, right_cell_called}

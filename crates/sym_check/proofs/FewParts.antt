@@ -24,18 +24,18 @@ use Rattle.sym_check.specs.declared.plan.script.EnumPlan.{EnumPlan}
 use Rattle.sym_check.specs.declared.plan.script.FieldPlan.{FieldPlan}
 use Rattle.sym_check.specs.declared.plan.script.CellPlan.{CellPlan}
 use Rattle.sym_check.specs.declared.plan.script.CellPlan.TheVariants as cell_plan
-use Rattle.sym_check.specs.ScriptPlans.{TestOf}
-use Rattle.sym_check.specs.Scripts.{names}
-use Rattle.sym_check.specs.Arithmetic.{and_then}
-use Rattle.sym_check.specs.Breaks.{place}
-use Rattle.sym_check.specs.Conditions.{same_word}
-use Rattle.sym_check.specs.Declarations.{unfinished}
-use Rattle.sym_check.specs.Elaborate.{infer, condition}
-use Rattle.sym_check.specs.ElaborateDeclarations.{PlannedParts, PlannedCell, kind_of, literal_of, default_of, parts_of, cell_of, enum_named, label_named, label_decl, enum_decl, field_decl, state_decl, param_decl, test_decl}
-use Rattle.sym_check.specs.ElaborateStatements.{unless_taken}
-use Rattle.sym_check.specs.InOrder.{Planned, each}
-use Rattle.sym_check.specs.Scopes.{Scope, entry, find, shows, visible, in_tests}
-use Rattle.sym_check.specs.Showing.{has_few_parts, HaveFewParts}
+use Rattle.sym_check.specs.Plan.ScriptPlans.{TestOf}
+use Rattle.sym_check.specs.Rules.Scripts.{names}
+use Rattle.sym_check.specs.Meaning.Arithmetic.{and_then}
+use Rattle.sym_check.specs.Breaks.Expressions.{place}
+use Rattle.sym_check.specs.Meaning.Conditions.{same_word}
+use Rattle.sym_check.specs.Rules.Declarations.{unfinished}
+use Rattle.sym_check.specs.Elaborate.Expressions.{infer, condition}
+use Rattle.sym_check.specs.Elaborate.Declarations.{PlannedParts, PlannedCell, kind_of, literal_of, default_of, parts_of, cell_of, enum_named, label_named, label_decl, enum_decl, field_decl, state_decl, param_decl, test_decl}
+use Rattle.sym_check.specs.Elaborate.Statements.{unless_taken}
+use Rattle.sym_check.specs.Rules.InOrder.{Planned, each}
+use Rattle.sym_check.specs.Rules.Scopes.{Scope, entry, find, shows, visible, in_tests}
+use Rattle.sym_check.specs.Checking.Showing.{has_few_parts, HaveFewParts}
 use Rattle.sym_check.proofs.WholeScripts.{HasDeclarations}
 use Rattle.sym_check.specs.declared.elaborate.scope.View.{View}
 

@@ -16,21 +16,21 @@ use Rattle.sym_check.specs.declared.plan.script.EnumPlan.{EnumPlan}
 use Rattle.sym_check.specs.declared.plan.script.KindPlan.{KindPlan}
 use Rattle.sym_check.specs.declared.plan.script.CellPlan.{CellPlan}
 use Rattle.sym_check.specs.declared.plan.script.CellPlan.TheVariants as plan
-use Rattle.sym_check.specs.Arithmetic.{and_then}
-use Rattle.sym_check.specs.FixedValues.{Environment, fixed_value, fixed_values}
-use Rattle.sym_check.specs.LineValues.{term_number}
-use Rattle.sym_check.specs.Conditions.{truth, test_truth}
-use Rattle.sym_check.specs.DoPlans.{DoPlan, DosPlan}
-use Rattle.sym_check.specs.ScriptPlans.{ScriptPlan}
+use Rattle.sym_check.specs.Meaning.Arithmetic.{and_then}
+use Rattle.sym_check.specs.Meaning.FixedValues.{Environment, fixed_value, fixed_values}
+use Rattle.sym_check.specs.Meaning.LineValues.{term_number}
+use Rattle.sym_check.specs.Meaning.Conditions.{truth, test_truth}
+use Rattle.sym_check.specs.Plan.DoPlans.{DoPlan, DosPlan}
+use Rattle.sym_check.specs.Plan.ScriptPlans.{ScriptPlan}
 use Rattle.sym_base.specs.States.{with_cell}
-use Rattle.sym_check.specs.Updates.{or_fault, with_int, with_pushed, stored, environment, environment_after, do_step, dos_step, at_record, step}
-use Rattle.sym_check.specs.Groups.{field_at, key_of}
-use Rattle.sym_check.specs.Validity.{IsOfKind, AreOfKinds, field_kinds, IsRecord, IsOfField, IsKey, IsValidCell, IsValid, IsValidOutcome}
-use Rattle.sym_check.specs.Validity as valid
-use Rattle.sym_check.specs.Fitting.{FitsCell, FitsState, FitsFault, FitsOutcome}
-use Rattle.sym_check.specs.Fitting as fitting
-use Rattle.sym_check.specs.WellFormed.{Kinds, IsDo, IsDos, IsWellFormed, known_kinds}
-use Rattle.sym_check.specs.WellFormed as well
+use Rattle.sym_check.specs.Meaning.Updates.{or_fault, with_int, with_pushed, stored, environment, environment_after, do_step, dos_step, at_record, step}
+use Rattle.sym_check.specs.Meaning.Groups.{field_at, key_of}
+use Rattle.sym_check.specs.Meaning.Validity.{IsOfKind, AreOfKinds, field_kinds, IsRecord, IsOfField, IsKey, IsValidCell, IsValid, IsValidOutcome}
+use Rattle.sym_check.specs.Meaning.Validity as valid
+use Rattle.sym_check.specs.Meaning.Fitting.{FitsCell, FitsState, FitsFault, FitsOutcome}
+use Rattle.sym_check.specs.Meaning.Fitting as fitting
+use Rattle.sym_check.specs.Plan.WellFormed.{Kinds, IsDo, IsDos, IsWellFormed, known_kinds}
+use Rattle.sym_check.specs.Plan.WellFormed as well
 use Rattle.sym_check.proofs.KeptNumbers.{stored_fits}
 use Rattle.sym_check.proofs.ZippedLists.{zip_get}
 

@@ -2,9 +2,9 @@
 use Rattle.std.proofs.Common.{◌≡◌, ℕ, suc, ◌+◌, ◌<◌, List, [], ◌∷◌, ◌++◌, length, get_or, drop, Result, Ok, Err, refl, ap, sym, append_assoc, append-nil, add-one, drop-cons}
 use Rattle.sym_check.specs.declared.elaborate.error.CheckErr.{CheckErr}
 use Rattle.sym_check.specs.declared.plan.script.KindPlan.{KindPlan}
-use Rattle.sym_check.specs.Arithmetic.{and_then}
-use Rattle.sym_check.specs.Elaborate.{Located, value_of, values_of}
-use Rattle.sym_check.specs.FixedPlans.{FixedPlan}
+use Rattle.sym_check.specs.Meaning.Arithmetic.{and_then}
+use Rattle.sym_check.specs.Elaborate.Expressions.{Located, value_of, values_of}
+use Rattle.sym_check.specs.Plan.FixedPlans.{FixedPlan}
 
 -- These, before the others.
 abbrev pub gathered : {A : Type 0} → List A → List A → Result (List A) CheckErr

@@ -5,13 +5,13 @@ use Rattle.sym_check.specs.declared.elaborate.error.CheckErr.{CheckErr}
 use Rattle.sym_check.specs.declared.elaborate.scope.Variable.TheVariants as var
 use Rattle.sym_check.specs.declared.elaborate.scope.Meaning.{Meaning}
 use Rattle.sym_check.specs.declared.elaborate.scope.Meaning.TheVariants as meaning
-use Rattle.sym_check.specs.Scopes.{Scope, Stands, IsFree}
-use Rattle.sym_check.specs.InOrder.{Each, Planned}
-use Rattle.sym_check.specs.Declarations.{unfinished, IsGroupField, IsGroup}
-use Rattle.sym_check.specs.Declarations as is
-use Rattle.sym_check.specs.BreaksDeclarations.{BreaksGroupField, BreaksGroup}
-use Rattle.sym_check.specs.BreaksDeclarations as breaks
-use Rattle.sym_check.specs.ElaborateDeclarations.{field_named, group_field, group_of}
+use Rattle.sym_check.specs.Rules.Scopes.{Scope, Stands, IsFree}
+use Rattle.sym_check.specs.Rules.InOrder.{Each, Planned}
+use Rattle.sym_check.specs.Rules.Declarations.{unfinished, IsGroupField, IsGroup}
+use Rattle.sym_check.specs.Rules.Declarations as is
+use Rattle.sym_check.specs.Breaks.Declarations.{BreaksGroupField, BreaksGroup}
+use Rattle.sym_check.specs.Breaks.Declarations as breaks
+use Rattle.sym_check.specs.Elaborate.Declarations.{field_named, group_field, group_of}
 use Rattle.sym_check.proofs.Agreements.{Agrees, in_words, then_made, free_agrees, named_agrees}
 use Rattle.sym_check.proofs.ListsAgree.{Plans, each_agrees}
 use Rattle.sym_check.proofs.DeclarationsAgree.{Unmeant, IsFieldMeaning, field_kinded}

@@ -7,11 +7,11 @@ use Rattle.sym_base.specs.declared.values.record.Record.{Record}
 use Rattle.sym_base.specs.declared.values.value.Key.{Key}
 use Rattle.sym_base.specs.declared.values.state.Outcome.{Outcome}
 use Rattle.sym_base.specs.declared.values.state.Outcome.TheVariants.{Going}
-use Rattle.sym_check.specs.Groups.{is_key, is_among, not_among, key_of, records_of, distinct, keys, pass}
-use Rattle.sym_check.specs.ScriptPlans.{ScriptPlan}
-use Rattle.sym_check.specs.Updates.{initial, step, after}
-use Rattle.sym_check.specs.Validity.{IsRecord, IsKey, IsValidOutcome}
-use Rattle.sym_check.specs.WellFormed.{IsWellFormed}
+use Rattle.sym_check.specs.Meaning.Groups.{is_key, is_among, not_among, key_of, records_of, distinct, keys, pass}
+use Rattle.sym_check.specs.Plan.ScriptPlans.{ScriptPlan}
+use Rattle.sym_check.specs.Meaning.Updates.{initial, step, after}
+use Rattle.sym_check.specs.Meaning.Validity.{IsRecord, IsKey, IsValidOutcome}
+use Rattle.sym_check.specs.Plan.WellFormed.{IsWellFormed}
 use Rattle.sym_check.proofs.Fits.{key_is}
 use Rattle.sym_check.proofs.ValidSteps.{initial_valid, step_valid}
 use Rattle.sym_check.proofs.Keys.{keys_equiv, turned, among-distinct, distinct_next, distinct_append, distinct_apart}

@@ -14,13 +14,13 @@ use Rattle.sym_check.specs.declared.plan.range.Range.{Range}
 use Rattle.sym_check.specs.declared.plan.script.EnumPlan.{EnumPlan}
 use Rattle.sym_check.specs.declared.plan.script.CellPlan.{CellPlan}
 use Rattle.sym_check.specs.declared.plan.script.CellPlan.TheVariants as plan
-use Rattle.sym_check.specs.Arithmetic.{and_then}
-use Rattle.sym_check.specs.CellKinds.{IsIntCell, IsNumsCell}
-use Rattle.sym_check.specs.Fitting.{FitsFault}
-use Rattle.sym_check.specs.Ranges.{InRange, in_range, nearest_end, kept, range_of, range_at, landed}
-use Rattle.sym_check.specs.ScriptPlans.{ScriptPlan}
-use Rattle.sym_check.specs.Updates.{stored}
-use Rattle.sym_check.specs.WellFormed.{IsCell}
+use Rattle.sym_check.specs.Meaning.Arithmetic.{and_then}
+use Rattle.sym_check.specs.Plan.CellKinds.{IsIntCell, IsNumsCell}
+use Rattle.sym_check.specs.Meaning.Fitting.{FitsFault}
+use Rattle.sym_check.specs.Plan.Ranges.{InRange, in_range, nearest_end, kept, range_of, range_at, landed}
+use Rattle.sym_check.specs.Plan.ScriptPlans.{ScriptPlan}
+use Rattle.sym_check.specs.Meaning.Updates.{stored}
+use Rattle.sym_check.specs.Plan.WellFormed.{IsCell}
 
 in_range_is : (r : Range) (x : ℤ) → in_range r x ≡ true → InRange r.lo r.hi x
 in_range_is r x e = grind (arith, ints, e)

@@ -8,7 +8,7 @@ use Rattle.std.proofs.lemmas.Map.Keys.{IsDistinct-cons, IsDistinct-head, IsDisti
 use Rattle.sym_base.specs.declared.values.value.Key.{Key}
 use Rattle.sym_base.specs.declared.values.value.Value.{Value}
 use Rattle.sym_base.proofs.ValueLemmas.{key_eq-Decides}
-use Rattle.sym_check.specs.Groups.{is_key, is_value, is_among, not_among, distinct}
+use Rattle.sym_check.specs.Meaning.Groups.{is_key, is_value, is_among, not_among, distinct}
 
 -- The test of values holds exactly of equal ones,
 pub value-Decides : (v w : Value) → Decides (is_value v w) (v ≡ w)

@@ -2,8 +2,8 @@
 -- where each does.
 use Rattle.std.proofs.Common.{◌≡◌, refl, subst, ℕ, ◌+◌, ◌⊎◌, inl, inr, List, [], ◌∷◌, Result}
 use Rattle.sym_check.specs.declared.elaborate.error.CheckErr.{CheckErr}
-use Rattle.sym_check.specs.Scopes.{Scope}
-use Rattle.sym_check.specs.InOrder.{Each, none, one_more, FirstBroken, here, further, Planned, each}
+use Rattle.sym_check.specs.Rules.Scopes.{Scope}
+use Rattle.sym_check.specs.Rules.InOrder.{Each, none, one_more, FirstBroken, here, further, Planned, each}
 use Rattle.sym_check.proofs.Agreements.{Agrees, in_words, only_value, then_agrees, then_made}
 
 -- A declaration's plan, with the scope after it, or its fault.

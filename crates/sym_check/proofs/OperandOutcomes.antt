@@ -6,16 +6,16 @@ use Rattle.sym_base.specs.declared.tree.expression.BinOp.{BinOp}
 use Rattle.sym_base.specs.declared.tree.expression.BinOp.TheVariants as op
 use Rattle.sym_base.specs.Trees.{ExprTree, Bin}
 use Rattle.sym_check.specs.declared.plan.expression.ArithOp.{ArithOp}
-use Rattle.sym_check.specs.FixedPlans.{NumPlan}
-use Rattle.sym_check.specs.FixedPlans as fixed
-use Rattle.sym_check.specs.LinePlans.{LinePlan, TermPlan}
-use Rattle.sym_check.specs.LinePlans as line
-use Rattle.sym_check.specs.CondPlans.{CondPlan}
-use Rattle.sym_check.specs.CondPlans as cond
-use Rattle.sym_check.specs.Scopes.{Scope}
-use Rattle.sym_check.specs.Typing.{arith_of, compare_of, turned, Typed, Number, Word, Label, EnumCell, HoldCell, Truth}
-use Rattle.sym_check.specs.Breaks.{place, IsOperand, IsLeft, IsFirst}
-use Rattle.sym_check.specs.Elaborate.{kind_at, no_cell, left_of, first_of, joined, infer}
+use Rattle.sym_check.specs.Plan.FixedPlans.{NumPlan}
+use Rattle.sym_check.specs.Plan.FixedPlans as fixed
+use Rattle.sym_check.specs.Plan.LinePlans.{LinePlan, TermPlan}
+use Rattle.sym_check.specs.Plan.LinePlans as line
+use Rattle.sym_check.specs.Plan.CondPlans.{CondPlan}
+use Rattle.sym_check.specs.Plan.CondPlans as cond
+use Rattle.sym_check.specs.Rules.Scopes.{Scope}
+use Rattle.sym_check.specs.Rules.Typing.{arith_of, compare_of, turned, Typed, Number, Word, Label, EnumCell, HoldCell, Truth}
+use Rattle.sym_check.specs.Breaks.Expressions.{place, IsOperand, IsLeft, IsFirst}
+use Rattle.sym_check.specs.Elaborate.Expressions.{kind_at, no_cell, left_of, first_of, joined, infer}
 
 -- What is an operand, and what isn't, is told apart by the function.
 pub operand_passes : (at : ℕ) (t : Typed) → IsOperand t → no_cell at t ≡ Ok t

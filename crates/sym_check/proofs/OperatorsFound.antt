@@ -10,20 +10,20 @@ use Rattle.sym_check.specs.declared.plan.expression.ArithOp.{ArithOp}
 use Rattle.sym_check.specs.declared.plan.expression.ArithOp.TheVariants as arith_op
 use Rattle.sym_check.specs.declared.plan.expression.WordOf.{WordOf}
 use Rattle.sym_check.specs.declared.plan.expression.LabelOf.{LabelOf}
-use Rattle.sym_check.specs.Arithmetic.{and_then}
-use Rattle.sym_check.specs.FixedPlans.{NumPlan}
-use Rattle.sym_check.specs.FixedPlans as fixed
-use Rattle.sym_check.specs.LinePlans.{LinePlan, TermPlan}
-use Rattle.sym_check.specs.LinePlans as line
-use Rattle.sym_check.specs.CondPlans.{CondPlan}
-use Rattle.sym_check.specs.CondPlans as cond
+use Rattle.sym_check.specs.Meaning.Arithmetic.{and_then}
+use Rattle.sym_check.specs.Plan.FixedPlans.{NumPlan}
+use Rattle.sym_check.specs.Plan.FixedPlans as fixed
+use Rattle.sym_check.specs.Plan.LinePlans.{LinePlan, TermPlan}
+use Rattle.sym_check.specs.Plan.LinePlans as line
+use Rattle.sym_check.specs.Plan.CondPlans.{CondPlan}
+use Rattle.sym_check.specs.Plan.CondPlans as cond
 use Rattle.sym_check.specs.declared.elaborate.error.CheckErr.{CheckErr}
 use Rattle.sym_check.specs.declared.elaborate.error.CheckErr.TheVariants as broken
-use Rattle.sym_check.specs.Scopes.{Scope}
-use Rattle.sym_check.specs.Typing.{arith_of, compare_of, turned, Typed, Number, Word, Label, EnumCell, HoldCell, Truth, IsNum, IsWord, IsLabel, IsLine, IsTerm, IsCondition, Means}
-use Rattle.sym_check.specs.Typing as typing
-use Rattle.sym_check.specs.Breaks.{TakesNumbers}
-use Rattle.sym_check.specs.Elaborate.{kind_at, condition, term_of, added, subtracted, multiplied, quotient_of, compared, arithmetic, ordered, equal, different, labels_joined, both, joined}
+use Rattle.sym_check.specs.Rules.Scopes.{Scope}
+use Rattle.sym_check.specs.Rules.Typing.{arith_of, compare_of, turned, Typed, Number, Word, Label, EnumCell, HoldCell, Truth, IsNum, IsWord, IsLabel, IsLine, IsTerm, IsCondition, Means}
+use Rattle.sym_check.specs.Rules.Typing as typing
+use Rattle.sym_check.specs.Breaks.Expressions.{TakesNumbers}
+use Rattle.sym_check.specs.Elaborate.Expressions.{kind_at, condition, term_of, added, subtracted, multiplied, quotient_of, compared, arithmetic, ordered, equal, different, labels_joined, both, joined}
 use Rattle.sym_check.proofs.SameKinds.{numbers_are_same}
 use Rattle.sym_check.proofs.ExpressionsComplete.{one_meaning}
 

@@ -7,13 +7,13 @@ use Rattle.sym_base.specs.declared.values.record.Record.{Record}
 use Rattle.sym_base.specs.declared.values.state.Fault.{Fault}
 use Rattle.sym_base.specs.declared.values.state.Outcome.{Outcome}
 use Rattle.sym_base.specs.declared.values.state.Outcome.TheVariants.{Ended}
-use Rattle.sym_check.specs.LinePlans as line
-use Rattle.sym_check.specs.CondPlans.{CondPlan, Compared, Words, CellIs, LabelIs, Test, Not, And, Or}
-use Rattle.sym_check.specs.ScriptPlans.{ScriptPlan, TestOf}
-use Rattle.sym_check.specs.LinePlans.{LinePlan}
-use Rattle.sym_check.specs.Conditions.{is_fixed, has_fixed_body}
-use Rattle.sym_check.specs.Updates.{step, after}
-use Rattle.sym_check.specs.WellFormed.{Kinds, IsLine, IsCond, IsTest, IsWellFormed}
+use Rattle.sym_check.specs.Plan.LinePlans as line
+use Rattle.sym_check.specs.Plan.CondPlans.{CondPlan, Compared, Words, CellIs, LabelIs, Test, Not, And, Or}
+use Rattle.sym_check.specs.Plan.ScriptPlans.{ScriptPlan, TestOf}
+use Rattle.sym_check.specs.Plan.LinePlans.{LinePlan}
+use Rattle.sym_check.specs.Meaning.Conditions.{is_fixed, has_fixed_body}
+use Rattle.sym_check.specs.Meaning.Updates.{step, after}
+use Rattle.sym_check.specs.Plan.WellFormed.{Kinds, IsLine, IsCond, IsTest, IsWellFormed}
 
 pub after_more : (p : ScriptPlan) (records : List Record) (rec : Record) (o : Outcome) → after p (records ++ rec ∷ []) o ≡ step p (after p records o) rec
 after_more p [] rec o = refl

@@ -6,11 +6,11 @@ use Rattle.sym_base.specs.Limits.{max_fields}
 use Rattle.sym_base.specs.Lawful.{is_between}
 use Rattle.sym_base.specs.Lawful.{IsLawful}
 use Rattle.sym_base.specs.Trees.{ScriptTree}
-use Rattle.sym_check.specs.ScriptPlans.{ScriptPlan}
-use Rattle.sym_check.specs.Scripts.{IsAccepted, BreaksScript, plan_of}
-use Rattle.sym_check.specs.WellFormed.{IsWellFormed}
+use Rattle.sym_check.specs.Plan.ScriptPlans.{ScriptPlan}
+use Rattle.sym_check.specs.Rules.Scripts.{IsAccepted, BreaksScript, plan_of}
+use Rattle.sym_check.specs.Plan.WellFormed.{IsWellFormed}
 use Rattle.sym_check.specs.declared.elaborate.error.CheckErr.{CheckErr}
-use Rattle.sym_check.specs.Declarations.{IsFieldDecl}
+use Rattle.sym_check.specs.Rules.Declarations.{IsFieldDecl}
 use Rattle.sym_check.proofs.AcceptedPlans.{accepted_well, each_long}
 use Rattle.sym_check.proofs.ScriptsAgree.{planned_accepted, accepted_planned, breaks_planned}
 

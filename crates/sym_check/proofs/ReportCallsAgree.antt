@@ -10,20 +10,20 @@ use Rattle.sym_check.specs.declared.plan.script.KindPlan.{KindPlan}
 use Rattle.sym_check.specs.declared.plan.script.KindPlan.TheVariants as kind
 use Rattle.sym_check.specs.declared.plan.show.ShowFn.{ShowFn}
 use Rattle.sym_check.specs.declared.plan.show.ShowFn.TheVariants as show_fn
-use Rattle.sym_check.specs.Conditions.{same_word}
-use Rattle.sym_check.specs.Columns.{ShownAs, as_number, as_word, as_list, shown_kind, OfAnyList, word_list_shows}
-use Rattle.sym_check.specs.ShowPlans.{ShowPlan}
-use Rattle.sym_check.specs.ShowPlans as show
+use Rattle.sym_check.specs.Meaning.Conditions.{same_word}
+use Rattle.sym_check.specs.Meaning.Columns.{ShownAs, as_number, as_word, as_list, shown_kind, OfAnyList, word_list_shows}
+use Rattle.sym_check.specs.Plan.ShowPlans.{ShowPlan}
+use Rattle.sym_check.specs.Plan.ShowPlans as show
 use Rattle.sym_check.specs.declared.elaborate.error.CheckErr.{CheckErr}
 use Rattle.sym_check.specs.declared.elaborate.error.CheckErr.TheVariants as broken
 use Rattle.sym_check.specs.declared.elaborate.scope.Meaning.{Meaning}
 use Rattle.sym_check.specs.declared.elaborate.scope.Meaning.TheVariants as meaning
-use Rattle.sym_check.specs.Scopes.{Scope, find, Stands}
-use Rattle.sym_check.specs.Reports.{list_function, is_part, IsShown}
-use Rattle.sym_check.specs.Reports as is
-use Rattle.sym_check.specs.BreaksReports.{GivesSomething, IsSeen, AreSeen, IsFunction, of_lists, IsOutside, BreaksShown, BreakShown}
-use Rattle.sym_check.specs.BreaksReports as breaks
-use Rattle.sym_check.specs.ElaborateReports.{Seen, Numeral, Number, Word, NumList, WordList, Parts, part_seen, part_at, of_word_list, of_list, of_parts, applied, see_all}
+use Rattle.sym_check.specs.Rules.Scopes.{Scope, find, Stands}
+use Rattle.sym_check.specs.Rules.Reports.{list_function, is_part, IsShown}
+use Rattle.sym_check.specs.Rules.Reports as is
+use Rattle.sym_check.specs.Breaks.Reports.{GivesSomething, IsSeen, AreSeen, IsFunction, of_lists, IsOutside, BreaksShown, BreakShown}
+use Rattle.sym_check.specs.Breaks.Reports as breaks
+use Rattle.sym_check.specs.Elaborate.Reports.{Seen, Numeral, Number, Word, NumList, WordList, Parts, part_seen, part_at, of_word_list, of_list, of_parts, applied, see_all}
 use Rattle.sym_check.proofs.Agreements.{Agrees, in_words, only_value, only_fault, then_agrees, then_made, where_true}
 use Rattle.sym_check.proofs.ReportsSeen.{Sees, Gives, a_numeral, a_number, a_word}
 use Rattle.sym_check.proofs.ReportsAgree.{is_seen, seen_is, Sights, HasCellsAlone, NamedSeen, sees_name, numeral_once, numeral_sights, text_sights, name_sights, neg_sights, not_sights, bin_sights}

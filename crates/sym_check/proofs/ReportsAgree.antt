@@ -4,21 +4,21 @@ use Rattle.sym_base.specs.declared.tree.name.Name.{Name}
 use Rattle.sym_base.specs.declared.tree.expression.BinOp.{BinOp}
 use Rattle.sym_base.specs.Trees.{ExprTree, Num, Words, Named, Neg, Not, Bin}
 use Rattle.sym_check.specs.declared.plan.expression.ArithOp.{ArithOp}
-use Rattle.sym_check.specs.Arithmetic.{and_then}
-use Rattle.sym_check.specs.Columns.{ShownAs, as_number, as_word, as_list}
-use Rattle.sym_check.specs.ShowPlans.{ShowPlan}
-use Rattle.sym_check.specs.ShowPlans as show
+use Rattle.sym_check.specs.Meaning.Arithmetic.{and_then}
+use Rattle.sym_check.specs.Meaning.Columns.{ShownAs, as_number, as_word, as_list}
+use Rattle.sym_check.specs.Plan.ShowPlans.{ShowPlan}
+use Rattle.sym_check.specs.Plan.ShowPlans as show
 use Rattle.sym_check.specs.declared.elaborate.error.CheckErr.{CheckErr}
 use Rattle.sym_check.specs.declared.elaborate.error.CheckErr.TheVariants as broken
 use Rattle.sym_check.specs.declared.elaborate.scope.Meaning.{Meaning}
 use Rattle.sym_check.specs.declared.elaborate.scope.Meaning.TheVariants as meaning
-use Rattle.sym_check.specs.Scopes.{Scope, Stands, IsFree, is_cell}
-use Rattle.sym_check.specs.Typing.{arith_of}
-use Rattle.sym_check.specs.Reports.{IsShown}
-use Rattle.sym_check.specs.Reports as is
-use Rattle.sym_check.specs.BreaksReports.{GivesSomething, IsSeen, AreSeen, BreaksShown, BreakShown}
-use Rattle.sym_check.specs.BreaksReports as breaks
-use Rattle.sym_check.specs.ElaborateReports.{Seen, Numeral, Number, Word, NumList, WordList, Parts, seen, shown_number, calculated_by, see}
+use Rattle.sym_check.specs.Rules.Scopes.{Scope, Stands, IsFree, is_cell}
+use Rattle.sym_check.specs.Rules.Typing.{arith_of}
+use Rattle.sym_check.specs.Rules.Reports.{IsShown}
+use Rattle.sym_check.specs.Rules.Reports as is
+use Rattle.sym_check.specs.Breaks.Reports.{GivesSomething, IsSeen, AreSeen, BreaksShown, BreakShown}
+use Rattle.sym_check.specs.Breaks.Reports as breaks
+use Rattle.sym_check.specs.Elaborate.Reports.{Seen, Numeral, Number, Word, NumList, WordList, Parts, seen, shown_number, calculated_by, see}
 use Rattle.sym_check.proofs.Agreements.{Agrees, in_words, only_value, then_agrees, then_made, IsKinded, of_kind, of_no_kind, kinded_then, one_value, named_agrees}
 use Rattle.sym_check.proofs.ReportsSeen.{Sees, Gives, a_numeral, a_number, num_list, word_list, seen_shown, shown_seen}
 

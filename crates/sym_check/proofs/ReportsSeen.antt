@@ -6,14 +6,14 @@ use Rattle.sym_check.specs.declared.plan.script.KindPlan.{KindPlan}
 use Rattle.sym_check.specs.declared.plan.script.KindPlan.TheVariants as kind
 use Rattle.sym_check.specs.declared.plan.show.ShowFn.{ShowFn}
 use Rattle.sym_check.specs.declared.plan.show.ShowFn.TheVariants as show_fn
-use Rattle.sym_check.specs.Columns.{ShownAs, as_number, as_word, as_list, shown_kind, word_list_shows}
-use Rattle.sym_check.specs.ShowPlans.{ShowPlan}
-use Rattle.sym_check.specs.ShowPlans as show
+use Rattle.sym_check.specs.Meaning.Columns.{ShownAs, as_number, as_word, as_list, shown_kind, word_list_shows}
+use Rattle.sym_check.specs.Plan.ShowPlans.{ShowPlan}
+use Rattle.sym_check.specs.Plan.ShowPlans as show
 use Rattle.sym_check.specs.declared.elaborate.scope.Meaning.TheVariants as meaning
-use Rattle.sym_check.specs.Scopes.{Scope, Stands}
-use Rattle.sym_check.specs.Reports.{list_function, is_part, IsShown}
-use Rattle.sym_check.specs.Reports as is
-use Rattle.sym_check.specs.ElaborateReports.{Seen, Numeral, Number, Word, NumList, WordList, Parts}
+use Rattle.sym_check.specs.Rules.Scopes.{Scope, Stands}
+use Rattle.sym_check.specs.Rules.Reports.{list_function, is_part, IsShown}
+use Rattle.sym_check.specs.Rules.Reports as is
+use Rattle.sym_check.specs.Elaborate.Reports.{Seen, Numeral, Number, Word, NumList, WordList, Parts}
 
 -- An expression comes to this.
 abbrev pub Sees : Scope → ExprTree → Seen → Type 0

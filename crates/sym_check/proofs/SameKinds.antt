@@ -6,7 +6,7 @@ use Rattle.std.specs.Cmp.{unsigned_Decides}
 use Rattle.std.specs.Cmp.Lexicographic.{pointwise, pointwise_decides}
 use Rattle.sym_check.specs.declared.plan.script.KindPlan.{KindPlan}
 use Rattle.sym_check.specs.contracts.plan.script.KindPlanPartialEq.TheImpl as kinds
-use Rattle.sym_check.specs.Elaborate.{same_kind}
+use Rattle.sym_check.specs.Elaborate.Expressions.{same_kind}
 
 kind_eq-Decides : (x y : KindPlan) → Decides ((kinds.ghosts).eq x y) (x ≡ y)
 kind_eq-Decides x y = search rules

@@ -7,11 +7,11 @@ use Rattle.sym_check.specs.declared.elaborate.error.CheckErr.TheVariants as brok
 use Rattle.sym_check.specs.declared.elaborate.scope.Meaning.{Meaning}
 use Rattle.sym_check.specs.declared.elaborate.scope.Meaning.TheVariants as meaning
 use Rattle.sym_check.specs.declared.elaborate.scope.Entry.{Entry}
-use Rattle.sym_check.specs.Conditions.{same_word}
-use Rattle.sym_check.specs.Declarations.{unfinished}
-use Rattle.sym_check.specs.Declaring.{unseen_by}
-use Rattle.sym_check.specs.ElaborateDeclarations.{enum_named, label_named, no_label}
-use Rattle.sym_check.specs.Scopes.{Scope, find}
+use Rattle.sym_check.specs.Meaning.Conditions.{same_word}
+use Rattle.sym_check.specs.Rules.Declarations.{unfinished}
+use Rattle.sym_check.specs.Checking.Declaring.{unseen_by}
+use Rattle.sym_check.specs.Elaborate.Declarations.{enum_named, label_named, no_label}
+use Rattle.sym_check.specs.Rules.Scopes.{Scope, find}
 
 -- What the name stands for earlier, or else what the last entry says.
 abbrev or_last : Option Meaning → Entry → List ℕ → Option Meaning

@@ -15,9 +15,9 @@ use Rattle.std.proofs.lemmas.Map.Text.{btree_map_updates_text}
 use Rattle.std.proofs.lemmas.Slice.Eq.{bytes_eq-Decides}
 use Rattle.sym_check.specs.declared.elaborate.scope.Meaning.{Meaning}
 use Rattle.sym_check.specs.declared.elaborate.scope.Entry.{Entry}
-use Rattle.sym_check.specs.Conditions.{same_word}
-use Rattle.sym_check.specs.Places.{place_of, ArePlaces}
-use Rattle.sym_check.specs.Scopes.{Scope, find}
+use Rattle.sym_check.specs.Meaning.Conditions.{same_word}
+use Rattle.sym_check.specs.Checking.Places.{place_of, ArePlaces}
+use Rattle.sym_check.specs.Rules.Scopes.{Scope, find}
 
 -- What the entry at this place stands for.
 abbrev meaning_at : Scope → Option ℕ → Option Meaning

@@ -13,24 +13,24 @@ use Rattle.sym_check.specs.declared.plan.script.KindPlan.{KindPlan}
 use Rattle.sym_check.specs.declared.plan.script.KindPlan.TheVariants as kind
 use Rattle.sym_check.specs.declared.plan.expression.WordOf.{WordOf}
 use Rattle.sym_check.specs.declared.plan.expression.LabelOf.{LabelOf}
-use Rattle.sym_check.specs.FixedPlans.{NumPlan, FixedPlan}
-use Rattle.sym_check.specs.LinePlans.{LinePlan, TermPlan}
-use Rattle.sym_check.specs.CondPlans.{CondPlan}
-use Rattle.sym_check.specs.ScriptPlans.{ScriptPlan, TestOf}
+use Rattle.sym_check.specs.Plan.FixedPlans.{NumPlan, FixedPlan}
+use Rattle.sym_check.specs.Plan.LinePlans.{LinePlan, TermPlan}
+use Rattle.sym_check.specs.Plan.CondPlans.{CondPlan}
+use Rattle.sym_check.specs.Plan.ScriptPlans.{ScriptPlan, TestOf}
 use Rattle.sym_check.specs.declared.elaborate.scope.Variable.{Variable}
 use Rattle.sym_check.specs.declared.elaborate.scope.Variable.TheVariants as var
 use Rattle.sym_check.specs.declared.elaborate.scope.Entry.{Entry}
 use Rattle.sym_check.specs.declared.elaborate.scope.View.{View}
 use Rattle.sym_check.specs.declared.elaborate.scope.Meaning.{Meaning}
 use Rattle.sym_check.specs.declared.elaborate.scope.Meaning.TheVariants as meaning
-use Rattle.sym_check.specs.Conditions.{same_word}
-use Rattle.sym_check.specs.Scopes.{Scope, find, Stands, shows, visible}
-use Rattle.sym_check.specs.CellKinds.{IsIntCell, IsNumsCell, IsWordsCell, IsHoldCell, IsEnumCell}
-use Rattle.sym_check.specs.Validity.{label_count}
-use Rattle.sym_check.specs.Typing.{num_variable, word_variable, label_variable, IsNum, IsWord, IsLabel, IsLine, IsTerm, IsValue, AreValues, IsCondition}
-use Rattle.sym_check.specs.Typing as is
-use Rattle.sym_check.specs.WellFormed.{Kinds, IsCalled, AreLabels, IsLabelOfCell}
-use Rattle.sym_check.specs.WellFormed as well
+use Rattle.sym_check.specs.Meaning.Conditions.{same_word}
+use Rattle.sym_check.specs.Rules.Scopes.{Scope, find, Stands, shows, visible}
+use Rattle.sym_check.specs.Plan.CellKinds.{IsIntCell, IsNumsCell, IsWordsCell, IsHoldCell, IsEnumCell}
+use Rattle.sym_check.specs.Meaning.Validity.{label_count}
+use Rattle.sym_check.specs.Rules.Typing.{num_variable, word_variable, label_variable, IsNum, IsWord, IsLabel, IsLine, IsTerm, IsValue, AreValues, IsCondition}
+use Rattle.sym_check.specs.Rules.Typing as is
+use Rattle.sym_check.specs.Plan.WellFormed.{Kinds, IsCalled, AreLabels, IsLabelOfCell}
+use Rattle.sym_check.specs.Plan.WellFormed as well
 
 -- A test is there, with these parameters.
 pub record IsTestThere (p : ScriptPlan) (t : ℕ) (ks : List KindPlan) : Type 0 where

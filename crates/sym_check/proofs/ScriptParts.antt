@@ -6,23 +6,23 @@ use Rattle.sym_base.specs.Trees.{ScriptTree}
 use Rattle.sym_check.specs.declared.plan.script.EnumPlan.{EnumPlan}
 use Rattle.sym_check.specs.declared.plan.script.FieldPlan.{FieldPlan}
 use Rattle.sym_check.specs.declared.plan.script.CellPlan.{CellPlan}
-use Rattle.sym_check.specs.PathBounds.{path_bound}
-use Rattle.sym_check.specs.DoPlans as do_
-use Rattle.sym_check.specs.ScriptPlans.{ScriptPlan, TestOf, ColumnOf}
+use Rattle.sym_check.specs.Meaning.PathBounds.{path_bound}
+use Rattle.sym_check.specs.Plan.DoPlans as do_
+use Rattle.sym_check.specs.Plan.ScriptPlans.{ScriptPlan, TestOf, ColumnOf}
 use Rattle.sym_check.specs.declared.elaborate.error.CheckErr.{CheckErr}
 use Rattle.sym_check.specs.declared.elaborate.error.CheckErr.TheVariants as broken
-use Rattle.sym_check.specs.Scopes.{Scope, hidden, in_update, in_report}
-use Rattle.sym_check.specs.InOrder.{Each, FirstBroken, Planned}
-use Rattle.sym_check.specs.Declarations.{IsEnumDecl, IsFieldDecl, IsGroup, IsStateDecl, IsTestDecl}
-use Rattle.sym_check.specs.BreaksDeclarations.{BreaksEnum, BreaksField, BreaksGroup, BreaksState, BreaksTest}
-use Rattle.sym_check.specs.ElaborateDeclarations.{enum_decl, field_decl, state_decl, test_decl}
-use Rattle.sym_check.specs.Statements.{IsBlock}
-use Rattle.sym_check.specs.BreaksStatements.{BreaksBlock}
-use Rattle.sym_check.specs.ElaborateStatements.{PlannedDos}
-use Rattle.sym_check.specs.Reports.{IsColumnDecl}
-use Rattle.sym_check.specs.BreaksReports.{BreaksColumn}
-use Rattle.sym_check.specs.ElaborateReports.{column_decl}
-use Rattle.sym_check.specs.Scripts.{names, IsAccepted, BreaksScript, in_enums, in_fields, in_group, in_states, in_tests, in_block, in_columns, too_many, bounded, plan_of}
+use Rattle.sym_check.specs.Rules.Scopes.{Scope, hidden, in_update, in_report}
+use Rattle.sym_check.specs.Rules.InOrder.{Each, FirstBroken, Planned}
+use Rattle.sym_check.specs.Rules.Declarations.{IsEnumDecl, IsFieldDecl, IsGroup, IsStateDecl, IsTestDecl}
+use Rattle.sym_check.specs.Breaks.Declarations.{BreaksEnum, BreaksField, BreaksGroup, BreaksState, BreaksTest}
+use Rattle.sym_check.specs.Elaborate.Declarations.{enum_decl, field_decl, state_decl, test_decl}
+use Rattle.sym_check.specs.Rules.Statements.{IsBlock}
+use Rattle.sym_check.specs.Breaks.Statements.{BreaksBlock}
+use Rattle.sym_check.specs.Elaborate.Statements.{PlannedDos}
+use Rattle.sym_check.specs.Rules.Reports.{IsColumnDecl}
+use Rattle.sym_check.specs.Breaks.Reports.{BreaksColumn}
+use Rattle.sym_check.specs.Elaborate.Reports.{column_decl}
+use Rattle.sym_check.specs.Rules.Scripts.{names, IsAccepted, BreaksScript, in_enums, in_fields, in_group, in_states, in_tests, in_block, in_columns, too_many, bounded, plan_of}
 use Rattle.sym_check.proofs.Agreements.{Agrees, in_words, only_value, only_fault, then_agrees, where_true}
 use Rattle.sym_check.proofs.ListsAgree.{each_agrees}
 use Rattle.sym_check.proofs.GroupAgrees.{group_agrees}

@@ -2,9 +2,9 @@
 -- exactly where the function names it. So it has one plan or one first broken rule, and never both.
 use Rattle.std.proofs.Common.{◌≡◌, refl, ◌⊎◌, inl, inr, Result, Ok, Err}
 use Rattle.sym_base.specs.Trees.{ScriptTree}
-use Rattle.sym_check.specs.ScriptPlans.{ScriptPlan}
+use Rattle.sym_check.specs.Plan.ScriptPlans.{ScriptPlan}
 use Rattle.sym_check.specs.declared.elaborate.error.CheckErr.{CheckErr}
-use Rattle.sym_check.specs.Scripts.{IsAccepted, BreaksScript, plan_of}
+use Rattle.sym_check.specs.Rules.Scripts.{IsAccepted, BreaksScript, plan_of}
 use Rattle.sym_check.proofs.ScriptParts.{script_agrees}
 
 pub accepted_planned : (t : ScriptTree) (p : ScriptPlan) → IsAccepted t p → plan_of t ≡ Ok p

@@ -3,9 +3,9 @@ use Rattle.std.proofs.Common.{◌≡◌, ap, sym, refl, List, [], ◌∷◌, ◌
 use Rattle.std.specs.Prelude.{Result, Ok, Err}
 use Rattle.sym_base.specs.Trees.{ExprTree, ExprsTree, More}
 use Rattle.sym_check.specs.declared.elaborate.error.CheckErr.{CheckErr}
-use Rattle.sym_check.specs.Arithmetic.{and_then}
-use Rattle.sym_check.specs.ElaborateReports.{Seen, see, see_all}
-use Rattle.sym_check.specs.Scopes.{Scope}
+use Rattle.sym_check.specs.Meaning.Arithmetic.{and_then}
+use Rattle.sym_check.specs.Elaborate.Reports.{Seen, see, see_all}
+use Rattle.sym_check.specs.Rules.Scopes.{Scope}
 use Rattle.sym_check.proofs.Done.{before_all}
 
 then_all : (xs : List Seen) (t : Seen) (o : Result (List Seen) CheckErr) → before_all xs (and_then (λ rest. Ok (t ∷ rest)) o) ≡ before_all (xs ++ t ∷ []) o

@@ -24,14 +24,14 @@ use Rattle.sym_check.specs.declared.elaborate.error.CheckErr.TheVariants as brok
 use Rattle.sym_check.specs.declared.elaborate.scope.Variable.TheVariants as var
 use Rattle.sym_check.specs.declared.elaborate.scope.Meaning.{Meaning}
 use Rattle.sym_check.specs.declared.elaborate.scope.Meaning.TheVariants as meaning
-use Rattle.sym_check.specs.Scopes.{Scope, entry, Stands, IsFree}
-use Rattle.sym_check.specs.InOrder.{Each, FirstBroken, Planned}
-use Rattle.sym_check.specs.Ranges.{InRange}
-use Rattle.sym_check.specs.Declarations.{unfinished, IsKindOf, IsLiteral, IsDefault, IsLabelDecl, IsEnumDecl, IsFieldDecl, AreParts, IsCellDecl, IsStateDecl}
-use Rattle.sym_check.specs.Declarations as is
-use Rattle.sym_check.specs.BreaksDeclarations.{BreaksKind, BreaksLiteral, BreaksLabel, BreaksEnum, BreaksField, BreaksParts, BreaksCell, BreaksState}
-use Rattle.sym_check.specs.BreaksDeclarations as breaks
-use Rattle.sym_check.specs.ElaborateDeclarations.{enum_named, label_named, label_decl, enum_decl, field_decl, PlannedParts, parts_of, PlannedCell, cell_of, state_decl}
+use Rattle.sym_check.specs.Rules.Scopes.{Scope, entry, Stands, IsFree}
+use Rattle.sym_check.specs.Rules.InOrder.{Each, FirstBroken, Planned}
+use Rattle.sym_check.specs.Plan.Ranges.{InRange}
+use Rattle.sym_check.specs.Rules.Declarations.{unfinished, IsKindOf, IsLiteral, IsDefault, IsLabelDecl, IsEnumDecl, IsFieldDecl, AreParts, IsCellDecl, IsStateDecl}
+use Rattle.sym_check.specs.Rules.Declarations as is
+use Rattle.sym_check.specs.Breaks.Declarations.{BreaksKind, BreaksLiteral, BreaksLabel, BreaksEnum, BreaksField, BreaksParts, BreaksCell, BreaksState}
+use Rattle.sym_check.specs.Breaks.Declarations as breaks
+use Rattle.sym_check.specs.Elaborate.Declarations.{enum_named, label_named, label_decl, enum_decl, field_decl, PlannedParts, parts_of, PlannedCell, cell_of, state_decl}
 use Rattle.sym_check.proofs.Agreements.{Agrees, in_words, only_value, only_fault, then_agrees, then_made, where_true, free_agrees, ok_agrees, named_agrees}
 use Rattle.sym_check.proofs.ListsAgree.{Plans, each_agrees}
 use Rattle.sym_check.proofs.DeclarationsAgree.{kind_agrees, literal_agrees, BreaksDefault, default_agrees, enum_kinded, label_kinded, Unmeant, no_enum, enum_not, other_label, label_not}

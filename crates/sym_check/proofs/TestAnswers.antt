@@ -7,8 +7,8 @@ use Rattle.std.proofs.lemmas.Option.{slice_get-map, slice_get_within, get_or_fro
 use Rattle.std.proofs.lemmas.List.Sums.{AllPass-from_list_all}
 use Rattle.sym_base.specs.declared.values.value.Value.{Value}
 use Rattle.sym_check.specs.declared.plan.script.TestPlan.{TestPlan}
-use Rattle.sym_check.specs.Conditions.{has_fixed_body, answer, test_truth}
-use Rattle.sym_check.specs.ScriptPlans.{test_plan}
+use Rattle.sym_check.specs.Meaning.Conditions.{has_fixed_body, answer, test_truth}
+use Rattle.sym_check.specs.Plan.ScriptPlans.{test_plan}
 
 passes_at : {A : Type 0} (p : A → Bool) (xs : List A) (i : ℕ) (x : A) → list_all p xs ≡ true → slice_get xs i ≡ Some x → p x ≡ true
 passes_at {A} p xs i x h e =

@@ -9,24 +9,24 @@ use Rattle.sym_base.specs.declared.tree.name.Name.{Name}
 use Rattle.sym_base.specs.declared.tree.declaration.Param.{Param}
 use Rattle.sym_base.specs.Trees.{ExprTree, TestTree}
 use Rattle.sym_check.specs.declared.plan.script.KindPlan.{KindPlan}
-use Rattle.sym_check.specs.CondPlans.{CondPlan}
-use Rattle.sym_check.specs.ScriptPlans.{TestOf}
+use Rattle.sym_check.specs.Plan.CondPlans.{CondPlan}
+use Rattle.sym_check.specs.Plan.ScriptPlans.{TestOf}
 use Rattle.sym_check.specs.declared.elaborate.error.CheckErr.{CheckErr}
 use Rattle.sym_check.specs.declared.elaborate.error.CheckErr.TheVariants as broken
 use Rattle.sym_check.specs.declared.elaborate.scope.Variable.TheVariants as var
 use Rattle.sym_check.specs.declared.elaborate.scope.Meaning.{Meaning}
 use Rattle.sym_check.specs.declared.elaborate.scope.Meaning.TheVariants as meaning
-use Rattle.sym_check.specs.Conditions.{same_word}
-use Rattle.sym_check.specs.Scopes.{Scope, entry, Stands, IsFree, in_tests}
-use Rattle.sym_check.specs.Typing.{Typed, Truth, Means, truth, IsCondition}
-use Rattle.sym_check.specs.Breaks.{place, Breaks}
-use Rattle.sym_check.specs.Elaborate.{condition, infer}
-use Rattle.sym_check.specs.InOrder.{Each, FirstBroken, Planned}
-use Rattle.sym_check.specs.Declarations.{unfinished, IsKindOf, IsParamDecl, IsTestDecl}
-use Rattle.sym_check.specs.Declarations as is
-use Rattle.sym_check.specs.BreaksDeclarations.{BreaksKind, BreaksParam, BreaksTest}
-use Rattle.sym_check.specs.BreaksDeclarations as breaks
-use Rattle.sym_check.specs.ElaborateDeclarations.{unless_named, param_decl, test_decl}
+use Rattle.sym_check.specs.Meaning.Conditions.{same_word}
+use Rattle.sym_check.specs.Rules.Scopes.{Scope, entry, Stands, IsFree, in_tests}
+use Rattle.sym_check.specs.Rules.Typing.{Typed, Truth, Means, truth, IsCondition}
+use Rattle.sym_check.specs.Breaks.Expressions.{place, Breaks}
+use Rattle.sym_check.specs.Elaborate.Expressions.{condition, infer}
+use Rattle.sym_check.specs.Rules.InOrder.{Each, FirstBroken, Planned}
+use Rattle.sym_check.specs.Rules.Declarations.{unfinished, IsKindOf, IsParamDecl, IsTestDecl}
+use Rattle.sym_check.specs.Rules.Declarations as is
+use Rattle.sym_check.specs.Breaks.Declarations.{BreaksKind, BreaksParam, BreaksTest}
+use Rattle.sym_check.specs.Breaks.Declarations as breaks
+use Rattle.sym_check.specs.Elaborate.Declarations.{unless_named, param_decl, test_decl}
 use Rattle.sym_check.proofs.Agreements.{Agrees, in_words, only_fault, then_agrees, then_made, where_true, free_agrees, IsKinded, of_kind, of_no_kind}
 use Rattle.sym_check.proofs.ExpressionsAgree.{infer_agrees}
 use Rattle.sym_check.proofs.ListsAgree.{Plans, each_agrees}

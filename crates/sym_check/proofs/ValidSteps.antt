@@ -28,24 +28,24 @@ use Rattle.sym_check.specs.declared.plan.script.KindPlan.{KindPlan}
 use Rattle.sym_check.specs.declared.plan.script.KindPlan.TheVariants as kind
 use Rattle.sym_check.specs.declared.plan.script.CellPlan.{CellPlan}
 use Rattle.sym_check.specs.declared.plan.script.CellPlan.TheVariants as plan
-use Rattle.sym_check.specs.FixedPlans.{NumPlan, FixedPlan, OfNum, OfWord, OfLabel}
-use Rattle.sym_check.specs.FixedPlans as fixed
-use Rattle.sym_check.specs.DoPlans.{DoPlan, DosPlan}
-use Rattle.sym_check.specs.ScriptPlans.{ScriptPlan}
-use Rattle.sym_check.specs.Arithmetic.{and_then, within, divided, calculated, failed}
-use Rattle.sym_check.specs.FixedValues.{Environment, value_number, value_label, number, label_of, word_of, fixed_value, fixed_values}
-use Rattle.sym_check.specs.LinePlans.{LinePlan}
-use Rattle.sym_check.specs.LinePlans as line
+use Rattle.sym_check.specs.Plan.FixedPlans.{NumPlan, FixedPlan, OfNum, OfWord, OfLabel}
+use Rattle.sym_check.specs.Plan.FixedPlans as fixed
+use Rattle.sym_check.specs.Plan.DoPlans.{DoPlan, DosPlan}
+use Rattle.sym_check.specs.Plan.ScriptPlans.{ScriptPlan}
+use Rattle.sym_check.specs.Meaning.Arithmetic.{and_then, within, divided, calculated, failed}
+use Rattle.sym_check.specs.Meaning.FixedValues.{Environment, value_number, value_label, number, label_of, word_of, fixed_value, fixed_values}
+use Rattle.sym_check.specs.Plan.LinePlans.{LinePlan}
+use Rattle.sym_check.specs.Plan.LinePlans as line
 use Rattle.sym_check.specs.declared.evaluate.pairs.Pair.{Pair}
-use Rattle.sym_check.specs.LineValues.{pair, pair_within, term_number}
-use Rattle.sym_check.specs.Conditions.{truth, test_truth}
-use Rattle.sym_check.specs.Ranges.{InRange, landed}
-use Rattle.sym_check.specs.Updates.{first_cell, initial, or_fault, with_int, with_pushed, stored, environment, with_local, with_result, environment_after, do_step, dos_step, at_record, step}
-use Rattle.sym_check.specs.Validity.{label_count, IsOfKind, AreOfKinds, field_kinds, IsRecord, IsValidCell, IsValid, IsValidOutcome}
-use Rattle.sym_check.specs.Validity as valid
-use Rattle.sym_check.specs.WellFormed.{Kinds, IsKnown, IsNum, IsLabel, IsFixed, IsLine, IsKept, with_kind, IsDo, IsDos, IsCell, IsWellFormed, known_kinds}
-use Rattle.sym_check.specs.CellKinds as kinds_of
-use Rattle.sym_check.specs.WellFormed as well
+use Rattle.sym_check.specs.Meaning.LineValues.{pair, pair_within, term_number}
+use Rattle.sym_check.specs.Meaning.Conditions.{truth, test_truth}
+use Rattle.sym_check.specs.Plan.Ranges.{InRange, landed}
+use Rattle.sym_check.specs.Meaning.Updates.{first_cell, initial, or_fault, with_int, with_pushed, stored, environment, with_local, with_result, environment_after, do_step, dos_step, at_record, step}
+use Rattle.sym_check.specs.Meaning.Validity.{label_count, IsOfKind, AreOfKinds, field_kinds, IsRecord, IsValidCell, IsValid, IsValidOutcome}
+use Rattle.sym_check.specs.Meaning.Validity as valid
+use Rattle.sym_check.specs.Plan.WellFormed.{Kinds, IsKnown, IsNum, IsLabel, IsFixed, IsLine, IsKept, with_kind, IsDo, IsDos, IsCell, IsWellFormed, known_kinds}
+use Rattle.sym_check.specs.Plan.CellKinds as kinds_of
+use Rattle.sym_check.specs.Plan.WellFormed as well
 use Rattle.sym_check.proofs.KeptNumbers.{int_landed, nums_landed, stored_in}
 use Rattle.sym_check.proofs.ZippedLists.{zip_get, zip_set, zip_append, zip_replicate}
 

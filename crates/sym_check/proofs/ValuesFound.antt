@@ -5,16 +5,16 @@ use Rattle.sym_base.specs.Trees.{ExprTree, ExprsTree, End, More}
 use Rattle.sym_check.specs.declared.plan.expression.LabelOf.{LabelOf}
 use Rattle.sym_check.specs.declared.plan.script.KindPlan.{KindPlan}
 use Rattle.sym_check.specs.declared.plan.script.KindPlan.TheVariants as kind
-use Rattle.sym_check.specs.FixedPlans.{FixedPlan}
-use Rattle.sym_check.specs.FixedPlans as fixed
-use Rattle.sym_check.specs.LinePlans as line
+use Rattle.sym_check.specs.Plan.FixedPlans.{FixedPlan}
+use Rattle.sym_check.specs.Plan.FixedPlans as fixed
+use Rattle.sym_check.specs.Plan.LinePlans as line
 use Rattle.sym_check.specs.declared.elaborate.error.CheckErr.{CheckErr}
-use Rattle.sym_check.specs.Scopes.{Scope}
-use Rattle.sym_check.specs.Typing.{Typed, Number, Word, Label, EnumCell, HoldCell, Truth, IsLabel, IsValue, AreValues, Means}
-use Rattle.sym_check.specs.Typing as typing
-use Rattle.sym_check.specs.Breaks.{place, IsOperand, AreOperands, WrongValue, BreaksOperands}
-use Rattle.sym_check.specs.Breaks as rule
-use Rattle.sym_check.specs.Elaborate.{kind_at, Located, value_of, values_of, infer, operands}
+use Rattle.sym_check.specs.Rules.Scopes.{Scope}
+use Rattle.sym_check.specs.Rules.Typing.{Typed, Number, Word, Label, EnumCell, HoldCell, Truth, IsLabel, IsValue, AreValues, Means}
+use Rattle.sym_check.specs.Rules.Typing as typing
+use Rattle.sym_check.specs.Breaks.Expressions.{place, IsOperand, AreOperands, WrongValue, BreaksOperands}
+use Rattle.sym_check.specs.Breaks.Expressions as rule
+use Rattle.sym_check.specs.Elaborate.Expressions.{kind_at, Located, value_of, values_of, infer, operands}
 use Rattle.sym_check.proofs.SameKinds.{numbers_are_same}
 use Rattle.sym_check.proofs.OperandOutcomes.{operand_passes}
 use Rattle.sym_check.proofs.ExpressionsComplete.{ValueInferred, value_inferred, means_inferred}

@@ -6,16 +6,16 @@ use Rattle.sym_check.specs.declared.elaborate.error.CheckErr.{CheckErr}
 use Rattle.sym_check.specs.declared.plan.script.EnumPlan.{EnumPlan}
 use Rattle.sym_check.specs.declared.plan.script.FieldPlan.{FieldPlan}
 use Rattle.sym_check.specs.declared.plan.script.CellPlan.{CellPlan}
-use Rattle.sym_check.specs.Arithmetic.{and_then}
-use Rattle.sym_check.specs.DoPlans.{DosPlan}
-use Rattle.sym_check.specs.ElaborateDeclarations.{enum_decl, field_decl, group_of, state_decl, test_decl}
-use Rattle.sym_check.specs.ElaborateReports.{column_decl}
-use Rattle.sym_check.specs.ElaborateStatements.{PlannedDos, block}
-use Rattle.sym_check.specs.InOrder.{Planned, each}
-use Rattle.sym_check.specs.ScriptPlans.{TestOf, ColumnOf, ScriptPlan}
-use Rattle.sym_check.specs.Scopes.{Scope, hidden, in_update, in_report}
-use Rattle.sym_check.specs.Scripts.{names, bounded, plan_of}
-use Rattle.sym_check.specs.WholeScripts.{update_plan, column_plans}
+use Rattle.sym_check.specs.Meaning.Arithmetic.{and_then}
+use Rattle.sym_check.specs.Plan.DoPlans.{DosPlan}
+use Rattle.sym_check.specs.Elaborate.Declarations.{enum_decl, field_decl, group_of, state_decl, test_decl}
+use Rattle.sym_check.specs.Elaborate.Reports.{column_decl}
+use Rattle.sym_check.specs.Elaborate.Statements.{PlannedDos, block}
+use Rattle.sym_check.specs.Rules.InOrder.{Planned, each}
+use Rattle.sym_check.specs.Plan.ScriptPlans.{TestOf, ColumnOf, ScriptPlan}
+use Rattle.sym_check.specs.Rules.Scopes.{Scope, hidden, in_update, in_report}
+use Rattle.sym_check.specs.Rules.Scripts.{names, bounded, plan_of}
+use Rattle.sym_check.specs.Checking.WholeScripts.{update_plan, column_plans}
 
 -- The declarations have these plans, and lead to this scope.
 pub record HasDeclarations (t : ScriptTree) (es : List EnumPlan) (fs : List FieldPlan) (g : List ℕ) (cs : List CellPlan) (ts : List TestOf) (s : Scope) : Type 0 where

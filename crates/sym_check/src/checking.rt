@@ -2,10 +2,10 @@
 ghost use Rattle.std.specs.Prelude.{◌≡◌, ◌≢◌, IfOk, IfErr, Ok, Err};
 ghost use Rattle.sym_base.specs.Lawful.{IsLawful};
 ghost use Rattle.sym_base.specs.Trees.{script_tree};
-ghost use Rattle.sym_check.specs.CheckedScripts.{checked_tree, checked_plan};
-ghost use Rattle.sym_check.specs.ScriptPlans.{ScriptPlan as Planned};
-ghost use Rattle.sym_check.specs.Scripts.{IsAccepted, BreaksScript};
-ghost use Rattle.sym_check.specs.TypedPlans.{Answers};
+ghost use Rattle.sym_check.specs.Checking.CheckedScripts.{checked_tree, checked_plan};
+ghost use Rattle.sym_check.specs.Plan.ScriptPlans.{ScriptPlan as Planned};
+ghost use Rattle.sym_check.specs.Rules.Scripts.{IsAccepted, BreaksScript};
+ghost use Rattle.sym_check.specs.Checking.TypedPlans.{Answers};
 ghost use Rattle.sym_check.specs.declared.elaborate.error.CheckErr.{CheckErr as Fault};
 ghost use Rattle.sym_check.specs.declared.elaborate.error.CheckErr.TheVariants as fault;
 

@@ -1,12 +1,12 @@
 //! The path bound of a plan: how many paths the symbolic execution of one record can have at
 //! most.
 ghost use Rattle.std.specs.Prelude.{◌≡◌};
-ghost use Rattle.sym_check.specs.CondPlans.{cond_plan};
-ghost use Rattle.sym_check.specs.Conditions.{is_fixed_term, is_fixed};
-ghost use Rattle.sym_check.specs.DoPlans.{do_plan, dos_plan};
-ghost use Rattle.sym_check.specs.LinePlans.{term_plan};
-ghost use Rattle.sym_check.specs.ScriptPlans.{script_plan};
-ghost use Rattle.sym_check.specs.PathBounds.{plus, times, compare_counts, term_counts, and_counts, or_counts, counts, if_ways, store_ways, do_ways, then_ways, dos_ways, path_bound};
+ghost use Rattle.sym_check.specs.Plan.CondPlans.{cond_plan};
+ghost use Rattle.sym_check.specs.Meaning.Conditions.{is_fixed_term, is_fixed};
+ghost use Rattle.sym_check.specs.Plan.DoPlans.{do_plan, dos_plan};
+ghost use Rattle.sym_check.specs.Plan.LinePlans.{term_plan};
+ghost use Rattle.sym_check.specs.Plan.ScriptPlans.{script_plan};
+ghost use Rattle.sym_check.specs.Meaning.PathBounds.{plus, times, compare_counts, term_counts, and_counts, or_counts, counts, if_ways, store_ways, do_ways, then_ways, dos_ways, path_bound};
 
 use crate::plan::condition::Cond;
 use crate::plan::expression::Term;

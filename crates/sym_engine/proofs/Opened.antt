@@ -1,8 +1,8 @@
 -- What opening a file says of its records.
 use Rattle.std.proofs.Common.{◌≡◌, refl, sym, ap, ℕ, ◌∙◌, arith, List, [], ◌∷◌, length, map, subst, Ok, Err, Result}
-use Rattle.sym_check.specs.Arithmetic.{and_then}
+use Rattle.sym_check.specs.Meaning.Arithmetic.{and_then}
 use Rattle.sym_base.specs.declared.values.record.Record.{Record}
-use Rattle.sym_check.specs.ScriptPlans.{ScriptPlan}
+use Rattle.sym_check.specs.Plan.ScriptPlans.{ScriptPlan}
 use Rattle.sym_table.specs.declared.bad.Bad.{Bad}
 use Rattle.sym_table.specs.declared.header.Header.{Header}
 use Rattle.sym_table.specs.declared.header.HeadErr.{HeadErr}

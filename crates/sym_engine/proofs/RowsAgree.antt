@@ -1,8 +1,8 @@
 -- The header by the first row, as a function and as relations.
 use Rattle.std.proofs.Common.{◌≡◌, refl, sym, ap, ℕ, arith, List, length, Result, Ok, Err, MatchResult}
 use Rattle.sym_check.specs.declared.plan.script.FieldPlan.{FieldPlan}
-use Rattle.sym_check.specs.Arithmetic.{and_then}
-use Rattle.sym_check.specs.ScriptPlans.{ScriptPlan}
+use Rattle.sym_check.specs.Meaning.Arithmetic.{and_then}
+use Rattle.sym_check.specs.Plan.ScriptPlans.{ScriptPlan}
 use Rattle.sym_table.specs.declared.header.Header.{Header}
 use Rattle.sym_table.specs.declared.header.HeadFault.{HeadFault}
 use Rattle.sym_table.specs.Headers.{AreColumns, FirstHeadFault, columns_of}

@@ -9,8 +9,8 @@ use Rattle.std.proofs.lemmas.Bool.{eqb-true, eqb-false}
 use Rattle.std.proofs.lemmas.List.{length-map, map-append}
 use Rattle.sym_base.specs.declared.values.value.Value.{Value}
 use Rattle.sym_base.specs.declared.values.record.Record.{Record}
-use Rattle.sym_check.specs.Arithmetic.{and_then}
-use Rattle.sym_check.specs.ScriptPlans.{ScriptPlan}
+use Rattle.sym_check.specs.Meaning.Arithmetic.{and_then}
+use Rattle.sym_check.specs.Plan.ScriptPlans.{ScriptPlan}
 use Rattle.sym_table.specs.declared.bad.Bad.{Bad}
 use Rattle.sym_table.specs.declared.bad.BadCause.{BadCause}
 use Rattle.sym_table.specs.declared.bad.Decoded.TheVariants as decoded

@@ -1,8 +1,8 @@
 -- The records of one file, or its first problem.
 use Rattle.std.specs.Prelude.{◌≡◌, ◌≤◌, ◌<◌, ℕ, nat_le, if◌then◌else◌, List, [], ◌∷◌, length, map, Result, Ok, Err}
 use Rattle.sym_base.specs.declared.values.record.Record.{Record}
-use Rattle.sym_check.specs.Arithmetic.{◌>>=◌}
-use Rattle.sym_check.specs.ScriptPlans.{ScriptPlan}
+use Rattle.sym_check.specs.Meaning.Arithmetic.{◌>>=◌}
+use Rattle.sym_check.specs.Plan.ScriptPlans.{ScriptPlan}
 use Rattle.sym_table.specs.declared.bad.Bad.{Bad}
 use Rattle.sym_table.specs.declared.header.Header.{Header}
 use Rattle.sym_table.specs.declared.header.HeadFault.{HeadFault}

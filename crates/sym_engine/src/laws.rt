@@ -1,7 +1,7 @@
 //! Laws of the definitions: the relations and the function beside them agree.
 ghost use Rattle.std.specs.Prelude.{◌≡◌, ◌↔◌, ℕ, List, Ok, Err};
 ghost use Rattle.sym_base.specs.declared.values.record.Record.{Record as OneRecord};
-ghost use Rattle.sym_check.specs.ScriptPlans.{ScriptPlan};
+ghost use Rattle.sym_check.specs.Plan.ScriptPlans.{ScriptPlan};
 ghost use Rattle.sym_engine.specs.declared.error.PassErr.{PassErr as Problem};
 ghost use Rattle.sym_engine.specs.FileRecords.{FileRules};
 ghost use Rattle.sym_engine.specs.FirstProblems.{AllFine, FirstProblem, records_in};

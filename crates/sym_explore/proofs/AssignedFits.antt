@@ -8,10 +8,10 @@ use Rattle.sym_check.specs.declared.plan.range.Range.{Range}
 use Rattle.sym_check.specs.declared.plan.script.CellPlan.{CellPlan}
 use Rattle.sym_check.specs.declared.plan.script.CellPlan.TheVariants as plan
 use Rattle.sym_check.specs.declared.plan.script.KindPlan.{KindPlan}
-use Rattle.sym_check.specs.CellKinds.{IsHoldCell, IsIntCell, IsNumsCell, IsWordsCell}
-use Rattle.sym_check.specs.ScriptPlans.{ScriptPlan}
-use Rattle.sym_check.specs.Validity.{AreOfKinds}
-use Rattle.sym_check.specs.WellFormed.{AreOfOneEnum, HaveSameKinds}
+use Rattle.sym_check.specs.Plan.CellKinds.{IsHoldCell, IsIntCell, IsNumsCell, IsWordsCell}
+use Rattle.sym_check.specs.Plan.ScriptPlans.{ScriptPlan}
+use Rattle.sym_check.specs.Meaning.Validity.{AreOfKinds}
+use Rattle.sym_check.specs.Plan.WellFormed.{AreOfOneEnum, HaveSameKinds}
 use Rattle.sym_enum.specs.declared.form.EnumForm.{EnumForm}
 use Rattle.sym_enum.specs.declared.form.EnumForm.TheVariants as label
 use Rattle.sym_int.specs.declared.form.IntForm.{IntForm}

@@ -11,9 +11,9 @@ use Rattle.sym_base.specs.States.{label_at, cell_label, nums_at, cell_nums, part
 use Rattle.sym_base.specs.Tests.{Truth}
 use Rattle.sym_check.specs.declared.plan.script.CellPlan.{CellPlan}
 use Rattle.sym_check.specs.declared.plan.script.CellPlan.TheVariants as plan
-use Rattle.sym_check.specs.CellKinds.{IsNumsCell, IsWordsCell}
-use Rattle.sym_check.specs.ScriptPlans.{ScriptPlan}
-use Rattle.sym_check.specs.WellFormed.{AreOfOneEnum, HaveSameKinds}
+use Rattle.sym_check.specs.Plan.CellKinds.{IsNumsCell, IsWordsCell}
+use Rattle.sym_check.specs.Plan.ScriptPlans.{ScriptPlan}
+use Rattle.sym_check.specs.Plan.WellFormed.{AreOfOneEnum, HaveSameKinds}
 use Rattle.sym_enum.specs.declared.form.EnumForm.{EnumForm}
 use Rattle.sym_int.specs.Lines.{form_value}
 use Rattle.sym_int.specs.declared.form.IntForm.{IntForm}

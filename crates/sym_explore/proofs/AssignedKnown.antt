@@ -7,14 +7,14 @@ use Rattle.sym_check.specs.declared.plan.expression.LabelOf.{LabelOf}
 use Rattle.sym_check.specs.declared.plan.range.Range.{Range}
 use Rattle.sym_check.specs.declared.plan.script.CellPlan.{CellPlan}
 use Rattle.sym_check.specs.declared.plan.script.CellPlan.TheVariants as plan
-use Rattle.sym_check.specs.CellKinds.{IsIntCell, IsNumsCell}
-use Rattle.sym_check.specs.DoPlans.{PushNum, SetEnum, SetInt}
-use Rattle.sym_check.specs.FixedValues.{Environment, label_of}
-use Rattle.sym_check.specs.LinePlans.{TermPlan}
-use Rattle.sym_check.specs.Ranges.{range_at, range_of}
-use Rattle.sym_check.specs.ScriptPlans.{ScriptPlan}
-use Rattle.sym_check.specs.WellFormed.{IsDo, IsLabelOfCell, IsTerm, Kinds}
-use Rattle.sym_check.specs.WellFormed as well
+use Rattle.sym_check.specs.Plan.CellKinds.{IsIntCell, IsNumsCell}
+use Rattle.sym_check.specs.Plan.DoPlans.{PushNum, SetEnum, SetInt}
+use Rattle.sym_check.specs.Meaning.FixedValues.{Environment, label_of}
+use Rattle.sym_check.specs.Plan.LinePlans.{TermPlan}
+use Rattle.sym_check.specs.Plan.Ranges.{range_at, range_of}
+use Rattle.sym_check.specs.Plan.ScriptPlans.{ScriptPlan}
+use Rattle.sym_check.specs.Plan.WellFormed.{IsDo, IsLabelOfCell, IsTerm, Kinds}
+use Rattle.sym_check.specs.Plan.WellFormed as well
 use Rattle.sym_explore.specs.Assigning.{HasLabel}
 use Rattle.sym_explore.specs.Knowing.{DoIsKnown, TermIsKnown}
 

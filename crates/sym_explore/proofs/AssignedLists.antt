@@ -19,16 +19,16 @@ use Rattle.sym_base.specs.declared.values.state.Outcome.TheVariants as outcome
 use Rattle.sym_base.specs.declared.values.value.Value.{Value}
 use Rattle.sym_base.specs.States.{with_cell}
 use Rattle.sym_check.specs.declared.evaluate.arithmetic.Arith.{Arith}
-use Rattle.sym_check.specs.Arithmetic.{and_then}
-use Rattle.sym_check.specs.Conditions.{test_truth}
-use Rattle.sym_check.specs.DoPlans.{DoPlan, Let, SetInt, SetEnum, CopyEnum, Keep, KeepFrom, PushNum, PushWord, If}
-use Rattle.sym_check.specs.Fitting.{FitsFault}
-use Rattle.sym_check.specs.FixedPlans.{FixedPlan}
-use Rattle.sym_check.specs.FixedValues.{Environment, fixed_values}
-use Rattle.sym_check.specs.LinePlans.{TermPlan}
-use Rattle.sym_check.specs.Ranges.{is_clamped}
-use Rattle.sym_check.specs.ScriptPlans.{ScriptPlan}
-use Rattle.sym_check.specs.Updates.{at_record, do_step, or_fault, stored, with_int, with_pushed}
+use Rattle.sym_check.specs.Meaning.Arithmetic.{and_then}
+use Rattle.sym_check.specs.Meaning.Conditions.{test_truth}
+use Rattle.sym_check.specs.Plan.DoPlans.{DoPlan, Let, SetInt, SetEnum, CopyEnum, Keep, KeepFrom, PushNum, PushWord, If}
+use Rattle.sym_check.specs.Meaning.Fitting.{FitsFault}
+use Rattle.sym_check.specs.Plan.FixedPlans.{FixedPlan}
+use Rattle.sym_check.specs.Meaning.FixedValues.{Environment, fixed_values}
+use Rattle.sym_check.specs.Plan.LinePlans.{TermPlan}
+use Rattle.sym_check.specs.Plan.Ranges.{is_clamped}
+use Rattle.sym_check.specs.Plan.ScriptPlans.{ScriptPlan}
+use Rattle.sym_check.specs.Meaning.Updates.{at_record, do_step, or_fault, stored, with_int, with_pushed}
 use Rattle.sym_pred.specs.declared.form.HoldForm.TheVariants as hold
 use Rattle.sym_path.proofs.Changed.{faults_fit, faults_give}
 use Rattle.sym_path.proofs.Lists.{zip_all, zip_length}

@@ -8,15 +8,15 @@ use Rattle.sym_base.specs.declared.values.state.State.{State}
 use Rattle.sym_base.specs.States.{with_cell}
 use Rattle.sym_check.proofs.ValidSteps.{all_fixed_are}
 use Rattle.sym_check.specs.declared.evaluate.arithmetic.Arith.{Arith}
-use Rattle.sym_check.specs.Arithmetic.{and_then}
-use Rattle.sym_check.specs.Conditions.{test_truth}
-use Rattle.sym_check.specs.DoPlans.{Keep}
-use Rattle.sym_check.specs.FixedPlans.{FixedPlan}
-use Rattle.sym_check.specs.FixedValues.{Environment, fixed_values}
-use Rattle.sym_check.specs.ScriptPlans.{ScriptPlan}
-use Rattle.sym_check.specs.Updates.{or_fault}
-use Rattle.sym_check.specs.WellFormed.{IsDo, IsKept, Kinds}
-use Rattle.sym_check.specs.WellFormed as well
+use Rattle.sym_check.specs.Meaning.Arithmetic.{and_then}
+use Rattle.sym_check.specs.Meaning.Conditions.{test_truth}
+use Rattle.sym_check.specs.Plan.DoPlans.{Keep}
+use Rattle.sym_check.specs.Plan.FixedPlans.{FixedPlan}
+use Rattle.sym_check.specs.Meaning.FixedValues.{Environment, fixed_values}
+use Rattle.sym_check.specs.Plan.ScriptPlans.{ScriptPlan}
+use Rattle.sym_check.specs.Meaning.Updates.{or_fault}
+use Rattle.sym_check.specs.Plan.WellFormed.{IsDo, IsKept, Kinds}
+use Rattle.sym_check.specs.Plan.WellFormed as well
 use Rattle.sym_pred.specs.declared.form.HoldForm.TheVariants as hold
 use Rattle.sym_path.proofs.Changed.{forms_give}
 use Rattle.sym_path.specs.declared.form.Form.TheVariants as form

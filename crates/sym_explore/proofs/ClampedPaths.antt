@@ -8,8 +8,8 @@ use Rattle.std.specs.Prelude.{slice_get}
 use Rattle.sym_base.specs.States.{number_at}
 use Rattle.sym_base.specs.declared.values.state.State.{State}
 use Rattle.sym_base.specs.declared.values.state.Outcome.{Outcome}
-use Rattle.sym_check.specs.Conditions.{test_truth}
-use Rattle.sym_check.specs.ScriptPlans.{ScriptPlan}
+use Rattle.sym_check.specs.Meaning.Conditions.{test_truth}
+use Rattle.sym_check.specs.Plan.ScriptPlans.{ScriptPlan}
 use Rattle.sym_int.specs.Fits.{IsFitted, inside_span}
 use Rattle.sym_int.specs.Lines.{form_value, wide_cell, wide_on, wide_value}
 use Rattle.sym_int.specs.Parts.{Above, Below, Within}

@@ -6,8 +6,8 @@ use Rattle.sym_base.specs.Comparing.{compares}
 use Rattle.sym_base.specs.Limits.{IsNumber}
 use Rattle.sym_base.specs.declared.values.state.Outcome.{Outcome}
 use Rattle.sym_base.specs.declared.values.state.Outcome.TheVariants.{Going}
-use Rattle.sym_check.specs.Conditions.{test_truth}
-use Rattle.sym_check.specs.ScriptPlans.{ScriptPlan}
+use Rattle.sym_check.specs.Meaning.Conditions.{test_truth}
+use Rattle.sym_check.specs.Plan.ScriptPlans.{ScriptPlan}
 use Rattle.sym_int.specs.Cuts.{IsCut}
 use Rattle.sym_int.specs.Lines.{wide_cell, wide_on, wide_value}
 use Rattle.sym_int.specs.declared.pieces.Pieces.{Pieces}

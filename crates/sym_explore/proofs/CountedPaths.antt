@@ -6,13 +6,13 @@ use Rattle.std.specs.Prelude.{if◌then◌else◌}
 use Rattle.sym_base.specs.declared.limits.TheConstants as limit
 use Rattle.sym_base.specs.declared.tree.compare.Compare.{Compare}
 use Rattle.sym_base.specs.declared.tree.compare.Compare.TheVariants as compare
-use Rattle.sym_check.specs.LinePlans.{TermPlan, OfNum, OfLine}
-use Rattle.sym_check.specs.CondPlans.{CondPlan, Compared, Words, CellIs, LabelIs, Test, Not, And, Or}
-use Rattle.sym_check.specs.Conditions.{is_fixed}
-use Rattle.sym_check.specs.DoPlans.{DoPlan, Let, SetInt, SetEnum, CopyEnum, Keep, KeepFrom, PushNum, PushWord, If, DosPlan, End, Then}
-use Rattle.sym_check.specs.PathBounds.{plus, times, counts, term_counts, do_ways, dos_ways, path_bound}
-use Rattle.sym_check.specs.Ranges.{is_clamped}
-use Rattle.sym_check.specs.ScriptPlans.{ScriptPlan}
+use Rattle.sym_check.specs.Plan.LinePlans.{TermPlan, OfNum, OfLine}
+use Rattle.sym_check.specs.Plan.CondPlans.{CondPlan, Compared, Words, CellIs, LabelIs, Test, Not, And, Or}
+use Rattle.sym_check.specs.Meaning.Conditions.{is_fixed}
+use Rattle.sym_check.specs.Plan.DoPlans.{DoPlan, Let, SetInt, SetEnum, CopyEnum, Keep, KeepFrom, PushNum, PushWord, If, DosPlan, End, Then}
+use Rattle.sym_check.specs.Meaning.PathBounds.{plus, times, counts, term_counts, do_ways, dos_ways, path_bound}
+use Rattle.sym_check.specs.Plan.Ranges.{is_clamped}
+use Rattle.sym_check.specs.Plan.ScriptPlans.{ScriptPlan}
 use Rattle.sym_check.specs.declared.path_bound.Counts.{Counts}
 use Rattle.sym_check.specs.declared.path_bound.Ways.{Ways}
 use Rattle.sym_check.specs.declared.plan.script.CellPlan.{CellPlan}

@@ -9,13 +9,13 @@ use Rattle.sym_base.specs.declared.values.state.Outcome.{Outcome}
 use Rattle.sym_base.specs.declared.values.state.Outcome.TheVariants.{Going, Ended}
 use Rattle.sym_base.specs.declared.values.value.Value.{Value}
 use Rattle.sym_check.proofs.ValidSteps.{number_is}
-use Rattle.sym_check.specs.Arithmetic.{◌>>=◌}
-use Rattle.sym_check.specs.Conditions.{is_fixed_term, test_truth}
-use Rattle.sym_check.specs.CondPlans.{CondPlan, Compared, Test}
-use Rattle.sym_check.specs.FixedPlans.{FixedPlan, NumPlan}
-use Rattle.sym_check.specs.FixedValues.{Environment, fixed_values, number}
-use Rattle.sym_check.specs.LinePlans.{OfLine, OfNum, TermPlan}
-use Rattle.sym_check.specs.ScriptPlans.{ScriptPlan}
+use Rattle.sym_check.specs.Meaning.Arithmetic.{◌>>=◌}
+use Rattle.sym_check.specs.Meaning.Conditions.{is_fixed_term, test_truth}
+use Rattle.sym_check.specs.Plan.CondPlans.{CondPlan, Compared, Test}
+use Rattle.sym_check.specs.Plan.FixedPlans.{FixedPlan, NumPlan}
+use Rattle.sym_check.specs.Meaning.FixedValues.{Environment, fixed_values, number}
+use Rattle.sym_check.specs.Plan.LinePlans.{OfLine, OfNum, TermPlan}
+use Rattle.sym_check.specs.Plan.ScriptPlans.{ScriptPlan}
 use Rattle.sym_check.specs.declared.evaluate.arithmetic.Arith.{Arith}
 use Rattle.sym_check.specs.declared.evaluate.pairs.Pair.{Pair}
 use Rattle.sym_int.specs.Cuts.{most_with}

@@ -14,12 +14,12 @@ use Rattle.sym_base.specs.declared.values.state.Outcome.{Outcome}
 use Rattle.sym_base.specs.declared.values.state.Outcome.TheVariants.{Going}
 use Rattle.sym_base.specs.declared.values.state.Outcome.TheVariants as outcome
 use Rattle.sym_base.specs.Tests.{Truth}
-use Rattle.sym_check.specs.Conditions.{test_truth}
-use Rattle.sym_check.specs.PathBounds.{path_bound}
-use Rattle.sym_check.specs.ScriptPlans.{ScriptPlan}
-use Rattle.sym_check.specs.Updates.{after, environment}
-use Rattle.sym_check.specs.Validity.{IsRecord, IsValid}
-use Rattle.sym_check.specs.WellFormed.{IsWellFormed}
+use Rattle.sym_check.specs.Meaning.Conditions.{test_truth}
+use Rattle.sym_check.specs.Meaning.PathBounds.{path_bound}
+use Rattle.sym_check.specs.Plan.ScriptPlans.{ScriptPlan}
+use Rattle.sym_check.specs.Meaning.Updates.{after, environment}
+use Rattle.sym_check.specs.Meaning.Validity.{IsRecord, IsValid}
+use Rattle.sym_check.specs.Plan.WellFormed.{IsWellFormed}
 use Rattle.sym_check.proofs.PlanLaws.{after_more}
 use Rattle.sym_path.specs.declared.part.Part.{Part}
 use Rattle.sym_path.specs.declared.path.Path.{Path}

@@ -3,7 +3,7 @@ use Rattle.std.proofs.Common.{◌≡◌, ℤ, ◌<ℤ◌, ◌≤ℤ◌, Bool, tr
 use Rattle.std.proofs.lemmas.Int.{ints}
 use Rattle.std.specs.Prelude.{int_le, if◌then◌else◌}
 use Rattle.sym_check.proofs.KeptNumbers.{kept_in as kept_in_range}
-use Rattle.sym_check.specs.Ranges.{kept}
+use Rattle.sym_check.specs.Plan.Ranges.{kept}
 use Rattle.sym_int.specs.Points.{HasPoint}
 use Rattle.sym_int.specs.declared.span.Span.{Span}
 use Rattle.sym_path.proofs.Decided.{point_decided}

@@ -1,13 +1,13 @@
 -- The parts of conditions and statements that are known are known too.
 use Rattle.std.proofs.Common.{◌≡◌, []}
 use Rattle.sym_base.specs.declared.values.record.Record.{Record}
-use Rattle.sym_check.specs.DoPlans.{DoPlan, DosPlan, Then}
-use Rattle.sym_check.specs.FixedValues.{Environment}
-use Rattle.sym_check.specs.ScriptPlans.{ScriptPlan}
-use Rattle.sym_check.specs.Updates.{environment, environment_after}
-use Rattle.sym_check.specs.Validity.{IsRecord}
-use Rattle.sym_check.specs.WellFormed.{Kinds, IsKnown, IsDo, IsDos, IsWellFormed, known_kinds}
-use Rattle.sym_check.specs.WellFormed as well
+use Rattle.sym_check.specs.Plan.DoPlans.{DoPlan, DosPlan, Then}
+use Rattle.sym_check.specs.Meaning.FixedValues.{Environment}
+use Rattle.sym_check.specs.Plan.ScriptPlans.{ScriptPlan}
+use Rattle.sym_check.specs.Meaning.Updates.{environment, environment_after}
+use Rattle.sym_check.specs.Meaning.Validity.{IsRecord}
+use Rattle.sym_check.specs.Plan.WellFormed.{Kinds, IsKnown, IsDo, IsDos, IsWellFormed, known_kinds}
+use Rattle.sym_check.specs.Plan.WellFormed as well
 use Rattle.sym_check.proofs.ValidSteps.{fixed_is, more_known, record_known}
 use Rattle.sym_explore.specs.Knowing.{DoIsKnown, DosAreKnown}
 use Rattle.sym_explore.specs.Running.{HasValue}

@@ -6,11 +6,11 @@ use Rattle.sym_base.specs.declared.values.state.State.{State}
 use Rattle.sym_base.specs.declared.values.state.Outcome.{Outcome}
 use Rattle.sym_base.specs.declared.values.state.Outcome.TheVariants.{Going, Ended}
 use Rattle.sym_check.specs.declared.evaluate.arithmetic.Arith.{Arith}
-use Rattle.sym_check.specs.Arithmetic.{◌>>=◌}
-use Rattle.sym_check.specs.Conditions.{test_truth, truth}
-use Rattle.sym_check.specs.CondPlans.{CondPlan, Not, And, Or}
-use Rattle.sym_check.specs.FixedValues.{Environment}
-use Rattle.sym_check.specs.ScriptPlans.{ScriptPlan}
+use Rattle.sym_check.specs.Meaning.Arithmetic.{◌>>=◌}
+use Rattle.sym_check.specs.Meaning.Conditions.{test_truth, truth}
+use Rattle.sym_check.specs.Plan.CondPlans.{CondPlan, Not, And, Or}
+use Rattle.sym_check.specs.Meaning.FixedValues.{Environment}
+use Rattle.sym_check.specs.Plan.ScriptPlans.{ScriptPlan}
 use Rattle.sym_path.specs.declared.path.Path.{Path}
 use Rattle.sym_explore.specs.Branches.{answered, tried, with_answer}
 use Rattle.sym_explore.specs.Parting.{AreParts, at_state, those_failed, those_false, those_true}

@@ -2,7 +2,7 @@
 use Rattle.std.proofs.Common.{◌≡◌, ◌≤◌, ◌+◌, ◌*◌, ◌-◌, ℕ, Bool, true, false, List, [], ◌∷◌, ◌++◌, length, refl, sym, ap, subst, arith, length-append}
 use Rattle.std.proofs.Math.Nat.{mul-le-mul_left, mul-le-mul_right, le-mul_of_pos_right}
 use Rattle.std.specs.Prelude.{if◌then◌else◌}
-use Rattle.sym_check.specs.CondPlans.{CondPlan, And, Or}
+use Rattle.sym_check.specs.Plan.CondPlans.{CondPlan, And, Or}
 use Rattle.sym_int.specs.Cuts.{count_truth}
 use Rattle.sym_path.specs.declared.path.Path.{Path}
 use Rattle.sym_explore.specs.declared.branch.Branch.{Branch}

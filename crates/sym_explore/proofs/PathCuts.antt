@@ -9,8 +9,8 @@ use Rattle.sym_base.specs.Tests.{Truth}
 use Rattle.sym_base.specs.declared.values.state.Cell.TheVariants as cell
 use Rattle.sym_base.specs.declared.values.state.State.{State}
 use Rattle.sym_base.specs.declared.values.state.Outcome.{Outcome}
-use Rattle.sym_check.specs.Conditions.{test_truth}
-use Rattle.sym_check.specs.ScriptPlans.{ScriptPlan}
+use Rattle.sym_check.specs.Meaning.Conditions.{test_truth}
+use Rattle.sym_check.specs.Plan.ScriptPlans.{ScriptPlan}
 use Rattle.sym_int.specs.Cuts.{Follows, InOrder, InPart, InPieces, count_piece, count_truth, count_with, piece_span}
 use Rattle.sym_int.specs.Points.{HasPoint}
 use Rattle.sym_int.specs.declared.pieces.Cut.{Cut}

@@ -13,9 +13,9 @@ use Rattle.sym_base.specs.declared.values.state.State.{State}
 use Rattle.sym_base.specs.declared.values.state.Outcome.{Outcome}
 use Rattle.sym_base.specs.declared.values.state.Outcome.TheVariants.{Going}
 use Rattle.sym_base.specs.declared.values.state.Outcome.TheVariants as outcome
-use Rattle.sym_check.specs.Conditions.{test_truth}
-use Rattle.sym_check.specs.Ranges.{kept}
-use Rattle.sym_check.specs.ScriptPlans.{ScriptPlan}
+use Rattle.sym_check.specs.Meaning.Conditions.{test_truth}
+use Rattle.sym_check.specs.Plan.Ranges.{kept}
+use Rattle.sym_check.specs.Plan.ScriptPlans.{ScriptPlan}
 use Rattle.sym_int.proofs.Products.{opposites, times_keeps}
 use Rattle.sym_int.specs.Fits.{IsFitted, IsInside, inside_span}
 use Rattle.sym_int.specs.Lines.{form_on, wide_cell, wide_on, wide_value}

@@ -4,9 +4,9 @@ use Rattle.std.proofs.Math.Nat.{mul-le-mul_left, mul-le-mul_right, mul_assoc}
 use Rattle.std.proofs.lemmas.Nat.{mul-le}
 use Rattle.std.specs.Prelude.{if◌then◌else◌, IsTrue}
 use Rattle.sym_check.specs.declared.plan.script.CellPlan.{CellPlan}
-use Rattle.sym_check.specs.CondPlans.{CondPlan}
-use Rattle.sym_check.specs.Conditions.{is_fixed}
-use Rattle.sym_check.specs.DoPlans.{If, DosPlan}
+use Rattle.sym_check.specs.Plan.CondPlans.{CondPlan}
+use Rattle.sym_check.specs.Meaning.Conditions.{is_fixed}
+use Rattle.sym_check.specs.Plan.DoPlans.{If, DosPlan}
 use Rattle.sym_path.specs.declared.path.Path.{Path}
 use Rattle.sym_explore.specs.Counting.{branches_of, if_paths, do_going, do_ended, dos_going, dos_ended}
 use Rattle.sym_explore.specs.Parting.{AreFewParts, AreFewRun, AreOfOneTruth}

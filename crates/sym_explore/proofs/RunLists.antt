@@ -10,13 +10,13 @@ use Rattle.sym_base.specs.declared.values.state.Outcome.{Outcome}
 use Rattle.sym_base.specs.declared.values.state.Outcome.TheVariants.{Going}
 use Rattle.sym_base.specs.declared.values.state.Outcome.TheVariants as outcome
 use Rattle.sym_check.specs.declared.evaluate.arithmetic.Arith.{Arith}
-use Rattle.sym_check.specs.Arithmetic.{◌>>=◌}
-use Rattle.sym_check.specs.Conditions.{test_truth, truth}
-use Rattle.sym_check.specs.CondPlans.{CondPlan}
-use Rattle.sym_check.specs.DoPlans.{DoPlan, If, DosPlan, End, Then}
-use Rattle.sym_check.specs.FixedValues.{Environment}
-use Rattle.sym_check.specs.ScriptPlans.{ScriptPlan}
-use Rattle.sym_check.specs.Updates.{at_record, do_step, dos_step, environment, environment_after, or_fault}
+use Rattle.sym_check.specs.Meaning.Arithmetic.{◌>>=◌}
+use Rattle.sym_check.specs.Meaning.Conditions.{test_truth, truth}
+use Rattle.sym_check.specs.Plan.CondPlans.{CondPlan}
+use Rattle.sym_check.specs.Plan.DoPlans.{DoPlan, If, DosPlan, End, Then}
+use Rattle.sym_check.specs.Meaning.FixedValues.{Environment}
+use Rattle.sym_check.specs.Plan.ScriptPlans.{ScriptPlan}
+use Rattle.sym_check.specs.Meaning.Updates.{at_record, do_step, dos_step, environment, environment_after, or_fault}
 use Rattle.sym_path.specs.declared.path.Path.{Path}
 use Rattle.sym_explore.specs.Branches.{with_answer, tried}
 use Rattle.sym_explore.specs.Parting.{AllGoOn, those_going, those_ended, those_true, those_false, those_failed, at_state, AreParts, AreRun}

@@ -9,13 +9,13 @@ use Rattle.sym_base.specs.Tests.{Truth}
 use Rattle.sym_base.specs.declared.values.state.State.{State}
 use Rattle.sym_base.specs.declared.values.state.Outcome.TheVariants.{Going}
 use Rattle.sym_check.proofs.ValidSteps.{number_is, pair_is}
-use Rattle.sym_check.specs.Arithmetic.{and_then}
-use Rattle.sym_check.specs.CellKinds.{IsIntCell}
-use Rattle.sym_check.specs.Conditions.{is_fixed_term, test_truth}
-use Rattle.sym_check.specs.FixedValues.{Environment, number}
-use Rattle.sym_check.specs.LinePlans.{OfLine, OfNum, TermPlan}
-use Rattle.sym_check.specs.LineValues.{pair, pair_at, term_number}
-use Rattle.sym_check.specs.ScriptPlans.{ScriptPlan}
+use Rattle.sym_check.specs.Meaning.Arithmetic.{and_then}
+use Rattle.sym_check.specs.Plan.CellKinds.{IsIntCell}
+use Rattle.sym_check.specs.Meaning.Conditions.{is_fixed_term, test_truth}
+use Rattle.sym_check.specs.Meaning.FixedValues.{Environment, number}
+use Rattle.sym_check.specs.Plan.LinePlans.{OfLine, OfNum, TermPlan}
+use Rattle.sym_check.specs.Meaning.LineValues.{pair, pair_at, term_number}
+use Rattle.sym_check.specs.Plan.ScriptPlans.{ScriptPlan}
 use Rattle.sym_check.specs.declared.evaluate.arithmetic.Arith.{Arith}
 use Rattle.sym_check.specs.declared.evaluate.pairs.Pair.{Pair}
 use Rattle.sym_check.specs.declared.plan.script.CellPlan.TheVariants as plan

@@ -9,16 +9,16 @@ use Rattle.sym_base.specs.declared.values.state.State.{State}
 use Rattle.sym_base.specs.declared.values.value.Value.{Value}
 use Rattle.sym_base.specs.Tests.{Truth}
 use Rattle.sym_check.specs.declared.evaluate.arithmetic.Arith.{Arith}
-use Rattle.sym_check.specs.Updates.{or_fault}
+use Rattle.sym_check.specs.Meaning.Updates.{or_fault}
 use Rattle.sym_check.specs.declared.plan.script.CellPlan.{CellPlan}
 use Rattle.sym_check.specs.declared.plan.script.CellPlan.TheVariants as plan
 use Rattle.sym_check.specs.declared.plan.script.KindPlan.{KindPlan}
-use Rattle.sym_check.specs.CellKinds.{IsHoldCell}
-use Rattle.sym_check.specs.Conditions.{test_truth}
-use Rattle.sym_check.specs.FixedPlans.{FixedPlan}
-use Rattle.sym_check.specs.FixedValues.{Environment, fixed_values}
-use Rattle.sym_check.specs.CondPlans.{Test}
-use Rattle.sym_check.specs.ScriptPlans.{ScriptPlan}
+use Rattle.sym_check.specs.Plan.CellKinds.{IsHoldCell}
+use Rattle.sym_check.specs.Meaning.Conditions.{test_truth}
+use Rattle.sym_check.specs.Plan.FixedPlans.{FixedPlan}
+use Rattle.sym_check.specs.Meaning.FixedValues.{Environment, fixed_values}
+use Rattle.sym_check.specs.Plan.CondPlans.{Test}
+use Rattle.sym_check.specs.Plan.ScriptPlans.{ScriptPlan}
 use Rattle.sym_check.proofs.ValidSteps.{all_fixed_are}
 use Rattle.sym_pred.specs.Facts.{FactMap}
 use Rattle.sym_pred.specs.HoldForms.{parts_value}

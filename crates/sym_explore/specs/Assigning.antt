@@ -1,9 +1,9 @@
 -- Assignments to cells of a path.
 use Rattle.std.specs.Prelude.{◌<◌, ℕ, List, [], ◌∷◌, ◌++◌, Option, Some, None}
-use Rattle.sym_check.specs.CellKinds.{IsEnumCell}
-use Rattle.sym_check.specs.DoPlans.{DoPlan, Let, SetInt, SetEnum, CopyEnum, Keep, KeepFrom, PushNum, PushWord, If}
-use Rattle.sym_check.specs.ScriptPlans.{ScriptPlan}
-use Rattle.sym_check.specs.Validity.{label_count}
+use Rattle.sym_check.specs.Plan.CellKinds.{IsEnumCell}
+use Rattle.sym_check.specs.Plan.DoPlans.{DoPlan, Let, SetInt, SetEnum, CopyEnum, Keep, KeepFrom, PushNum, PushWord, If}
+use Rattle.sym_check.specs.Plan.ScriptPlans.{ScriptPlan}
+use Rattle.sym_check.specs.Meaning.Validity.{label_count}
 use Rattle.sym_base.specs.declared.values.value.Value.{Value}
 use Rattle.sym_int.specs.declared.form.IntForm.{IntForm}
 use Rattle.sym_pred.specs.declared.form.HoldForm.{HoldForm}

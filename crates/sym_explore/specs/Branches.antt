@@ -8,10 +8,10 @@ use Rattle.sym_base.specs.declared.values.state.Outcome.{Outcome}
 use Rattle.sym_base.specs.declared.values.state.Outcome.TheVariants.{Going, Ended}
 use Rattle.sym_base.specs.Tests.{Truth}
 use Rattle.sym_check.specs.declared.evaluate.arithmetic.Arith.{Arith}
-use Rattle.sym_check.specs.Conditions.{test_truth, truth}
-use Rattle.sym_check.specs.CondPlans.{CondPlan}
-use Rattle.sym_check.specs.FixedValues.{Environment}
-use Rattle.sym_check.specs.ScriptPlans.{ScriptPlan}
+use Rattle.sym_check.specs.Meaning.Conditions.{test_truth, truth}
+use Rattle.sym_check.specs.Plan.CondPlans.{CondPlan}
+use Rattle.sym_check.specs.Meaning.FixedValues.{Environment}
+use Rattle.sym_check.specs.Plan.ScriptPlans.{ScriptPlan}
 use Rattle.sym_int.specs.Cuts.{count_truth}
 use Rattle.sym_path.specs.declared.path.Path.{Path}
 use Rattle.sym_path.specs.Changing.{GoesOn}

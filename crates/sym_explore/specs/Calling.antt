@@ -6,10 +6,10 @@ use Rattle.sym_base.specs.declared.values.state.State.{State}
 use Rattle.sym_base.specs.declared.values.value.Value.{Value}
 use Rattle.sym_check.specs.declared.plan.script.KindPlan.{KindPlan}
 use Rattle.sym_check.specs.declared.evaluate.arithmetic.Arith.{Arith}
-use Rattle.sym_check.specs.CellKinds.{IsHoldCell}
-use Rattle.sym_check.specs.Conditions.{test_truth}
-use Rattle.sym_check.specs.ScriptPlans.{ScriptPlan, TestOf}
-use Rattle.sym_check.specs.Validity.{AreOfKinds}
+use Rattle.sym_check.specs.Plan.CellKinds.{IsHoldCell}
+use Rattle.sym_check.specs.Meaning.Conditions.{test_truth}
+use Rattle.sym_check.specs.Plan.ScriptPlans.{ScriptPlan, TestOf}
+use Rattle.sym_check.specs.Meaning.Validity.{AreOfKinds}
 use Rattle.sym_pred.specs.Facts.{Atom}
 use Rattle.sym_pred.specs.declared.form.HoldForm.TheVariants as hold
 use Rattle.sym_path.specs.declared.part.Part.{Part}

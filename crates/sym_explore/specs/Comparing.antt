@@ -4,8 +4,8 @@ use Rattle.sym_base.specs.Comparing.{compares}
 use Rattle.sym_base.specs.States.{number_at}
 use Rattle.sym_base.specs.declared.values.state.State.{State}
 use Rattle.sym_check.specs.declared.evaluate.arithmetic.Arith.{Arith}
-use Rattle.sym_check.specs.Conditions.{test_truth}
-use Rattle.sym_check.specs.ScriptPlans.{ScriptPlan}
+use Rattle.sym_check.specs.Meaning.Conditions.{test_truth}
+use Rattle.sym_check.specs.Plan.ScriptPlans.{ScriptPlan}
 use Rattle.sym_int.specs.Cuts.{InOrder, InPieces}
 use Rattle.sym_int.specs.Lines.{wide_value}
 use Rattle.sym_int.specs.Points.{HasPoint}

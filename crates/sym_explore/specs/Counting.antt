@@ -2,13 +2,13 @@
 -- products that don't stop at a million.
 use Rattle.std.specs.Prelude.{ℕ, ◌+◌, ◌*◌, max, Bool, true, false, not, List, if◌then◌else◌}
 use Rattle.std.specs.List.{sum_by}
-use Rattle.sym_check.specs.LinePlans.{TermPlan, OfNum, OfLine}
-use Rattle.sym_check.specs.CondPlans.{CondPlan, Compared, Words, CellIs, LabelIs, Test, Not, And, Or}
-use Rattle.sym_check.specs.Conditions.{is_fixed}
-use Rattle.sym_check.specs.DoPlans.{DoPlan, Let, SetInt, SetEnum, CopyEnum, Keep, KeepFrom, PushNum, PushWord, If, DosPlan, End, Then}
+use Rattle.sym_check.specs.Plan.LinePlans.{TermPlan, OfNum, OfLine}
+use Rattle.sym_check.specs.Plan.CondPlans.{CondPlan, Compared, Words, CellIs, LabelIs, Test, Not, And, Or}
+use Rattle.sym_check.specs.Meaning.Conditions.{is_fixed}
+use Rattle.sym_check.specs.Plan.DoPlans.{DoPlan, Let, SetInt, SetEnum, CopyEnum, Keep, KeepFrom, PushNum, PushWord, If, DosPlan, End, Then}
 use Rattle.sym_base.specs.declared.tree.compare.Compare.{Compare}
-use Rattle.sym_check.specs.Ranges.{is_clamped}
-use Rattle.sym_check.specs.ScriptPlans.{ScriptPlan}
+use Rattle.sym_check.specs.Plan.Ranges.{is_clamped}
+use Rattle.sym_check.specs.Plan.ScriptPlans.{ScriptPlan}
 use Rattle.sym_check.specs.declared.plan.script.CellPlan.{CellPlan}
 use Rattle.sym_int.specs.Cuts.{most_with}
 use Rattle.sym_path.specs.declared.path.PathEnd.{PathEnd}

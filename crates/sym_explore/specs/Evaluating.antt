@@ -7,11 +7,11 @@ use Rattle.sym_base.specs.States.{label_at, parts_at}
 use Rattle.sym_base.specs.declared.values.state.Outcome.{Outcome}
 use Rattle.sym_base.specs.declared.values.state.State.{State}
 use Rattle.sym_base.specs.declared.values.value.Value.{Value}
-use Rattle.sym_check.specs.CellKinds.{IsEnumCell}
-use Rattle.sym_check.specs.Conditions.{is_fixed, test_truth, truth}
-use Rattle.sym_check.specs.CondPlans.{CondPlan, Compared, Words, CellIs, LabelIs, Test, Not, And, Or}
-use Rattle.sym_check.specs.FixedValues.{Environment}
-use Rattle.sym_check.specs.ScriptPlans.{ScriptPlan}
+use Rattle.sym_check.specs.Plan.CellKinds.{IsEnumCell}
+use Rattle.sym_check.specs.Meaning.Conditions.{is_fixed, test_truth, truth}
+use Rattle.sym_check.specs.Plan.CondPlans.{CondPlan, Compared, Words, CellIs, LabelIs, Test, Not, And, Or}
+use Rattle.sym_check.specs.Meaning.FixedValues.{Environment}
+use Rattle.sym_check.specs.Plan.ScriptPlans.{ScriptPlan}
 use Rattle.sym_check.specs.declared.evaluate.arithmetic.Arith.{Arith}
 use Rattle.sym_int.specs.Cuts.{most_with}
 use Rattle.sym_path.specs.declared.path.Path.{Path}

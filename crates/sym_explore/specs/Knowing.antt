@@ -1,10 +1,10 @@
 -- Conditions and statements whose names stand for values of the kinds that they need.
-use Rattle.sym_check.specs.CondPlans.{CondPlan}
-use Rattle.sym_check.specs.DoPlans.{DoPlan, DosPlan}
-use Rattle.sym_check.specs.FixedValues.{Environment}
-use Rattle.sym_check.specs.LinePlans.{TermPlan}
-use Rattle.sym_check.specs.ScriptPlans.{ScriptPlan}
-use Rattle.sym_check.specs.WellFormed.{Kinds, IsKnown, IsCond, IsDo, IsDos, IsTerm}
+use Rattle.sym_check.specs.Plan.CondPlans.{CondPlan}
+use Rattle.sym_check.specs.Plan.DoPlans.{DoPlan, DosPlan}
+use Rattle.sym_check.specs.Meaning.FixedValues.{Environment}
+use Rattle.sym_check.specs.Plan.LinePlans.{TermPlan}
+use Rattle.sym_check.specs.Plan.ScriptPlans.{ScriptPlan}
+use Rattle.sym_check.specs.Plan.WellFormed.{Kinds, IsKnown, IsCond, IsDo, IsDos, IsTerm}
 
 -- There are kinds of what is known with which the condition is well formed; the others in the same
 -- way.

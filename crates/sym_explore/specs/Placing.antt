@@ -3,11 +3,11 @@ use Rattle.std.specs.Prelude.{◌≡◌, ℕ, ℤ, Bool, true, List, [], ◌∷�
 use Rattle.sym_base.specs.declared.values.state.FaultKind.TheVariants as cause
 use Rattle.sym_base.specs.declared.values.state.State.{State}
 use Rattle.sym_base.specs.declared.values.state.Outcome.{Outcome}
-use Rattle.sym_check.specs.CellKinds.{IsIntCell, IsNumsCell}
-use Rattle.sym_check.specs.Conditions.{test_truth}
-use Rattle.sym_check.specs.Ranges.{kept}
-use Rattle.sym_check.specs.ScriptPlans.{ScriptPlan}
-use Rattle.sym_check.specs.Updates.{with_int, with_pushed}
+use Rattle.sym_check.specs.Plan.CellKinds.{IsIntCell, IsNumsCell}
+use Rattle.sym_check.specs.Meaning.Conditions.{test_truth}
+use Rattle.sym_check.specs.Plan.Ranges.{kept}
+use Rattle.sym_check.specs.Plan.ScriptPlans.{ScriptPlan}
+use Rattle.sym_check.specs.Meaning.Updates.{with_int, with_pushed}
 use Rattle.sym_int.specs.Lines.{form_value, wide_value}
 use Rattle.sym_int.specs.Points.{HasPoint}
 use Rattle.sym_int.specs.declared.form.IntForm.{IntForm}

@@ -5,10 +5,10 @@ use Rattle.sym_base.specs.declared.values.state.FaultKind.{FaultKind}
 use Rattle.sym_base.specs.declared.values.state.State.{State}
 use Rattle.sym_base.specs.declared.values.state.Outcome.{Outcome}
 use Rattle.sym_check.specs.declared.plan.range.Range.{Range}
-use Rattle.sym_check.specs.Conditions.{test_truth}
-use Rattle.sym_check.specs.Ranges.{range_at}
-use Rattle.sym_check.specs.ScriptPlans.{ScriptPlan}
-use Rattle.sym_check.specs.Updates.{stored}
+use Rattle.sym_check.specs.Meaning.Conditions.{test_truth}
+use Rattle.sym_check.specs.Plan.Ranges.{range_at}
+use Rattle.sym_check.specs.Plan.ScriptPlans.{ScriptPlan}
+use Rattle.sym_check.specs.Meaning.Updates.{stored}
 use Rattle.sym_int.specs.Lines.{form_value, wide_cell, wide_on, wide_value}
 use Rattle.sym_int.specs.Parts.{IsWithin}
 use Rattle.sym_int.specs.Taken.{IsCellIn, IsTaken}

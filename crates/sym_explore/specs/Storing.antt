@@ -2,9 +2,9 @@
 use Rattle.std.specs.Prelude.{◌≡◌, ℕ, Bool, true, List, Option}
 use Rattle.sym_base.specs.declared.values.state.State.{State}
 use Rattle.sym_base.specs.declared.values.state.Outcome.{Outcome}
-use Rattle.sym_check.specs.DoPlans.{DoPlan, PushNum, SetInt}
-use Rattle.sym_check.specs.LinePlans.{TermPlan}
-use Rattle.sym_check.specs.ScriptPlans.{ScriptPlan}
+use Rattle.sym_check.specs.Plan.DoPlans.{DoPlan, PushNum, SetInt}
+use Rattle.sym_check.specs.Plan.LinePlans.{TermPlan}
+use Rattle.sym_check.specs.Plan.ScriptPlans.{ScriptPlan}
 use Rattle.sym_int.specs.declared.form.IntForm.{IntForm}
 use Rattle.sym_path.specs.declared.path.Path.{Path}
 use Rattle.sym_path.specs.Changing.{GoesOn}

@@ -6,13 +6,13 @@ use Rattle.sym_base.specs.declared.values.state.State.{State}
 use Rattle.sym_base.specs.declared.values.state.Outcome.TheVariants.{Going}
 use Rattle.sym_check.specs.declared.evaluate.arithmetic.Arith.{Arith}
 use Rattle.sym_check.specs.declared.evaluate.pairs.Pair.{Pair}
-use Rattle.sym_check.specs.Arithmetic.{◌>>=◌}
-use Rattle.sym_check.specs.CellKinds.{IsIntCell}
-use Rattle.sym_check.specs.Conditions.{test_truth}
-use Rattle.sym_check.specs.FixedValues.{Environment, number}
-use Rattle.sym_check.specs.LinePlans.{TermPlan, OfNum, OfLine}
-use Rattle.sym_check.specs.LineValues.{pair, pair_at}
-use Rattle.sym_check.specs.ScriptPlans.{ScriptPlan}
+use Rattle.sym_check.specs.Meaning.Arithmetic.{◌>>=◌}
+use Rattle.sym_check.specs.Plan.CellKinds.{IsIntCell}
+use Rattle.sym_check.specs.Meaning.Conditions.{test_truth}
+use Rattle.sym_check.specs.Meaning.FixedValues.{Environment, number}
+use Rattle.sym_check.specs.Plan.LinePlans.{TermPlan, OfNum, OfLine}
+use Rattle.sym_check.specs.Meaning.LineValues.{pair, pair_at}
+use Rattle.sym_check.specs.Plan.ScriptPlans.{ScriptPlan}
 use Rattle.sym_int.specs.Lines.{form_on, form_cell, form_value, wide_on, wide_cell, wide_value}
 use Rattle.sym_int.specs.declared.form.IntForm.{IntForm}
 use Rattle.sym_int.specs.declared.span.Span.{Span}

@@ -1,7 +1,7 @@
 //! Numbers outside the range of a cell that takes the nearest end.
 ghost use Rattle.std.specs.Prelude.{◌≡◌, ◌≤◌, ◌+◌, IfOk, IfSome, None, OnOk, Some, length, slice_get, true};
-ghost use Rattle.sym_check.specs.ScriptPlans.{script_plan};
-ghost use Rattle.sym_check.specs.WellFormed.{IsWellFormed};
+ghost use Rattle.sym_check.specs.Plan.ScriptPlans.{script_plan};
+ghost use Rattle.sym_check.specs.Plan.WellFormed.{IsWellFormed};
 ghost use Rattle.sym_int.specs.Fits.{IsFitted};
 ghost use Rattle.sym_int.specs.Lines.{wide_cell};
 ghost use Rattle.sym_path.specs.Changing.{GoesOn};

@@ -1,8 +1,8 @@
 //! Comparisons of numbers that may depend on a cell.
 ghost use Rattle.std.specs.Prelude.{ℕ, IfOk, OnOk, slice_get};
 ghost use Rattle.sym_base.specs.Limits.{IsNumber};
-ghost use Rattle.sym_check.specs.ScriptPlans.{script_plan};
-ghost use Rattle.sym_check.specs.WellFormed.{IsWellFormed};
+ghost use Rattle.sym_check.specs.Plan.ScriptPlans.{script_plan};
+ghost use Rattle.sym_check.specs.Plan.WellFormed.{IsWellFormed};
 ghost use Rattle.sym_int.specs.Cuts.{IsCut, count_with, most_with};
 ghost use Rattle.sym_int.specs.Lines.{wide_cell};
 ghost use Rattle.sym_path.specs.Changing.{GoesOn};

@@ -1,7 +1,7 @@
 //! Whether an enum cell holds a label.
 ghost use Rattle.std.specs.Prelude.{◌≡◌, ℕ, IfOk, OnOk};
-ghost use Rattle.sym_check.specs.CellKinds.{IsEnumCell};
-ghost use Rattle.sym_check.specs.ScriptPlans.{script_plan};
+ghost use Rattle.sym_check.specs.Plan.CellKinds.{IsEnumCell};
+ghost use Rattle.sym_check.specs.Plan.ScriptPlans.{script_plan};
 ghost use Rattle.sym_path.specs.Changing.{GoesOn};
 ghost use Rattle.sym_path.specs.Fitting.{PathFits};
 ghost use Rattle.sym_explore.specs.Branches.{answered, Splits, BranchesGo, AreFewBranches};

@@ -1,10 +1,10 @@
 //! Laws of the definitions that contracts cite.
 ghost use Rattle.std.specs.Prelude.{◌≡◌, ◌<◌, ◌≤◌, ◌+◌, ℕ, Bool, List, min};
 ghost use Rattle.sym_base.specs.declared.limits.TheConstants as limit;
-ghost use Rattle.sym_check.specs.CondPlans.{CondPlan};
-ghost use Rattle.sym_check.specs.DoPlans.{DosPlan};
-ghost use Rattle.sym_check.specs.PathBounds.{path_bound};
-ghost use Rattle.sym_check.specs.ScriptPlans.{ScriptPlan};
+ghost use Rattle.sym_check.specs.Plan.CondPlans.{CondPlan};
+ghost use Rattle.sym_check.specs.Plan.DoPlans.{DosPlan};
+ghost use Rattle.sym_check.specs.Meaning.PathBounds.{path_bound};
+ghost use Rattle.sym_check.specs.Plan.ScriptPlans.{ScriptPlan};
 ghost use Rattle.sym_check.specs.declared.plan.script.CellPlan.{CellPlan};
 ghost use Rattle.sym_explore.specs.Counting.{branches_of, dos_going, made_paths};
 

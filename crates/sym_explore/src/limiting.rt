@@ -1,7 +1,7 @@
 //! Segments that are taken a record further where a limit of paths allows it.
 ghost use Rattle.std.specs.Prelude.{◌≡◌, ◌≤◌, true, false, IfOk, IsTrue, length};
-ghost use Rattle.sym_check.specs.CheckedScripts.{checked_plan};
-ghost use Rattle.sym_check.specs.Validity.{IsRecord};
+ghost use Rattle.sym_check.specs.Checking.CheckedScripts.{checked_plan};
+ghost use Rattle.sym_check.specs.Meaning.Validity.{IsRecord};
 ghost use Rattle.sym_path.specs.Fitting.{SegmentFits};
 ghost use Rattle.sym_explore.specs.Counting.{most_grown, most_paths};
 ghost use Rattle.sym_explore.specs.Limiting.{IsExtended, IsExtendedBy, chosen, is_chosen};

@@ -1,8 +1,8 @@
 //! Lists of paths, parted by a condition whose expressions without cells were evaluated.
 ghost use Rattle.std.specs.Prelude.{◌≡◌, ◌≤◌, ◌++◌, ℕ, [], List, IfOk, OnOk, IsTrue, drop, if◌then◌else◌, length, take};
 ghost use Rattle.sym_base.specs.declared.values.record.Record.{Record as OneRecord};
-ghost use Rattle.sym_check.specs.ScriptPlans.{script_plan};
-ghost use Rattle.sym_check.specs.WellFormed.{IsWellFormed};
+ghost use Rattle.sym_check.specs.Plan.ScriptPlans.{script_plan};
+ghost use Rattle.sym_check.specs.Plan.WellFormed.{IsWellFormed};
 ghost use Rattle.sym_path.specs.Changing.{GoesOn};
 ghost use Rattle.sym_path.specs.Fitting.{PathFits, SegmentFits};
 ghost use Rattle.sym_explore.specs.Evaluating.{AreFewSplit, CellConditionFits, EvaluatedFits, SplitsEach, tried_on_cell, evaluated_truth, is_known, cell_branches, evaluated_branches};

@@ -1,6 +1,6 @@
 //! Numbers that are put into the cells of paths.
 ghost use Rattle.std.specs.Prelude.{◌≡◌, OnOk};
-ghost use Rattle.sym_check.specs.ScriptPlans.{script_plan};
+ghost use Rattle.sym_check.specs.Plan.ScriptPlans.{script_plan};
 ghost use Rattle.sym_path.specs.Changing.{GoesOn};
 ghost use Rattle.sym_path.specs.Fitting.{PathFits};
 ghost use Rattle.sym_explore.specs.Placing.{IsPut, PlaceFits, place_cell};

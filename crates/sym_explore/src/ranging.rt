@@ -1,9 +1,9 @@
 //! Numbers that are stored in cells that have a range.
 ghost use Rattle.std.specs.Prelude.{◌≡◌, ◌≤◌, ◌+◌, ◌+ℤ◌, ◌*ℤ◌, IfOk, OnOk, IfSome, IsTrue, Some, false, length, slice_get};
-ghost use Rattle.sym_check.specs.Fitting.{FitsFault};
-ghost use Rattle.sym_check.specs.Ranges.{kept};
-ghost use Rattle.sym_check.specs.ScriptPlans.{script_plan};
-ghost use Rattle.sym_check.specs.WellFormed.{IsWellFormed};
+ghost use Rattle.sym_check.specs.Meaning.Fitting.{FitsFault};
+ghost use Rattle.sym_check.specs.Plan.Ranges.{kept};
+ghost use Rattle.sym_check.specs.Plan.ScriptPlans.{script_plan};
+ghost use Rattle.sym_check.specs.Plan.WellFormed.{IsWellFormed};
 ghost use Rattle.sym_int.specs.Lines.{wide_cell};
 ghost use Rattle.sym_int.specs.Parts.{IsWithin};
 ghost use Rattle.sym_int.specs.Points.{HasPoint};

@@ -2,12 +2,12 @@
 //! list, and those that end are put into another. Each expression without cells is evaluated once.
 ghost use Rattle.std.specs.Prelude.{◌≡◌, List, OnOk, length, take};
 ghost use Rattle.sym_base.specs.declared.values.record.Record.{Record as OneRecord};
-ghost use Rattle.sym_check.specs.CondPlans.{cond_plan};
-ghost use Rattle.sym_check.specs.DoPlans.{do_plan, dos_plan, If, Let};
-ghost use Rattle.sym_check.specs.FixedPlans.{fixed_plan};
-ghost use Rattle.sym_check.specs.ScriptPlans.{script_plan};
-ghost use Rattle.sym_check.specs.Updates.{environment};
-ghost use Rattle.sym_check.specs.WellFormed.{IsWellFormed};
+ghost use Rattle.sym_check.specs.Plan.CondPlans.{cond_plan};
+ghost use Rattle.sym_check.specs.Plan.DoPlans.{do_plan, dos_plan, If, Let};
+ghost use Rattle.sym_check.specs.Plan.FixedPlans.{fixed_plan};
+ghost use Rattle.sym_check.specs.Plan.ScriptPlans.{script_plan};
+ghost use Rattle.sym_check.specs.Meaning.Updates.{environment};
+ghost use Rattle.sym_check.specs.Plan.WellFormed.{IsWellFormed};
 ghost use Rattle.sym_path.specs.Fitting.{SegmentFits};
 ghost use Rattle.sym_explore.specs.Counting.{do_going, do_ended, dos_going, dos_ended};
 ghost use Rattle.sym_explore.specs.Faulting.{EndAmong, HasNumber};

@@ -1,9 +1,9 @@
 //! Numbers that may depend on a cell, over the state before a path.
 ghost use Rattle.std.specs.Prelude.{◌≡◌};
 ghost use Rattle.sym_base.specs.Limits.{IsNumber};
-ghost use Rattle.sym_check.specs.KnownValues.{known_values};
-ghost use Rattle.sym_check.specs.LinePlans.{term_plan};
-ghost use Rattle.sym_check.specs.ScriptPlans.{script_plan};
+ghost use Rattle.sym_check.specs.Checking.KnownValues.{known_values};
+ghost use Rattle.sym_check.specs.Plan.LinePlans.{term_plan};
+ghost use Rattle.sym_check.specs.Plan.ScriptPlans.{script_plan};
 ghost use Rattle.sym_path.specs.Fitting.{PathFits};
 ghost use Rattle.sym_explore.specs.Terms.{IsPairOver, IsReadyForm, ReadyFits, number_form, ready_of, span_of};
 

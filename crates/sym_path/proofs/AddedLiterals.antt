@@ -15,7 +15,7 @@ use Rattle.sym_base.specs.Tests.{Truth}
 use Rattle.sym_check.specs.declared.plan.script.CellPlan.{CellPlan}
 use Rattle.sym_check.specs.declared.plan.script.CellPlan.TheVariants as plan
 use Rattle.sym_check.specs.declared.plan.script.KindPlan.{KindPlan}
-use Rattle.sym_check.specs.ScriptPlans.{ScriptPlan}
+use Rattle.sym_check.specs.Plan.ScriptPlans.{ScriptPlan}
 use Rattle.sym_pred.proofs.CallersLemmas.{literal_stands, stands_at}
 use Rattle.sym_pred.proofs.MeaningLemmas.{atoms, same_atom, inserted_here, inserted_else}
 use Rattle.sym_pred.specs.Facts.{FactMap}

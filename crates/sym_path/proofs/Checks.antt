@@ -17,8 +17,8 @@ use Rattle.sym_check.specs.declared.plan.script.CellPlan.{CellPlan}
 use Rattle.sym_check.specs.declared.plan.script.CellPlan.TheVariants as plan
 use Rattle.sym_check.specs.declared.plan.script.Plan.{Plan}
 use Rattle.sym_check.specs.declared.plan.script.TestPlan.{TestPlan}
-use Rattle.sym_check.specs.ScriptPlans.{ScriptPlan, TestOf, script_plan, test_plan}
-use Rattle.sym_check.specs.Ranges.{InRange}
+use Rattle.sym_check.specs.Plan.ScriptPlans.{ScriptPlan, TestOf, script_plan, test_plan}
+use Rattle.sym_check.specs.Plan.Ranges.{InRange}
 use Rattle.sym_enum.specs.Labels.{has_label}
 use Rattle.sym_enum.specs.declared.form.EnumForm.TheVariants as label
 use Rattle.sym_enum.specs.declared.label_set.LabelSet.{LabelSet}

@@ -13,12 +13,12 @@ use Rattle.sym_base.specs.declared.values.state.State.{State}
 use Rattle.sym_check.specs.declared.plan.script.KindPlan.{KindPlan}
 use Rattle.sym_check.specs.declared.plan.script.CellPlan.{CellPlan}
 use Rattle.sym_check.specs.declared.plan.script.CellPlan.TheVariants as plan
-use Rattle.sym_check.specs.ScriptPlans.{ScriptPlan}
+use Rattle.sym_check.specs.Plan.ScriptPlans.{ScriptPlan}
 use Rattle.sym_base.specs.States.{cell_nums, cell_words}
-use Rattle.sym_check.specs.Ranges.{InRange}
-use Rattle.sym_check.specs.Validity.{label_count, AreOfKinds, IsValidCell, IsValid, IsValidOutcome}
-use Rattle.sym_check.specs.Validity as valid
-use Rattle.sym_check.specs.WellFormed.{IsCell, IsWellFormed}
+use Rattle.sym_check.specs.Plan.Ranges.{InRange}
+use Rattle.sym_check.specs.Meaning.Validity.{label_count, AreOfKinds, IsValidCell, IsValid, IsValidOutcome}
+use Rattle.sym_check.specs.Meaning.Validity as valid
+use Rattle.sym_check.specs.Plan.WellFormed.{IsCell, IsWellFormed}
 use Rattle.sym_int.specs.Lines.{form_on, form_value}
 use Rattle.sym_int.specs.Points.{HasPoint}
 use Rattle.sym_int.specs.declared.form.IntForm.{IntForm}

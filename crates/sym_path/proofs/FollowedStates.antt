@@ -13,7 +13,7 @@ use Rattle.sym_base.specs.declared.values.state.State.{State}
 use Rattle.sym_check.specs.declared.plan.script.KindPlan.{KindPlan}
 use Rattle.sym_check.specs.declared.plan.script.CellPlan.{CellPlan}
 use Rattle.sym_check.specs.declared.plan.script.CellPlan.TheVariants as plan
-use Rattle.sym_check.specs.ScriptPlans.{ScriptPlan}
+use Rattle.sym_check.specs.Plan.ScriptPlans.{ScriptPlan}
 use Rattle.sym_enum.specs.Labels.{has_label}
 use Rattle.sym_enum.specs.declared.form.EnumForm.TheVariants as label
 use Rattle.sym_enum.specs.declared.label_set.LabelSet.{LabelSet}

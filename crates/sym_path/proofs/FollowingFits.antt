@@ -10,11 +10,11 @@ use Rattle.sym_base.specs.declared.values.value.Value.{Value}
 use Rattle.sym_check.specs.declared.plan.script.CellPlan.{CellPlan}
 use Rattle.sym_check.specs.declared.plan.script.CellPlan.TheVariants as plan
 use Rattle.sym_check.specs.declared.plan.script.KindPlan.{KindPlan}
-use Rattle.sym_check.specs.CellKinds.{IsEnumCell, IsHoldCell}
-use Rattle.sym_check.specs.ScriptPlans.{ScriptPlan}
-use Rattle.sym_check.specs.Ranges.{InRange}
-use Rattle.sym_check.specs.Validity.{label_count}
-use Rattle.sym_check.specs.WellFormed.{IsCell, IsWellFormed}
+use Rattle.sym_check.specs.Plan.CellKinds.{IsEnumCell, IsHoldCell}
+use Rattle.sym_check.specs.Plan.ScriptPlans.{ScriptPlan}
+use Rattle.sym_check.specs.Plan.Ranges.{InRange}
+use Rattle.sym_check.specs.Meaning.Validity.{label_count}
+use Rattle.sym_check.specs.Plan.WellFormed.{IsCell, IsWellFormed}
 use Rattle.sym_enum.specs.declared.form.EnumForm.{EnumForm}
 use Rattle.sym_enum.specs.declared.form.EnumForm.TheVariants as label
 use Rattle.sym_enum.specs.declared.label_set.LabelSet.{LabelSet}

@@ -16,10 +16,10 @@ use Rattle.sym_base.specs.declared.values.state.State.{State}
 use Rattle.sym_check.specs.declared.plan.script.CellPlan.{CellPlan}
 use Rattle.sym_check.specs.declared.plan.script.CellPlan.TheVariants as plan
 use Rattle.sym_check.specs.declared.plan.script.KindPlan.{KindPlan}
-use Rattle.sym_check.specs.CellKinds.{IsEnumCell, IsHoldCell}
-use Rattle.sym_check.specs.ScriptPlans.{ScriptPlan}
-use Rattle.sym_check.specs.Ranges.{InRange}
-use Rattle.sym_check.specs.WellFormed.{IsCell, IsWellFormed}
+use Rattle.sym_check.specs.Plan.CellKinds.{IsEnumCell, IsHoldCell}
+use Rattle.sym_check.specs.Plan.ScriptPlans.{ScriptPlan}
+use Rattle.sym_check.specs.Plan.Ranges.{InRange}
+use Rattle.sym_check.specs.Plan.WellFormed.{IsCell, IsWellFormed}
 use Rattle.sym_enum.specs.declared.form.EnumForm.TheVariants as label
 use Rattle.sym_int.specs.Elements.{IsConstant, CanGoThrough, StaysOn, GoesThroughTo, IsComposed, IsOnSpans, IsOnSpan}
 use Rattle.sym_int.specs.Lines.{form_on, form_cell, form_value}

@@ -7,9 +7,9 @@ use Rattle.std.specs.List.{All, AllZip}
 use Rattle.sym_check.specs.declared.plan.script.CellPlan.{CellPlan}
 use Rattle.sym_check.specs.declared.plan.script.CellPlan.TheVariants as plan
 use Rattle.sym_check.specs.declared.plan.script.KindPlan.{KindPlan}
-use Rattle.sym_check.specs.ScriptPlans.{ScriptPlan}
-use Rattle.sym_check.specs.Ranges.{InRange}
-use Rattle.sym_check.specs.Validity.{label_count}
+use Rattle.sym_check.specs.Plan.ScriptPlans.{ScriptPlan}
+use Rattle.sym_check.specs.Plan.Ranges.{InRange}
+use Rattle.sym_check.specs.Meaning.Validity.{label_count}
 use Rattle.sym_enum.specs.Labels.{has_label, IsOnlyLabel}
 use Rattle.sym_enum.specs.declared.label_set.LabelSet.{LabelSet}
 use Rattle.sym_int.specs.Elements.{IsConstant}

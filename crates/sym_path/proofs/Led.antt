@@ -7,10 +7,10 @@ use Rattle.sym_base.specs.declared.values.state.State.{State}
 use Rattle.sym_base.specs.declared.values.state.Outcome.{Outcome}
 use Rattle.sym_base.specs.declared.values.state.Outcome.TheVariants.{Going}
 use Rattle.sym_base.specs.declared.values.state.Outcome.TheVariants as outcome
-use Rattle.sym_check.specs.Conditions.{test_truth}
-use Rattle.sym_check.specs.ScriptPlans.{ScriptPlan}
-use Rattle.sym_check.specs.Updates.{after}
-use Rattle.sym_check.specs.Validity.{IsValidOutcome}
+use Rattle.sym_check.specs.Meaning.Conditions.{test_truth}
+use Rattle.sym_check.specs.Plan.ScriptPlans.{ScriptPlan}
+use Rattle.sym_check.specs.Meaning.Updates.{after}
+use Rattle.sym_check.specs.Meaning.Validity.{IsValidOutcome}
 use Rattle.sym_check.proofs.PlanLaws.{ended_stays}
 use Rattle.sym_path.specs.declared.path.Path.{Path}
 use Rattle.sym_path.specs.Admitting.{Admits}

@@ -16,11 +16,11 @@ use Rattle.sym_base.specs.declared.values.state.Outcome.TheVariants.{Going}
 use Rattle.sym_check.specs.declared.plan.script.EnumPlan.{EnumPlan}
 use Rattle.sym_check.specs.declared.plan.script.CellPlan.{CellPlan}
 use Rattle.sym_check.specs.declared.plan.script.CellPlan.TheVariants as plan
-use Rattle.sym_check.specs.ScriptPlans.{ScriptPlan}
-use Rattle.sym_check.specs.Ranges.{InRange}
-use Rattle.sym_check.specs.Validity.{label_count, labels_in, IsValidCell, IsValid}
-use Rattle.sym_check.specs.Validity as valid
-use Rattle.sym_check.specs.WellFormed.{IsCell, IsEnum, IsWellFormed}
+use Rattle.sym_check.specs.Plan.ScriptPlans.{ScriptPlan}
+use Rattle.sym_check.specs.Plan.Ranges.{InRange}
+use Rattle.sym_check.specs.Meaning.Validity.{label_count, labels_in, IsValidCell, IsValid}
+use Rattle.sym_check.specs.Meaning.Validity as valid
+use Rattle.sym_check.specs.Plan.WellFormed.{IsCell, IsEnum, IsWellFormed}
 use Rattle.sym_enum.specs.Labels.{IsOnlyLabel}
 use Rattle.sym_enum.specs.declared.form.EnumForm.{EnumForm}
 use Rattle.sym_enum.specs.declared.form.EnumForm.TheVariants as label

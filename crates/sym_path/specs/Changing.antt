@@ -11,8 +11,8 @@ use Rattle.sym_base.specs.States.{parts_at, with_cell}
 use Rattle.sym_base.specs.Tests.{Truth}
 use Rattle.sym_check.specs.declared.plan.script.CellPlan.{CellPlan}
 use Rattle.sym_check.specs.declared.plan.script.KindPlan.{KindPlan}
-use Rattle.sym_check.specs.CellKinds.{IsHoldCell}
-use Rattle.sym_check.specs.ScriptPlans.{ScriptPlan}
+use Rattle.sym_check.specs.Plan.CellKinds.{IsHoldCell}
+use Rattle.sym_check.specs.Plan.ScriptPlans.{ScriptPlan}
 use Rattle.sym_pred.specs.Facts.{Atom, FactMap}
 use Rattle.sym_pred.specs.declared.literal.Literal.{Literal}
 use Rattle.std.specs.FinMap.{get}

@@ -5,11 +5,11 @@ use Rattle.sym_base.specs.declared.values.value.Value.{Value}
 use Rattle.sym_check.specs.declared.plan.script.KindPlan.{KindPlan}
 use Rattle.sym_check.specs.declared.plan.script.CellPlan.{CellPlan}
 use Rattle.sym_check.specs.declared.plan.script.CellPlan.TheVariants as plan
-use Rattle.sym_check.specs.CellKinds.{IsHoldCell, IsEnumCell}
-use Rattle.sym_check.specs.Fitting.{FitsFault}
-use Rattle.sym_check.specs.ScriptPlans.{ScriptPlan, TestOf}
-use Rattle.sym_check.specs.Ranges.{InRange}
-use Rattle.sym_check.specs.Validity.{label_count, AreOfKinds}
+use Rattle.sym_check.specs.Plan.CellKinds.{IsHoldCell, IsEnumCell}
+use Rattle.sym_check.specs.Meaning.Fitting.{FitsFault}
+use Rattle.sym_check.specs.Plan.ScriptPlans.{ScriptPlan, TestOf}
+use Rattle.sym_check.specs.Plan.Ranges.{InRange}
+use Rattle.sym_check.specs.Meaning.Validity.{label_count, AreOfKinds}
 use Rattle.sym_enum.specs.Labels.{has_label}
 use Rattle.sym_enum.specs.declared.form.EnumForm.TheVariants as label
 use Rattle.sym_enum.specs.declared.label_set.LabelSet.{LabelSet}

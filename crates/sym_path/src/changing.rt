@@ -2,8 +2,8 @@
 ghost use Rattle.std.specs.Prelude.{◌≡◌, map, IfOk, OnOk, IsTrue, ◌↔◌, slice_get, option_copied};
 ghost use Rattle.sym_base.specs.declared.values.state.State.{State as OneState};
 ghost use Rattle.sym_base.specs.Tests.{Truth};
-ghost use Rattle.sym_check.specs.Fitting.{FitsFault};
-ghost use Rattle.sym_check.specs.ScriptPlans.{script_plan, ScriptPlan};
+ghost use Rattle.sym_check.specs.Meaning.Fitting.{FitsFault};
+ghost use Rattle.sym_check.specs.Plan.ScriptPlans.{script_plan, ScriptPlan};
 ghost use Rattle.sym_pred.specs.Literals.{atom_of};
 ghost use Rattle.sym_path.specs.Changing.{GoesOn, form_of, with_form, with_fault, IsOpenOf, GivesWhereLiteral, SuitsCell};
 ghost use Rattle.sym_path.specs.Fitting.{PathFits};

@@ -1,6 +1,6 @@
 //! Two segments in one: the paths of the first and then of the second.
 ghost use Rattle.std.specs.Prelude.{IfOk, OnOk};
-ghost use Rattle.sym_check.specs.CheckedScripts.{checked_plan};
+ghost use Rattle.sym_check.specs.Checking.CheckedScripts.{checked_plan};
 ghost use Rattle.sym_path.specs.Composing.{AreComposed, GrowsBy, GrowsByAll, GrowsByPath, IsComposition};
 ghost use Rattle.sym_path.specs.Fitting.{PathFits, SegmentFits};
 

@@ -1,12 +1,12 @@
 //! Whether a path fits a script.
 ghost use Rattle.std.specs.Prelude.{◌≡◌, ◌↔◌, ℤ, All, IsTrue};
 ghost use Rattle.std.specs.List.{AllZip};
-ghost use Rattle.sym_check.specs.CheckedScripts.{checked_plan};
-ghost use Rattle.sym_check.specs.CellKinds.{IsHoldCell, IsEnumCell};
-ghost use Rattle.sym_check.specs.Fitting.{FitsFault};
-ghost use Rattle.sym_check.specs.ScriptPlans.{script_plan};
-ghost use Rattle.sym_check.specs.Ranges.{InRange};
-ghost use Rattle.sym_check.specs.WellFormed.{IsCell, IsWellFormed};
+ghost use Rattle.sym_check.specs.Checking.CheckedScripts.{checked_plan};
+ghost use Rattle.sym_check.specs.Plan.CellKinds.{IsHoldCell, IsEnumCell};
+ghost use Rattle.sym_check.specs.Meaning.Fitting.{FitsFault};
+ghost use Rattle.sym_check.specs.Plan.ScriptPlans.{script_plan};
+ghost use Rattle.sym_check.specs.Plan.Ranges.{InRange};
+ghost use Rattle.sym_check.specs.Plan.WellFormed.{IsCell, IsWellFormed};
 ghost use Rattle.sym_int.specs.Lines.{form_on};
 ghost use Rattle.sym_int.specs.Points.{HasPoint};
 ghost use Rattle.sym_path.specs.Checking.{FitsPart, FitsForm, FitsLabelForm, FitsHoldForm};

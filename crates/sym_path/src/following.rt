@@ -1,10 +1,10 @@
 //! One path after another: what is left of the first one's constraint, and the forms of both.
 ghost use Rattle.std.specs.Prelude.{◌≡◌, ◌≤◌, ◌<◌, ◌^◌, ◌↔◌, ◌⊎◌, Bool, IfOk, IfSome, IsSome, IsTrue, None, Some, All, length, slice_get};
 ghost use Rattle.std.specs.List.{AllZip};
-ghost use Rattle.sym_check.specs.CheckedScripts.{checked_plan};
-ghost use Rattle.sym_check.specs.Conditions.{test_truth};
-ghost use Rattle.sym_check.specs.ScriptPlans.{script_plan};
-ghost use Rattle.sym_check.specs.WellFormed.{IsWellFormed};
+ghost use Rattle.sym_check.specs.Checking.CheckedScripts.{checked_plan};
+ghost use Rattle.sym_check.specs.Meaning.Conditions.{test_truth};
+ghost use Rattle.sym_check.specs.Plan.ScriptPlans.{script_plan};
+ghost use Rattle.sym_check.specs.Plan.WellFormed.{IsWellFormed};
 ghost use Rattle.sym_int.specs.declared.element.IntForms.{IntForms as OneContext};
 ghost use Rattle.sym_pred.specs.Facts.{Atom};
 ghost use Rattle.sym_pred.specs.Meaning.{Stands};

@@ -1,12 +1,12 @@
 //! What a path makes of a state that it admits.
 ghost use Rattle.std.specs.Prelude.{◌≡◌, ℤ, All, IfOk, OnOk, length, slice_get};
 ghost use Rattle.sym_base.specs.declared.values.state.State.{State as OneState};
-ghost use Rattle.sym_check.specs.CheckedScripts.{checked_plan};
-ghost use Rattle.sym_check.specs.Conditions.{test_truth};
-ghost use Rattle.sym_check.specs.ScriptPlans.{script_plan};
+ghost use Rattle.sym_check.specs.Checking.CheckedScripts.{checked_plan};
+ghost use Rattle.sym_check.specs.Meaning.Conditions.{test_truth};
+ghost use Rattle.sym_check.specs.Plan.ScriptPlans.{script_plan};
 ghost use Rattle.sym_base.specs.States.{cell_nums, cell_words};
-ghost use Rattle.sym_check.specs.Validity.{IsValid, IsValidOutcome};
-ghost use Rattle.sym_check.specs.WellFormed.{IsWellFormed};
+ghost use Rattle.sym_check.specs.Meaning.Validity.{IsValid, IsValidOutcome};
+ghost use Rattle.sym_check.specs.Plan.WellFormed.{IsWellFormed};
 ghost use Rattle.sym_base.specs.Limits.{IsNumber};
 ghost use Rattle.sym_int.specs.Lines.{form_value};
 ghost use Rattle.sym_path.specs.Admitting.{Admits};

@@ -1,9 +1,9 @@
 //! The path that admits every valid state and leaves it as it is.
 ghost use Rattle.std.specs.Prelude.{◌≡◌, ◌<◌, All, IfOk};
-ghost use Rattle.sym_check.specs.CheckedScripts.{checked_plan};
-ghost use Rattle.sym_check.specs.ScriptPlans.{script_plan};
-ghost use Rattle.sym_check.specs.Validity.{label_count};
-ghost use Rattle.sym_check.specs.WellFormed.{IsCell, IsEnum, IsWellFormed};
+ghost use Rattle.sym_check.specs.Checking.CheckedScripts.{checked_plan};
+ghost use Rattle.sym_check.specs.Plan.ScriptPlans.{script_plan};
+ghost use Rattle.sym_check.specs.Meaning.Validity.{label_count};
+ghost use Rattle.sym_check.specs.Plan.WellFormed.{IsCell, IsEnum, IsWellFormed};
 ghost use Rattle.sym_path.specs.Fitting.{PathFits};
 ghost use Rattle.sym_path.specs.Identity.{IsOwnLabel, IsOwnNumber, IsWholeEnum, IsWholeCell, IsWholePath, AdmitsAll, LeavesAll};
 

@@ -3,7 +3,7 @@ ghost use Rattle.std.specs.Prelude.{◌≡◌, ◌↔◌, ◌∷◌, [], All, Li
 ghost use Rattle.sym_base.specs.declared.values.record.Record.{Record as OneRecord};
 ghost use Rattle.sym_base.specs.declared.values.state.State.{State as OneState};
 ghost use Rattle.sym_base.specs.declared.values.state.Outcome.{Outcome as OneOutcome};
-ghost use Rattle.sym_check.specs.ScriptPlans.{ScriptPlan};
+ghost use Rattle.sym_check.specs.Plan.ScriptPlans.{ScriptPlan};
 ghost use Rattle.sym_base.specs.Tests.{Truth};
 ghost use Rattle.sym_path.specs.declared.part.Part.{Part as OnePart};
 ghost use Rattle.sym_path.specs.declared.path.Path.{Path as OnePath};

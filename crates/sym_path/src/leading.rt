@@ -1,10 +1,10 @@
 //! What a segment makes of an outcome.
 ghost use Rattle.std.specs.Prelude.{◌≡◌, List, MatchOption, OnOk};
 ghost use Rattle.sym_base.specs.declared.values.record.Record.{Record as OneRecord};
-ghost use Rattle.sym_check.specs.CheckedScripts.{checked_plan};
-ghost use Rattle.sym_check.specs.Conditions.{test_truth};
-ghost use Rattle.sym_check.specs.Updates.{after};
-ghost use Rattle.sym_check.specs.Validity.{IsValidOutcome};
+ghost use Rattle.sym_check.specs.Checking.CheckedScripts.{checked_plan};
+ghost use Rattle.sym_check.specs.Meaning.Conditions.{test_truth};
+ghost use Rattle.sym_check.specs.Meaning.Updates.{after};
+ghost use Rattle.sym_check.specs.Meaning.Validity.{IsValidOutcome};
 ghost use Rattle.sym_path.specs.Fitting.{SegmentFits};
 ghost use Rattle.sym_path.specs.Leading.{IsFirstFor, LeadsTo, NoneAdmits};
 ghost use Rattle.sym_path.specs.Standing.{StandsFor};

@@ -2,8 +2,8 @@
 ghost use Rattle.std.specs.Prelude.{◌≡◌, ℤ, All, map, slice_get, slice_set};
 ghost use Rattle.std.specs.List.{AllZip};
 ghost use Rattle.sym_path.specs.Narrowing.{with_label, end_with_label, CanPutNumber, CanPutAtEnd, NumberIsPut, NumberIsPutAtEnd, LabelsNarrowed, NumbersNarrowed, GivesWhere, NarrowsLabels, NarrowsNumbers};
-ghost use Rattle.sym_check.specs.ScriptPlans.{script_plan};
-ghost use Rattle.sym_check.specs.WellFormed.{IsWellFormed};
+ghost use Rattle.sym_check.specs.Plan.ScriptPlans.{script_plan};
+ghost use Rattle.sym_check.specs.Plan.WellFormed.{IsWellFormed};
 ghost use Rattle.sym_path.specs.Changing.{GoesOn};
 ghost use Rattle.sym_path.specs.Fitting.{PathFits};
 ghost use Rattle.sym_path.specs.declared.part.Part.TheVariants as part;

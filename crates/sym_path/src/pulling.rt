@@ -1,8 +1,8 @@
 //! What a path needs of the state before an earlier one, cell by cell.
 ghost use Rattle.std.specs.Prelude.{◌≡◌, ◌&&◌, ◌↔◌, ℕ, ℤ, IsTrue, length};
 ghost use Rattle.std.specs.List.{list_all};
-ghost use Rattle.sym_check.specs.Conditions.{has_fixed_body, test_truth};
-ghost use Rattle.sym_check.specs.ScriptPlans.{script_plan};
+ghost use Rattle.sym_check.specs.Meaning.Conditions.{has_fixed_body, test_truth};
+ghost use Rattle.sym_check.specs.Plan.ScriptPlans.{script_plan};
 ghost use Rattle.sym_enum.specs.Labels.{has_label};
 ghost use Rattle.sym_int.specs.Points.{HasPoint, IsPart};
 ghost use Rattle.sym_path.specs.Pulling.{zip_all, constant_meets, label_passes, int_passes, number_passes, Agrees, AllAgree, OthersAgree, NeedsAgree};

@@ -1,8 +1,8 @@
 //! Values of a script's kinds, and literals that suit a hold cell.
 ghost use Rattle.std.specs.Prelude.{◌≡◌, ◌↔◌, All, IsTrue};
 ghost use Rattle.sym_base.specs.Limits.{IsNumber};
-ghost use Rattle.sym_check.specs.ScriptPlans.{script_plan};
-ghost use Rattle.sym_check.specs.Validity.{label_count, IsOfKind, AreOfKinds};
+ghost use Rattle.sym_check.specs.Plan.ScriptPlans.{script_plan};
+ghost use Rattle.sym_check.specs.Meaning.Validity.{label_count, IsOfKind, AreOfKinds};
 ghost use Rattle.sym_pred.specs.Literals.{literals};
 ghost use Rattle.sym_path.specs.Fitting.{Suits};
 ghost use Rattle.sym_path.specs.Checking.{AreParameters};

@@ -1,7 +1,7 @@
 //! Two segments in one, where they have few pairs.
 ghost use Rattle.std.specs.Prelude.{◌≡◌, ◌+◌, ◌≤◌, ◌∷◌, [], IfOk, MatchBool, MatchOption};
-ghost use Rattle.sym_check.specs.CheckedScripts.{checked_plan};
-ghost use Rattle.sym_check.specs.Conditions.{test_truth};
+ghost use Rattle.sym_check.specs.Checking.CheckedScripts.{checked_plan};
+ghost use Rattle.sym_check.specs.Meaning.Conditions.{test_truth};
 ghost use Rattle.sym_path.specs.Fitting.{PathFits, SegmentFits};
 ghost use Rattle.sym_path.specs.Pairs.{AreFollowers, ArePairs};
 ghost use Rattle.sym_path.specs.Within.{HasFollowers, HaveFewPairs, HaveMorePairs, HavePairs, IsComposedWithin};

@@ -1,6 +1,6 @@
 //! Records explored where the cell takes the nearest end of its range in place of a number outside.
-ghost use Rattle.sym_check.specs.CheckedScripts.{checked_plan};
-ghost use Rattle.sym_check.specs.Validity.{IsRecord};
+ghost use Rattle.sym_check.specs.Checking.CheckedScripts.{checked_plan};
+ghost use Rattle.sym_check.specs.Meaning.Validity.{IsRecord};
 
 use crate::comparing::{fits, record};
 use crate::setting::{accepted, all_hold, number, path_of, span};

@@ -1,7 +1,7 @@
 //! What segments give at states, against what the sequential steps give there.
 ghost use Rattle.std.specs.Prelude.{◌↔◌, IfOk, IfSome, IsTrue};
-ghost use Rattle.sym_check.specs.CheckedScripts.{checked_plan};
-ghost use Rattle.sym_check.specs.Validity.{IsRecord, IsValid, IsValidOutcome};
+ghost use Rattle.sym_check.specs.Checking.CheckedScripts.{checked_plan};
+ghost use Rattle.sym_check.specs.Meaning.Validity.{IsRecord, IsValid, IsValidOutcome};
 ghost use Rattle.sym_path.specs.Fitting.{SegmentFits};
 ghost use Rattle.sym_table.specs.Rows.{FitsHeader};
 

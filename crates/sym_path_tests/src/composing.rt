@@ -1,6 +1,6 @@
 //! Two segments in one: the same paths as of the records explored one after the other.
-ghost use Rattle.sym_check.specs.CheckedScripts.{checked_plan};
-ghost use Rattle.sym_check.specs.Validity.{IsRecord};
+ghost use Rattle.sym_check.specs.Checking.CheckedScripts.{checked_plan};
+ghost use Rattle.sym_check.specs.Meaning.Validity.{IsRecord};
 ghost use Rattle.sym_path.specs.Fitting.{SegmentFits};
 
 use crate::comparing::record;

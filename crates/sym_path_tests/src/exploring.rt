@@ -1,6 +1,6 @@
 //! Records explored from an unknown state, against the sequential step at states.
-ghost use Rattle.sym_check.specs.CheckedScripts.{checked_plan};
-ghost use Rattle.sym_check.specs.Validity.{IsRecord};
+ghost use Rattle.sym_check.specs.Checking.CheckedScripts.{checked_plan};
+ghost use Rattle.sym_check.specs.Meaning.Validity.{IsRecord};
 
 use crate::comparing::{Case, record, wrong_case};
 use crate::sessions::SESSIONS;

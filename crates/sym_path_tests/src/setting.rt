@@ -1,8 +1,8 @@
 //! Rows of tables, each tried under a checked script, and paths and states for them. Where a number,
 //! a span or a form of a row is out of its range, the answer is `NoMemory` too.
 ghost use Rattle.std.specs.Prelude.{◌≡◌, IfOk, IfSome};
-ghost use Rattle.sym_check.specs.CheckedScripts.{checked_plan};
-ghost use Rattle.sym_check.specs.Validity.{IsValid};
+ghost use Rattle.sym_check.specs.Checking.CheckedScripts.{checked_plan};
+ghost use Rattle.sym_check.specs.Meaning.Validity.{IsValid};
 
 use std::alloc::Global;
 use std::process::Abort;

@@ -3,10 +3,10 @@ use Rattle.std.proofs.Common.{◌≡◌, ap, sym, refl, List, [], ◌∷◌, ◌
 use Rattle.sym_base.specs.declared.values.value.Value.{Value}
 use Rattle.sym_base.specs.declared.values.state.FaultKind.{FaultKind}
 use Rattle.sym_check.specs.declared.evaluate.arithmetic.Arith.{Arith}
-use Rattle.sym_check.specs.Arithmetic.{and_then}
-use Rattle.sym_check.specs.FixedPlans.{FixedPlan}
-use Rattle.sym_check.specs.FixedValues.{Environment, fixed_value, fixed_values}
-use Rattle.sym_check.specs.Updates.{or_fault}
+use Rattle.sym_check.specs.Meaning.Arithmetic.{and_then}
+use Rattle.sym_check.specs.Plan.FixedPlans.{FixedPlan}
+use Rattle.sym_check.specs.Meaning.FixedValues.{Environment, fixed_value, fixed_values}
+use Rattle.sym_check.specs.Meaning.Updates.{or_fault}
 use Rattle.sym_plain.specs.Running.{with_value}
 
 -- These values and then those of the other expressions.

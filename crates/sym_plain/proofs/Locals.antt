@@ -5,9 +5,9 @@ use Rattle.sym_base.specs.declared.values.value.Value.{Value}
 use Rattle.sym_base.specs.declared.values.value.Value.TheVariants as value
 use Rattle.sym_base.specs.declared.values.record.Record.{Record}
 use Rattle.sym_check.specs.declared.evaluate.arithmetic.Arith.{Arith}
-use Rattle.sym_check.specs.DoPlans.{DoPlan, Let, SetInt, SetEnum, CopyEnum, Keep, KeepFrom, PushNum, PushWord, If}
-use Rattle.sym_check.specs.FixedValues.{Environment, fixed_value}
-use Rattle.sym_check.specs.Updates.{environment, environment_after, with_result}
+use Rattle.sym_check.specs.Plan.DoPlans.{DoPlan, Let, SetInt, SetEnum, CopyEnum, Keep, KeepFrom, PushNum, PushWord, If}
+use Rattle.sym_check.specs.Meaning.FixedValues.{Environment, fixed_value}
+use Rattle.sym_check.specs.Meaning.Updates.{environment, environment_after, with_result}
 
 same_kept : (xs : List Value) → take (length xs) xs ≡ xs
 same_kept xs = take_all (length xs) xs (omega arith)

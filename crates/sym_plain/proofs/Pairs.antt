@@ -11,9 +11,9 @@ use Rattle.sym_base.specs.declared.values.value.Key.{Key}
 use Rattle.sym_base.specs.declared.values.state.Outcome.{Outcome}
 use Rattle.sym_base.specs.declared.values.record.Record.{Record}
 use Rattle.sym_base.specs.declared.values.state.Outcome.TheVariants.{Going}
-use Rattle.sym_check.specs.Groups.{is_key}
-use Rattle.sym_check.specs.ScriptPlans.{ScriptPlan}
-use Rattle.sym_check.specs.Updates.{initial, step}
+use Rattle.sym_check.specs.Meaning.Groups.{is_key}
+use Rattle.sym_check.specs.Plan.ScriptPlans.{ScriptPlan}
+use Rattle.sym_check.specs.Meaning.Updates.{initial, step}
 use Rattle.sym_check.proofs.Keys.{keys_equiv}
 use Rattle.sym_plain.specs.Pairs.{HaveDistinctKeys, has_key, put, standing, stepped}
 use Rattle.sym_plain.proofs.Puts.{at_key}

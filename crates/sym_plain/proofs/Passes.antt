@@ -6,9 +6,9 @@ use Rattle.sym_base.specs.declared.values.record.Record.{Record}
 use Rattle.sym_base.specs.declared.values.value.Key.{Key}
 use Rattle.sym_base.specs.declared.values.state.Outcome.{Outcome}
 use Rattle.sym_base.specs.declared.values.state.Outcome.TheVariants.{Going}
-use Rattle.sym_check.specs.Groups.{is_key, is_among, key_of, records_of, keys, pass}
-use Rattle.sym_check.specs.ScriptPlans.{ScriptPlan}
-use Rattle.sym_check.specs.Updates.{initial, step, after}
+use Rattle.sym_check.specs.Meaning.Groups.{is_key, is_among, key_of, records_of, keys, pass}
+use Rattle.sym_check.specs.Plan.ScriptPlans.{ScriptPlan}
+use Rattle.sym_check.specs.Meaning.Updates.{initial, step, after}
 use Rattle.sym_check.proofs.GroupLaws.{keys_one, records_of_append, none_of}
 use Rattle.sym_check.proofs.Keys.{equal_keys, same_key}
 use Rattle.sym_check.proofs.PlanLaws.{after_more}

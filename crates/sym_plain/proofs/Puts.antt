@@ -3,7 +3,7 @@ use Rattle.std.proofs.Common.{◌≡◌, ◌∙◌, ap, sym, refl, Bool, true, f
 use Rattle.std.specs.Map.{lookup}
 use Rattle.std.proofs.lemmas.List.{map-append}
 use Rattle.sym_base.specs.declared.values.value.Key.{Key}
-use Rattle.sym_check.specs.Groups.{is_key}
+use Rattle.sym_check.specs.Meaning.Groups.{is_key}
 use Rattle.sym_check.proofs.Keys.{equal_keys, same_key}
 use Rattle.sym_plain.specs.Pairs.{has_key, put}
 

@@ -6,9 +6,9 @@ use Rattle.sym_base.specs.declared.values.value.Key.{Key}
 use Rattle.sym_base.specs.declared.values.record.Record.{Record}
 use Rattle.sym_base.specs.declared.values.state.Outcome.{Outcome}
 use Rattle.sym_base.specs.declared.values.state.Outcome.TheVariants.{Going}
-use Rattle.sym_check.specs.Groups.{is_among, is_key, key_of, records_of}
-use Rattle.sym_check.specs.ScriptPlans.{ScriptPlan}
-use Rattle.sym_check.specs.Updates.{initial, step, after}
+use Rattle.sym_check.specs.Meaning.Groups.{is_among, is_key, key_of, records_of}
+use Rattle.sym_check.specs.Plan.ScriptPlans.{ScriptPlan}
+use Rattle.sym_check.specs.Meaning.Updates.{initial, step, after}
 
 -- No key stands twice.
 abbrev pub HaveDistinctKeys : {V : Type 0} → List (Key × V) → Type 0

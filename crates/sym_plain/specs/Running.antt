@@ -6,11 +6,11 @@ use Rattle.sym_base.specs.declared.values.state.FaultKind.{FaultKind}
 use Rattle.sym_base.specs.declared.values.state.Cell.{Cell}
 use Rattle.sym_base.specs.declared.values.state.Cell.TheVariants as cell
 use Rattle.sym_base.specs.States.{with_cell}
-use Rattle.sym_check.specs.Arithmetic.{and_then}
-use Rattle.sym_check.specs.FixedPlans.{FixedPlan}
-use Rattle.sym_check.specs.FixedValues.{Environment, fixed_value, fixed_values}
-use Rattle.sym_check.specs.Updates.{or_fault}
-use Rattle.sym_check.specs.DoPlans.{DoPlan, Let, SetInt, SetEnum, CopyEnum, Keep, KeepFrom, PushNum, PushWord, If}
+use Rattle.sym_check.specs.Meaning.Arithmetic.{and_then}
+use Rattle.sym_check.specs.Plan.FixedPlans.{FixedPlan}
+use Rattle.sym_check.specs.Meaning.FixedValues.{Environment, fixed_value, fixed_values}
+use Rattle.sym_check.specs.Meaning.Updates.{or_fault}
+use Rattle.sym_check.specs.Plan.DoPlans.{DoPlan, Let, SetInt, SetEnum, CopyEnum, Keep, KeepFrom, PushNum, PushWord, If}
 use Rattle.sym_plain.specs.declared.update.stop.Stop.{Stop}
 use Rattle.sym_plain.specs.declared.update.stop.Stop.TheVariants as stop
 

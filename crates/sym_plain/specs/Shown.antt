@@ -20,10 +20,10 @@ use Rattle.sym_check.specs.declared.plan.script.CellPlan.{CellPlan}
 use Rattle.sym_check.specs.declared.plan.script.CellPlan.TheVariants as plan
 use Rattle.sym_check.specs.declared.plan.show.ShowFn.{ShowFn}
 use Rattle.sym_check.specs.declared.plan.show.ShowFn.TheVariants as show_fn
-use Rattle.sym_check.specs.ShowPlans.{ShowPlan}
-use Rattle.sym_check.specs.ShowPlans as show
-use Rattle.sym_check.specs.ScriptPlans.{ScriptPlan, ColumnOf}
-use Rattle.sym_check.specs.Validity.{enum_labels}
+use Rattle.sym_check.specs.Plan.ShowPlans.{ShowPlan}
+use Rattle.sym_check.specs.Plan.ShowPlans as show
+use Rattle.sym_check.specs.Plan.ScriptPlans.{ScriptPlan, ColumnOf}
+use Rattle.sym_check.specs.Meaning.Validity.{enum_labels}
 
 -- Whether 128 bits hold x.
 abbrev pub is_wide : ℤ → Bool

@@ -2,9 +2,9 @@
 ghost use Rattle.std.specs.Prelude.{◌≡◌, ◌++◌, ◌∷◌, [], List, IfOk, OnOk};
 ghost use Rattle.sym_base.specs.declared.values.record.Record.{Record as OneRecord};
 ghost use Rattle.sym_base.specs.declared.values.state.Outcome.TheVariants.{Going};
-ghost use Rattle.sym_check.specs.CheckedScripts.{checked_plan};
-ghost use Rattle.sym_check.specs.Groups.{key_of, pass};
-ghost use Rattle.sym_check.specs.Updates.{initial, step};
+ghost use Rattle.sym_check.specs.Checking.CheckedScripts.{checked_plan};
+ghost use Rattle.sym_check.specs.Meaning.Groups.{key_of, pass};
+ghost use Rattle.sym_check.specs.Meaning.Updates.{initial, step};
 ghost use Rattle.sym_plain.specs.Pairs.{after_record};
 ghost use Rattle.sym_plain.specs.Shown.{columns};
 

@@ -4,9 +4,9 @@ ghost use Rattle.std.specs.List.{list_all};
 ghost use Rattle.std.specs.Map.{lookup};
 ghost use Rattle.std.specs.Map.Iter.{deref_pair};
 ghost use Rattle.std.specs.Option.{option_map, option_copied, option_copied_mut};
-ghost use Rattle.sym_check.specs.Conditions.{has_fixed_body};
-ghost use Rattle.sym_check.specs.Groups.{is_key};
-ghost use Rattle.sym_check.specs.ScriptPlans.{script_plan};
+ghost use Rattle.sym_check.specs.Meaning.Conditions.{has_fixed_body};
+ghost use Rattle.sym_check.specs.Meaning.Groups.{is_key};
+ghost use Rattle.sym_check.specs.Plan.ScriptPlans.{script_plan};
 ghost use Rattle.sym_plain.specs.Pairs.{HaveDistinctKeys, Steps, after_record, put, stepped};
 
 use crate::keys::{no_key, set_key};

@@ -1,7 +1,7 @@
 //! The keys of groups.
 ghost use Rattle.std.specs.Prelude.{◌≡◌, ◌≤◌, ◌+◌, ◌++◌, ◌∷◌, [], IfOk, OnOk, length, map, option_copied, take};
-ghost use Rattle.sym_check.specs.Groups.{field_at, field_value, key_of};
-ghost use Rattle.sym_check.specs.ScriptPlans.{script_plan};
+ghost use Rattle.sym_check.specs.Meaning.Groups.{field_at, field_value, key_of};
+ghost use Rattle.sym_check.specs.Plan.ScriptPlans.{script_plan};
 
 use crate::putting::{put_copy, put_num};
 use crate::update::buffers::shorten;

@@ -3,8 +3,8 @@ ghost use Rattle.std.specs.Prelude.{◌≡◌, ◌++◌, List};
 ghost use Rattle.sym_base.specs.declared.values.record.Record.{Record as OneRecord};
 ghost use Rattle.sym_base.specs.declared.values.state.Outcome.{Outcome as OneOutcome};
 ghost use Rattle.sym_base.specs.declared.values.value.Key.{Key as OneKey};
-ghost use Rattle.sym_check.specs.Groups.{keys, pass};
-ghost use Rattle.sym_check.specs.ScriptPlans.{ScriptPlan};
+ghost use Rattle.sym_check.specs.Meaning.Groups.{keys, pass};
+ghost use Rattle.sym_check.specs.Plan.ScriptPlans.{ScriptPlan};
 ghost use Rattle.sym_plain.specs.Pairs.{after_keys, after_records};
 
 /// Groups go apart: after many records the group of each of their keys has made the steps of its

@@ -1,7 +1,7 @@
 //! The state with which a group begins.
 ghost use Rattle.std.specs.Prelude.{◌≡◌, IfOk};
-ghost use Rattle.sym_check.specs.ScriptPlans.{script_plan};
-ghost use Rattle.sym_check.specs.Updates.{first_cell, initial};
+ghost use Rattle.sym_check.specs.Plan.ScriptPlans.{script_plan};
+ghost use Rattle.sym_check.specs.Meaning.Updates.{first_cell, initial};
 
 use std::alloc::Global;
 use sym_base::{Cell, Cells, NoMemory, Nums, State, Words};

@@ -2,10 +2,10 @@
 ghost use Rattle.std.specs.Prelude.{◌≡◌, [], IsTrue, IfOk, OnOk};
 ghost use Rattle.std.specs.List.{list_all};
 ghost use Rattle.sym_base.specs.declared.values.state.Outcome.TheVariants.{Going};
-ghost use Rattle.sym_check.specs.Conditions.{has_fixed_body};
-ghost use Rattle.sym_check.specs.DoPlans.{dos_plan};
-ghost use Rattle.sym_check.specs.ScriptPlans.{script_plan};
-ghost use Rattle.sym_check.specs.Updates.{environment, dos_step, step};
+ghost use Rattle.sym_check.specs.Meaning.Conditions.{has_fixed_body};
+ghost use Rattle.sym_check.specs.Plan.DoPlans.{dos_plan};
+ghost use Rattle.sym_check.specs.Plan.ScriptPlans.{script_plan};
+ghost use Rattle.sym_check.specs.Meaning.Updates.{environment, dos_step, step};
 ghost use Rattle.sym_plain.specs.Running.{ComesTo};
 
 use crate::update::buffers::{Buffers, shorten};

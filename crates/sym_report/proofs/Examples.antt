@@ -11,9 +11,9 @@ use Rattle.sym_base.specs.declared.values.state.Outcome.TheVariants.{Ended}
 use Rattle.sym_base.specs.declared.tree.declaration.CellDecl.TheVariants as cell
 use Rattle.sym_base.specs.Trees.{ScriptTree, Done}
 use Rattle.sym_check.specs.declared.plan.script.KindPlan.TheVariants as plan
-use Rattle.sym_check.specs.ScriptPlans.{ScriptPlan}
-use Rattle.sym_check.specs.ShowPlans as show
-use Rattle.sym_check.specs.DoPlans.{End}
+use Rattle.sym_check.specs.Plan.ScriptPlans.{ScriptPlan}
+use Rattle.sym_check.specs.Plan.ShowPlans as show
+use Rattle.sym_check.specs.Plan.DoPlans.{End}
 use Rattle.sym_report.specs.declared.rows.Heads.{Heads}
 use Rattle.sym_report.specs.declared.rows.Row.{Row}
 use Rattle.sym_report.specs.declared.rows.RowBody.TheVariants.{Columns, Over, Arith}

@@ -16,7 +16,7 @@ use Rattle.sym_base.specs.declared.tree.declaration.StateDecl.{StateDecl}
 use Rattle.sym_base.specs.Trees.{ScriptTree}
 use Rattle.sym_check.specs.declared.plan.script.FieldPlan.{FieldPlan}
 use Rattle.sym_check.specs.declared.plan.script.KindPlan.{KindPlan}
-use Rattle.sym_check.specs.ScriptPlans.{ScriptPlan, ColumnOf}
+use Rattle.sym_check.specs.Plan.ScriptPlans.{ScriptPlan, ColumnOf}
 use Rattle.sym_plain.specs.Shown.{columns, kind_labels, value_column}
 use Rattle.sym_report.specs.declared.rows.Heads.{Heads}
 use Rattle.sym_report.specs.declared.rows.Row.{Row}

@@ -1,8 +1,8 @@
 //! The names above a report's rows and the row of a group, for checked scripts.
 ghost use Rattle.std.specs.Prelude.{◌≡◌, IfOk, map};
 ghost use Rattle.sym_base.specs.Trees.{script_tree};
-ghost use Rattle.sym_check.specs.CheckedScripts.{checked_tree, checked_plan};
-ghost use Rattle.sym_check.specs.ScriptPlans.{ColumnOf, column_plan, script_plan};
+ghost use Rattle.sym_check.specs.Checking.CheckedScripts.{checked_tree, checked_plan};
+ghost use Rattle.sym_check.specs.Plan.ScriptPlans.{ColumnOf, column_plan, script_plan};
 ghost use Rattle.sym_report.specs.ReportRows.{heads_of, cell_name, fault_body, row_of};
 
 use crate::keys::{key_columns, key_names};

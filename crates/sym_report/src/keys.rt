@@ -1,6 +1,6 @@
 //! What a row shows of its group's key.
 ghost use Rattle.std.specs.Prelude.{◌≡◌, IfOk, map, option_copied, slice_get};
-ghost use Rattle.sym_check.specs.ScriptPlans.{script_plan};
+ghost use Rattle.sym_check.specs.Plan.ScriptPlans.{script_plan};
 ghost use Rattle.sym_report.specs.ReportRows.{field_kind, key_columns, key_names};
 
 use std::alloc::Global;

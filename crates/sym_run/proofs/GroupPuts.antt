@@ -7,7 +7,7 @@ use Rattle.std.specs.List.{All, AllByRecursion}
 use Rattle.std.specs.Map.{keys_of, lookup}
 use Rattle.indexmap.specs.IndexMap.{insert_entry}
 use Rattle.sym_base.specs.declared.values.value.Key.{Key}
-use Rattle.sym_check.specs.Groups.{is_among, is_key}
+use Rattle.sym_check.specs.Meaning.Groups.{is_among, is_key}
 use Rattle.sym_check.proofs.Keys.{equal_keys, keys_equiv}
 use Rattle.sym_path.specs.declared.path.Path.{Path}
 use Rattle.sym_plain.specs.Pairs.{HaveDistinctKeys, has_key, put}

@@ -6,8 +6,8 @@ use Rattle.std.specs.List.{All, filter}
 use Rattle.std.specs.Map.{keys_of, lookup}
 use Rattle.sym_base.specs.declared.values.value.Key.{Key}
 use Rattle.sym_base.specs.declared.values.record.Record.{Record}
-use Rattle.sym_check.specs.Groups.{is_among, is_key, key_of, keys, not_among, records_of}
-use Rattle.sym_check.specs.ScriptPlans.{ScriptPlan}
+use Rattle.sym_check.specs.Meaning.Groups.{is_among, is_key, key_of, keys, not_among, records_of}
+use Rattle.sym_check.specs.Plan.ScriptPlans.{ScriptPlan}
 use Rattle.sym_check.proofs.GroupLaws.{keys_append, none_of, records_of_append}
 use Rattle.sym_check.proofs.Keys.{equal_keys, keys_equiv, same_key}
 use Rattle.sym_path.specs.declared.path.Path.{Path}

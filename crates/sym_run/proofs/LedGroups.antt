@@ -5,9 +5,9 @@ use Rattle.sym_base.specs.declared.values.value.Key.{Key}
 use Rattle.sym_base.specs.declared.values.record.Record.{Record}
 use Rattle.sym_base.specs.declared.values.state.Outcome.{Outcome}
 use Rattle.sym_base.specs.declared.values.state.Outcome.TheVariants.{Going}
-use Rattle.sym_check.specs.Groups.{is_key}
-use Rattle.sym_check.specs.ScriptPlans.{ScriptPlan}
-use Rattle.sym_check.specs.Updates.{after, initial}
+use Rattle.sym_check.specs.Meaning.Groups.{is_key}
+use Rattle.sym_check.specs.Plan.ScriptPlans.{ScriptPlan}
+use Rattle.sym_check.specs.Meaning.Updates.{after, initial}
 use Rattle.sym_plain.specs.Pairs.{put, standing}
 use Rattle.sym_run.specs.Applying.{led_on}
 use Rattle.sym_run.proofs.GroupPuts.{absent_key}

@@ -5,9 +5,9 @@ use Rattle.std.proofs.lemmas.Option.{slice_get_within}
 use Rattle.std.specs.Prelude.{slice_get}
 use Rattle.sym_base.specs.declared.values.value.Value.{Value}
 use Rattle.sym_base.specs.declared.values.record.Record.{Record}
-use Rattle.sym_check.specs.Arithmetic.{and_then}
-use Rattle.sym_check.specs.Groups.{key_of}
-use Rattle.sym_check.specs.ScriptPlans.{ScriptPlan}
+use Rattle.sym_check.specs.Meaning.Arithmetic.{and_then}
+use Rattle.sym_check.specs.Meaning.Groups.{key_of}
+use Rattle.sym_check.specs.Plan.ScriptPlans.{ScriptPlan}
 use Rattle.sym_path.proofs.Lists.{drop_get, take_and_drop, take_get}
 use Rattle.sym_table.specs.declared.bad.Bad.{Bad}
 use Rattle.sym_table.specs.declared.bad.BadCause.{BadCause}

@@ -5,10 +5,10 @@ use Rattle.std.specs.Map.{lookup}
 use Rattle.sym_base.specs.declared.values.value.Key.{Key}
 use Rattle.sym_base.specs.declared.values.record.Record.{Record}
 use Rattle.sym_base.specs.declared.values.state.Outcome.{Outcome}
-use Rattle.sym_check.specs.ScriptPlans.{ScriptPlan}
-use Rattle.sym_check.specs.Groups.{is_key}
-use Rattle.sym_check.specs.Updates.{after}
-use Rattle.sym_check.specs.Validity.{IsValidOutcome}
+use Rattle.sym_check.specs.Plan.ScriptPlans.{ScriptPlan}
+use Rattle.sym_check.specs.Meaning.Groups.{is_key}
+use Rattle.sym_check.specs.Meaning.Updates.{after}
+use Rattle.sym_check.specs.Meaning.Validity.{IsValidOutcome}
 use Rattle.sym_plain.specs.Pairs.{after_records, put, standing}
 use Rattle.sym_table.specs.declared.bad.Bad.{Bad as BadRow}
 use Rattle.sym_run.specs.declared.runs.Applied.{Applied}

@@ -4,8 +4,8 @@ use Rattle.std.specs.List.{All}
 use Rattle.std.specs.Map.{keys_of}
 use Rattle.sym_base.specs.declared.values.value.Key.{Key}
 use Rattle.sym_base.specs.declared.values.record.Record.{Record}
-use Rattle.sym_check.specs.Groups.{keys, records_of}
-use Rattle.sym_check.specs.ScriptPlans.{ScriptPlan}
+use Rattle.sym_check.specs.Meaning.Groups.{keys, records_of}
+use Rattle.sym_check.specs.Plan.ScriptPlans.{ScriptPlan}
 use Rattle.sym_path.specs.declared.path.Path.{Path}
 use Rattle.sym_plain.specs.Pairs.{has_key}
 use Rattle.sym_table.specs.declared.bad.Bad.{Bad}

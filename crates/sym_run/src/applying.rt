@@ -2,8 +2,8 @@
 ghost use Rattle.std.specs.Prelude.{◌≡◌, List, IfOk, OnOk};
 ghost use Rattle.std.specs.Map.{lookup};
 ghost use Rattle.sym_base.specs.declared.values.record.Record.{Record as OneRecord};
-ghost use Rattle.sym_check.specs.CheckedScripts.{checked_plan};
-ghost use Rattle.sym_check.specs.Groups.{is_key};
+ghost use Rattle.sym_check.specs.Checking.CheckedScripts.{checked_plan};
+ghost use Rattle.sym_check.specs.Meaning.Groups.{is_key};
 ghost use Rattle.sym_plain.specs.Pairs.{after_records};
 ghost use Rattle.sym_run.specs.Applying.{AreValid, LeadsOn, StaysUnless, led_on};
 ghost use Rattle.sym_run.specs.Chains.{ChainFits, ChainStandsFor};

@@ -1,9 +1,9 @@
 //! Segments of one group, in order.
 ghost use Rattle.std.specs.Prelude.{◌≡◌, ◌≤◌, ◌∷◌, [], List, IfOk, OnOk, length};
 ghost use Rattle.sym_base.specs.declared.values.record.Record.{Record as OneRecord};
-ghost use Rattle.sym_check.specs.CheckedScripts.{checked_plan};
-ghost use Rattle.sym_check.specs.Updates.{after};
-ghost use Rattle.sym_check.specs.Validity.{IsValidOutcome};
+ghost use Rattle.sym_check.specs.Checking.CheckedScripts.{checked_plan};
+ghost use Rattle.sym_check.specs.Meaning.Updates.{after};
+ghost use Rattle.sym_check.specs.Meaning.Validity.{IsValidOutcome};
 ghost use Rattle.sym_run.specs.Chains.{ChainFits, ChainStandsFor, chain_of};
 
 use std::alloc::Global;

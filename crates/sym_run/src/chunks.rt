@@ -1,6 +1,6 @@
 //! The run of one chunk.
 ghost use Rattle.std.specs.Prelude.{◌≡◌, ◌<◌, ◌+◌, [], List, Some, IfOk, slice_get};
-ghost use Rattle.sym_check.specs.CheckedScripts.{checked_plan};
+ghost use Rattle.sym_check.specs.Checking.CheckedScripts.{checked_plan};
 ghost use Rattle.sym_plain.specs.Pairs.{HaveDistinctKeys};
 ghost use Rattle.sym_table.specs.ChunkRecords.{chunk_records};
 ghost use Rattle.sym_table.specs.Rows.{FitsChunk};

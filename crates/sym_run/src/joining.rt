@@ -1,7 +1,7 @@
 //! The groups of two runs in one.
 ghost use Rattle.std.specs.Prelude.{◌++◌, List, IfOk, OnOk};
 ghost use Rattle.sym_base.specs.declared.values.record.Record.{Record as OneRecord};
-ghost use Rattle.sym_check.specs.CheckedScripts.{checked_plan};
+ghost use Rattle.sym_check.specs.Checking.CheckedScripts.{checked_plan};
 ghost use Rattle.sym_plain.specs.Pairs.{HaveDistinctKeys};
 ghost use Rattle.sym_run.specs.Chains.{ChainFits, ChainStandsFor, IsTight};
 ghost use Rattle.sym_run.specs.Growing.{Grows, JoinsUnless};

@@ -1,7 +1,7 @@
 //! Segments that are pushed onto a chain.
 ghost use Rattle.std.specs.Prelude.{◌++◌, List, IfOk};
 ghost use Rattle.sym_base.specs.declared.values.record.Record.{Record as OneRecord};
-ghost use Rattle.sym_check.specs.CheckedScripts.{checked_plan};
+ghost use Rattle.sym_check.specs.Checking.CheckedScripts.{checked_plan};
 ghost use Rattle.sym_path.specs.Fitting.{SegmentFits};
 ghost use Rattle.sym_path.specs.Standing.{StandsFor};
 ghost use Rattle.sym_run.specs.Chains.{ChainFits, ChainStandsFor, HasFewPaths, IsTight};

@@ -2,7 +2,7 @@
 use Rattle.std.proofs.Common.{◌≡◌, ◌∙◌, refl, sym, ap, ℕ, ◌+◌, ◌<◌, arith, List, [], ◌∷◌, length, drop, map, get_or, IfOk, Result, Ok, Err, subst}
 use Rattle.sym_base.specs.declared.values.memory.NoMemory.{NoMemory}
 use Rattle.sym_base.specs.declared.values.record.Record.{Record}
-use Rattle.sym_check.specs.ScriptPlans.{ScriptPlan}
+use Rattle.sym_check.specs.Plan.ScriptPlans.{ScriptPlan}
 use Rattle.sym_table.specs.declared.bad.Bad.{Bad}
 use Rattle.sym_table.specs.declared.bad.Decoded.{Decoded}
 use Rattle.sym_table.specs.declared.bad.Decoded.TheVariants as decoded

@@ -1,7 +1,7 @@
 //! The sequential pass, record by record, against a plain walk over a list of records.
 ghost use Rattle.std.specs.Prelude.{◌≡◌, false, None, IfOk};
 ghost use Rattle.std.specs.Map.{lookup};
-ghost use Rattle.sym_check.specs.Groups.{is_key};
+ghost use Rattle.sym_check.specs.Meaning.Groups.{is_key};
 
 use crate::scripts::{Row, all_hold, check_rows};
 use std::alloc::Global;

@@ -1,8 +1,8 @@
 //! Values at the ends of the range of numbers and at zero divisors.
 ghost use Rattle.std.specs.Prelude.{map, IfOk, IsTrue};
 ghost use Rattle.std.specs.List.{list_all};
-ghost use Rattle.sym_check.specs.Conditions.{has_fixed_body};
-ghost use Rattle.sym_check.specs.ScriptPlans.{test_plan};
+ghost use Rattle.sym_check.specs.Meaning.Conditions.{has_fixed_body};
+ghost use Rattle.sym_check.specs.Plan.ScriptPlans.{test_plan};
 
 use std::alloc::Global;
 use std::process::Abort;

@@ -6,9 +6,9 @@ use Rattle.sym_base.specs.declared.values.record.Record.{Record}
 use Rattle.sym_base.specs.declared.values.value.Value.{Value}
 use Rattle.sym_check.specs.declared.plan.script.EnumPlan.{EnumPlan}
 use Rattle.sym_check.specs.declared.plan.script.FieldPlan.{FieldPlan}
-use Rattle.sym_check.specs.ScriptPlans.{ScriptPlan}
-use Rattle.sym_check.specs.Validity.{AreOfKinds, IsOfKind, IsRecord, enum_labels, label_count, labels_in, labels_of}
-use Rattle.sym_check.specs.WellFormed.{IsField, IsWellFormed}
+use Rattle.sym_check.specs.Plan.ScriptPlans.{ScriptPlan}
+use Rattle.sym_check.specs.Meaning.Validity.{AreOfKinds, IsOfKind, IsRecord, enum_labels, label_count, labels_in, labels_of}
+use Rattle.sym_check.specs.Plan.WellFormed.{IsField, IsWellFormed}
 use Rattle.sym_table.specs.declared.bad.Bad.{Bad}
 use Rattle.sym_table.specs.declared.bad.BadCause.{BadCause}
 use Rattle.sym_table.specs.declared.bad.Decoded.TheVariants as decoded

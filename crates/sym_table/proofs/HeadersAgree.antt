@@ -3,7 +3,7 @@ use Rattle.std.proofs.Common.{◌≡◌, ◌≢◌, ◌↔◌, ◌∙◌, ◌⊎
 use Rattle.std.proofs.lemmas.Bool.{cases_lt}
 use Rattle.std.specs.Cmp.Lexicographic.{pointwise}
 use Rattle.sym_check.specs.declared.plan.script.FieldPlan.{FieldPlan}
-use Rattle.sym_check.specs.Arithmetic.{and_then}
+use Rattle.sym_check.specs.Meaning.Arithmetic.{and_then}
 use Rattle.sym_table.specs.declared.header.HeadFault.{HeadFault}
 use Rattle.sym_table.specs.declared.header.HeadFault.TheVariants as head
 use Rattle.sym_table.specs.Headers.{HasColumn, HasNoColumn, HasTwoColumns, AreColumns, FirstHeadFault, column_from, unless_again, found_column, column_of, columns_of}

@@ -4,7 +4,7 @@ use Rattle.std.proofs.lemmas.Bool.Decides.{Decides-eqb}
 use Rattle.sym_base.specs.declared.values.value.Value.{Value}
 use Rattle.sym_check.specs.declared.plan.script.EnumPlan.{EnumPlan}
 use Rattle.sym_check.specs.declared.plan.script.FieldPlan.{FieldPlan}
-use Rattle.sym_check.specs.Arithmetic.{and_then}
+use Rattle.sym_check.specs.Meaning.Arithmetic.{and_then}
 use Rattle.sym_table.specs.declared.bad.BadCause.{BadCause}
 use Rattle.sym_table.specs.declared.bad.BadCause.TheVariants as cause
 use Rattle.sym_table.specs.declared.header.Header.{Header}

@@ -9,7 +9,7 @@ use Rattle.sym_check.specs.declared.plan.script.EnumPlan.{EnumPlan}
 use Rattle.sym_check.specs.declared.plan.script.KindPlan.{KindPlan}
 use Rattle.sym_check.specs.declared.plan.script.KindPlan.TheVariants as kind
 use Rattle.sym_check.specs.declared.plan.script.FieldPlan.{FieldPlan}
-use Rattle.sym_check.specs.Validity.{enum_labels}
+use Rattle.sym_check.specs.Meaning.Validity.{enum_labels}
 use Rattle.sym_table.specs.declared.bad.BadCause.{BadCause}
 use Rattle.sym_table.specs.declared.bad.BadCause.TheVariants as cause
 use Rattle.sym_table.specs.Texts.{without_blanks, SaysNumber, number_in, SaysLabel, label_in}

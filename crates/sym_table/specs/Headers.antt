@@ -2,7 +2,7 @@
 use Rattle.std.specs.Prelude.{◌≡◌, ◌≢◌, ◌<◌, ℕ, ◌+◌, nat_eq, List, [], ◌∷◌, drop, Option, Some, None, Result, Ok, Err, slice_get, if◌then◌else◌}
 use Rattle.std.specs.Cmp.Lexicographic.{pointwise}
 use Rattle.sym_check.specs.declared.plan.script.FieldPlan.{FieldPlan}
-use Rattle.sym_check.specs.Arithmetic.{◌>>=◌}
+use Rattle.sym_check.specs.Meaning.Arithmetic.{◌>>=◌}
 use Rattle.sym_table.specs.declared.header.HeadFault.{HeadFault}
 use Rattle.sym_table.specs.declared.header.HeadFault.TheVariants as head
 

@@ -3,7 +3,7 @@ ghost use Rattle.std.specs.Prelude.{◌≡◌, ◌≤◌, ◌+◌, ◌^◌, ◌<
 ghost use Rattle.std.specs.List.{All};
 ghost use Rattle.sym_base.specs.Limits.{max_fields};
 ghost use Rattle.sym_base.specs.declared.limits.TheConstants as limit;
-ghost use Rattle.sym_check.specs.CheckedScripts.{checked_plan};
+ghost use Rattle.sym_check.specs.Checking.CheckedScripts.{checked_plan};
 ghost use Rattle.sym_check.specs.declared.plan.script.FieldPlan.{FieldPlan as OneField};
 ghost use Rattle.sym_table.specs.Cutting.{Cuts, HeadsBy, Opens, ReadsAt, Takes, TakesRows};
 ghost use Rattle.sym_table.specs.FileRows.{file_rows};

@@ -1,7 +1,7 @@
 //! Rows as records.
 ghost use Rattle.std.specs.Prelude.{◌≡◌, ◌<◌, IfOk, IfNone, OnOk, length, slice_index_or};
-ghost use Rattle.sym_check.specs.CheckedScripts.{checked_plan};
-ghost use Rattle.sym_check.specs.Validity.{IsRecord};
+ghost use Rattle.sym_check.specs.Checking.CheckedScripts.{checked_plan};
+ghost use Rattle.sym_check.specs.Meaning.Validity.{IsRecord};
 ghost use Rattle.sym_table.specs.Decoding.{IfRecord, Leaves, Fills, numbered};
 ghost use Rattle.sym_table.specs.Rows.{KeepsLimits, FitsHeader, column, read_fields, read_row};
 

@@ -5,9 +5,9 @@ ghost use Rattle.sym_base.specs.declared.values.record.Record.{Record as OneReco
 ghost use Rattle.sym_base.specs.declared.values.value.Value.{Value as OneValue};
 ghost use Rattle.sym_check.specs.declared.plan.script.EnumPlan.{EnumPlan as OneEnum};
 ghost use Rattle.sym_check.specs.declared.plan.script.FieldPlan.{FieldPlan as OneField};
-ghost use Rattle.sym_check.specs.ScriptPlans.{ScriptPlan};
-ghost use Rattle.sym_check.specs.Validity.{IsRecord};
-ghost use Rattle.sym_check.specs.WellFormed.{IsWellFormed};
+ghost use Rattle.sym_check.specs.Plan.ScriptPlans.{ScriptPlan};
+ghost use Rattle.sym_check.specs.Meaning.Validity.{IsRecord};
+ghost use Rattle.sym_check.specs.Plan.WellFormed.{IsWellFormed};
 ghost use Rattle.sym_table.specs.declared.bad.Bad.{Bad as BadRow};
 ghost use Rattle.sym_table.specs.declared.bad.BadCause.{BadCause as Cause};
 ghost use Rattle.sym_table.specs.declared.header.Header.{Header as OneHeader};

@@ -13,8 +13,8 @@ use Rattle.sym_base.specs.declared.values.state.Outcome.{Outcome}
 use Rattle.sym_parse.specs.declared.error.ParseErr.{ParseErr}
 use Rattle.sym_parse.specs.declared.error.ParseErr.TheVariants as parse_error
 use Rattle.sym_parse.specs.Answers.{IsScriptOf, parsed}
-use Rattle.sym_check.specs.Groups.{pass}
-use Rattle.sym_check.specs.Scripts.{BreaksScript}
+use Rattle.sym_check.specs.Meaning.Groups.{pass}
+use Rattle.sym_check.specs.Rules.Scripts.{BreaksScript}
 use Rattle.sym_check.specs.declared.checking.accepted.Checked.{Checked}
 use Rattle.sym_check.specs.declared.elaborate.error.CheckErr.{CheckErr}
 use Rattle.sym_check.specs.declared.elaborate.error.CheckErr.TheVariants as check_error

@@ -18,8 +18,8 @@ use Rattle.sym_parse.specs.Parsing.Scripts.{script, start}
 use Rattle.sym_parse.specs.Sentences.{IsKeptBy}
 use Rattle.sym_parse.proofs.Answering.{parsed-found, parsed-reads, parsed-fault, fault-parsed}
 use Rattle.sym_parse.proofs.Refusing.{kept, unexpected-by, reached-by}
-use Rattle.sym_check.specs.ScriptPlans.{ScriptPlan}
-use Rattle.sym_check.specs.Scripts.{plan_of}
+use Rattle.sym_check.specs.Plan.ScriptPlans.{ScriptPlan}
+use Rattle.sym_check.specs.Rules.Scripts.{plan_of}
 use Rattle.sym_check.specs.declared.elaborate.error.CheckErr.{CheckErr}
 use Rattle.sym_check.proofs.ScriptsAgree.{accepted_planned, planned_accepted, breaks_planned, planned_breaks}
 use Rattle.sym_top.specs.declared.refusal.Place.TheVariants as place

@@ -3,7 +3,7 @@
 -- limits and their order are this project's profile.
 use Rattle.std.specs.Prelude.{◌≡◌, ℕ, if◌then◌else◌, List, [], map, None, Some}
 use Rattle.sym_base.specs.declared.values.record.Record.{Record}
-use Rattle.sym_check.specs.Groups.{pass}
+use Rattle.sym_check.specs.Meaning.Groups.{pass}
 use Rattle.sym_engine.specs.declared.error.PassErr.{PassErr}
 use Rattle.sym_engine.specs.FirstProblems.{AllFine, FirstProblem}
 use Rattle.sym_report.specs.declared.rows.Heads.{Heads}

@@ -9,9 +9,9 @@ use Rattle.sym_parse.specs.declared.error.ParseErr.{ParseErr}
 use Rattle.sym_parse.specs.declared.error.ParseErr.TheVariants as parse_error
 use Rattle.sym_parse.specs.Answers.{IsScriptOf, parsed}
 use Rattle.sym_parse.specs.Sentences.{IsUnexpected, IsReached}
-use Rattle.sym_check.specs.CheckedScripts.{checked_tree, checked_plan}
-use Rattle.sym_check.specs.ScriptPlans.{ScriptPlan}
-use Rattle.sym_check.specs.Scripts.{IsAccepted, BreaksScript, plan_of}
+use Rattle.sym_check.specs.Checking.CheckedScripts.{checked_tree, checked_plan}
+use Rattle.sym_check.specs.Plan.ScriptPlans.{ScriptPlan}
+use Rattle.sym_check.specs.Rules.Scripts.{IsAccepted, BreaksScript, plan_of}
 use Rattle.sym_check.specs.declared.checking.accepted.Checked.{Checked}
 use Rattle.sym_check.specs.declared.elaborate.error.CheckErr.{CheckErr}
 use Rattle.sym_top.specs.declared.refusal.Place.TheVariants as place

@@ -3,7 +3,7 @@ ghost use Rattle.std.specs.Prelude.{◌≡◌, ◌≤◌, ◌++◌, ℕ, List, m
 ghost use Rattle.std.specs.List.{flat_map};
 ghost use Rattle.std.specs.String.{string_bytes};
 ghost use Rattle.sym_base.specs.declared.limits.TheConstants as limit;
-ghost use Rattle.sym_check.specs.CheckedScripts.{checked_tree, checked_plan};
+ghost use Rattle.sym_check.specs.Checking.CheckedScripts.{checked_tree, checked_plan};
 ghost use Rattle.sym_report.specs.ReportRows.{heads_of, row_of, some_faulty};
 ghost use Rattle.sym_report.specs.Tables.{row_text, table_text};
 ghost use Rattle.sym_engine.specs.FileRecords.{plain_rules};

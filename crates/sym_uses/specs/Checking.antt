@@ -2,9 +2,9 @@
 use Rattle.std.specs.Prelude.{◌≡◌, ℕ, List, length}
 use Rattle.sym_base.specs.Trees.{ScriptTree}
 use Rattle.sym_parse.specs.Answers.{IsScriptOf}
-use Rattle.sym_check.specs.PathBounds.{path_bound}
-use Rattle.sym_check.specs.ScriptPlans.{ScriptPlan}
-use Rattle.sym_check.specs.Scripts.{IsAccepted, BreaksScript}
+use Rattle.sym_check.specs.Meaning.PathBounds.{path_bound}
+use Rattle.sym_check.specs.Plan.ScriptPlans.{ScriptPlan}
+use Rattle.sym_check.specs.Rules.Scripts.{IsAccepted, BreaksScript}
 use Rattle.sym_check.specs.declared.elaborate.error.CheckErr.{CheckErr}
 use Rattle.sym_uses.specs.declared.checking.Size.{Size}
 

@@ -1,7 +1,7 @@
 //! From a script's text to its plan: how large the script is, and how many paths a record has.
 ghost use Rattle.std.specs.Prelude.{◌≡◌, ◌≢◌, ◌<◌, ◌≤◌, ◌^◌, length, IfOk, IsErrOf};
 ghost use Rattle.sym_base.specs.declared.limits.TheConstants as limit;
-ghost use Rattle.sym_check.specs.CheckedScripts.{checked_plan};
+ghost use Rattle.sym_check.specs.Checking.CheckedScripts.{checked_plan};
 ghost use Rattle.sym_check.specs.declared.elaborate.error.CheckErr.{CheckErr as Fault};
 ghost use Rattle.sym_check.specs.declared.elaborate.error.CheckErr.TheVariants as fault;
 ghost use Rattle.sym_uses.specs.Checking.{IsPlanOf, IsSizeOf, Breaks};

@@ -2,9 +2,9 @@
 ghost use Rattle.std.specs.Prelude.{◌≡◌};
 ghost use Rattle.sym_base.specs.Lawful.{IsLawful};
 ghost use Rattle.sym_base.specs.Trees.{script_tree};
-ghost use Rattle.sym_check.specs.PathBounds.{path_bound as paths_of};
-ghost use Rattle.sym_check.specs.PlanSets.{IsPlanned, IsPlanned-prop};
-ghost use Rattle.sym_check.specs.ScriptPlans.{script_plan};
+ghost use Rattle.sym_check.specs.Meaning.PathBounds.{path_bound as paths_of};
+ghost use Rattle.sym_check.specs.Checking.PlanSets.{IsPlanned, IsPlanned-prop};
+ghost use Rattle.sym_check.specs.Plan.ScriptPlans.{script_plan};
 
 use crate::path_bound::path_bound_of;
 use crate::plan::script::Plan;
@@ -37,10 +37,10 @@ impl Checked {
     ghost use Rattle.std.specs.List.{list_all};
     ghost use Rattle.sym_base.specs.Limits.{max_fields};
     ghost use Rattle.sym_base.specs.declared.limits.TheConstants as limit;
-    ghost use Rattle.sym_check.specs.CheckedScripts.{checked_tree, checked_plan};
-    ghost use Rattle.sym_check.specs.Conditions.{has_fixed_body};
-    ghost use Rattle.sym_check.specs.Scripts.{IsAccepted};
-    ghost use Rattle.sym_check.specs.WellFormed.{IsWellFormed};
+    ghost use Rattle.sym_check.specs.Checking.CheckedScripts.{checked_tree, checked_plan};
+    ghost use Rattle.sym_check.specs.Meaning.Conditions.{has_fixed_body};
+    ghost use Rattle.sym_check.specs.Rules.Scripts.{IsAccepted};
+    ghost use Rattle.sym_check.specs.Plan.WellFormed.{IsWellFormed};
 
     // The script with its plan.
     pub(crate) fn of(script: Script, plan: Plan) -> Checked

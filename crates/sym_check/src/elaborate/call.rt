@@ -1,11 +1,11 @@
 //! Calls of tests, and values of given kinds.
 ghost use Rattle.std.specs.Prelude.{◌≡◌, map};
 ghost use Rattle.sym_check.specs.declared.plan.script.KindPlan.TheVariants as kind;
-ghost use Rattle.sym_check.specs.CalledTests.{called_test};
-ghost use Rattle.sym_check.specs.Elaborate.{test_named, called_on, value_of, values_of};
-ghost use Rattle.sym_check.specs.FixedPlans.{fixed_plan};
-ghost use Rattle.sym_check.specs.Scopes.{find};
-ghost use Rattle.sym_check.specs.TypedPlans.{typed_plan, located_plan, arguments_plan, Answers};
+ghost use Rattle.sym_check.specs.Checking.CalledTests.{called_test};
+ghost use Rattle.sym_check.specs.Elaborate.Expressions.{test_named, called_on, value_of, values_of};
+ghost use Rattle.sym_check.specs.Plan.FixedPlans.{fixed_plan};
+ghost use Rattle.sym_check.specs.Rules.Scopes.{find};
+ghost use Rattle.sym_check.specs.Checking.TypedPlans.{typed_plan, located_plan, arguments_plan, Answers};
 
 use crate::elaborate::error::CheckErr;
 use crate::elaborate::scope::{Meaning, Scope, found};

@@ -1,13 +1,13 @@
 //! What expressions stand for.
 ghost use Rattle.std.specs.Prelude.{◌≡◌, Some, map};
 ghost use Rattle.sym_base.specs.Trees.{Call, expr_tree, exprs_tree};
-ghost use Rattle.sym_check.specs.Breaks.{place};
-ghost use Rattle.sym_check.specs.Elaborate as spec;
-ghost use Rattle.sym_check.specs.Elaborate.{named, infer, arguments, operands};
-ghost use Rattle.sym_check.specs.FixedPlans.{num_plan};
-ghost use Rattle.sym_check.specs.Scopes.{find};
-ghost use Rattle.sym_check.specs.TypedPlans.{typed_plan, located_plan, arguments_plan, Answers};
-ghost use Rattle.sym_check.specs.Typing.{num_variable, word_variable, label_variable};
+ghost use Rattle.sym_check.specs.Breaks.Expressions.{place};
+ghost use Rattle.sym_check.specs.Elaborate.Expressions as spec;
+ghost use Rattle.sym_check.specs.Elaborate.Expressions.{named, infer, arguments, operands};
+ghost use Rattle.sym_check.specs.Plan.FixedPlans.{num_plan};
+ghost use Rattle.sym_check.specs.Rules.Scopes.{find};
+ghost use Rattle.sym_check.specs.Checking.TypedPlans.{typed_plan, located_plan, arguments_plan, Answers};
+ghost use Rattle.sym_check.specs.Rules.Typing.{num_variable, word_variable, label_variable};
 
 use crate::elaborate::call::{called_on, test_named};
 use crate::elaborate::error::CheckErr;

@@ -1,10 +1,10 @@
 //! Fields and the group line.
 ghost use Rattle.std.specs.Prelude.{◌≡◌, ◌<◌, IfOk, length};
 ghost use Rattle.std.specs.Option.{unwrap_or};
-ghost use Rattle.sym_check.specs.Declaring.{Declares};
-ghost use Rattle.sym_check.specs.ElaborateDeclarations.{field_decl, group_field, group_of};
-ghost use Rattle.sym_check.specs.InOrder.{each};
-ghost use Rattle.sym_check.specs.TypedPlans.{Answers, itself};
+ghost use Rattle.sym_check.specs.Checking.Declaring.{Declares};
+ghost use Rattle.sym_check.specs.Elaborate.Declarations.{field_decl, group_field, group_of};
+ghost use Rattle.sym_check.specs.Rules.InOrder.{each};
+ghost use Rattle.sym_check.specs.Checking.TypedPlans.{Answers, itself};
 
 use crate::elaborate::error::CheckErr;
 use crate::elaborate::literal::{default_of, kind_of};

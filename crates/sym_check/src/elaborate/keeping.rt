@@ -1,10 +1,10 @@
 //! Hold cells that are given new values.
 ghost use Rattle.std.specs.Prelude.{◌≡◌, map};
-ghost use Rattle.sym_check.specs.BlockPlans.{kept_plan};
-ghost use Rattle.sym_check.specs.DoPlans.{do_plan};
-ghost use Rattle.sym_check.specs.ElaborateStatements.{kept, kept_values, kept_from};
-ghost use Rattle.sym_check.specs.Scopes.{find};
-ghost use Rattle.sym_check.specs.TypedPlans.{located_plan, Answers};
+ghost use Rattle.sym_check.specs.Checking.BlockPlans.{kept_plan};
+ghost use Rattle.sym_check.specs.Plan.DoPlans.{do_plan};
+ghost use Rattle.sym_check.specs.Elaborate.Statements.{kept, kept_values, kept_from};
+ghost use Rattle.sym_check.specs.Rules.Scopes.{find};
+ghost use Rattle.sym_check.specs.Checking.TypedPlans.{located_plan, Answers};
 
 use crate::elaborate::call::values_of;
 use crate::elaborate::error::CheckErr;

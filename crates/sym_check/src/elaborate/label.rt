@@ -2,10 +2,10 @@
 ghost use Rattle.std.specs.Prelude.{◌≡◌, ◌<◌, length, true};
 ghost use Rattle.std.specs.List.{list_all};
 ghost use Rattle.sym_base.specs.Lawful.{is_lawful_enum};
-ghost use Rattle.sym_check.specs.Declaring.{Declares};
-ghost use Rattle.sym_check.specs.ElaborateDeclarations.{label_decl, enum_decl};
-ghost use Rattle.sym_check.specs.InOrder.{each};
-ghost use Rattle.sym_check.specs.TypedPlans.{itself};
+ghost use Rattle.sym_check.specs.Checking.Declaring.{Declares};
+ghost use Rattle.sym_check.specs.Elaborate.Declarations.{label_decl, enum_decl};
+ghost use Rattle.sym_check.specs.Rules.InOrder.{each};
+ghost use Rattle.sym_check.specs.Checking.TypedPlans.{itself};
 
 use crate::elaborate::error::CheckErr;
 use crate::elaborate::naming::{declare, free};

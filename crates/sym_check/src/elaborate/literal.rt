@@ -1,7 +1,7 @@
 //! Kinds and literals as they are written.
-ghost use Rattle.sym_check.specs.Declarations.{unfinished};
-ghost use Rattle.sym_check.specs.ElaborateDeclarations.{kind_of, literal_of, default_of};
-ghost use Rattle.sym_check.specs.TypedPlans.{Answers, itself};
+ghost use Rattle.sym_check.specs.Rules.Declarations.{unfinished};
+ghost use Rattle.sym_check.specs.Elaborate.Declarations.{kind_of, literal_of, default_of};
+ghost use Rattle.sym_check.specs.Checking.TypedPlans.{Answers, itself};
 ghost use Rattle.sym_check.specs.declared.plan.script.KindPlan.TheVariants as kind_plan;
 
 use crate::elaborate::error::CheckErr;

@@ -5,7 +5,7 @@ ghost use Rattle.sym_base.specs.Trees.{TestTree, test_tree, script_tree};
 ghost use Rattle.sym_base.specs.declared.tree.declaration.FieldDecl.{FieldDecl as OneField};
 ghost use Rattle.sym_base.specs.declared.tree.declaration.StateDecl.{StateDecl as OneState};
 ghost use Rattle.sym_base.specs.declared.tree.name.Name.{Name as OneName};
-ghost use Rattle.sym_check.specs.Scripts.{enum_names, names};
+ghost use Rattle.sym_check.specs.Rules.Scripts.{enum_names, names};
 
 use std::alloc::Global;
 use sym_base::{

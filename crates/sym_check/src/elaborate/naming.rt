@@ -1,11 +1,11 @@
 //! Names that declarations give and use.
 ghost use Rattle.std.specs.Prelude.{◌≡◌, ◌++◌, ◌∷◌, [], IfErr, OnOk, OnErr, None, Some, Err, IsSome, option_copied};
-ghost use Rattle.sym_check.specs.Declarations.{unfinished};
+ghost use Rattle.sym_check.specs.Rules.Declarations.{unfinished};
 ghost use Rattle.sym_base.specs.declared.values.value.Value.{Value as OneValue};
-ghost use Rattle.sym_check.specs.Declaring.{unseen_by};
-ghost use Rattle.sym_check.specs.ElaborateDeclarations.{enum_named, label_named, no_label, field_named};
-ghost use Rattle.sym_check.specs.Scopes.{entry, find};
-ghost use Rattle.sym_check.specs.TypedPlans.{Answers, itself};
+ghost use Rattle.sym_check.specs.Checking.Declaring.{unseen_by};
+ghost use Rattle.sym_check.specs.Elaborate.Declarations.{enum_named, label_named, no_label, field_named};
+ghost use Rattle.sym_check.specs.Rules.Scopes.{entry, find};
+ghost use Rattle.sym_check.specs.Checking.TypedPlans.{Answers, itself};
 ghost use Rattle.sym_check.specs.declared.elaborate.error.CheckErr.TheVariants as rule_err;
 
 use crate::elaborate::error::CheckErr;

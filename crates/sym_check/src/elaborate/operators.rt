@@ -1,16 +1,16 @@
 //! What operators make of their operands.
 ghost use Rattle.std.specs.Prelude.{◌≡◌, IfOk};
-ghost use Rattle.sym_check.specs.CondPlans.{cond_plan};
-ghost use Rattle.sym_check.specs.CondPlans as plan;
-ghost use Rattle.sym_check.specs.Elaborate.{negated, inverted, both, opposite, added, subtracted, multiplied, quotient_of, compared, arithmetic, ordered, equal, different, labels_joined, joined};
-ghost use Rattle.sym_check.specs.FixedPlans.{num_plan};
-ghost use Rattle.sym_check.specs.FixedPlans as fixed;
-ghost use Rattle.sym_check.specs.LinePlans.{line_plan, term_plan};
-ghost use Rattle.sym_check.specs.LinePlans as lines;
-ghost use Rattle.sym_check.specs.Operators.{rule_of, words_joined, truth_plan};
-ghost use Rattle.sym_check.specs.TypedPlans.{typed_plan, Answers};
-ghost use Rattle.sym_check.specs.Typing.{turned};
-ghost use Rattle.sym_check.specs.Typing as typing;
+ghost use Rattle.sym_check.specs.Plan.CondPlans.{cond_plan};
+ghost use Rattle.sym_check.specs.Plan.CondPlans as plan;
+ghost use Rattle.sym_check.specs.Elaborate.Expressions.{negated, inverted, both, opposite, added, subtracted, multiplied, quotient_of, compared, arithmetic, ordered, equal, different, labels_joined, joined};
+ghost use Rattle.sym_check.specs.Plan.FixedPlans.{num_plan};
+ghost use Rattle.sym_check.specs.Plan.FixedPlans as fixed;
+ghost use Rattle.sym_check.specs.Plan.LinePlans.{line_plan, term_plan};
+ghost use Rattle.sym_check.specs.Plan.LinePlans as lines;
+ghost use Rattle.sym_check.specs.Rules.Operators.{rule_of, words_joined, truth_plan};
+ghost use Rattle.sym_check.specs.Checking.TypedPlans.{typed_plan, Answers};
+ghost use Rattle.sym_check.specs.Rules.Typing.{turned};
+ghost use Rattle.sym_check.specs.Rules.Typing as typing;
 
 use crate::elaborate::error::CheckErr;
 use crate::elaborate::typed::Typed;

@@ -1,9 +1,9 @@
 //! The parts of hold cells.
 ghost use Rattle.std.specs.Prelude.{◌≡◌};
-ghost use Rattle.sym_check.specs.Declarations.{unfinished};
-ghost use Rattle.sym_check.specs.Declaring.{part_plans};
-ghost use Rattle.sym_check.specs.ElaborateDeclarations.{parts_of};
-ghost use Rattle.sym_check.specs.TypedPlans.{Answers};
+ghost use Rattle.sym_check.specs.Rules.Declarations.{unfinished};
+ghost use Rattle.sym_check.specs.Checking.Declaring.{part_plans};
+ghost use Rattle.sym_check.specs.Elaborate.Declarations.{parts_of};
+ghost use Rattle.sym_check.specs.Checking.TypedPlans.{Answers};
 
 use crate::elaborate::error::CheckErr;
 use crate::elaborate::literal::{kind_of, literal_of};

@@ -1,13 +1,13 @@
 //! Columns of the report.
 ghost use Rattle.std.specs.Prelude.{◌≡◌, ◌<◌, IfOk, IsTrue, Some, length, map};
 ghost use Rattle.sym_base.specs.Trees.{Call, column_tree, expr_tree, exprs_tree};
-ghost use Rattle.sym_check.specs.Declaring.{Declares};
-ghost use Rattle.sym_check.specs.ElaborateReports.{Parts, seen, see, see_all, column_decl};
-ghost use Rattle.sym_check.specs.InOrder.{each};
-ghost use Rattle.sym_check.specs.ScriptPlans.{column_plan};
-ghost use Rattle.sym_check.specs.Scopes.{find};
-ghost use Rattle.sym_check.specs.Showing.{seen_plan, has_few_parts, HaveFewParts};
-ghost use Rattle.sym_check.specs.TypedPlans.{Answers};
+ghost use Rattle.sym_check.specs.Checking.Declaring.{Declares};
+ghost use Rattle.sym_check.specs.Elaborate.Reports.{Parts, seen, see, see_all, column_decl};
+ghost use Rattle.sym_check.specs.Rules.InOrder.{each};
+ghost use Rattle.sym_check.specs.Plan.ScriptPlans.{column_plan};
+ghost use Rattle.sym_check.specs.Rules.Scopes.{find};
+ghost use Rattle.sym_check.specs.Checking.Showing.{seen_plan, has_few_parts, HaveFewParts};
+ghost use Rattle.sym_check.specs.Checking.TypedPlans.{Answers};
 
 use crate::elaborate::error::CheckErr;
 use crate::elaborate::expression::place;

@@ -1,8 +1,8 @@
 //! What names stand for, and the scopes in which they do.
 ghost use Rattle.std.specs.Prelude.{◌≡◌, ◌-◌, ◌++◌, ◌∷◌, [], IfOk, OnOk, OnErr, length, option_copied, take};
 ghost use Rattle.std.specs.String.{string_bytes};
-ghost use Rattle.sym_check.specs.Places.{ArePlaces};
-ghost use Rattle.sym_check.specs.Scopes.{Scope as Names, find, shows, visible};
+ghost use Rattle.sym_check.specs.Checking.Places.{ArePlaces};
+ghost use Rattle.sym_check.specs.Rules.Scopes.{Scope as Names, find, shows, visible};
 ghost use Rattle.sym_check.specs.declared.elaborate.scope.Entry.{Entry as OneEntry};
 
 use crate::plan::script::{KindPlan, KindPlans};
@@ -59,7 +59,7 @@ pub struct Scope {
 
 impl Model for Scope {
     ghost use Rattle.std.specs.Prelude.{List};
-    ghost use Rattle.sym_check.specs.Places.{ArePlaces};
+    ghost use Rattle.sym_check.specs.Checking.Places.{ArePlaces};
     ghost use Rattle.sym_check.specs.declared.elaborate.scope.Entry.{Entry as OneEntry};
 
     ghost Value = { List OneEntry };

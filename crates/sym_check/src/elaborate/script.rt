@@ -3,12 +3,12 @@ ghost use Rattle.std.specs.Prelude.{◌≡◌, ◌<◌, [], length, map, pos};
 ghost use Rattle.sym_base.specs.Lawful.{IsLawful};
 ghost use Rattle.sym_base.specs.Sizes.{stmts_count};
 ghost use Rattle.sym_base.specs.Trees.{column_tree, script_tree, stmts_tree};
-ghost use Rattle.sym_check.specs.DoPlans.{dos_plan};
-ghost use Rattle.sym_check.specs.ScriptPlans.{column_plan, script_plan};
-ghost use Rattle.sym_check.specs.Scripts.{bounded, plan_of};
-ghost use Rattle.sym_check.specs.Showing.{HaveFewParts};
-ghost use Rattle.sym_check.specs.TypedPlans.{Answers};
-ghost use Rattle.sym_check.specs.WholeScripts.{update_plan, column_plans};
+ghost use Rattle.sym_check.specs.Plan.DoPlans.{dos_plan};
+ghost use Rattle.sym_check.specs.Plan.ScriptPlans.{column_plan, script_plan};
+ghost use Rattle.sym_check.specs.Rules.Scripts.{bounded, plan_of};
+ghost use Rattle.sym_check.specs.Checking.Showing.{HaveFewParts};
+ghost use Rattle.sym_check.specs.Checking.TypedPlans.{Answers};
+ghost use Rattle.sym_check.specs.Checking.WholeScripts.{update_plan, column_plans};
 
 use crate::elaborate::error::CheckErr;
 use crate::elaborate::field::{field_decls, group_of};

@@ -1,12 +1,12 @@
 //! What operators and functions of the report make of their operands.
 ghost use Rattle.std.specs.Prelude.{◌≡◌, IfOk, map};
-ghost use Rattle.sym_check.specs.ElaborateReports.{shown_number, shown, calculated_by, part_seen, part_at, part_by, of_word_list, of_list, of_parts, applied};
-ghost use Rattle.sym_check.specs.Reports.{list_function, is_part};
-ghost use Rattle.sym_check.specs.Showing.{seen_plan, negative, of_one_list, of_numeral, of_hold};
-ghost use Rattle.sym_check.specs.ShowPlans as plan;
-ghost use Rattle.sym_check.specs.ShowPlans.{show_plan};
-ghost use Rattle.sym_check.specs.TypedPlans.{Answers};
-ghost use Rattle.sym_check.specs.Typing.{arith_of};
+ghost use Rattle.sym_check.specs.Elaborate.Reports.{shown_number, shown, calculated_by, part_seen, part_at, part_by, of_word_list, of_list, of_parts, applied};
+ghost use Rattle.sym_check.specs.Rules.Reports.{list_function, is_part};
+ghost use Rattle.sym_check.specs.Checking.Showing.{seen_plan, negative, of_one_list, of_numeral, of_hold};
+ghost use Rattle.sym_check.specs.Plan.ShowPlans as plan;
+ghost use Rattle.sym_check.specs.Plan.ShowPlans.{show_plan};
+ghost use Rattle.sym_check.specs.Checking.TypedPlans.{Answers};
+ghost use Rattle.sym_check.specs.Rules.Typing.{arith_of};
 
 use crate::elaborate::error::CheckErr;
 use crate::elaborate::seen::{HoldParts, Seen};

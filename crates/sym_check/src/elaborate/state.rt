@@ -1,11 +1,11 @@
 //! Cells of the state.
 ghost use Rattle.std.specs.Prelude.{◌≡◌, ◌<◌, length};
 ghost use Rattle.sym_base.specs.declared.tree.declaration.CellDecl.TheVariants as cell;
-ghost use Rattle.sym_check.specs.Declarations.{unfinished};
-ghost use Rattle.sym_check.specs.Declaring.{Declares, named_cell};
-ghost use Rattle.sym_check.specs.ElaborateDeclarations.{cell_of, state_decl};
-ghost use Rattle.sym_check.specs.InOrder.{each};
-ghost use Rattle.sym_check.specs.TypedPlans.{Answers, itself};
+ghost use Rattle.sym_check.specs.Rules.Declarations.{unfinished};
+ghost use Rattle.sym_check.specs.Checking.Declaring.{Declares, named_cell};
+ghost use Rattle.sym_check.specs.Elaborate.Declarations.{cell_of, state_decl};
+ghost use Rattle.sym_check.specs.Rules.InOrder.{each};
+ghost use Rattle.sym_check.specs.Checking.TypedPlans.{Answers, itself};
 
 use crate::elaborate::error::CheckErr;
 use crate::elaborate::naming::{declare, enum_named, free, label_named};

@@ -2,11 +2,11 @@
 ghost use Rattle.std.specs.Prelude.{◌≡◌, ◌+◌, ◌<◌, ◌≤◌, IfOk, OnOk, length, take};
 ghost use Rattle.sym_base.specs.Sizes.{stmt_count, stmts_count};
 ghost use Rattle.sym_base.specs.Trees.{Let, Set, Push, Keep, KeepFrom, expr_tree, exprs_tree, stmt_tree, stmts_tree};
-ghost use Rattle.sym_check.specs.BlockPlans.{Plans, local_plan, planned_do, planned_dos};
-ghost use Rattle.sym_check.specs.DoPlans.{Then, do_plan, dos_plan};
-ghost use Rattle.sym_check.specs.ElaborateStatements as spec;
-ghost use Rattle.sym_check.specs.ElaborateStatements.{let_value, statement, block};
-ghost use Rattle.sym_check.specs.TypedPlans.{typed_plan, Answers};
+ghost use Rattle.sym_check.specs.Checking.BlockPlans.{Plans, local_plan, planned_do, planned_dos};
+ghost use Rattle.sym_check.specs.Plan.DoPlans.{Then, do_plan, dos_plan};
+ghost use Rattle.sym_check.specs.Elaborate.Statements as spec;
+ghost use Rattle.sym_check.specs.Elaborate.Statements.{let_value, statement, block};
+ghost use Rattle.sym_check.specs.Checking.TypedPlans.{typed_plan, Answers};
 
 use crate::elaborate::error::CheckErr;
 use crate::elaborate::expression::{infer, operands, place};

@@ -1,10 +1,10 @@
 //! What statements assign or push to.
 ghost use Rattle.std.specs.Prelude.{◌≡◌};
-ghost use Rattle.sym_check.specs.BlockPlans.{target_plan};
-ghost use Rattle.sym_check.specs.DoPlans.{do_plan};
-ghost use Rattle.sym_check.specs.ElaborateStatements.{ToInt, ToEnum, ToNums, ToWords, assigned, pushed, placed_in};
-ghost use Rattle.sym_check.specs.Scopes.{find};
-ghost use Rattle.sym_check.specs.TypedPlans.{typed_plan, Answers};
+ghost use Rattle.sym_check.specs.Checking.BlockPlans.{target_plan};
+ghost use Rattle.sym_check.specs.Plan.DoPlans.{do_plan};
+ghost use Rattle.sym_check.specs.Elaborate.Statements.{ToInt, ToEnum, ToNums, ToWords, assigned, pushed, placed_in};
+ghost use Rattle.sym_check.specs.Rules.Scopes.{find};
+ghost use Rattle.sym_check.specs.Checking.TypedPlans.{typed_plan, Answers};
 
 use crate::elaborate::error::CheckErr;
 use crate::elaborate::scope::{Meaning, Scope, found};

@@ -3,15 +3,15 @@ ghost use Rattle.std.specs.Prelude.{◌≡◌, ◌<◌, ◌++◌, IfOk, IfErr, O
 ghost use Rattle.std.specs.List.{list_all, list_any};
 ghost use Rattle.sym_base.specs.Lawful.{is_lawful_test};
 ghost use Rattle.sym_base.specs.Trees.{expr_tree, test_tree};
-ghost use Rattle.sym_check.specs.CondPlans.{cond_plan};
-ghost use Rattle.sym_check.specs.Conditions.{same_word};
-ghost use Rattle.sym_check.specs.Declarations.{unfinished};
-ghost use Rattle.sym_check.specs.Declaring.{Declares, body_of};
-ghost use Rattle.sym_check.specs.ElaborateDeclarations.{param_decl, test_decl};
-ghost use Rattle.sym_check.specs.InOrder.{each};
-ghost use Rattle.sym_check.specs.Scopes.{in_tests};
-ghost use Rattle.sym_check.specs.ScriptPlans.{test_plan};
-ghost use Rattle.sym_check.specs.TypedPlans.{Answers, itself};
+ghost use Rattle.sym_check.specs.Plan.CondPlans.{cond_plan};
+ghost use Rattle.sym_check.specs.Meaning.Conditions.{same_word};
+ghost use Rattle.sym_check.specs.Rules.Declarations.{unfinished};
+ghost use Rattle.sym_check.specs.Checking.Declaring.{Declares, body_of};
+ghost use Rattle.sym_check.specs.Elaborate.Declarations.{param_decl, test_decl};
+ghost use Rattle.sym_check.specs.Rules.InOrder.{each};
+ghost use Rattle.sym_check.specs.Rules.Scopes.{in_tests};
+ghost use Rattle.sym_check.specs.Plan.ScriptPlans.{test_plan};
+ghost use Rattle.sym_check.specs.Checking.TypedPlans.{Answers, itself};
 ghost use Rattle.sym_check.specs.declared.elaborate.error.CheckErr.TheVariants as rule_err;
 
 use crate::elaborate::error::CheckErr;

@@ -1,9 +1,9 @@
 //! What an expression stands for.
 ghost use Rattle.std.specs.Prelude.{◌≡◌};
-ghost use Rattle.sym_check.specs.CondPlans.{cond_plan};
-ghost use Rattle.sym_check.specs.Elaborate.{no_cell, left_of, first_of, condition, term_of};
-ghost use Rattle.sym_check.specs.LinePlans.{term_plan};
-ghost use Rattle.sym_check.specs.TypedPlans.{typed_plan, Answers};
+ghost use Rattle.sym_check.specs.Plan.CondPlans.{cond_plan};
+ghost use Rattle.sym_check.specs.Elaborate.Expressions.{no_cell, left_of, first_of, condition, term_of};
+ghost use Rattle.sym_check.specs.Plan.LinePlans.{term_plan};
+ghost use Rattle.sym_check.specs.Checking.TypedPlans.{typed_plan, Answers};
 ghost use Rattle.sym_base.specs.declared.tree.expression.BinOp.TheVariants.{Is};
 
 use crate::elaborate::error::CheckErr;

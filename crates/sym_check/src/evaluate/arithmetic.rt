@@ -1,6 +1,6 @@
 //! Arithmetic on the numbers of a script.
 ghost use Rattle.std.specs.Prelude.{◌≡◌, ◌≢◌, ◌≤◌, ◌^◌, unsigned_abs, pos, neg_ℤ, ◌+ℤ◌, ◌-ℤ◌, ◌*ℤ◌, int_div, int_rem};
-ghost use Rattle.sym_check.specs.Arithmetic.{within, calculated};
+ghost use Rattle.sym_check.specs.Meaning.Arithmetic.{within, calculated};
 
 use crate::plan::expression::ArithOp;
 use sym_base::NUM_MAX;

@@ -2,14 +2,14 @@
 //! or for a value of another kind, counts as 0, the empty word or the label 0. So these calls need
 //! no condition; in a plan of a checked script no name does.
 ghost use Rattle.std.specs.Prelude.{◌≡◌, IfOk};
-ghost use Rattle.sym_check.specs.CheckedScripts.{checked_plan};
-ghost use Rattle.sym_check.specs.Conditions.{test_truth};
-ghost use Rattle.sym_check.specs.FixedPlans.{num_plan, fixed_plan};
-ghost use Rattle.sym_check.specs.FixedValues.{number, fixed_value};
-ghost use Rattle.sym_check.specs.KnownValues.{known_values, fixed_result};
-ghost use Rattle.sym_check.specs.LinePlans.{line_plan};
-ghost use Rattle.sym_check.specs.LineValues.{pair};
-ghost use Rattle.sym_check.specs.Updates.{environment};
+ghost use Rattle.sym_check.specs.Checking.CheckedScripts.{checked_plan};
+ghost use Rattle.sym_check.specs.Meaning.Conditions.{test_truth};
+ghost use Rattle.sym_check.specs.Plan.FixedPlans.{num_plan, fixed_plan};
+ghost use Rattle.sym_check.specs.Meaning.FixedValues.{number, fixed_value};
+ghost use Rattle.sym_check.specs.Checking.KnownValues.{known_values, fixed_result};
+ghost use Rattle.sym_check.specs.Plan.LinePlans.{line_plan};
+ghost use Rattle.sym_check.specs.Meaning.LineValues.{pair};
+ghost use Rattle.sym_check.specs.Meaning.Updates.{environment};
 
 use crate::checking::Checked;
 use crate::evaluate::arithmetic::Arith;

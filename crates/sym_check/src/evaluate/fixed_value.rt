@@ -1,8 +1,8 @@
 //! Values of fixed expressions.
 ghost use Rattle.std.specs.Prelude.{◌≡◌, IfOk};
-ghost use Rattle.sym_check.specs.FixedPlans.{fixed_plan};
-ghost use Rattle.sym_check.specs.FixedValues.{fixed_value};
-ghost use Rattle.sym_check.specs.KnownValues.{known_values, fixed_result};
+ghost use Rattle.sym_check.specs.Plan.FixedPlans.{fixed_plan};
+ghost use Rattle.sym_check.specs.Meaning.FixedValues.{fixed_value};
+ghost use Rattle.sym_check.specs.Checking.KnownValues.{known_values, fixed_result};
 
 use crate::evaluate::known::Known;
 use crate::evaluate::numbers::number_of;

@@ -1,8 +1,8 @@
 //! What the names of an expression stand for.
 ghost use Rattle.std.specs.Prelude.{◌≡◌, slice_get, option_copied};
-ghost use Rattle.sym_check.specs.FixedValues.{value_number, value_word, value_label, word_of, label_of};
-ghost use Rattle.sym_check.specs.KnownValues.{known_values};
-ghost use Rattle.sym_check.specs.Updates.{environment};
+ghost use Rattle.sym_check.specs.Meaning.FixedValues.{value_number, value_word, value_label, word_of, label_of};
+ghost use Rattle.sym_check.specs.Checking.KnownValues.{known_values};
+ghost use Rattle.sym_check.specs.Meaning.Updates.{environment};
 
 use crate::plan::expression::{LabelOf, WordOf};
 use sym_base::{Record, Value, Values};

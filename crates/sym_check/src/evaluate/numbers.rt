@@ -1,11 +1,11 @@
 //! Numbers of fixed expressions, and the pairs of lines.
 ghost use Rattle.std.specs.Prelude.{◌≡◌, neg_ℤ, ◌+ℤ◌, ◌*ℤ◌, IfSome, Ok};
-ghost use Rattle.sym_check.specs.Arithmetic.{within};
-ghost use Rattle.sym_check.specs.FixedPlans.{num_plan};
-ghost use Rattle.sym_check.specs.FixedValues.{number};
-ghost use Rattle.sym_check.specs.KnownValues.{known_values};
-ghost use Rattle.sym_check.specs.LinePlans.{line_plan};
-ghost use Rattle.sym_check.specs.LineValues.{pair, pair_within};
+ghost use Rattle.sym_check.specs.Meaning.Arithmetic.{within};
+ghost use Rattle.sym_check.specs.Plan.FixedPlans.{num_plan};
+ghost use Rattle.sym_check.specs.Meaning.FixedValues.{number};
+ghost use Rattle.sym_check.specs.Checking.KnownValues.{known_values};
+ghost use Rattle.sym_check.specs.Plan.LinePlans.{line_plan};
+ghost use Rattle.sym_check.specs.Meaning.LineValues.{pair, pair_within};
 
 use crate::evaluate::arithmetic::{Arith, calculated, negative, product, sum, within};
 use crate::evaluate::known::Known;

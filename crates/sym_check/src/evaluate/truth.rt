@@ -1,13 +1,13 @@
 //! The answers of tests.
 ghost use Rattle.std.specs.Prelude.{◌≡◌, Some, IsTrue, map};
 ghost use Rattle.std.specs.List.{list_all};
-ghost use Rattle.sym_check.specs.CondPlans.{cond_plan};
-ghost use Rattle.sym_check.specs.Conditions.{no_test, no_cells, truth, is_fixed, has_fixed_body, test_truth, answer};
-ghost use Rattle.sym_check.specs.FixedValues.{number};
-ghost use Rattle.sym_check.specs.KnownValues.{known_values};
-ghost use Rattle.sym_check.specs.LinePlans.{term_plan};
-ghost use Rattle.sym_check.specs.LineValues.{term_number};
-ghost use Rattle.sym_check.specs.ScriptPlans.{test_plan};
+ghost use Rattle.sym_check.specs.Plan.CondPlans.{cond_plan};
+ghost use Rattle.sym_check.specs.Meaning.Conditions.{no_test, no_cells, truth, is_fixed, has_fixed_body, test_truth, answer};
+ghost use Rattle.sym_check.specs.Meaning.FixedValues.{number};
+ghost use Rattle.sym_check.specs.Checking.KnownValues.{known_values};
+ghost use Rattle.sym_check.specs.Plan.LinePlans.{term_plan};
+ghost use Rattle.sym_check.specs.Meaning.LineValues.{term_number};
+ghost use Rattle.sym_check.specs.Plan.ScriptPlans.{test_plan};
 
 use crate::evaluate::arithmetic::Arith;
 use crate::evaluate::known::Known;

@@ -4,10 +4,10 @@ ghost use Rattle.std.specs.List.{All, IsDistinct};
 ghost use Rattle.sym_base.specs.declared.values.record.Record.{Record as OneRecord};
 ghost use Rattle.sym_base.specs.declared.values.value.Key.{Key as OneKey};
 ghost use Rattle.sym_base.specs.declared.values.value.Value.{Value as OneValue};
-ghost use Rattle.sym_check.specs.ScriptPlans.{ScriptPlan};
-ghost use Rattle.sym_check.specs.Groups.{is_key, is_value, is_among, not_among, key_of, keys, records_of, pass};
-ghost use Rattle.sym_check.specs.Validity.{IsRecord, IsKey, IsValidOutcome};
-ghost use Rattle.sym_check.specs.WellFormed.{IsWellFormed};
+ghost use Rattle.sym_check.specs.Plan.ScriptPlans.{ScriptPlan};
+ghost use Rattle.sym_check.specs.Meaning.Groups.{is_key, is_value, is_among, not_among, key_of, keys, records_of, pass};
+ghost use Rattle.sym_check.specs.Meaning.Validity.{IsRecord, IsKey, IsValidOutcome};
+ghost use Rattle.sym_check.specs.Plan.WellFormed.{IsWellFormed};
 
 /// Keys are told apart exactly where they differ, and so are values: one group is one key.
 pub fn keys_and_values_are_told_apart()

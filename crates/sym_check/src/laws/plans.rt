@@ -6,13 +6,13 @@ ghost use Rattle.sym_base.specs.declared.values.state.Fault.{Fault as OneFault};
 ghost use Rattle.sym_base.specs.declared.values.state.Outcome.{Outcome as OneOutcome};
 ghost use Rattle.sym_base.specs.declared.values.state.Outcome.TheVariants.{Ended};
 ghost use Rattle.sym_base.specs.declared.values.state.State.{State as OneState};
-ghost use Rattle.sym_check.specs.ScriptPlans.{ScriptPlan};
-ghost use Rattle.sym_check.specs.Conditions.{has_fixed_body};
-ghost use Rattle.sym_check.specs.Fitting.{FitsState, FitsOutcome};
-ghost use Rattle.sym_check.specs.Groups.{key_of};
-ghost use Rattle.sym_check.specs.Updates.{initial, step, after};
-ghost use Rattle.sym_check.specs.Validity.{IsRecord, IsKey, IsValid, IsValidOutcome};
-ghost use Rattle.sym_check.specs.WellFormed.{IsWellFormed};
+ghost use Rattle.sym_check.specs.Plan.ScriptPlans.{ScriptPlan};
+ghost use Rattle.sym_check.specs.Meaning.Conditions.{has_fixed_body};
+ghost use Rattle.sym_check.specs.Meaning.Fitting.{FitsState, FitsOutcome};
+ghost use Rattle.sym_check.specs.Meaning.Groups.{key_of};
+ghost use Rattle.sym_check.specs.Meaning.Updates.{initial, step, after};
+ghost use Rattle.sym_check.specs.Meaning.Validity.{IsRecord, IsKey, IsValid, IsValidOutcome};
+ghost use Rattle.sym_check.specs.Plan.WellFormed.{IsWellFormed};
 
 /// One record more is one step more, and more records go on from where the first ones ended. A
 /// group that has ended stays as it is.

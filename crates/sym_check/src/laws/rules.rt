@@ -2,14 +2,14 @@
 ghost use Rattle.std.specs.Prelude.{◌≡◌, ◌↔◌, ℕ, Ok, Err};
 ghost use Rattle.sym_base.specs.Trees.{ExprTree, StmtsTree};
 ghost use Rattle.sym_check.specs.declared.elaborate.error.CheckErr.{CheckErr as Fault};
-ghost use Rattle.sym_check.specs.DoPlans.{DosPlan};
-ghost use Rattle.sym_check.specs.Scopes.{Scope as Names};
-ghost use Rattle.sym_check.specs.Typing.{Typed as Meaning, Means};
-ghost use Rattle.sym_check.specs.Breaks.{Breaks};
-ghost use Rattle.sym_check.specs.Elaborate.{infer};
-ghost use Rattle.sym_check.specs.Statements.{IsBlock};
-ghost use Rattle.sym_check.specs.BreaksStatements.{BreaksBlock};
-ghost use Rattle.sym_check.specs.ElaborateStatements.{block};
+ghost use Rattle.sym_check.specs.Plan.DoPlans.{DosPlan};
+ghost use Rattle.sym_check.specs.Rules.Scopes.{Scope as Names};
+ghost use Rattle.sym_check.specs.Rules.Typing.{Typed as Meaning, Means};
+ghost use Rattle.sym_check.specs.Breaks.Expressions.{Breaks};
+ghost use Rattle.sym_check.specs.Elaborate.Expressions.{infer};
+ghost use Rattle.sym_check.specs.Rules.Statements.{IsBlock};
+ghost use Rattle.sym_check.specs.Breaks.Statements.{BreaksBlock};
+ghost use Rattle.sym_check.specs.Elaborate.Statements.{block};
 
 /// What an expression stands for, and the first broken rule in it, are what the function answers.
 /// So it has one meaning or one first broken rule, and never both.

@@ -3,9 +3,9 @@ ghost use Rattle.std.specs.Prelude.{◌≡◌, ◌↔◌, ◌⊎◌, Ok, Err};
 ghost use Rattle.sym_base.specs.Lawful.{IsLawful};
 ghost use Rattle.sym_base.specs.Trees.{ScriptTree};
 ghost use Rattle.sym_check.specs.declared.elaborate.error.CheckErr.{CheckErr as Fault};
-ghost use Rattle.sym_check.specs.ScriptPlans.{ScriptPlan};
-ghost use Rattle.sym_check.specs.Scripts.{IsAccepted, BreaksScript, plan_of};
-ghost use Rattle.sym_check.specs.WellFormed.{IsWellFormed};
+ghost use Rattle.sym_check.specs.Plan.ScriptPlans.{ScriptPlan};
+ghost use Rattle.sym_check.specs.Rules.Scripts.{IsAccepted, BreaksScript, plan_of};
+ghost use Rattle.sym_check.specs.Plan.WellFormed.{IsWellFormed};
 
 /// The plan of a script, and its first broken rule, are what the function answers. So a script has
 /// one plan or one first broken rule, and never both.

@@ -9,15 +9,15 @@ ghost use Rattle.sym_check.specs.declared.plan.expression.LabelOf.{LabelOf as On
 ghost use Rattle.sym_check.specs.declared.plan.script.EnumPlan.{EnumPlan as OneEnum};
 ghost use Rattle.sym_check.specs.declared.plan.script.CellPlan.{CellPlan as OneCell};
 ghost use Rattle.sym_check.specs.declared.plan.script.KindPlan.{KindPlan as OneKind};
-ghost use Rattle.sym_check.specs.CellKinds.{IsIntCell};
-ghost use Rattle.sym_check.specs.FixedPlans.{FixedPlan, NumPlan};
-ghost use Rattle.sym_check.specs.FixedValues.{Environment, number, label_of, fixed_value, fixed_values};
-ghost use Rattle.sym_check.specs.LinePlans.{LinePlan};
-ghost use Rattle.sym_check.specs.LineValues.{pair};
-ghost use Rattle.sym_check.specs.ScriptPlans.{ScriptPlan};
-ghost use Rattle.sym_check.specs.Updates.{environment, with_local};
-ghost use Rattle.sym_check.specs.Validity.{label_count, AreOfKinds, IsRecord};
-ghost use Rattle.sym_check.specs.WellFormed.{Kinds, IsKnown, IsNum, IsLabel, IsFixed, IsLine, known_kinds, with_kind};
+ghost use Rattle.sym_check.specs.Plan.CellKinds.{IsIntCell};
+ghost use Rattle.sym_check.specs.Plan.FixedPlans.{FixedPlan, NumPlan};
+ghost use Rattle.sym_check.specs.Meaning.FixedValues.{Environment, number, label_of, fixed_value, fixed_values};
+ghost use Rattle.sym_check.specs.Plan.LinePlans.{LinePlan};
+ghost use Rattle.sym_check.specs.Meaning.LineValues.{pair};
+ghost use Rattle.sym_check.specs.Plan.ScriptPlans.{ScriptPlan};
+ghost use Rattle.sym_check.specs.Meaning.Updates.{environment, with_local};
+ghost use Rattle.sym_check.specs.Meaning.Validity.{label_count, AreOfKinds, IsRecord};
+ghost use Rattle.sym_check.specs.Plan.WellFormed.{Kinds, IsKnown, IsNum, IsLabel, IsFixed, IsLine, known_kinds, with_kind};
 
 /// Where what is known is of its kinds, the number of an expression is one of a script, a label is
 /// one of its enum, and values are of their expressions' kinds.

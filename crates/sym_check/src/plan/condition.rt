@@ -1,6 +1,6 @@
 //! Conditions. Contracts see them as the plain data of `specs/CondPlans.antt`.
 ghost use Rattle.std.specs.Prelude.{◌≡◌, IfOk};
-ghost use Rattle.sym_check.specs.CondPlans.{cond_plan};
+ghost use Rattle.sym_check.specs.Plan.CondPlans.{cond_plan};
 
 use crate::plan::expression::{FixedList, LabelOf, Num, Term, WordOf, copy_fixed_list};
 use std::alloc::Global;

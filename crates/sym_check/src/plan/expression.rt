@@ -1,8 +1,8 @@
 //! Fixed expressions and lines. Contracts see them as the plain data of `specs/FixedPlans.antt` and
 //! `specs/LinePlans.antt`, which leave the boxes out.
 ghost use Rattle.std.specs.Prelude.{◌≡◌, IfOk, map};
-ghost use Rattle.sym_check.specs.FixedPlans.{num_plan, fixed_plan};
-ghost use Rattle.sym_check.specs.LinePlans.{line_plan, term_plan};
+ghost use Rattle.sym_check.specs.Plan.FixedPlans.{num_plan, fixed_plan};
+ghost use Rattle.sym_check.specs.Plan.LinePlans.{line_plan, term_plan};
 
 use std::alloc::Global;
 use sym_base::{NoMemory, Sequence, Text};

@@ -1,6 +1,6 @@
 //! The ranges of integer cells and of lists of numbers.
 ghost use Rattle.std.specs.Prelude.{◌≡◌};
-ghost use Rattle.sym_check.specs.Ranges.{kept};
+ghost use Rattle.sym_check.specs.Plan.Ranges.{kept};
 
 /// The numbers from `lo` to `hi`, both ends among them.
 #[derive(Clone, Copy, Debug, PartialEq, Eq)]

@@ -1,8 +1,8 @@
 //! The plan of a whole script. Contracts see it as the plain data of `specs/ScriptPlans.antt`.
 ghost use Rattle.std.specs.Prelude.{◌≡◌, IfOk, map};
-ghost use Rattle.sym_check.specs.Ranges.{is_clamped, landed, range_at, range_of};
-ghost use Rattle.sym_check.specs.ScriptPlans.{test_plan, column_plan, script_plan};
-ghost use Rattle.sym_check.specs.Validity.{enum_labels};
+ghost use Rattle.sym_check.specs.Plan.Ranges.{is_clamped, landed, range_at, range_of};
+ghost use Rattle.sym_check.specs.Plan.ScriptPlans.{test_plan, column_plan, script_plan};
+ghost use Rattle.sym_check.specs.Meaning.Validity.{enum_labels};
 
 use crate::plan::condition::Cond;
 use crate::plan::range::Range;

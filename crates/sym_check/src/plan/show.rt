@@ -1,6 +1,6 @@
 //! Expressions of the report. Contracts see them as the plain data of `specs/ShowPlans.antt`.
 ghost use Rattle.std.specs.Prelude.{◌≡◌, IfOk};
-ghost use Rattle.sym_check.specs.ShowPlans.{show_plan};
+ghost use Rattle.sym_check.specs.Plan.ShowPlans.{show_plan};
 
 use crate::plan::expression::ArithOp;
 use std::alloc::Global;

@@ -1,6 +1,6 @@
 //! Statements. Contracts see them as the plain data of `specs/DoPlans.antt`.
 ghost use Rattle.std.specs.Prelude.{◌≡◌, IfOk};
-ghost use Rattle.sym_check.specs.DoPlans.{do_plan, dos_plan};
+ghost use Rattle.sym_check.specs.Plan.DoPlans.{do_plan, dos_plan};
 
 use crate::plan::condition::Cond;
 use crate::plan::expression::{Fixed, FixedList, LabelOf, Term, WordOf, copy_fixed_list};

@@ -1,8 +1,8 @@
 //! What paths make of valid states.
 ghost use Rattle.sym_base.specs.declared.values.state.State.{State as OneState};
 ghost use Rattle.sym_base.specs.Tests.{Truth};
-ghost use Rattle.sym_check.specs.ScriptPlans.{ScriptPlan};
-ghost use Rattle.sym_check.specs.Validity.{IsValid, IsValidOutcome};
+ghost use Rattle.sym_check.specs.Plan.ScriptPlans.{ScriptPlan};
+ghost use Rattle.sym_check.specs.Meaning.Validity.{IsValid, IsValidOutcome};
 ghost use Rattle.sym_path.specs.declared.path.Path.{Path as OnePath};
 ghost use Rattle.sym_path.specs.Admitting.{Admits};
 ghost use Rattle.sym_path.specs.Fitting.{PathFits};

@@ -1,7 +1,7 @@
 //! What settling keeps.
 ghost use Rattle.std.specs.Prelude.{List};
 ghost use Rattle.sym_base.specs.declared.values.record.Record.{Record as OneRecord};
-ghost use Rattle.sym_check.specs.ScriptPlans.{ScriptPlan};
+ghost use Rattle.sym_check.specs.Plan.ScriptPlans.{ScriptPlan};
 ghost use Rattle.sym_path.specs.declared.path.Path.{Path as OnePath};
 ghost use Rattle.sym_path.specs.Settling.{AreRight, IsSettling};
 ghost use Rattle.sym_path.specs.Standing.{StandsFor};

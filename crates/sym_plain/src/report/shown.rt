@@ -1,8 +1,8 @@
 //! What report expressions show of a state.
 ghost use Rattle.std.specs.Prelude.{◌≡◌, ◌-◌, [], IfOk, option_copied, slice_get, slice_index_or};
 ghost use Rattle.sym_base.specs.States.{parts_at};
-ghost use Rattle.sym_check.specs.ScriptPlans.{script_plan};
-ghost use Rattle.sym_check.specs.ShowPlans.{show_plan};
+ghost use Rattle.sym_check.specs.Plan.ScriptPlans.{script_plan};
+ghost use Rattle.sym_check.specs.Plan.ShowPlans.{show_plan};
 ghost use Rattle.sym_plain.specs.Shown.{cell_labels, kind_labels, part_kind, label_column, value_column, cell_column, call_column, show_column, columns};
 
 use crate::report::arithmetic::{negated, operated};

@@ -1,13 +1,13 @@
 //! The truth of conditions at a state.
 ghost use Rattle.std.specs.Prelude.{◌≡◌, ◌≤◌, ◌+◌, ◌++◌, ◌∷◌, [], IsTrue, OnOk, length, map, take, Ok};
 ghost use Rattle.std.specs.List.{list_all};
-ghost use Rattle.sym_check.specs.CondPlans.{cond_plan};
-ghost use Rattle.sym_check.specs.Conditions.{has_fixed_body, test_truth, truth};
-ghost use Rattle.sym_check.specs.FixedPlans.{fixed_plan, num_plan};
-ghost use Rattle.sym_check.specs.FixedValues.{fixed_value, fixed_values};
-ghost use Rattle.sym_check.specs.KnownValues.{known_values};
-ghost use Rattle.sym_check.specs.ScriptPlans.{script_plan};
-ghost use Rattle.sym_check.specs.Updates.{or_fault};
+ghost use Rattle.sym_check.specs.Plan.CondPlans.{cond_plan};
+ghost use Rattle.sym_check.specs.Meaning.Conditions.{has_fixed_body, test_truth, truth};
+ghost use Rattle.sym_check.specs.Plan.FixedPlans.{fixed_plan, num_plan};
+ghost use Rattle.sym_check.specs.Meaning.FixedValues.{fixed_value, fixed_values};
+ghost use Rattle.sym_check.specs.Checking.KnownValues.{known_values};
+ghost use Rattle.sym_check.specs.Plan.ScriptPlans.{script_plan};
+ghost use Rattle.sym_check.specs.Meaning.Updates.{or_fault};
 ghost use Rattle.sym_plain.specs.Running.{Gives, Makes, with_value};
 
 use crate::putting::{put_at, put_num, put_word};

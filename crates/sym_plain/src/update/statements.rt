@@ -1,12 +1,12 @@
 //! Statements of the update, run on a state's cells where they lie.
 ghost use Rattle.std.specs.Prelude.{◌≡◌, ◌≤◌, ◌+◌, ◌++◌, ◌∷◌, [], ◌-◌, IsTrue, IfOk, OnOk, Some, length, map, pos, replicate, take};
 ghost use Rattle.std.specs.List.{list_all};
-ghost use Rattle.sym_check.specs.Conditions.{has_fixed_body};
-ghost use Rattle.sym_check.specs.DoPlans.{do_plan, dos_plan};
-ghost use Rattle.sym_check.specs.FixedPlans.{fixed_plan};
-ghost use Rattle.sym_check.specs.KnownValues.{known_values};
-ghost use Rattle.sym_check.specs.ScriptPlans.{script_plan};
-ghost use Rattle.sym_check.specs.Updates.{environment, environment_after, do_step, dos_step};
+ghost use Rattle.sym_check.specs.Meaning.Conditions.{has_fixed_body};
+ghost use Rattle.sym_check.specs.Plan.DoPlans.{do_plan, dos_plan};
+ghost use Rattle.sym_check.specs.Plan.FixedPlans.{fixed_plan};
+ghost use Rattle.sym_check.specs.Checking.KnownValues.{known_values};
+ghost use Rattle.sym_check.specs.Plan.ScriptPlans.{script_plan};
+ghost use Rattle.sym_check.specs.Meaning.Updates.{environment, environment_after, do_step, dos_step};
 ghost use Rattle.sym_base.specs.States.{cell_nums, parts_at, cell_parts, cell_words, with_cell, with_num, with_word};
 ghost use Rattle.sym_plain.specs.Running.{IsAssignment, Makes, kept, kept_cell};
 

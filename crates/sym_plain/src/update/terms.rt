@@ -1,8 +1,8 @@
 //! Numbers that may depend on a cell.
 ghost use Rattle.std.specs.Prelude.{◌≡◌};
-ghost use Rattle.sym_check.specs.KnownValues.{known_values};
-ghost use Rattle.sym_check.specs.LinePlans.{term_plan};
-ghost use Rattle.sym_check.specs.LineValues.{pair_at, term_number};
+ghost use Rattle.sym_check.specs.Checking.KnownValues.{known_values};
+ghost use Rattle.sym_check.specs.Plan.LinePlans.{term_plan};
+ghost use Rattle.sym_check.specs.Meaning.LineValues.{pair_at, term_number};
 
 use sym_base::State;
 use sym_check::{Arith, Known, Pair, Term, number_of, pair_of, product};

@@ -1,7 +1,7 @@
 //! One field of a record.
 ghost use Rattle.std.specs.Prelude.{◌≡◌, IfSome, option_copied, option_map};
 ghost use Rattle.std.specs.List.{All};
-ghost use Rattle.sym_check.specs.WellFormed.{IsEnum};
+ghost use Rattle.sym_check.specs.Plan.WellFormed.{IsEnum};
 ghost use Rattle.sym_table.specs.Decoding.{Leaves};
 ghost use Rattle.sym_table.specs.Fields.{SaysOf, text_of, default_for, value_in, read_field};
 

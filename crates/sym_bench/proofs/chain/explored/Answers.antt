@@ -1,7 +1,7 @@
 use Rattle.std.proofs.Common.{◌++◌, List, sym, subst, take}
 use Rattle.std.proofs.lemmas.List.{take_all}
 use Rattle.sym_base.specs.declared.values.record.Record.{Record}
-use Rattle.sym_check.specs.CheckedScripts.{checked_plan}
+use Rattle.sym_check.specs.Checking.CheckedScripts.{checked_plan}
 use Rattle.sym_bench.specs.Chains.{IsChainOf}
 use Rattle.sym_bench.proofs.ChainLemmas.{one_more}
 use Rattle.sym_bench.proofs.chain.explored.Goals as goal

@@ -1,5 +1,5 @@
 use Rattle.std.proofs.Common.{refl}
-use Rattle.sym_check.specs.CheckedScripts.{checked_plan}
+use Rattle.sym_check.specs.Checking.CheckedScripts.{checked_plan}
 use Rattle.sym_bench.proofs.ChainLemmas.{longer, closed}
 use Rattle.sym_bench.proofs.chain.extended.Goals as goal
 

@@ -1,5 +1,5 @@
 use Rattle.std.proofs.Common.{◌≡◌, ◌*◌, ◌+◌, ℕ, length, arith, subst}
-use Rattle.sym_check.specs.CheckedScripts.{checked_plan}
+use Rattle.sym_check.specs.Checking.CheckedScripts.{checked_plan}
 use Rattle.sym_bench.proofs.ComparingLemmas.{AreTaken, more_taken, round_more}
 use Rattle.sym_bench.proofs.comparing.compare.Goals as goal
 

@@ -1,6 +1,6 @@
 use Rattle.std.proofs.Common.{◌≡◌, ◌*◌, All, length}
-use Rattle.sym_check.specs.CheckedScripts.{checked_plan}
-use Rattle.sym_check.specs.Validity.{IsRecord}
+use Rattle.sym_check.specs.Checking.CheckedScripts.{checked_plan}
+use Rattle.sym_check.specs.Meaning.Validity.{IsRecord}
 use Rattle.sym_bench.proofs.ComparingLemmas.{AreTaken}
 use Rattle.sym_bench.proofs.comparing.compare.Given as goal
 

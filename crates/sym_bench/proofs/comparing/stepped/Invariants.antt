@@ -1,6 +1,6 @@
 use Rattle.std.proofs.Common.{◌≡◌, drop}
-use Rattle.sym_check.specs.CheckedScripts.{checked_plan}
-use Rattle.sym_check.specs.Updates.{after}
+use Rattle.sym_check.specs.Checking.CheckedScripts.{checked_plan}
+use Rattle.sym_check.specs.Meaning.Updates.{after}
 use Rattle.sym_bench.proofs.comparing.stepped.Given as goal
 
 abbrev pub invariant-records : goal.invariant-records

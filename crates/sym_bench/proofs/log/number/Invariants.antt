@@ -1,6 +1,6 @@
 use Rattle.std.proofs.Common.{All}
-use Rattle.sym_check.specs.ScriptPlans.{ScriptPlan}
-use Rattle.sym_check.specs.Validity.{IsRecord}
+use Rattle.sym_check.specs.Plan.ScriptPlans.{ScriptPlan}
+use Rattle.sym_check.specs.Meaning.Validity.{IsRecord}
 use Rattle.sym_bench.proofs.log.number.Given as goal
 
 abbrev pub invariant-records : goal.invariant-records

@@ -1,8 +1,8 @@
 use Rattle.std.proofs.Common.{sym, subst, All, List}
 use Rattle.std.proofs.lemmas.List.Elements.{All-push}
 use Rattle.sym_base.specs.declared.values.record.Record.{Record}
-use Rattle.sym_check.specs.CheckedScripts.{checked_plan}
-use Rattle.sym_check.specs.Validity.{IsRecord}
+use Rattle.sym_check.specs.Checking.CheckedScripts.{checked_plan}
+use Rattle.sym_check.specs.Meaning.Validity.{IsRecord}
 use Rattle.sym_table.specs.declared.header.Header.{Header}
 use Rattle.sym_table.specs.Rows.{FitsHeader}
 use Rattle.sym_bench.proofs.log.records_of.Goals as goal

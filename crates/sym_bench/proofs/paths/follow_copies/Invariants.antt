@@ -1,4 +1,4 @@
-use Rattle.sym_check.specs.CheckedScripts.{checked_plan}
+use Rattle.sym_check.specs.Checking.CheckedScripts.{checked_plan}
 use Rattle.sym_path.specs.Fitting.{SegmentFits}
 use Rattle.sym_bench.proofs.paths.follow_copies.Given as goal
 

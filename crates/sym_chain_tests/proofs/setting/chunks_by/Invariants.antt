@@ -1,5 +1,5 @@
 use Rattle.std.specs.List.{All}
-use Rattle.sym_check.specs.CheckedScripts.{checked_plan}
+use Rattle.sym_check.specs.Checking.CheckedScripts.{checked_plan}
 use Rattle.sym_table.specs.Rows.{FitsChunk, FitsHeader}
 use Rattle.sym_chain_tests.proofs.setting.chunks_by.Given as goal
 

@@ -1,4 +1,4 @@
-use Rattle.sym_check.specs.CheckedScripts.{checked_plan}
+use Rattle.sym_check.specs.Checking.CheckedScripts.{checked_plan}
 use Rattle.sym_table.specs.Rows.{FitsHeader}
 use Rattle.sym_chain_tests.proofs.setting.passed_by.Given as goal
 

@@ -1,8 +1,8 @@
 -- By the agreement of the rules with the function that tries them.
 use Rattle.std.proofs.Common.{rules, ◌≡◌, Ok, Err}
 use Rattle.sym_base.specs.Trees.{script_tree}
-use Rattle.sym_check.specs.ScriptPlans.{script_plan}
-use Rattle.sym_check.specs.Scripts.{BreaksScript, plan_of}
+use Rattle.sym_check.specs.Plan.ScriptPlans.{script_plan}
+use Rattle.sym_check.specs.Rules.Scripts.{BreaksScript, plan_of}
 use Rattle.sym_check.specs.declared.elaborate.error.CheckErr.{CheckErr}
 use Rattle.sym_check.proofs.PlannedScripts.{accepted_answer, broken_answer}
 use Rattle.sym_check.proofs.ScriptsAgree.{planned_accepted, planned_breaks, accepted_planned, breaks_planned}

@@ -1,4 +1,4 @@
-use Rattle.sym_check.specs.CheckedScripts.{checked_plan}
+use Rattle.sym_check.specs.Checking.CheckedScripts.{checked_plan}
 use Rattle.sym_table.specs.FileRows.{file_rows}
 use Rattle.sym_engine.proofs.Opened.{opened, unopened}
 use Rattle.sym_engine.proofs.cutting.open_file.Goals as goal

@@ -1,5 +1,5 @@
 use Rattle.std.proofs.Common.{Result}
-use Rattle.sym_check.specs.CheckedScripts.{checked_plan}
+use Rattle.sym_check.specs.Checking.CheckedScripts.{checked_plan}
 use Rattle.sym_table.specs.FileRows.{file_rows}
 use Rattle.sym_engine.specs.declared.error.PassErr.{PassErr}
 use Rattle.sym_engine.specs.declared.rounds.Took.TheVariants as took

@@ -1,6 +1,6 @@
 -- The rounds so far are taken; the script, the path limit and what is shown are as they were.
 use Rattle.std.proofs.Common.{◌≡◌, length}
-use Rattle.sym_check.specs.CheckedScripts.{checked_plan}
+use Rattle.sym_check.specs.Checking.CheckedScripts.{checked_plan}
 use Rattle.sym_engine.specs.Rounds.{stands_by}
 use Rattle.sym_engine.specs.Taking.{rows_left}
 use Rattle.sym_engine.proofs.Walks.{IsTaking}

@@ -1,7 +1,7 @@
 use Rattle.std.proofs.Common.{◌∙◌, ◌≤◌, ℕ, refl, arith, map, length, Result, Ok, Err}
 use Rattle.std.specs.Result.{IfErr}
 use Rattle.std.specs.String.{string_bytes}
-use Rattle.sym_check.specs.CheckedScripts.{checked_plan}
+use Rattle.sym_check.specs.Checking.CheckedScripts.{checked_plan}
 use Rattle.sym_engine.specs.declared.error.PassErr.{PassErr}
 use Rattle.sym_engine.specs.FileRecords.{rules_of}
 use Rattle.sym_engine.specs.Passing.{StopsFrom}

@@ -1,7 +1,7 @@
 -- The files so far are taken; the numbers stay small, and the store is as it was.
 use Rattle.std.proofs.Common.{◌≡◌, ◌≤◌, ◌+◌, ◌*◌, ℕ, List, map}
 use Rattle.std.specs.String.{string_bytes}
-use Rattle.sym_check.specs.CheckedScripts.{checked_plan}
+use Rattle.sym_check.specs.Checking.CheckedScripts.{checked_plan}
 use Rattle.sym_engine.specs.FileRecords.{rules_of}
 use Rattle.sym_engine.specs.Rounds.{stands_by}
 use Rattle.sym_engine.proofs.FileByFile.{IsPassing}

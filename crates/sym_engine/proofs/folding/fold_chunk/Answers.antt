@@ -1,5 +1,5 @@
 use Rattle.std.proofs.Common.{arith}
-use Rattle.sym_check.specs.CheckedScripts.{checked_plan}
+use Rattle.sym_check.specs.Checking.CheckedScripts.{checked_plan}
 use Rattle.sym_table.specs.ChunkRecords.{chunk_records}
 use Rattle.sym_engine.proofs.Folds.{row_folded}
 use Rattle.sym_engine.proofs.folding.fold_chunk.Goals as goal

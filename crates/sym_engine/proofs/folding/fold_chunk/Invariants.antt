@@ -1,6 +1,6 @@
 -- The rows so far are folded.
 use Rattle.std.proofs.Common.{◌≡◌, ◌+◌, drop}
-use Rattle.sym_check.specs.CheckedScripts.{checked_plan}
+use Rattle.sym_check.specs.Checking.CheckedScripts.{checked_plan}
 use Rattle.sym_table.specs.ChunkRecords.{chunk_records}
 use Rattle.sym_table.specs.RowRecords.{records_or_bad}
 use Rattle.sym_engine.specs.Taking.{ArePassed}

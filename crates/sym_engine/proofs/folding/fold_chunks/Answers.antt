@@ -1,4 +1,4 @@
-use Rattle.sym_check.specs.CheckedScripts.{checked_plan}
+use Rattle.sym_check.specs.Checking.CheckedScripts.{checked_plan}
 use Rattle.sym_table.specs.ChunkRecords.{all_records}
 use Rattle.sym_engine.proofs.Folds.{chunk_folded}
 use Rattle.sym_engine.proofs.folding.fold_chunks.Goals as goal

@@ -1,6 +1,6 @@
 -- The chunks so far are folded.
 use Rattle.std.proofs.Common.{drop}
-use Rattle.sym_check.specs.CheckedScripts.{checked_plan}
+use Rattle.sym_check.specs.Checking.CheckedScripts.{checked_plan}
 use Rattle.sym_table.specs.ChunkRecords.{all_records}
 use Rattle.sym_engine.specs.Taking.{ArePassed}
 use Rattle.sym_engine.proofs.Walks.{IsWalk}

@@ -1,9 +1,9 @@
 use Rattle.std.proofs.Common.{ℕ, sym, subst}
 use Rattle.sym_check.specs.declared.plan.statement.Do.{Do}
-use Rattle.sym_check.specs.DoPlans.{SetEnum, do_plan}
-use Rattle.sym_check.specs.FixedValues.{Environment}
-use Rattle.sym_check.specs.KnownValues.{known_values}
-use Rattle.sym_check.specs.ScriptPlans.{ScriptPlan, script_plan}
+use Rattle.sym_check.specs.Plan.DoPlans.{SetEnum, do_plan}
+use Rattle.sym_check.specs.Meaning.FixedValues.{Environment}
+use Rattle.sym_check.specs.Checking.KnownValues.{known_values}
+use Rattle.sym_check.specs.Plan.ScriptPlans.{ScriptPlan, script_plan}
 use Rattle.sym_explore.specs.Assigning.{HasLabel}
 use Rattle.sym_explore.specs.Knowing.{DoIsKnown}
 use Rattle.sym_explore.proofs.AssignedKnown.{set_label_is}

@@ -1,7 +1,7 @@
 use Rattle.std.proofs.Common.{◌<◌, length, sym, subst, arith}
-use Rattle.sym_check.specs.DoPlans.{do_plan}
-use Rattle.sym_check.specs.KnownValues.{known_values}
-use Rattle.sym_check.specs.ScriptPlans.{script_plan}
+use Rattle.sym_check.specs.Plan.DoPlans.{do_plan}
+use Rattle.sym_check.specs.Checking.KnownValues.{known_values}
+use Rattle.sym_check.specs.Plan.ScriptPlans.{script_plan}
 use Rattle.sym_path.specs.Changing.{GoesOn}
 use Rattle.sym_path.specs.Fitting.{PathFits}
 use Rattle.sym_path.specs.declared.path.Path.{Path}

@@ -1,8 +1,8 @@
 -- The first paths have changed, and the others are as they were.
 use Rattle.std.proofs.Common.{ℕ}
-use Rattle.sym_check.specs.DoPlans.{do_plan}
-use Rattle.sym_check.specs.KnownValues.{known_values}
-use Rattle.sym_check.specs.ScriptPlans.{script_plan}
+use Rattle.sym_check.specs.Plan.DoPlans.{do_plan}
+use Rattle.sym_check.specs.Checking.KnownValues.{known_values}
+use Rattle.sym_check.specs.Plan.ScriptPlans.{script_plan}
 use Rattle.sym_vector.proofs.Changes.{Changed}
 use Rattle.sym_explore.specs.Ending.{IsChanged}
 use Rattle.sym_explore.specs.Stepping.{after_do}

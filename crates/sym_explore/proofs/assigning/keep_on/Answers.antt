@@ -1,11 +1,11 @@
 use Rattle.std.proofs.Common.{◌≡◌, ◌++◌, ◌∙◌, List, Result, Err, map, ap, subst, sym}
 use Rattle.sym_base.specs.declared.values.state.FaultKind.{FaultKind}
-use Rattle.sym_check.specs.Fitting.{FitsFault}
-use Rattle.sym_check.specs.FixedPlans.{FixedPlan, fixed_plan}
-use Rattle.sym_check.specs.FixedValues.{Environment, fixed_values}
-use Rattle.sym_check.specs.KnownValues.{known_values}
-use Rattle.sym_check.specs.ScriptPlans.{ScriptPlan, script_plan}
-use Rattle.sym_check.specs.Updates.{or_fault}
+use Rattle.sym_check.specs.Meaning.Fitting.{FitsFault}
+use Rattle.sym_check.specs.Plan.FixedPlans.{FixedPlan, fixed_plan}
+use Rattle.sym_check.specs.Meaning.FixedValues.{Environment, fixed_values}
+use Rattle.sym_check.specs.Checking.KnownValues.{known_values}
+use Rattle.sym_check.specs.Plan.ScriptPlans.{ScriptPlan, script_plan}
+use Rattle.sym_check.specs.Meaning.Updates.{or_fault}
 use Rattle.sym_plain.specs.Running.{Makes}
 use Rattle.sym_plain.specs.declared.update.stop.Stop.{Stop}
 use Rattle.sym_plain.specs.declared.update.stop.Stop.TheVariants as stop

@@ -1,4 +1,4 @@
-use Rattle.sym_check.specs.ScriptPlans.{script_plan}
+use Rattle.sym_check.specs.Plan.ScriptPlans.{script_plan}
 use Rattle.sym_explore.specs.Branches.{answered, Splits}
 use Rattle.sym_explore.specs.Calling.{test_holds, WasTested}
 use Rattle.sym_explore.proofs.ComparedPaths.{if_ok_both}

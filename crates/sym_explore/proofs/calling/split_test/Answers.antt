@@ -1,6 +1,6 @@
 use Rattle.std.proofs.Common.{◌≡◌, true, false, List, Some, None, sym, ap, ◌∙◌, subst}
 use Rattle.std.specs.Prelude.{slice_get}
-use Rattle.sym_check.specs.ScriptPlans.{script_plan}
+use Rattle.sym_check.specs.Plan.ScriptPlans.{script_plan}
 use Rattle.sym_pred.specs.declared.literal.Literal.{Literal}
 use Rattle.sym_pred.specs.Literals.{atom_of}
 use Rattle.sym_path.specs.declared.path.Path.{Path}

@@ -1,4 +1,4 @@
-use Rattle.sym_check.specs.ScriptPlans.{script_plan}
+use Rattle.sym_check.specs.Plan.ScriptPlans.{script_plan}
 use Rattle.sym_explore.proofs.calling.test_on.Goals as goal
 
 pub answer_at-requires : goal.answer_at-requires

@@ -1,5 +1,5 @@
 use Rattle.std.proofs.Common.{◌≡◌, None}
-use Rattle.sym_check.specs.ScriptPlans.{ScriptPlan, script_plan}
+use Rattle.sym_check.specs.Plan.ScriptPlans.{ScriptPlan, script_plan}
 use Rattle.sym_path.specs.Changing.{GoesOn}
 use Rattle.sym_path.specs.Fitting.{PathFits}
 use Rattle.sym_path.specs.Standing.{EndsAmong}

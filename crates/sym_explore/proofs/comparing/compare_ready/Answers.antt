@@ -1,4 +1,4 @@
-use Rattle.sym_check.specs.ScriptPlans.{script_plan}
+use Rattle.sym_check.specs.Plan.ScriptPlans.{script_plan}
 use Rattle.sym_explore.proofs.ComparedPaths.{compared_splits, if_ok_both}
 use Rattle.sym_explore.specs.Branches.{answered, Splits}
 use Rattle.sym_explore.specs.Comparing.{WasCompared, number_compares}

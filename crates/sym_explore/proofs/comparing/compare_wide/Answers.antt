@@ -1,5 +1,5 @@
 use Rattle.std.proofs.Common.{ℕ, Bool, ap}
-use Rattle.sym_check.specs.ScriptPlans.{ScriptPlan, script_plan}
+use Rattle.sym_check.specs.Plan.ScriptPlans.{ScriptPlan, script_plan}
 use Rattle.sym_int.specs.Cuts.{count_with, most_with}
 use Rattle.sym_int.specs.Lines.{wide_cell}
 use Rattle.sym_explore.proofs.ComparedPaths.{if_ok_both, was_compared}

@@ -1,5 +1,5 @@
 use Rattle.std.specs.Prelude.{slice_get}
-use Rattle.sym_check.specs.ScriptPlans.{ScriptPlan, script_plan}
+use Rattle.sym_check.specs.Plan.ScriptPlans.{ScriptPlan, script_plan}
 use Rattle.sym_explore.proofs.PathCuts.{none_of, pushed_fit, first_narrows, cut_one, cut_two, cut_three, few_first, few_two, few_three}
 use Rattle.sym_explore.proofs.comparing.cut_path.Goals as goal
 

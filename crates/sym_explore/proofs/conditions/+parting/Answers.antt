@@ -1,9 +1,9 @@
 use Rattle.std.proofs.Common.{rules, ap, ◌≡◌, ◌++◌, List, sym, subst, ◌∙◌}
 use Rattle.std.proofs.lemmas.List.Elements.{All-append}
 use Rattle.std.specs.Prelude.{OnOk}
-use Rattle.sym_check.specs.CondPlans.{And, Not, Or, cond_plan}
-use Rattle.sym_check.specs.KnownValues.{known_values}
-use Rattle.sym_check.specs.ScriptPlans.{script_plan}
+use Rattle.sym_check.specs.Plan.CondPlans.{And, Not, Or, cond_plan}
+use Rattle.sym_check.specs.Checking.KnownValues.{known_values}
+use Rattle.sym_check.specs.Plan.ScriptPlans.{script_plan}
 use Rattle.sym_path.specs.Fitting.{PathFits, SegmentFits}
 use Rattle.sym_path.specs.declared.path.Path.{Path}
 use Rattle.sym_explore.specs.Evaluating.{evaluated_truth, evaluated_branches}

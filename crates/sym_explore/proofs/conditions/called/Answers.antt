@@ -1,8 +1,8 @@
 use Rattle.std.proofs.Common.{map}
-use Rattle.sym_check.specs.FixedPlans.{fixed_plan}
-use Rattle.sym_check.specs.FixedValues.{fixed_values}
-use Rattle.sym_check.specs.KnownValues.{known_values}
-use Rattle.sym_check.specs.ScriptPlans.{script_plan}
+use Rattle.sym_check.specs.Plan.FixedPlans.{fixed_plan}
+use Rattle.sym_check.specs.Meaning.FixedValues.{fixed_values}
+use Rattle.sym_check.specs.Checking.KnownValues.{known_values}
+use Rattle.sym_check.specs.Plan.ScriptPlans.{script_plan}
 use Rattle.sym_explore.proofs.EvaluatedConditions.{call_evaluated}
 use Rattle.sym_explore.proofs.TestsHeld.{values_made}
 use Rattle.sym_explore.proofs.conditions.called.Goals as goal

@@ -1,8 +1,8 @@
 use Rattle.std.proofs.Common.{sym}
-use Rattle.sym_check.specs.FixedPlans.{num_plan}
-use Rattle.sym_check.specs.KnownValues.{known_values}
-use Rattle.sym_check.specs.LinePlans.{term_plan}
-use Rattle.sym_check.specs.ScriptPlans.{script_plan}
+use Rattle.sym_check.specs.Plan.FixedPlans.{num_plan}
+use Rattle.sym_check.specs.Checking.KnownValues.{known_values}
+use Rattle.sym_check.specs.Plan.LinePlans.{term_plan}
+use Rattle.sym_check.specs.Plan.ScriptPlans.{script_plan}
 use Rattle.std.proofs.Common.{of_z, to_z, w64}
 use Rattle.sym_explore.proofs.EvaluatedConditions.{line_evaluated}
 use Rattle.sym_explore.proofs.ComparedPaths.{stored_number}

@@ -1,9 +1,9 @@
 use Rattle.std.proofs.Common.{◌≡◌, ap, subst, sym}
-use Rattle.sym_check.specs.CondPlans.{CondPlan, Compared, cond_plan}
-use Rattle.sym_check.specs.FixedPlans.{num_plan}
-use Rattle.sym_check.specs.KnownValues.{known_values}
-use Rattle.sym_check.specs.LinePlans.{term_plan}
-use Rattle.sym_check.specs.ScriptPlans.{script_plan}
+use Rattle.sym_check.specs.Plan.CondPlans.{CondPlan, Compared, cond_plan}
+use Rattle.sym_check.specs.Plan.FixedPlans.{num_plan}
+use Rattle.sym_check.specs.Checking.KnownValues.{known_values}
+use Rattle.sym_check.specs.Plan.LinePlans.{term_plan}
+use Rattle.sym_check.specs.Plan.ScriptPlans.{script_plan}
 use Rattle.sym_explore.specs.Evaluating.{IsEvaluated}
 use Rattle.sym_explore.proofs.conditions.evaluate.Goals as goal
 

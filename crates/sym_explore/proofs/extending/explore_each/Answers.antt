@@ -1,5 +1,5 @@
 use Rattle.std.proofs.Common.{◌≡◌, [], refl, rules}
-use Rattle.sym_check.specs.ScriptPlans.{script_plan}
+use Rattle.sym_check.specs.Plan.ScriptPlans.{script_plan}
 use Rattle.sym_explore.proofs.Extended.{ended_came, ended_fit, explored_faults, explored_few, explored_gives, going_fit, known_update}
 use Rattle.sym_explore.proofs.Limited.{explored_each_few}
 use Rattle.sym_explore.proofs.extending.explore_each.Goals as goal

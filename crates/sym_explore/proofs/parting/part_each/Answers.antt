@@ -1,5 +1,5 @@
 use Rattle.std.proofs.Common.{◌≡◌, ◌++◌, [], List, drop, take, ap, ◌∙◌}
-use Rattle.sym_check.specs.ScriptPlans.{script_plan}
+use Rattle.sym_check.specs.Plan.ScriptPlans.{script_plan}
 use Rattle.sym_path.specs.declared.path.Path.{Path}
 use Rattle.sym_explore.specs.Branches.{AreGoing, paths_false, paths_true}
 use Rattle.sym_explore.specs.Evaluating.{cell_branches, holds_at, tried_on_cell}

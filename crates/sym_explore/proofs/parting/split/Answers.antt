@@ -1,6 +1,6 @@
 use Rattle.std.proofs.Common.{ℕ, sym, subst}
 use Rattle.std.specs.Prelude.{IfOk}
-use Rattle.sym_check.specs.ScriptPlans.{script_plan}
+use Rattle.sym_check.specs.Plan.ScriptPlans.{script_plan}
 use Rattle.sym_explore.specs.Evaluating.{tried_on_cell}
 use Rattle.sym_explore.specs.Branches.{Splits}
 use Rattle.sym_explore.specs.declared.parting.CellCondition.{CellCondition}

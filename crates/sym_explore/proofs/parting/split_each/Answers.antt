@@ -2,7 +2,7 @@ use Rattle.std.proofs.Common.{◌≡◌, ◌<◌, ◌+◌, ℕ, List, length, se
 use Rattle.std.proofs.lemmas.List.{length-set}
 use Rattle.std.proofs.lemmas.List.Elements.{All-set}
 use Rattle.std.proofs.lemmas.List.Sorted.{All-permutation, IsPermutation-swap}
-use Rattle.sym_check.specs.ScriptPlans.{ScriptPlan, script_plan}
+use Rattle.sym_check.specs.Plan.ScriptPlans.{ScriptPlan, script_plan}
 use Rattle.sym_path.specs.declared.path.Path.{Path}
 use Rattle.sym_explore.specs.Branches.{AreGoing, IsGoing}
 use Rattle.sym_explore.specs.Evaluating.{cell_branches, tried_on_cell}

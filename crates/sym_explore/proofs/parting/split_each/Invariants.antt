@@ -1,6 +1,6 @@
 -- The paths before the index are split.
 use Rattle.std.proofs.Common.{◌-◌, length}
-use Rattle.sym_check.specs.ScriptPlans.{script_plan}
+use Rattle.sym_check.specs.Plan.ScriptPlans.{script_plan}
 use Rattle.sym_explore.specs.Branches.{AreGoing, BranchesGo}
 use Rattle.sym_explore.specs.Evaluating.{cell_branches, tried_on_cell}
 use Rattle.sym_explore.proofs.PartedInPlace.{AreSplitTo}

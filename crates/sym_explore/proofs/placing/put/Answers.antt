@@ -1,7 +1,7 @@
 use Rattle.std.proofs.Common.{sym, subst}
 use Rattle.std.specs.Prelude.{OnOk}
-use Rattle.sym_check.specs.CellKinds.{IsIntCell, IsNumsCell}
-use Rattle.sym_check.specs.ScriptPlans.{ScriptPlan, script_plan}
+use Rattle.sym_check.specs.Plan.CellKinds.{IsIntCell, IsNumsCell}
+use Rattle.sym_check.specs.Plan.ScriptPlans.{ScriptPlan, script_plan}
 use Rattle.sym_path.specs.Changing.{GoesOn, form_of}
 use Rattle.sym_path.specs.Fitting.{PathFits}
 use Rattle.sym_path.specs.declared.form.Form.TheVariants as form

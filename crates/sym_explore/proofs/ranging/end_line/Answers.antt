@@ -1,6 +1,6 @@
 use Rattle.std.proofs.Common.{◌≡◌, Option, None, Some, sym, subst}
 use Rattle.std.specs.Prelude.{slice_get}
-use Rattle.sym_check.specs.ScriptPlans.{ScriptPlan, script_plan}
+use Rattle.sym_check.specs.Plan.ScriptPlans.{ScriptPlan, script_plan}
 use Rattle.sym_int.specs.Fits.{inside_span}
 use Rattle.sym_int.specs.Parts.{Within}
 use Rattle.sym_int.specs.Points.{IsPart}

@@ -1,5 +1,5 @@
 use Rattle.std.proofs.Common.{Option, subst}
-use Rattle.sym_check.specs.ScriptPlans.{ScriptPlan, script_plan}
+use Rattle.sym_check.specs.Plan.ScriptPlans.{ScriptPlan, script_plan}
 use Rattle.sym_int.specs.declared.wide.Wide.{Wide}
 use Rattle.sym_explore.proofs.TermRanges.{if_ok_as, ready_ranges}
 use Rattle.sym_explore.specs.Placing.{TargetRanges}

@@ -1,5 +1,5 @@
 use Rattle.std.proofs.Common.{◌≡◌, Some, sym, ap, subst}
-use Rattle.sym_check.specs.ScriptPlans.{script_plan}
+use Rattle.sym_check.specs.Plan.ScriptPlans.{script_plan}
 use Rattle.sym_int.specs.Lines.{wide_cell}
 use Rattle.sym_int.specs.declared.wide.Wide.{Wide}
 use Rattle.sym_explore.proofs.PathRanges.{whole_number, whole_ranges}

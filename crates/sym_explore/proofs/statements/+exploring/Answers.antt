@@ -1,9 +1,9 @@
 use Rattle.std.proofs.Common.{rules, arith, ap, ◌≡◌, ◌+◌, ◌∙◌, sym, subst, refl}
-use Rattle.sym_check.specs.CondPlans.{cond_plan}
-use Rattle.sym_check.specs.DoPlans.{DosPlan, do_plan, dos_plan, End, Then}
-use Rattle.sym_check.specs.FixedValues.{Environment}
-use Rattle.sym_check.specs.ScriptPlans.{script_plan}
-use Rattle.sym_check.specs.Updates.{environment}
+use Rattle.sym_check.specs.Plan.CondPlans.{cond_plan}
+use Rattle.sym_check.specs.Plan.DoPlans.{DosPlan, do_plan, dos_plan, End, Then}
+use Rattle.sym_check.specs.Meaning.FixedValues.{Environment}
+use Rattle.sym_check.specs.Plan.ScriptPlans.{script_plan}
+use Rattle.sym_check.specs.Meaning.Updates.{environment}
 use Rattle.sym_explore.specs.Branches.{tried}
 use Rattle.sym_explore.specs.Knowing.{DosAreKnown}
 use Rattle.sym_explore.specs.Parting.{AreParts}

@@ -1,6 +1,6 @@
 -- Each call is of a smaller part of the update, or of the same part by a later function.
 use Rattle.std.proofs.Common.{◌+◌, ◌*◌}
-use Rattle.sym_check.specs.DoPlans.{do_plan, dos_plan}
+use Rattle.sym_check.specs.Plan.DoPlans.{do_plan, dos_plan}
 use Rattle.sym_explore.proofs.Sizes.{do_size, dos_size}
 use Rattle.sym_explore.proofs.statements.+exploring.Given as goal
 

@@ -1,10 +1,10 @@
 use Rattle.std.proofs.Common.{ap, subst, ◌≡◌, ◌∙◌, Result, Ok, Err}
 use Rattle.sym_base.specs.declared.values.value.Value.{Value}
-use Rattle.sym_check.specs.FixedPlans.{fixed_plan}
-use Rattle.sym_check.specs.FixedValues.{Environment, fixed_value}
-use Rattle.sym_check.specs.KnownValues.{known_values}
-use Rattle.sym_check.specs.ScriptPlans.{script_plan}
-use Rattle.sym_check.specs.Updates.{environment, or_fault}
+use Rattle.sym_check.specs.Plan.FixedPlans.{fixed_plan}
+use Rattle.sym_check.specs.Meaning.FixedValues.{Environment, fixed_value}
+use Rattle.sym_check.specs.Checking.KnownValues.{known_values}
+use Rattle.sym_check.specs.Plan.ScriptPlans.{script_plan}
+use Rattle.sym_check.specs.Meaning.Updates.{environment, or_fault}
 use Rattle.sym_plain.specs.Running.{Gives}
 use Rattle.sym_plain.specs.declared.update.stop.Stop.{Stop}
 use Rattle.sym_plain.specs.declared.update.stop.Stop.TheVariants as stop

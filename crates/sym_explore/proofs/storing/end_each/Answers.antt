@@ -1,7 +1,7 @@
 use Rattle.std.proofs.Common.{◌≡◌, ◌≤◌, ◌+◌, ◌*◌, List, Bool, false, length, ap, sym, subst, arith}
 use Rattle.std.specs.Prelude.{OnOk}
 use Rattle.sym_base.specs.declared.values.state.Outcome.{Outcome}
-use Rattle.sym_check.specs.ScriptPlans.{ScriptPlan, script_plan}
+use Rattle.sym_check.specs.Plan.ScriptPlans.{ScriptPlan, script_plan}
 use Rattle.sym_vector.proofs.ListsLemmas.{written_back}
 use Rattle.sym_path.specs.declared.path.Path.{Path}
 use Rattle.sym_explore.specs.Ending.{AreMoved, AreParted, WereRun}

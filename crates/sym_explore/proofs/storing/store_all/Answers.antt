@@ -1,10 +1,10 @@
 use Rattle.std.proofs.Common.{true, false, ◌∙◌, sym, subst}
 use Rattle.std.specs.Prelude.{Ok}
-use Rattle.sym_check.specs.Fitting.{FitsFault}
-use Rattle.sym_check.specs.FixedValues.{Environment}
-use Rattle.sym_check.specs.KnownValues.{known_values}
-use Rattle.sym_check.specs.LinePlans.{TermPlan, term_plan}
-use Rattle.sym_check.specs.ScriptPlans.{ScriptPlan, script_plan}
+use Rattle.sym_check.specs.Meaning.Fitting.{FitsFault}
+use Rattle.sym_check.specs.Meaning.FixedValues.{Environment}
+use Rattle.sym_check.specs.Checking.KnownValues.{known_values}
+use Rattle.sym_check.specs.Plan.LinePlans.{TermPlan, term_plan}
+use Rattle.sym_check.specs.Plan.ScriptPlans.{ScriptPlan, script_plan}
 use Rattle.sym_explore.proofs.AssignedLists.{failed_run, on_ok, on_ok_both, store_failed, store_place, store_run, store_term}
 use Rattle.sym_explore.proofs.TermForms.{ready_fits}
 use Rattle.sym_explore.proofs.storing.store_all.Goals as goal

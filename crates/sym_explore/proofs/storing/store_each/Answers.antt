@@ -1,5 +1,5 @@
 use Rattle.std.proofs.Common.{◌<◌, true, length, get_or, sym, subst, arith}
-use Rattle.sym_check.specs.ScriptPlans.{script_plan}
+use Rattle.sym_check.specs.Plan.ScriptPlans.{script_plan}
 use Rattle.sym_path.specs.Changing.{GoesOn}
 use Rattle.sym_path.specs.Fitting.{PathFits}
 use Rattle.sym_path.specs.declared.path.Path.{Path}

@@ -1,7 +1,7 @@
 -- The number is stored in the first paths, and the others are as they were. The flag tells whether
 -- the first ones go on.
 use Rattle.std.proofs.Common.{true}
-use Rattle.sym_check.specs.ScriptPlans.{script_plan}
+use Rattle.sym_check.specs.Plan.ScriptPlans.{script_plan}
 use Rattle.sym_path.specs.Fitting.{SegmentFits}
 use Rattle.sym_explore.specs.Storing.{after_store}
 use Rattle.sym_explore.proofs.InPlace.{Threaded}

@@ -1,7 +1,7 @@
 -- The cells so far are as their parts say.
 use Rattle.std.proofs.Common.{◌≡◌, length, drop}
-use Rattle.sym_check.specs.Conditions.{test_truth}
-use Rattle.sym_check.specs.ScriptPlans.{script_plan}
+use Rattle.sym_check.specs.Meaning.Conditions.{test_truth}
+use Rattle.sym_check.specs.Plan.ScriptPlans.{script_plan}
 use Rattle.sym_path.specs.Admitting.{admits}
 use Rattle.sym_path.proofs.admitting.admit_all.Given as goal
 

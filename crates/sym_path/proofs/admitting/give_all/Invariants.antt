@@ -1,8 +1,8 @@
 -- The literals so far have their outcomes.
 use Rattle.std.proofs.Common.{◌≡◌, drop}
 use Rattle.std.specs.List.{list_all}
-use Rattle.sym_check.specs.Conditions.{test_truth}
-use Rattle.sym_check.specs.ScriptPlans.{script_plan}
+use Rattle.sym_check.specs.Meaning.Conditions.{test_truth}
+use Rattle.sym_check.specs.Plan.ScriptPlans.{script_plan}
 use Rattle.sym_pred.specs.Literals.{literals}
 use Rattle.sym_path.specs.Admitting.{gives_outcome}
 use Rattle.sym_path.proofs.admitting.give_all.Given as goal

@@ -1,6 +1,6 @@
 -- The list has grown by the paths of this one and each of the others so far.
 use Rattle.std.proofs.Common.{take}
-use Rattle.sym_check.specs.CheckedScripts.{checked_plan}
+use Rattle.sym_check.specs.Checking.CheckedScripts.{checked_plan}
 use Rattle.sym_path.specs.Composing.{GrowsByAll}
 use Rattle.sym_path.proofs.composing.add_followed.Given as goal
 

@@ -1,4 +1,4 @@
-use Rattle.sym_check.specs.CheckedScripts.{checked_plan}
+use Rattle.sym_check.specs.Checking.CheckedScripts.{checked_plan}
 use Rattle.sym_path.proofs.Composed.{composed_more}
 use Rattle.sym_path.proofs.composing.composed.Goals as goal
 

@@ -1,5 +1,5 @@
 -- The paths are those of the left ones so far and then the right ones.
-use Rattle.sym_check.specs.CheckedScripts.{checked_plan}
+use Rattle.sym_check.specs.Checking.CheckedScripts.{checked_plan}
 use Rattle.sym_path.specs.Composing.{AreComposed}
 use Rattle.sym_path.proofs.composing.composed.Given as goal
 

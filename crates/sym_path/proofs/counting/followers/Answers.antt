@@ -1,8 +1,8 @@
 use Rattle.std.proofs.Common.{◌≡◌, ◌<◌, ◌+◌, ℕ, Bool, cond, Some, length, refl, arith}
 use Rattle.std.proofs.lemmas.Option.{slice_get_read}
 use Rattle.std.specs.Prelude.{slice_get}
-use Rattle.sym_check.specs.CheckedScripts.{checked_plan}
-use Rattle.sym_check.specs.Conditions.{test_truth}
+use Rattle.sym_check.specs.Checking.CheckedScripts.{checked_plan}
+use Rattle.sym_check.specs.Meaning.Conditions.{test_truth}
 use Rattle.sym_path.proofs.PairCounts.{followers_next}
 use Rattle.sym_path.proofs.counting.followers.Goals.{then-possible, else-possible}
 use Rattle.sym_path.proofs.counting.followers.Goals as goal

@@ -1,7 +1,7 @@
 -- The count is that of the left paths so far.
 use Rattle.std.proofs.Common.{◌≤◌, ◌*◌, ◌^◌, take}
-use Rattle.sym_check.specs.CheckedScripts.{checked_plan}
-use Rattle.sym_check.specs.Conditions.{test_truth}
+use Rattle.sym_check.specs.Checking.CheckedScripts.{checked_plan}
+use Rattle.sym_check.specs.Meaning.Conditions.{test_truth}
 use Rattle.sym_path.specs.Pairs.{ArePairs}
 use Rattle.sym_path.proofs.counting.pairs.Given as goal
 

@@ -1,6 +1,6 @@
 use Rattle.std.proofs.Common.{◌≡◌, true}
-use Rattle.sym_check.specs.CheckedScripts.{checked_plan}
-use Rattle.sym_check.specs.Conditions.{test_truth}
+use Rattle.sym_check.specs.Checking.CheckedScripts.{checked_plan}
+use Rattle.sym_check.specs.Meaning.Conditions.{test_truth}
 use Rattle.sym_path.specs.Changing.{GoesOn}
 use Rattle.sym_path.proofs.PairCounts.{ended, ended_pairs, going_pairs, none_follow, not_ended}
 use Rattle.sym_path.proofs.counting.pairs_of.Goals as goal

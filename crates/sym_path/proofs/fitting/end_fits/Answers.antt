@@ -1,4 +1,4 @@
-use Rattle.sym_check.specs.ScriptPlans.{script_plan}
+use Rattle.sym_check.specs.Plan.ScriptPlans.{script_plan}
 use Rattle.sym_path.proofs.Checks.{end_taken, end_apart}
 use Rattle.sym_path.proofs.fitting.end_fits.Goals as goal
 

@@ -2,8 +2,8 @@ use Rattle.std.proofs.Common.{◌↔◌, List, sym, subst}
 use Rattle.std.specs.Prelude.{IsTrue}
 use Rattle.sym_base.specs.declared.values.value.Value.{Value}
 use Rattle.sym_check.specs.declared.plan.script.EnumPlan.{EnumPlan}
-use Rattle.sym_check.specs.ScriptPlans.{script_plan}
-use Rattle.sym_check.specs.Validity.{AreOfKinds}
+use Rattle.sym_check.specs.Plan.ScriptPlans.{script_plan}
+use Rattle.sym_check.specs.Meaning.Validity.{AreOfKinds}
 use Rattle.sym_pred.specs.declared.form.HoldForm.{HoldForm}
 use Rattle.sym_path.specs.Checking.{FitsHoldForm}
 use Rattle.sym_path.proofs.fitting.hold_form_fits.Goals as goal

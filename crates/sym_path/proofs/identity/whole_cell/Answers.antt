@@ -1,6 +1,6 @@
 use Rattle.std.proofs.Common.{refl, sym, subst}
 use Rattle.sym_check.specs.declared.plan.script.CellPlan.{CellPlan}
-use Rattle.sym_check.specs.ScriptPlans.{script_plan}
+use Rattle.sym_check.specs.Plan.ScriptPlans.{script_plan}
 use Rattle.sym_pred.specs.declared.form.HoldForm.TheVariants as hold
 use Rattle.sym_path.specs.declared.form.Form.TheVariants as form
 use Rattle.sym_path.specs.declared.part.Part.TheVariants as part

@@ -1,7 +1,7 @@
 -- The constants so far are as they are needed.
 use Rattle.std.proofs.Common.{◌≡◌, length, drop}
-use Rattle.sym_check.specs.Conditions.{test_truth}
-use Rattle.sym_check.specs.ScriptPlans.{script_plan}
+use Rattle.sym_check.specs.Meaning.Conditions.{test_truth}
+use Rattle.sym_check.specs.Plan.ScriptPlans.{script_plan}
 use Rattle.sym_path.specs.Pulling.{zip_all, constant_meets}
 use Rattle.sym_path.proofs.pulling.constants_meet.Given as goal
 

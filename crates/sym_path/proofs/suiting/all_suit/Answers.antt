@@ -1,5 +1,5 @@
 use Rattle.std.proofs.Common.{◌≤◌, length, refl, arith}
-use Rattle.sym_check.specs.ScriptPlans.{script_plan}
+use Rattle.sym_check.specs.Plan.ScriptPlans.{script_plan}
 use Rattle.sym_pred.specs.Literals.{literals}
 use Rattle.sym_path.specs.Fitting.{Suits}
 use Rattle.sym_path.proofs.Admits.{literals_counted}

@@ -1,7 +1,7 @@
 -- The literals so far suit the cell.
 use Rattle.std.proofs.Common.{◌≡◌, ◌<◌, ℕ, Some}
 use Rattle.std.specs.Prelude.{slice_get}
-use Rattle.sym_check.specs.ScriptPlans.{script_plan}
+use Rattle.sym_check.specs.Plan.ScriptPlans.{script_plan}
 use Rattle.sym_pred.specs.Literals.{literals}
 use Rattle.sym_pred.specs.declared.literal.Literal.{Literal}
 use Rattle.sym_path.specs.Fitting.{Suits}

@@ -3,7 +3,7 @@ use Rattle.std.proofs.lemmas.Option.{slice_get-get_or, slice_get_read}
 use Rattle.std.specs.Prelude.{slice_get}
 use Rattle.sym_check.specs.declared.plan.script.KindPlan.{KindPlan}
 use Rattle.sym_check.specs.declared.plan.script.KindPlan.TheVariants.{Num}
-use Rattle.sym_check.specs.Validity.{IsOfKind}
+use Rattle.sym_check.specs.Meaning.Validity.{IsOfKind}
 use Rattle.sym_path.proofs.Checks.{other_lengths, one_fails, all_hold}
 use Rattle.sym_path.proofs.Lists.{below_next}
 use Rattle.sym_path.proofs.suiting.are_of_kinds.Goals as goal

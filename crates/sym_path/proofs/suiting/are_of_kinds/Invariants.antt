@@ -3,7 +3,7 @@ use Rattle.std.proofs.Common.{◌≡◌, ◌<◌, ℕ, length, Some}
 use Rattle.std.specs.Prelude.{slice_get}
 use Rattle.sym_base.specs.declared.values.value.Value.{Value}
 use Rattle.sym_check.specs.declared.plan.script.KindPlan.{KindPlan}
-use Rattle.sym_check.specs.Validity.{IsOfKind}
+use Rattle.sym_check.specs.Meaning.Validity.{IsOfKind}
 use Rattle.sym_path.proofs.suiting.are_of_kinds.Given as goal
 
 abbrev pub invariant-values : goal.invariant-values

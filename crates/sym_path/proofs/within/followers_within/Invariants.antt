@@ -1,7 +1,7 @@
 -- The count is that of the others so far.
 use Rattle.std.proofs.Common.{◌≤◌, take}
-use Rattle.sym_check.specs.CheckedScripts.{checked_plan}
-use Rattle.sym_check.specs.Conditions.{test_truth}
+use Rattle.sym_check.specs.Checking.CheckedScripts.{checked_plan}
+use Rattle.sym_check.specs.Meaning.Conditions.{test_truth}
 use Rattle.sym_path.specs.Pairs.{AreFollowers}
 use Rattle.sym_path.proofs.within.followers_within.Given as goal
 

@@ -1,7 +1,7 @@
 use Rattle.std.proofs.Common.{◌≡◌, ◌+◌, ℕ, List, ◌∷◌, [], true, subst, arith}
 use Rattle.sym_base.specs.Tests.{Truth}
-use Rattle.sym_check.specs.CheckedScripts.{checked_plan}
-use Rattle.sym_check.specs.Conditions.{test_truth}
+use Rattle.sym_check.specs.Checking.CheckedScripts.{checked_plan}
+use Rattle.sym_check.specs.Meaning.Conditions.{test_truth}
 use Rattle.sym_path.specs.Changing.{GoesOn}
 use Rattle.sym_path.specs.Pairs.{ArePairs}
 use Rattle.sym_path.specs.Within.{HavePairs}

@@ -1,6 +1,6 @@
 -- A group that goes on does so with a valid state.
-use Rattle.sym_check.specs.CheckedScripts.{checked_plan}
-use Rattle.sym_check.specs.Validity.{IsValidOutcome}
+use Rattle.sym_check.specs.Checking.CheckedScripts.{checked_plan}
+use Rattle.sym_check.specs.Meaning.Validity.{IsValidOutcome}
 use Rattle.sym_path_tests.proofs.comparing.given_by_all.Given as goal
 
 abbrev pub invariant-segments : goal.invariant-segments

@@ -2,9 +2,9 @@ use Rattle.std.proofs.Common.{◌≡◌, ◌∙◌, ap, ap₂}
 use Rattle.indexmap.specs.IndexMap.{insert_entry}
 use Rattle.sym_base.specs.declared.values.state.State.{State}
 use Rattle.sym_base.specs.declared.values.state.Outcome.TheVariants.{Going}
-use Rattle.sym_check.specs.Groups.{is_key}
-use Rattle.sym_check.specs.ScriptPlans.{script_plan}
-use Rattle.sym_check.specs.Updates.{initial, step}
+use Rattle.sym_check.specs.Meaning.Groups.{is_key}
+use Rattle.sym_check.specs.Plan.ScriptPlans.{script_plan}
+use Rattle.sym_check.specs.Meaning.Updates.{initial, step}
 use Rattle.sym_plain.proofs.Pairs.{begun}
 use Rattle.sym_plain.proofs.groups.begin.Goals as goal
 

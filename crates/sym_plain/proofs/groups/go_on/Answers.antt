@@ -1,7 +1,7 @@
 use Rattle.std.proofs.Common.{◌∙◌, ap, sym}
 use Rattle.std.specs.Map.{set_value}
-use Rattle.sym_check.specs.Groups.{is_key}
-use Rattle.sym_check.specs.ScriptPlans.{script_plan}
+use Rattle.sym_check.specs.Meaning.Groups.{is_key}
+use Rattle.sym_check.specs.Plan.ScriptPlans.{script_plan}
 use Rattle.sym_plain.proofs.Pairs.{gone_on}
 use Rattle.sym_plain.proofs.groups.go_on.Goals as goal
 

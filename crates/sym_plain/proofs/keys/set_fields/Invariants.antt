@@ -1,6 +1,6 @@
 -- The first values are those of the first fields.
 use Rattle.std.proofs.Common.{◌≡◌, ◌≤◌, length, map, take}
-use Rattle.sym_check.specs.Groups.{field_at}
+use Rattle.sym_check.specs.Meaning.Groups.{field_at}
 use Rattle.sym_plain.proofs.keys.set_fields.Given as goal
 
 abbrev pub invariant-fields : goal.invariant-fields

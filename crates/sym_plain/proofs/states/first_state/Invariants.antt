@@ -1,6 +1,6 @@
 -- The cells made so far are the first ones.
 use Rattle.std.proofs.Common.{◌≡◌, take, map}
-use Rattle.sym_check.specs.Updates.{first_cell}
+use Rattle.sym_check.specs.Meaning.Updates.{first_cell}
 use Rattle.sym_plain.proofs.states.first_state.Given as goal
 
 abbrev pub invariant-cells : goal.invariant-cells

@@ -1,7 +1,7 @@
 use Rattle.std.proofs.Common.{◌≡◌, ◌∙◌, ap, sym, refl, inl, inr, ◌⊎◌, List, [], ◌∷◌, ◌++◌, append-nil, ℕ}
 use Rattle.std.proofs.lemmas.Slice.Zip.{either_empty_from_Zip}
 use Rattle.sym_base.specs.declared.values.value.Value.{Value}
-use Rattle.sym_check.specs.ScriptPlans.{ScriptPlan, script_plan}
+use Rattle.sym_check.specs.Plan.ScriptPlans.{ScriptPlan, script_plan}
 use Rattle.sym_report.specs.ReportRows.{field_columns}
 use Rattle.sym_report.proofs.keys.key_columns.Goals as goal
 

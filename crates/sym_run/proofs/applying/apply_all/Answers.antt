@@ -1,6 +1,6 @@
 use Rattle.std.proofs.Common.{List, subst}
 use Rattle.sym_base.specs.declared.values.value.Key.{Key}
-use Rattle.sym_check.specs.CheckedScripts.{checked_plan}
+use Rattle.sym_check.specs.Checking.CheckedScripts.{checked_plan}
 use Rattle.sym_path.specs.declared.path.Path.{Path}
 use Rattle.sym_run.proofs.Stepping.{IsApplying, applying_all, applying_on, chain_fits}
 use Rattle.sym_run.proofs.applying.apply_all.Goals as goal

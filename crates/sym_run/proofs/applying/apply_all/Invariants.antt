@@ -1,4 +1,4 @@
-use Rattle.sym_check.specs.CheckedScripts.{checked_plan}
+use Rattle.sym_check.specs.Checking.CheckedScripts.{checked_plan}
 use Rattle.sym_run.proofs.Stepping.{IsApplying}
 use Rattle.sym_run.proofs.applying.apply_all.Given as goal
 

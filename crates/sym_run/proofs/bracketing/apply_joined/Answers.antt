@@ -1,5 +1,5 @@
 use Rattle.std.proofs.Common.{arith}
-use Rattle.sym_check.specs.CheckedScripts.{checked_plan}
+use Rattle.sym_check.specs.Checking.CheckedScripts.{checked_plan}
 use Rattle.sym_run.proofs.AppliedRuns.{applied_result}
 use Rattle.sym_run.proofs.bracketing.apply_joined.Goals as goal
 

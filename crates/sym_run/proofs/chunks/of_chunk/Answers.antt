@@ -1,5 +1,5 @@
 use Rattle.std.proofs.Common.{refl, sym, subst}
-use Rattle.sym_check.specs.CheckedScripts.{checked_plan}
+use Rattle.sym_check.specs.Checking.CheckedScripts.{checked_plan}
 use Rattle.sym_table.specs.ChunkRecords.{chunk_records}
 use Rattle.sym_run.specs.Runs.{GroupsFit, HasFound}
 use Rattle.sym_run.proofs.FoundRecords.{run_of_one}

@@ -1,7 +1,7 @@
 use Rattle.std.proofs.Common.{◌≡◌, ◌∙◌, ◌<◌, List, Some, length, refl, sym}
 use Rattle.std.proofs.lemmas.Option.{slice_get_read}
 use Rattle.std.specs.Prelude.{slice_get}
-use Rattle.sym_check.specs.CheckedScripts.{checked_plan}
+use Rattle.sym_check.specs.Checking.CheckedScripts.{checked_plan}
 use Rattle.sym_table.specs.Reading.{Row}
 use Rattle.sym_run.proofs.Taking.{bad_told, record_told, taking_none, taking_on}
 use Rattle.sym_run.proofs.chunks.take_rows.Goals as goal

@@ -1,5 +1,5 @@
 use Rattle.std.proofs.Common.{take}
-use Rattle.sym_check.specs.CheckedScripts.{checked_plan}
+use Rattle.sym_check.specs.Checking.CheckedScripts.{checked_plan}
 use Rattle.sym_plain.specs.Pairs.{HaveDistinctKeys}
 use Rattle.sym_run.proofs.Taking.{IsTaking}
 use Rattle.sym_run.proofs.chunks.take_rows.Given as goal

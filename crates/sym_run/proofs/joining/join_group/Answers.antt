@@ -1,7 +1,7 @@
 use Rattle.std.proofs.Common.{◌∙◌, ap₂, subst}
 use Rattle.indexmap.specs.IndexMap.{insert_entry}
-use Rattle.sym_check.specs.CheckedScripts.{checked_plan}
-use Rattle.sym_check.specs.Groups.{is_key}
+use Rattle.sym_check.specs.Checking.CheckedScripts.{checked_plan}
+use Rattle.sym_check.specs.Meaning.Groups.{is_key}
 use Rattle.sym_plain.specs.Pairs.{HaveDistinctKeys}
 use Rattle.sym_plain.proofs.Pairs.{insert-put}
 use Rattle.sym_run.proofs.Beginning.{grown_new}

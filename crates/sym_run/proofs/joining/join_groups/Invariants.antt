@@ -1,4 +1,4 @@
-use Rattle.sym_check.specs.CheckedScripts.{checked_plan}
+use Rattle.sym_check.specs.Checking.CheckedScripts.{checked_plan}
 use Rattle.sym_plain.specs.Pairs.{HaveDistinctKeys}
 use Rattle.sym_run.proofs.Stepping.{IsJoining}
 use Rattle.sym_run.proofs.joining.join_groups.Given as goal

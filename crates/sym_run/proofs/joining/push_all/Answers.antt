@@ -1,6 +1,6 @@
 use Rattle.std.proofs.Common.{◌∙◌, ◌++◌, List, ap, sym, subst, append_assoc}
 use Rattle.sym_base.specs.declared.values.record.Record.{Record}
-use Rattle.sym_check.specs.CheckedScripts.{checked_plan}
+use Rattle.sym_check.specs.Checking.CheckedScripts.{checked_plan}
 use Rattle.sym_run.specs.Chains.{ChainStandsFor}
 use Rattle.sym_run.proofs.ChainCuts.{cut_last}
 use Rattle.sym_run.proofs.joining.push_all.Goals as goal

@@ -1,7 +1,7 @@
 -- The chain stands for the left one's records and then those of the segments so far.
 use Rattle.std.proofs.Common.{◌++◌, List}
 use Rattle.sym_base.specs.declared.values.record.Record.{Record}
-use Rattle.sym_check.specs.CheckedScripts.{checked_plan}
+use Rattle.sym_check.specs.Checking.CheckedScripts.{checked_plan}
 use Rattle.sym_run.specs.Chains.{ChainFits, ChainStandsFor, IsTight}
 use Rattle.sym_run.proofs.joining.push_all.Given as goal
 

@@ -1,6 +1,6 @@
 use Rattle.std.proofs.Common.{◌≡◌, ◌∙◌, ◌++◌, ◌∷◌, [], ℕ, List, ap, ap₂, sym, subst}
 use Rattle.std.proofs.lemmas.List.Elements.{All-push}
-use Rattle.sym_check.specs.CheckedScripts.{checked_plan}
+use Rattle.sym_check.specs.Checking.CheckedScripts.{checked_plan}
 use Rattle.sym_path.specs.Fitting.{SegmentFits}
 use Rattle.sym_path.specs.declared.path.Path.{Path}
 use Rattle.sym_run.specs.Chains.{ChainFits, ChainStandsFor, IsTight}

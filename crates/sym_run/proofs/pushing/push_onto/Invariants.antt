@@ -1,7 +1,7 @@
 -- The segments that are left are tight, and with the last one they stand for the same records.
 use Rattle.std.proofs.Common.{◌++◌, List, length}
 use Rattle.sym_base.specs.declared.values.record.Record.{Record}
-use Rattle.sym_check.specs.CheckedScripts.{checked_plan}
+use Rattle.sym_check.specs.Checking.CheckedScripts.{checked_plan}
 use Rattle.sym_path.specs.Fitting.{SegmentFits}
 use Rattle.sym_path.specs.Standing.{StandsFor}
 use Rattle.sym_run.specs.Chains.{ChainFits, ChainStandsFor, HasFewPaths, IsTight}

@@ -1,5 +1,5 @@
 use Rattle.std.proofs.Common.{◌++◌, [], refl}
-use Rattle.sym_check.specs.CheckedScripts.{checked_plan}
+use Rattle.sym_check.specs.Checking.CheckedScripts.{checked_plan}
 use Rattle.sym_run.proofs.ChainCuts.{cut_of, cut_whole}
 use Rattle.sym_run.proofs.TightChains.{few_composed, tight_one}
 use Rattle.sym_run.proofs.pushing.push_onto_one.Goals as goal

@@ -1,7 +1,7 @@
 -- The rows so far are records.
 use Rattle.std.proofs.Common.{◌≡◌, ◌+◌, drop, map}
 use Rattle.std.specs.Option.{unwrap_or}
-use Rattle.sym_check.specs.CheckedScripts.{checked_plan}
+use Rattle.sym_check.specs.Checking.CheckedScripts.{checked_plan}
 use Rattle.sym_table.specs.ChunkRecords.{chunk_records}
 use Rattle.sym_table.specs.RowRecords.{records_or_bad}
 use Rattle.sym_engine.specs.Rounds.{shown_chunk}

@@ -1,7 +1,7 @@
 -- The rows of the chunks so far are records.
 use Rattle.std.proofs.Common.{drop}
 use Rattle.std.specs.Option.{unwrap_or}
-use Rattle.sym_check.specs.CheckedScripts.{checked_plan}
+use Rattle.sym_check.specs.Checking.CheckedScripts.{checked_plan}
 use Rattle.sym_engine.specs.Rounds.{round_records}
 use Rattle.sym_run_tests.proofs.Noting.{IsRead}
 use Rattle.sym_run_tests.proofs.rounds.read_chunks.Given as goal

@@ -1,5 +1,5 @@
-use Rattle.sym_check.specs.CheckedScripts.{checked_plan}
-use Rattle.sym_check.specs.ScriptPlans.{script_plan}
+use Rattle.sym_check.specs.Checking.CheckedScripts.{checked_plan}
+use Rattle.sym_check.specs.Plan.ScriptPlans.{script_plan}
 use Rattle.sym_table.proofs.FieldKinds.{answer_fits}
 use Rattle.sym_table.proofs.decoding.decode_into.Goals as goal
 

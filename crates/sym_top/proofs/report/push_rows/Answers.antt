@@ -1,4 +1,4 @@
-use Rattle.sym_check.specs.CheckedScripts.{checked_tree, checked_plan}
+use Rattle.sym_check.specs.Checking.CheckedScripts.{checked_tree, checked_plan}
 use Rattle.sym_report.specs.ReportRows.{row_of}
 use Rattle.sym_top.proofs.Rows.{text-more, faulty-more}
 use Rattle.sym_top.proofs.report.push_rows.Goals as goal

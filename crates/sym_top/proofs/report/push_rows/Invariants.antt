@@ -1,7 +1,7 @@
 -- The rows of the groups so far.
 use Rattle.std.proofs.Common.{◌≡◌, ◌++◌, map, take}
 use Rattle.std.specs.List.{flat_map}
-use Rattle.sym_check.specs.CheckedScripts.{checked_tree, checked_plan}
+use Rattle.sym_check.specs.Checking.CheckedScripts.{checked_tree, checked_plan}
 use Rattle.sym_report.specs.ReportRows.{row_of, some_faulty}
 use Rattle.sym_report.specs.Tables.{row_text}
 use Rattle.sym_top.proofs.report.push_rows.Given as goal

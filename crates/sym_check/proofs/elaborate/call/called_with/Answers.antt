@@ -2,10 +2,10 @@
 use Rattle.std.proofs.Common.{◌≡◌, ◌∙◌, ◌-◌, length, map, drop, arith, Ok, Err}
 use Rattle.std.proofs.lemmas.List.{length-map}
 use Rattle.std.proofs.lemmas.Result.{err_from_is_err_and}
-use Rattle.sym_check.specs.CalledTests.{called_test}
-use Rattle.sym_check.specs.Elaborate.{Arguments, values_of}
-use Rattle.sym_check.specs.FixedPlans.{fixed_plan}
-use Rattle.sym_check.specs.TypedPlans.{located_plan}
+use Rattle.sym_check.specs.Checking.CalledTests.{called_test}
+use Rattle.sym_check.specs.Elaborate.Expressions.{Arguments, values_of}
+use Rattle.sym_check.specs.Plan.FixedPlans.{fixed_plan}
+use Rattle.sym_check.specs.Checking.TypedPlans.{located_plan}
 use Rattle.sym_check.proofs.Called.{rest-whole, other-kinds, same-kinds, then-err, then-ok}
 use Rattle.sym_check.proofs.elaborate.call.called_with.Goals as goal
 

@@ -3,8 +3,8 @@ use Rattle.std.proofs.Common.{◌≡◌, ◌∙◌, [], ◌∷◌, ◌++◌, map
 use Rattle.std.proofs.lemmas.List.{nil_from_length, map-append}
 use Rattle.std.specs.Vec.Iter.{into_iter_items}
 use Rattle.sym_check.specs.declared.plan.script.KindPlan.TheVariants.{Num}
-use Rattle.sym_check.specs.TypedPlans.{located_plan}
-use Rattle.sym_check.specs.FixedPlans.{fixed_plan}
+use Rattle.sym_check.specs.Checking.TypedPlans.{located_plan}
+use Rattle.sym_check.specs.Plan.FixedPlans.{fixed_plan}
 use Rattle.sym_check.proofs.Gathered.{values-next, values-end}
 use Rattle.sym_check.proofs.elaborate.call.values_of.Goals as goal
 

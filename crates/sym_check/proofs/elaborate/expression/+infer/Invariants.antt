@@ -2,9 +2,9 @@
 use Rattle.std.proofs.Common.{◌≡◌, ◌≤◌, map}
 use Rattle.sym_base.specs.Trees.{exprs_tree}
 use Rattle.sym_base.specs.declared.tree.expression.Exprs.{size-Exprs}
-use Rattle.sym_check.specs.Arithmetic.{and_then}
-use Rattle.sym_check.specs.Elaborate.{operands}
-use Rattle.sym_check.specs.TypedPlans.{located_plan}
+use Rattle.sym_check.specs.Meaning.Arithmetic.{and_then}
+use Rattle.sym_check.specs.Elaborate.Expressions.{operands}
+use Rattle.sym_check.specs.Checking.TypedPlans.{located_plan}
 use Rattle.sym_check.proofs.Gathered.{gathered}
 use Rattle.sym_check.proofs.elaborate.expression.+infer.Given as goal
 

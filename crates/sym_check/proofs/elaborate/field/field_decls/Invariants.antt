@@ -1,6 +1,6 @@
 -- The fields so far are declared.
 use Rattle.std.proofs.Common.{drop}
-use Rattle.sym_check.specs.ElaborateDeclarations.{field_decl}
+use Rattle.sym_check.specs.Elaborate.Declarations.{field_decl}
 use Rattle.sym_check.proofs.Done.{AreDone}
 use Rattle.sym_check.proofs.elaborate.field.field_decls.Given as goal
 

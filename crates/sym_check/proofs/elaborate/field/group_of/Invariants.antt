@@ -1,6 +1,6 @@
 -- The fields of the names so far are found.
 use Rattle.std.proofs.Common.{drop, []}
-use Rattle.sym_check.specs.ElaborateDeclarations.{group_field}
+use Rattle.sym_check.specs.Elaborate.Declarations.{group_field}
 use Rattle.sym_check.proofs.Done.{AreDone}
 use Rattle.sym_check.proofs.elaborate.field.group_of.Given as goal
 

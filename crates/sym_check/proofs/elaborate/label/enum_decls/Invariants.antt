@@ -1,6 +1,6 @@
 -- The enums so far are declared.
 use Rattle.std.proofs.Common.{drop}
-use Rattle.sym_check.specs.ElaborateDeclarations.{enum_decl}
+use Rattle.sym_check.specs.Elaborate.Declarations.{enum_decl}
 use Rattle.sym_check.proofs.Done.{AreDone}
 use Rattle.sym_check.proofs.elaborate.label.enum_decls.Given as goal
 

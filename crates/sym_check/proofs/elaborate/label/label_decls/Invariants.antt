@@ -1,6 +1,6 @@
 -- The labels so far are declared.
 use Rattle.std.proofs.Common.{drop}
-use Rattle.sym_check.specs.ElaborateDeclarations.{label_decl}
+use Rattle.sym_check.specs.Elaborate.Declarations.{label_decl}
 use Rattle.sym_check.proofs.Done.{AreDone}
 use Rattle.sym_check.proofs.elaborate.label.label_decls.Given as goal
 

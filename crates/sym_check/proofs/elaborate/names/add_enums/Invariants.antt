@@ -1,7 +1,7 @@
 -- The names of the enums so far are added, each with those of its labels.
 use Rattle.std.proofs.Common.{◌≡◌, ◌++◌, take}
 use Rattle.std.specs.List.{flat_map}
-use Rattle.sym_check.specs.Scripts.{enum_names}
+use Rattle.sym_check.specs.Rules.Scripts.{enum_names}
 use Rattle.sym_check.proofs.elaborate.names.add_enums.Given as goal
 
 abbrev pub invariant-enums : goal.invariant-enums

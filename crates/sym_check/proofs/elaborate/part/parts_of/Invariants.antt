@@ -1,6 +1,6 @@
 -- The parts so far are elaborated.
 use Rattle.std.proofs.Common.{drop}
-use Rattle.sym_check.specs.Declarations.{unfinished}
+use Rattle.sym_check.specs.Rules.Declarations.{unfinished}
 use Rattle.sym_check.proofs.Done.{ArePartsDone}
 use Rattle.sym_check.proofs.elaborate.part.parts_of.Given as goal
 

@@ -3,8 +3,8 @@ use Rattle.std.proofs.Common.{rules, ◌≡◌, ◌∙◌, ap, sym, List, [], �
 use Rattle.std.proofs.lemmas.List.{map-append}
 use Rattle.sym_base.specs.Trees.{ExprsTree, More, expr_tree, exprs_tree}
 use Rattle.sym_base.specs.declared.tree.expression.Exprs.{the_lemmas}
-use Rattle.sym_check.specs.ElaborateReports.{Seen, see, see_all}
-use Rattle.sym_check.specs.Showing.{seen_plan}
+use Rattle.sym_check.specs.Elaborate.Reports.{Seen, see, see_all}
+use Rattle.sym_check.specs.Checking.Showing.{seen_plan}
 use Rattle.sym_check.proofs.Done.{before_all}
 use Rattle.sym_check.proofs.Seen.{one_more_seen}
 use Rattle.sym_check.proofs.elaborate.report.+see.Goals as goal

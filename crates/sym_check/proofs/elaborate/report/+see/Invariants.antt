@@ -3,8 +3,8 @@
 use Rattle.std.proofs.Common.{◌≡◌, ◌≤◌, map}
 use Rattle.sym_base.specs.Trees.{exprs_tree}
 use Rattle.sym_base.specs.declared.tree.expression.Exprs.{size-Exprs}
-use Rattle.sym_check.specs.ElaborateReports.{see_all}
-use Rattle.sym_check.specs.Showing.{seen_plan}
+use Rattle.sym_check.specs.Elaborate.Reports.{see_all}
+use Rattle.sym_check.specs.Checking.Showing.{seen_plan}
 use Rattle.sym_check.proofs.Done.{before_all}
 use Rattle.sym_check.proofs.elaborate.report.+see.Given as goal
 

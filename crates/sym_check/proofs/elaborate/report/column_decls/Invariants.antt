@@ -1,8 +1,8 @@
 -- The columns so far are declared.
 use Rattle.std.proofs.Common.{drop, map}
 use Rattle.sym_base.specs.Trees.{column_tree}
-use Rattle.sym_check.specs.ElaborateReports.{column_decl}
-use Rattle.sym_check.specs.ScriptPlans.{column_plan}
+use Rattle.sym_check.specs.Elaborate.Reports.{column_decl}
+use Rattle.sym_check.specs.Plan.ScriptPlans.{column_plan}
 use Rattle.sym_check.proofs.Done.{AreDone}
 use Rattle.sym_check.proofs.elaborate.report.column_decls.Given as goal
 

@@ -1,5 +1,5 @@
 use Rattle.std.proofs.Common.{◌∙◌, ap}
-use Rattle.sym_check.specs.Scopes.{find}
+use Rattle.sym_check.specs.Rules.Scopes.{find}
 use Rattle.sym_check.proofs.ScopePlaces.{found_none, found_past, found_some}
 use Rattle.sym_check.proofs.elaborate.scope.found.Goals as goal
 

@@ -1,6 +1,6 @@
 -- The entries copied so far are the visible ones of the first.
 use Rattle.std.proofs.Common.{◌≡◌, take}
-use Rattle.sym_check.specs.Scopes.{visible}
+use Rattle.sym_check.specs.Rules.Scopes.{visible}
 use Rattle.sym_check.proofs.elaborate.scope.seen.Given as goal
 
 abbrev pub invariant-entries : goal.invariant-entries

@@ -2,10 +2,10 @@
 use Rattle.std.proofs.Common.{rules, ◌≡◌, Err, map}
 use Rattle.sym_base.specs.Trees.{column_tree, script_tree, stmts_tree}
 use Rattle.sym_check.specs.declared.elaborate.error.CheckErr.{CheckErr}
-use Rattle.sym_check.specs.Scripts.{plan_of}
-use Rattle.sym_check.specs.WholeScripts.{update_plan, column_plans}
-use Rattle.sym_check.specs.DoPlans.{dos_plan}
-use Rattle.sym_check.specs.ScriptPlans.{column_plan, test_plan}
+use Rattle.sym_check.specs.Rules.Scripts.{plan_of}
+use Rattle.sym_check.specs.Checking.WholeScripts.{update_plan, column_plans}
+use Rattle.sym_check.specs.Plan.DoPlans.{dos_plan}
+use Rattle.sym_check.specs.Plan.ScriptPlans.{column_plan, test_plan}
 use Rattle.sym_check.proofs.WholeScripts.{HasDeclarations, update_breaks, columns_break, plan_is}
 use Rattle.sym_check.proofs.FewParts.{declared_few}
 use Rattle.sym_check.proofs.elaborate.script.elaborate_script.Goals as goal

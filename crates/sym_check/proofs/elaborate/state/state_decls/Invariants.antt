@@ -1,6 +1,6 @@
 -- The cells so far are declared.
 use Rattle.std.proofs.Common.{drop}
-use Rattle.sym_check.specs.ElaborateDeclarations.{state_decl}
+use Rattle.sym_check.specs.Elaborate.Declarations.{state_decl}
 use Rattle.sym_check.proofs.Done.{AreDone}
 use Rattle.sym_check.proofs.elaborate.state.state_decls.Given as goal
 

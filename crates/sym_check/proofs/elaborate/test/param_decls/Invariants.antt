@@ -1,7 +1,7 @@
 -- The parameters so far are declared.
 use Rattle.std.proofs.Common.{drop}
-use Rattle.sym_check.specs.Declarations.{unfinished}
-use Rattle.sym_check.specs.ElaborateDeclarations.{param_decl}
+use Rattle.sym_check.specs.Rules.Declarations.{unfinished}
+use Rattle.sym_check.specs.Elaborate.Declarations.{param_decl}
 use Rattle.sym_check.proofs.Done.{AreDone}
 use Rattle.sym_check.proofs.elaborate.test.param_decls.Given as goal
 

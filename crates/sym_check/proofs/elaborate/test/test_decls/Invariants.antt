@@ -3,8 +3,8 @@ use Rattle.std.proofs.Common.{◌≡◌, drop, map, true}
 use Rattle.std.specs.List.{list_all}
 use Rattle.sym_base.specs.Lawful.{is_lawful_test}
 use Rattle.sym_base.specs.Trees.{test_tree}
-use Rattle.sym_check.specs.ElaborateDeclarations.{test_decl}
-use Rattle.sym_check.specs.ScriptPlans.{test_plan}
+use Rattle.sym_check.specs.Elaborate.Declarations.{test_decl}
+use Rattle.sym_check.specs.Plan.ScriptPlans.{test_plan}
 use Rattle.sym_check.proofs.Done.{AreDone}
 use Rattle.sym_check.proofs.elaborate.test.test_decls.Given as goal
 

@@ -1,6 +1,6 @@
 -- The columns copied so far are the first ones, boxes aside.
 use Rattle.std.proofs.Common.{◌≡◌, take, map}
-use Rattle.sym_check.specs.ScriptPlans.{column_plan}
+use Rattle.sym_check.specs.Plan.ScriptPlans.{column_plan}
 use Rattle.sym_check.proofs.plan.script.copy_column_plans.Given as goal
 
 abbrev pub invariant-columns : goal.invariant-columns

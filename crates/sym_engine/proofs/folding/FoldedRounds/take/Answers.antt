@@ -1,4 +1,4 @@
-use Rattle.sym_check.specs.CheckedScripts.{checked_plan}
+use Rattle.sym_check.specs.Checking.CheckedScripts.{checked_plan}
 use Rattle.sym_engine.proofs.Folds.{round_folded}
 use Rattle.sym_engine.proofs.folding.FoldedRounds.take.Goals as goal
 

@@ -1,4 +1,4 @@
-use Rattle.sym_check.specs.ScriptPlans.{script_plan}
+use Rattle.sym_check.specs.Plan.ScriptPlans.{script_plan}
 use Rattle.sym_path.proofs.Decided.{admits_decided}
 use Rattle.sym_path.proofs.path.Path.admits_by.Goals as goal
 

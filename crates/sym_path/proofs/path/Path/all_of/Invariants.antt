@@ -1,5 +1,5 @@
 -- The parts and the forms of the cells so far.
-use Rattle.sym_check.specs.ScriptPlans.{script_plan}
+use Rattle.sym_check.specs.Plan.ScriptPlans.{script_plan}
 use Rattle.sym_path.specs.Identity.{AreWhole}
 use Rattle.sym_path.proofs.path.Path.all_of.Given as goal
 

@@ -1,9 +1,9 @@
 use Rattle.std.proofs.Common.{sym, subst}
 use Rattle.std.specs.Prelude.{IfOk}
-use Rattle.sym_check.specs.Conditions.{test_truth}
+use Rattle.sym_check.specs.Meaning.Conditions.{test_truth}
 use Rattle.sym_base.specs.declared.values.state.State.{State}
-use Rattle.sym_check.specs.ScriptPlans.{ScriptPlan, script_plan}
-use Rattle.sym_check.specs.Validity.{IsValid, IsValidOutcome}
+use Rattle.sym_check.specs.Plan.ScriptPlans.{ScriptPlan, script_plan}
+use Rattle.sym_check.specs.Meaning.Validity.{IsValid, IsValidOutcome}
 use Rattle.sym_path.specs.Admitting.{Admits}
 use Rattle.sym_path.specs.Fitting.{PathFits}
 use Rattle.sym_path.proofs.path.Path.gives.Goals as goal

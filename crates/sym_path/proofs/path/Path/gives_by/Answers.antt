@@ -1,9 +1,9 @@
 use Rattle.std.proofs.Common.{◌≡◌, ◌∙◌, sym, ap, subst, length, List}
 use Rattle.std.specs.List.{All}
 use Rattle.sym_base.specs.declared.values.state.Cell.{Cell}
-use Rattle.sym_check.specs.Conditions.{test_truth}
-use Rattle.sym_check.specs.ScriptPlans.{ScriptPlan, script_plan}
-use Rattle.sym_check.specs.Validity.{IsValid, IsValidCell}
+use Rattle.sym_check.specs.Meaning.Conditions.{test_truth}
+use Rattle.sym_check.specs.Plan.ScriptPlans.{ScriptPlan, script_plan}
+use Rattle.sym_check.specs.Meaning.Validity.{IsValid, IsValidCell}
 use Rattle.sym_path.specs.Fitting.{EndFits, FormFits, FormsFit}
 use Rattle.sym_path.specs.Giving.{HasNumbers, cells_at}
 use Rattle.sym_path.specs.declared.form.Form.{Form}

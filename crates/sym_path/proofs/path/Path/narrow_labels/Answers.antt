@@ -1,4 +1,4 @@
-use Rattle.sym_check.specs.ScriptPlans.{script_plan}
+use Rattle.sym_check.specs.Plan.ScriptPlans.{script_plan}
 use Rattle.sym_path.proofs.Narrowed.{labels_give}
 use Rattle.sym_path.proofs.NarrowedEnds.{labels_end}
 use Rattle.sym_path.proofs.NarrowedFits.{labels_fit}

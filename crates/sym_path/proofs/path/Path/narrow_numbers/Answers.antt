@@ -1,4 +1,4 @@
-use Rattle.sym_check.specs.ScriptPlans.{script_plan}
+use Rattle.sym_check.specs.Plan.ScriptPlans.{script_plan}
 use Rattle.sym_path.proofs.Narrowed.{numbers_give}
 use Rattle.sym_path.proofs.NarrowedEnds.{numbers_end}
 use Rattle.sym_path.proofs.NarrowedFits.{numbers_fit, numbers_can_put}

@@ -1,6 +1,6 @@
 use Rattle.std.proofs.Common.{List, subst}
 use Rattle.std.proofs.lemmas.Result.{IfOk-weaker}
-use Rattle.sym_check.specs.CheckedScripts.{checked_plan}
+use Rattle.sym_check.specs.Checking.CheckedScripts.{checked_plan}
 use Rattle.sym_path.specs.Composing.{AreComposed, IsComposition}
 use Rattle.sym_path.specs.Settling.{IsSettling}
 use Rattle.sym_path.specs.declared.path.Path.{Path}

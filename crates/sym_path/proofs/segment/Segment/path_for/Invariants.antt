@@ -1,7 +1,7 @@
 -- None of the paths so far admits the state.
 use Rattle.std.proofs.Common.{◌≡◌, ◌<◌, ℕ, Some, slice_get}
-use Rattle.sym_check.specs.CheckedScripts.{checked_plan}
-use Rattle.sym_check.specs.Conditions.{test_truth}
+use Rattle.sym_check.specs.Checking.CheckedScripts.{checked_plan}
+use Rattle.sym_check.specs.Meaning.Conditions.{test_truth}
 use Rattle.sym_path.specs.Admitting.{Admits}
 use Rattle.sym_path.specs.declared.path.Path.{Path}
 use Rattle.sym_path.proofs.segment.Segment.path_for.Given as goal

@@ -1,6 +1,6 @@
 -- The columns made so far are the first ones.
 use Rattle.std.proofs.Common.{◌≡◌, take, map}
-use Rattle.sym_check.specs.ScriptPlans.{ColumnOf, column_plan, script_plan}
+use Rattle.sym_check.specs.Plan.ScriptPlans.{ColumnOf, column_plan, script_plan}
 use Rattle.sym_plain.specs.Shown.{show_column}
 use Rattle.sym_plain.proofs.report.shown.shown_columns.Given as goal
 

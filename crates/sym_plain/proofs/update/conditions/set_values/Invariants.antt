@@ -1,9 +1,9 @@
 -- The first values and those of the other expressions are the values of all.
 use Rattle.std.proofs.Common.{◌≡◌, ◌≤◌, drop, length, map, take}
-use Rattle.sym_check.specs.FixedPlans.{fixed_plan}
-use Rattle.sym_check.specs.FixedValues.{fixed_values}
-use Rattle.sym_check.specs.KnownValues.{known_values}
-use Rattle.sym_check.specs.Updates.{or_fault}
+use Rattle.sym_check.specs.Plan.FixedPlans.{fixed_plan}
+use Rattle.sym_check.specs.Meaning.FixedValues.{fixed_values}
+use Rattle.sym_check.specs.Checking.KnownValues.{known_values}
+use Rattle.sym_check.specs.Meaning.Updates.{or_fault}
 use Rattle.sym_plain.proofs.FixedLists.{values_after}
 use Rattle.sym_plain.proofs.update.conditions.set_values.Given as goal
 

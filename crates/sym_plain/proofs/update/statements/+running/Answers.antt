@@ -1,4 +1,4 @@
-use Rattle.sym_check.specs.DoPlans.{do_plan}
+use Rattle.sym_check.specs.Plan.DoPlans.{do_plan}
 use Rattle.sym_plain.proofs.Locals.{kept_on}
 use Rattle.sym_plain.proofs.update.statements.+running.Goals as goal
 

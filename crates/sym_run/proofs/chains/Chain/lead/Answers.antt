@@ -1,5 +1,5 @@
-use Rattle.sym_check.specs.CheckedScripts.{checked_plan}
-use Rattle.sym_check.specs.Updates.{after}
+use Rattle.sym_check.specs.Checking.CheckedScripts.{checked_plan}
+use Rattle.sym_check.specs.Meaning.Updates.{after}
 use Rattle.sym_run.proofs.ChainLeads.{led_further}
 use Rattle.sym_run.proofs.chains.Chain.lead.Goals as goal
 

@@ -1,9 +1,9 @@
 -- The segments so far have led the outcome on.
 use Rattle.std.proofs.Common.{List, drop}
 use Rattle.sym_base.specs.declared.values.record.Record.{Record}
-use Rattle.sym_check.specs.CheckedScripts.{checked_plan}
-use Rattle.sym_check.specs.Updates.{after}
-use Rattle.sym_check.specs.Validity.{IsValidOutcome}
+use Rattle.sym_check.specs.Checking.CheckedScripts.{checked_plan}
+use Rattle.sym_check.specs.Meaning.Updates.{after}
+use Rattle.sym_check.specs.Meaning.Validity.{IsValidOutcome}
 use Rattle.sym_run.specs.Chains.{ChainStandsFor}
 use Rattle.sym_run.proofs.ChainLeads.{IsLed}
 use Rattle.sym_run.proofs.chains.Chain.lead.Given as goal

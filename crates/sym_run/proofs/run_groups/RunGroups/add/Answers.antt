@@ -2,7 +2,7 @@ use Rattle.std.proofs.Common.{◌∙◌, List, ap, sym, subst}
 use Rattle.indexmap.specs.IndexMap.{insert_entry}
 use Rattle.std.specs.Map.{lookup}
 use Rattle.sym_base.specs.declared.values.value.Key.{Key}
-use Rattle.sym_check.specs.Groups.{is_key}
+use Rattle.sym_check.specs.Meaning.Groups.{is_key}
 use Rattle.sym_path.specs.declared.path.Path.{Path}
 use Rattle.sym_plain.specs.Pairs.{HaveDistinctKeys}
 use Rattle.sym_run.proofs.GroupPuts.{added_none, added_some}

@@ -1,6 +1,6 @@
 use Rattle.std.proofs.Common.{◌≡◌, ◌∙◌, true, Option, None, true≢false, ap, ap₂, sym, refl, is_some}
 use Rattle.std.specs.Option.{option_or}
-use Rattle.sym_check.specs.CheckedScripts.{checked_plan}
+use Rattle.sym_check.specs.Checking.CheckedScripts.{checked_plan}
 use Rattle.sym_table.specs.declared.bad.Bad.{Bad}
 use Rattle.sym_run.proofs.FoundRecords.{both_none, run_joined}
 use Rattle.sym_run.proofs.runs.Run.join.Goals as goal

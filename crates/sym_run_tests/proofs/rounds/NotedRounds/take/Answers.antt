@@ -1,5 +1,5 @@
 use Rattle.std.specs.Option.{unwrap_or}
-use Rattle.sym_check.specs.CheckedScripts.{checked_plan}
+use Rattle.sym_check.specs.Checking.CheckedScripts.{checked_plan}
 use Rattle.sym_run_tests.proofs.Noting.{round_read}
 use Rattle.sym_run_tests.proofs.rounds.NotedRounds.take.Goals as goal
 

@@ -1,6 +1,6 @@
 use Rattle.std.proofs.Common.{arith}
 use Rattle.sym_base.specs.Trees.{script_tree}
-use Rattle.sym_check.specs.ScriptPlans.{script_plan}
+use Rattle.sym_check.specs.Plan.ScriptPlans.{script_plan}
 use Rattle.sym_check.proofs.ScriptsAgree.{planned_accepted}
 use Rattle.sym_check.proofs.checking.accepted.Checked.path_bound.Goals as goal
 

@@ -1,5 +1,5 @@
 use Rattle.sym_base.specs.Trees.{script_tree}
-use Rattle.sym_check.specs.ScriptPlans.{script_plan}
+use Rattle.sym_check.specs.Plan.ScriptPlans.{script_plan}
 use Rattle.sym_check.proofs.PlanLaws.{bodies_are_fixed}
 use Rattle.sym_check.proofs.PlannedScripts.{planned_well, planned_fields}
 use Rattle.sym_check.proofs.ScriptsAgree.{planned_accepted}

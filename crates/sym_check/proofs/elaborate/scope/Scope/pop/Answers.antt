@@ -1,5 +1,5 @@
 use Rattle.std.proofs.Common.{◌∙◌, ap, sym}
-use Rattle.sym_check.specs.Places.{place_of}
+use Rattle.sym_check.specs.Checking.Places.{place_of}
 use Rattle.sym_check.proofs.elaborate.scope.Scope.pop.Goals as goal
 
 pub invariant_of-self-2 : goal.invariant_of-self-2
