@@ -1,7 +1,7 @@
 use Rattle.std.proofs.Common.{◌+◌, drop}
 use Rattle.sym_base.specs.declared.values.state.Outcome.TheVariants.{Going}
-use Rattle.sym_check.specs.CheckedScripts.{checked_plan}
-use Rattle.sym_check.specs.Updates.{after, initial}
+use Rattle.sym_check.specs.Checking.CheckedScripts.{checked_plan}
+use Rattle.sym_check.specs.Meaning.Updates.{after, initial}
 use Rattle.sym_bench.proofs.ChainLemmas.{led_on, next_stands, led_last, led_all}
 use Rattle.sym_bench.proofs.chain.outcome_of.Goals as goal
 

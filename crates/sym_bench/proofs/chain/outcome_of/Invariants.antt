@@ -1,9 +1,9 @@
 use Rattle.std.proofs.Common.{List, drop}
 use Rattle.sym_base.specs.declared.values.record.Record.{Record}
 use Rattle.sym_base.specs.declared.values.state.Outcome.TheVariants.{Going}
-use Rattle.sym_check.specs.CheckedScripts.{checked_plan}
-use Rattle.sym_check.specs.Updates.{after, initial}
-use Rattle.sym_check.specs.Validity.{IsValidOutcome}
+use Rattle.sym_check.specs.Checking.CheckedScripts.{checked_plan}
+use Rattle.sym_check.specs.Meaning.Updates.{after, initial}
+use Rattle.sym_check.specs.Meaning.Validity.{IsValidOutcome}
 use Rattle.sym_bench.specs.Chains.{IsChainOf}
 use Rattle.sym_bench.proofs.ChainLemmas.{IsLed}
 use Rattle.sym_bench.proofs.chain.outcome_of.Given as goal

@@ -4,7 +4,7 @@ use Rattle.std.specs.Map.{lookup, set_value}
 use Rattle.std.specs.Option.{ghost_name_of, option_copied_mut}
 use Rattle.sym_base.specs.declared.values.value.Key.{Key}
 use Rattle.sym_base.specs.declared.values.state.Outcome.{Outcome}
-use Rattle.sym_check.specs.Groups.{is_key}
+use Rattle.sym_check.specs.Meaning.Groups.{is_key}
 use Rattle.sym_plain.specs.Pairs.{HaveDistinctKeys, put}
 use Rattle.sym_plain.proofs.Pairs.{set-put}
 use Rattle.sym_plain.proofs.groups.Groups.outcome_mut.Goals as goal
