@@ -9,7 +9,8 @@ use Rattle.sym_report.specs.ReportRows.{is_faulty, some_faulty}
 use Rattle.sym_report.specs.Tables.{row_text}
 use Rattle.sym_top.specs.Loading.{listed}
 
-taken : {A : Type 0} (xs : List A) (i : ℕ) → take (i + 1) xs ≡ take i xs ++ listed (slice_get xs i)
+-- The first groups, and one more.
+pub taken : {A : Type 0} (xs : List A) (i : ℕ) → take (i + 1) xs ≡ take i xs ++ listed (slice_get xs i)
 taken [] zero = refl
 taken [] (suc i) = rw add-one refl
 taken (x ∷ xs) zero = refl

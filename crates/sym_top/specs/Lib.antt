@@ -1,11 +1,14 @@
+pub mod CheckLines
 pub mod Commands
 pub mod EndReading
 pub mod Ends
 pub mod Loading
+pub mod Making
 pub mod Messages
 pub mod Programs
 pub mod Promises
 pub mod Refusals
 pub mod Statuses
+pub mod Summaries
 pub mod Telling
 pub mod Words

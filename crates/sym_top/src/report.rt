@@ -30,8 +30,8 @@ pub struct Report {
     pub status: Status,
 }
 
-// A report is Faulted where a row is.
-fn report_status(faulty: bool) -> Status
+/// A report is Faulted where a row is.
+pub fn report_status(faulty: bool) -> Status
     ensures { result ≡ (if faulty then Status.Faulted else Status.Done) }
 {
     if faulty {
