@@ -42,22 +42,13 @@ impl Drop for Run {
     }
 }
 
-/// What a run comes to on groups.
+/// What a run comes to on groups. Callers take it apart, so its `Drop` is derived.
+#[derive(Drop)]
 pub enum Applied {
     /// The groups after the run's records.
     Done(Groups),
     /// The run's first row that is no record.
     Bad(Bad),
-}
-
-// Written here so that the crates above don't prove it for each type inside.
-impl Drop for Applied {
-    fn drop(self) {
-        match self {
-            Applied::Done(_groups) => {}
-            Applied::Bad(_bad) => {}
-        }
-    }
 }
 
 impl Applied {
