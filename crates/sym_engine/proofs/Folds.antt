@@ -53,7 +53,7 @@ same_rows : (rows : List Row) → map (λ row. row) rows ≡ rows
 same_rows [] = refl
 same_rows (row ∷ rows) = ap (λ more. row ∷ more) (same_rows rows)
 
-plain_chunks : (cuts : List Chunk) → map (shown_chunk (λ row. row)) cuts ≡ cuts
+pub plain_chunks : (cuts : List Chunk) → map (shown_chunk (λ row. row)) cuts ≡ cuts
 plain_chunks [] = refl
 plain_chunks (cut ∷ cuts) =
     ap (λ rows. (record cut { rows = rows }) ∷ map (shown_chunk (λ row. row)) cuts) (same_rows cut.rows)

@@ -4,3 +4,4 @@ pub mod Opened
 pub mod Walks
 pub mod FileByFile
 pub mod Folds
+pub mod RoundRuns

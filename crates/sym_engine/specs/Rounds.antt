@@ -10,6 +10,8 @@ use Rattle.sym_table.specs.declared.chunk.Chunk.{Chunk}
 use Rattle.sym_table.specs.ChunkRecords.{RunOn, all_records}
 use Rattle.sym_table.specs.Reading.{Row}
 use Rattle.sym_table.specs.Rows.{FitsChunk}
+use Rattle.sym_run.specs.declared.runs.Run.{Run}
+use Rattle.sym_run.specs.Runs.{IsFromTo, StandsForChunks}
 use Rattle.sym_engine.specs.declared.options.TheConstants as own
 use Rattle.sym_engine.specs.declared.rounds.Took.{Took}
 use Rattle.sym_engine.specs.declared.rounds.Took.TheVariants as took
@@ -27,6 +29,17 @@ pub record IsRound (fields : List FieldPlan) (chunks : List Chunk) : Type 0 wher
 pub record IsLimit (limit : ℕ) : Type 0 where
   pub some : 1 ≤ limit
   pub most : limit ≤ own.LIMIT_MAX
+
+-- A number of workers in its range.
+pub record AreWorkers (workers : ℕ) : Type 0 where
+  pub some : 1 ≤ workers
+  pub most : workers ≤ limit.WORKERS_MAX
+
+-- A run stands for all chunks of a round, from the first one on.
+pub record StandsForAll (p : ScriptPlan) (limit : ℕ) (chunks : List Chunk) (run : Run)
+    : Type 0 where
+  pub ends : IsFromTo 0 (length chunks) run
+  pub stands : StandsForChunks p limit chunks run
 
 -- A chunk with each row as it is shown.
 abbrev pub shown_chunk : (Row → Row) → Chunk → Chunk

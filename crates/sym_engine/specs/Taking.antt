@@ -15,12 +15,13 @@ use Rattle.sym_table.specs.ChunkRecords.{RunOn}
 use Rattle.sym_table.specs.Reading.{Row}
 use Rattle.sym_table.specs.Rows.{FitsHeader}
 use Rattle.sym_table.specs.RowRecords.{records_or_bad}
+use Rattle.sym_run.specs.Applying.{AreValid}
 use Rattle.sym_engine.specs.declared.error.PassErr.{PassErr}
 use Rattle.sym_engine.specs.declared.error.PassErr.TheVariants as pass_err
 use Rattle.sym_engine.specs.declared.rounds.Took.{Took}
 use Rattle.sym_engine.specs.declared.rounds.Took.TheVariants as took
 use Rattle.sym_engine.specs.FileRecords.{or_else, shown_rows, row_records}
-use Rattle.sym_engine.specs.Rounds.{Extends}
+use Rattle.sym_engine.specs.Rounds.{AreWorkers, Extends}
 
 -- Why a file wasn't read: a read failed, or the file has more than `max` bytes.
 abbrev pub IsUnread : ℕ → ℕ → Option (List ℕ) → ℕ → ℕ → PassErr → Type 0
@@ -55,6 +56,14 @@ OpensFile p shown file first rows (Err pass_err.NoMemory) = Unit {0}
 -- The groups are those of one sequential pass over these records.
 abbrev pub ArePassed : ScriptPlan → List (Key × Outcome) → List Record → Type 0
 ArePassed p groups records = groups ≡ pass p records
+
+-- The same of groups that runs are applied to: their states are valid, and the workers who make a
+-- run are in their range.
+pub record ArePassedBy (p : ScriptPlan) (groups : List (Key × Outcome)) (workers : ℕ)
+    (records : List Record) : Type 0 where
+  pub passed : ArePassed p groups records
+  pub valid : AreValid p groups
+  pub in_range : AreWorkers workers
 
 -- The rows that a cutter has left; of one that was refused memory, none.
 abbrev pub rows_left : Cutting → List Row

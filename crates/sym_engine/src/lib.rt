@@ -1,6 +1,8 @@
-//! The pass over files: their records in order, round by round, folded into the groups of a script.
+//! The pass over files: their records in order, round by round, and the groups of a script, from the
+//! run of each round.
 #![tactic(auto)]
 
+mod applying;
 mod cutting;
 mod error;
 mod files;
@@ -9,9 +11,13 @@ pub mod laws;
 mod options;
 mod passing;
 mod rounds;
+mod sequential;
+mod working;
 
 pub use error::PassErr;
 pub use files::each_round;
 pub use options::{CHUNK_DEFAULT, LIMIT_DEFAULT, LIMIT_MAX, Options, WORKERS_DEFAULT};
 pub use passing::pass;
 pub use rounds::{Rounds, Took, Work};
+pub use sequential::sequential_pass;
+pub use working::round;

@@ -7,9 +7,9 @@ ghost use Rattle.sym_engine.specs.FileRecords.{plain_rules};
 ghost use Rattle.sym_engine.specs.Options.{InRange};
 ghost use Rattle.sym_engine.specs.Passing.{PassedAll, StopsPass};
 
+use crate::applying::PassRounds;
 use crate::error::PassErr;
 use crate::files::each_round;
-use crate::folding::Folded;
 use crate::options::Options;
 use std::alloc::Global;
 use sym_base::Store;
@@ -18,7 +18,8 @@ use sym_plain::Groups;
 
 /// The groups of one sequential pass over the records of the files of these names, in order. The
 /// first row of each file is its header; records are numbered from 1, over all files. One file is
-/// in memory at a time, and a later one isn't read before the earlier one is done.
+/// in memory at a time, and a later one isn't read before the earlier one is done. The groups come
+/// from runs: that of each round is made by `round` and applied to the groups of those before it.
 ///
 /// # Errors
 ///
@@ -52,7 +53,7 @@ pub fn pass<F: Store>(
     ensures same { F.holds files.new ≡ F.holds files.old }
     ensures later { (other : List ℕ) → F.faults files.old other ≤ F.faults files.new other }
 {
-    let mut folded = Folded::new(alloc);
-    each_round(alloc, checked, files, names, options, 1, &mut folded)?;
-    Ok(folded.groups)
+    let mut rounds = PassRounds::new(alloc, options.workers);
+    each_round(alloc, checked, files, names, options, 1, &mut rounds)?;
+    Ok(rounds.groups)
 }

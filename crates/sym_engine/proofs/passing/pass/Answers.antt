@@ -1,4 +1,4 @@
-use Rattle.std.proofs.Common.{[]}
+use Rattle.std.proofs.Common.{[], rules}
 use Rattle.sym_engine.proofs.passing.pass.Goals as goal
 
 pub returns-clause-passed : goal.returns-clause-passed
@@ -9,5 +9,5 @@ returns-clause-passed g c =
       may = all.may;
       records = all.records;
       fine = all.fine;
-      stands = all.stands.1 [] c.new-folded.ensures;
+      stands = (all.stands.1 [] (record { passed = c.new-rounds.ensures.groups; valid = search rules; in_range = search rules })).passed;
     }
