@@ -167,7 +167,7 @@ record_of q p rec same h = subst (λ (plan : ScriptPlan). IsRecord plan rec) (sy
 pub small_of : (q p : ScriptPlan) → q ≡ p → path_bound q ≤ limit.PATHS_MAX → path_bound p ≤ limit.PATHS_MAX
 small_of q p same h = subst (λ (plan : ScriptPlan). path_bound plan ≤ limit.PATHS_MAX) same h
 
-explored_stand : (p : ScriptPlan) (rec : Record) (records : List Record) (old new : List Path) → IsExplored p rec old new → StandsFor p records old → StandsFor p (records ++ rec ∷ []) new
+pub explored_stand : (p : ScriptPlan) (rec : Record) (records : List Record) (old new : List Path) → IsExplored p rec old new → StandsFor p records old → StandsFor p (records ++ rec ∷ []) new
 explored_stand p rec records old new h stand = record {
   fits = h.fits;
   faults = h.faults (records ++ rec ∷ []) (number_among records rec) (ends_longer records rec old stand.faults);

@@ -18,6 +18,7 @@ pub mod InPlace
 pub mod JudgedBranches
 pub mod KeptNumbers
 pub mod KnownParts
+pub mod KnownPaths
 pub mod LabelsHeld
 pub mod Limited
 pub mod PartedConnected

@@ -2,6 +2,7 @@ pub mod Assigning
 pub mod Branches
 pub mod Calling
 pub mod Comparing
+pub mod Constants
 pub mod Counting
 pub mod Ending
 pub mod Evaluating

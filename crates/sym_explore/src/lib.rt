@@ -10,6 +10,7 @@ mod conditions;
 mod ending;
 mod extending;
 mod forms;
+mod knowing;
 mod labels;
 pub mod laws;
 mod limiting;

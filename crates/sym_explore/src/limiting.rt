@@ -3,14 +3,16 @@ ghost use Rattle.std.specs.Prelude.{◌≡◌, ◌≤◌, true, false, IfOk, IsT
 ghost use Rattle.sym_check.specs.Checking.CheckedScripts.{checked_plan};
 ghost use Rattle.sym_check.specs.Meaning.Validity.{IsRecord};
 ghost use Rattle.sym_path.specs.Fitting.{SegmentFits};
+ghost use Rattle.sym_explore.specs.Constants.{IsKnownAfter};
 ghost use Rattle.sym_explore.specs.Counting.{most_grown, most_paths};
 ghost use Rattle.sym_explore.specs.Limiting.{IsExtended, IsExtendedBy, chosen, is_chosen};
 
 use crate::extending::explore_each;
+use crate::knowing::known_after;
 use std::alloc::Global;
 use sym_base::{NoMemory, Record};
 use sym_check::Checked;
-use sym_path::{Path, Segment, settle};
+use sym_path::{Composition, Path, Segment, compose_within, settle};
 use sym_plain::Buffers;
 
 /// A segment that was taken a record further, if the limit of paths allows it.
@@ -128,9 +130,56 @@ fn extend_by(
     }
 }
 
+/// The segment taken a record further, or as it was: the paths that go on are copied before.
+fn extend_copied(
+    alloc: Global,
+    checked: &Checked,
+    segment: Segment,
+    rec: &Record,
+    limit: u32,
+    buffers: &mut Buffers,
+) -> Result<Extension, NoMemory>
+    requires fits { SegmentFits (checked_plan checked.now) segment }
+    requires rec { IsRecord (checked_plan checked.now) rec.now }
+    ensures { IfOk result (IsExtended (checked_plan checked.now) rec.now segment limit) }
+{
+    let plan = checked.plan();
+    let going = copies_of(alloc, segment.paths(), false)?;
+    let grown = explore_each(alloc, plan, rec, buffers, going)?;
+    extend_by(alloc, segment, grown, limit)
+}
+
+/// The same of a segment after which the cells are known: what the record makes of them is
+/// explored, and then comes after the segment's paths, which are moved.
+fn extend_known(
+    alloc: Global,
+    checked: &Checked,
+    segment: Segment,
+    known: Path,
+    rec: &Record,
+    limit: u32,
+    buffers: &mut Buffers,
+) -> Result<Extension, NoMemory>
+    requires fits { SegmentFits (checked_plan checked.now) segment }
+    requires known { IsKnownAfter (checked_plan checked.now) segment known }
+    requires rec { IsRecord (checked_plan checked.now) rec.now }
+    ensures { IfOk result (IsExtended (checked_plan checked.now) rec.now segment limit) }
+{
+    let mut paths = Vec::new(alloc);
+    paths.push(known)?;
+    let step = explore_each(alloc, checked.plan(), rec, buffers, paths)?;
+    match compose_within(alloc, checked, segment, Segment::of(step), limit)? {
+        Composition::One(longer) => Ok(Extension::Fits(longer)),
+        Composition::Apart(segment, _step) => {
+            extend_copied(alloc, checked, segment, rec, limit, buffers)
+        }
+    }
+}
+
 /// `grow_with` if the longer segment is within the limit; else the segment is given back as it was.
 /// The paths are changed where they lie if the path bound keeps them within the limit. Else those
-/// that go on are copied before. After an `Err` the segment is dropped.
+/// that go on are copied before, unless their cells are known. After an `Err` the segment is
+/// dropped.
 pub fn extend_within(
     alloc: Global,
     checked: &Checked,
@@ -148,7 +197,8 @@ pub fn extend_within(
         let grown = explore_each(alloc, plan, rec, buffers, segment.into_vec())?;
         return Ok(Extension::Fits(settle(alloc, grown)?));
     }
-    let going = copies_of(alloc, segment.paths(), false)?;
-    let grown = explore_each(alloc, plan, rec, buffers, going)?;
-    extend_by(alloc, segment, grown, limit)
+    match known_after(alloc, checked, segment.paths())? {
+        Some(known) => extend_known(alloc, checked, segment, known, rec, limit, buffers),
+        None => extend_copied(alloc, checked, segment, rec, limit, buffers),
+    }
 }

@@ -38,7 +38,7 @@ use Rattle.sym_path.proofs.Lists.{all_at, all_from}
 use Rattle.sym_path.proofs.OnlyOutcomes.{only_outcome}
 use Rattle.sym_path.proofs.PairCounts.{count_first, ended_pairs, going_pairs, length_both, no_pairs, pairs_both}
 use Rattle.sym_path.proofs.PossibleStates.{pair_is_possible}
-use Rattle.sym_path.proofs.SettlingStands.{settled_stand}
+use Rattle.sym_path.proofs.SettlingStands.{settled_end, settled_stand}
 
 pub outcomes_both : (truth : Truth) (xs ys : List Path) (s : State) → outcomes truth (xs ++ ys) s ≡ outcomes truth xs s ++ outcomes truth ys s
 outcomes_both truth [] ys s = refl
@@ -193,6 +193,14 @@ composed_end p first rest left right paths l r h =
     (λ one next both own followed. ends_rest first rest both.end (ends_follow p rest one next both own followed both.end refl))
     left right paths l r h
 
+-- The same of one list of records.
+composed_end_among : (p : ScriptPlan) (records : List Record) (left right paths : List Path) → All (λ (path : Path). EndsAmong records path.end) left → All (λ (path : Path). EndsAmong records path.end) right → AreComposed p left right paths → All (λ (path : Path). EndsAmong records path.end) paths
+composed_end_among p records left right paths l r h =
+    composed_all p (λ (path : Path). EndsAmong records path.end) (λ (path : Path). EndsAmong records path.end) (λ (path : Path). EndsAmong records path.end)
+    (λ path own. own)
+    (λ one next both own followed. ends_follow p records one next both own followed both.end refl)
+    left right paths l r h
+
 -- ---- records
 
 ended_stays : (p : ScriptPlan) (records : List Record) (fault : Fault) → after p records (outcome.Ended fault) ≡ outcome.Ended fault
@@ -273,6 +281,7 @@ composition p left right paths segment l r h w = record {
       let truth : Truth = test_truth p.tests in
       let same : outcomes truth paths s ≡ given_by_both truth left right s = composed_give p left right paths s h in
       w.reduced.same truth s (omega (arith, ap length same, few)) ∙ same;
+  faults = λ records a b. settled_end records paths segment (composed_end_among p records left right paths a b h) w;
 }
 
 -- ---- as they are made

@@ -150,6 +150,80 @@ ended_pairs truth path others ended none = record {
       omega (arith, one, zero);
 }
 
+-- ---- ends
+
+pub not_ended : (end : PathEnd) → GoesOn end → is_ended end ≡ false
+not_ended (Next forms) h = refl
+not_ended (Ended fault) h = absurd h
+
+pub ended : (end : PathEnd) → (GoesOn end → ⊥) → is_ended end ≡ true
+ended (Next forms) h = absurd (h tt)
+ended (Ended fault) h = refl
+
+pub none_follow : (truth : Truth) (path : Path) → (GoesOn path.end → ⊥) → (q : Path) → IsPossiblePair truth path q → ⊥
+none_follow truth path none q h = go path.end none h
+  where
+    go : (end : PathEnd) → (GoesOn end → ⊥) → IsPossiblePair truth (record path { end = end }) q → ⊥
+    go (Next forms) none h = none tt
+    go (Ended fault) none h = h
+
+-- ---- where each path has few
+
+zip_cut : {A B : Type 0} (R : A → B → Type 0) (xs vs : List A) (ys : List B) → AllZip R (xs ++ vs) ys → (first : List B) × (rest : List B) × (ys ≡ first ++ rest) × AllZip R xs first × AllZip R vs rest
+zip_cut R [] vs ys h = ([], ys, refl, tt, h)
+zip_cut R (x ∷ xs) vs [] h = absurd h
+zip_cut R (x ∷ xs) vs (y ∷ ys) h =
+    let cut = zip_cut R xs vs ys h.1 in
+    (y ∷ cut.0, cut.1, ap (λ rest. y ∷ rest) cut.2, (h.0, cut.3), cut.4)
+
+ended_answers : (truth : Truth) (path : Path) (others : List Path) (answers : List Bool) → ((q : Path) → IsPossiblePair truth path q → ⊥) → AllZip (IsAnswer truth) (map (λ (q : Path). (path, q)) others) answers → yes answers ≡ 0
+ended_answers truth path [] [] none h = refl
+ended_answers truth path [] (b ∷ answers) none h = absurd h
+ended_answers truth path (q ∷ others) [] none h = absurd h
+ended_answers truth path (q ∷ others) (true ∷ answers) none h = absurd (none q (h.0.0 refl))
+ended_answers truth path (q ∷ others) (false ∷ answers) none h =
+    let first = count_first (λ (answer : Bool). answer) false answers in
+    let rest = ended_answers truth path others answers none h.1 in
+    omega (arith, first, rest)
+
+abbrev one_if : Bool → ℕ
+one_if b = cond b 1 0
+
+most_first : (truth : Truth) (path : Path) (right : List Path) (answers : List Bool) (most : ℕ) → length right ≤ most → 1 ≤ most → AllZip (IsAnswer truth) (map (λ (q : Path). (path, q)) right) answers → one_if (has_ended path) + yes answers ≤ most
+most_first truth path right answers most few once h = of path.end refl
+  where
+    of : (end : PathEnd) → path.end ≡ end → one_if (has_ended path) + yes answers ≤ most
+    of (Next forms) e =
+        let going : has_ended path ≡ false = ap is_ended e in
+        let zero : one_if (has_ended path) ≡ one_if false = ap one_if going in
+        let long : length (map {B = Path × Path} (λ (q : Path). (path, q)) right) ≡ length answers = zip_length (IsAnswer truth) (map (λ (q : Path). (path, q)) right) answers h in
+        let same = length_map {B = Path × Path} (λ (q : Path). (path, q)) right in
+        let possible = count_by-le-length (λ (answer : Bool). answer) answers in
+        omega (arith, zero, long, same, possible, few)
+    of (Ended fault) e =
+        let over : has_ended path ≡ true = ap is_ended e in
+        let one : one_if (has_ended path) ≡ one_if true = ap one_if over in
+        let none : yes answers ≡ 0 = ended_answers truth path right answers (none_follow truth path (λ g. subst GoesOn e g)) h in
+        omega (arith, one, none, once)
+
+most_answers : (truth : Truth) (left right : List Path) (answers : List Bool) (most : ℕ) → length right ≤ most → 1 ≤ most → AllZip (IsAnswer truth) (each_with left right) answers → count_by has_ended left + yes answers ≤ length left * most
+most_answers truth [] right [] most few once h = omega arith
+most_answers truth [] right (b ∷ answers) most few once h = absurd h
+most_answers truth (path ∷ left) right answers most few once h =
+    let cut = zip_cut (IsAnswer truth) (map (λ (q : Path). (path, q)) right) (each_with left right) answers h in
+    let ended = count_first has_ended path left in
+    let sum = ap yes cut.2 ∙ count_both (λ (answer : Bool). answer) cut.0 cut.1 in
+    let here = most_first truth path right cut.0 most few once cut.3 in
+    let rest = most_answers truth left right cut.1 most few once cut.4 in
+    omega (arith, ended, sum, here, rest)
+
+-- Where each path of the left has at most so many, so have all.
+pub pairs_most : (truth : Truth) (left right : List Path) (n most : ℕ) → length right ≤ most → 1 ≤ most → ArePairs truth left right n → n ≤ length left * most
+pairs_most truth left right n most few once a =
+    let all = most_answers truth left right a.answers most few once a.decided in
+    let sum = a.sum in
+    omega (arith, all, sum)
+
 -- ---- as they are counted
 
 -- One other more.
@@ -172,20 +246,3 @@ pub followers_next : (truth : Truth) (path next : Path) (others : List Path) (i 
 followers_next truth path next others i m n b at h sum a =
     subst (λ (k : ℕ). AreFollowers truth path (take (i + 1) others) k) (sym sum)
     (subst (λ (ps : List Path). AreFollowers truth path ps (m + cond b 1 0)) (sym (take_get others i next at)) (followers_more truth path next (take i others) m b h a))
-
--- ---- ends
-
-pub not_ended : (end : PathEnd) → GoesOn end → is_ended end ≡ false
-not_ended (Next forms) h = refl
-not_ended (Ended fault) h = absurd h
-
-pub ended : (end : PathEnd) → (GoesOn end → ⊥) → is_ended end ≡ true
-ended (Next forms) h = absurd (h tt)
-ended (Ended fault) h = refl
-
-pub none_follow : (truth : Truth) (path : Path) → (GoesOn path.end → ⊥) → (q : Path) → IsPossiblePair truth path q → ⊥
-none_follow truth path none q h = go path.end none h
-  where
-    go : (end : PathEnd) → (GoesOn end → ⊥) → IsPossiblePair truth (record path { end = end }) q → ⊥
-    go (Next forms) none h = none tt
-    go (Ended fault) none h = h

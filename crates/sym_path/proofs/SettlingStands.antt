@@ -18,12 +18,17 @@ use Rattle.sym_path.specs.Standing.{EndsAmong, StandsFor}
 use Rattle.sym_path.proofs.Lists.{all_from, all_at}
 use Rattle.sym_path.proofs.OnlyOutcomes.{only_outcome}
 
+-- Their faults came at the same records.
+pub settled_end : (records : List Record) (paths segment : List Path) → All (λ (path : Path). EndsAmong records path.end) paths → IsSettling paths segment → All (λ (path : Path). EndsAmong records path.end) segment
+settled_end records paths segment h w =
+    all_from (λ path. EndsAmong records path.end) segment (λ i path e.
+    let (k, q, l, at, same) = all_at (λ path. Any (λ q. q.end ≡ path.end) paths) segment i path w.reduced.ends e in
+    subst (λ (end : PathEnd). EndsAmong records end) same (subst (λ (x : Path). EndsAmong records x.end) at (h k q l)))
+
 pub settled_stand : (p : ScriptPlan) (records : List Record) (paths segment : List Path) → StandsFor p records paths → IsSettling paths segment → StandsFor p records segment
 settled_stand p records paths segment h w = record {
   fits = w.reduced.fits p h.fits;
-  faults = all_from (λ path. EndsAmong records path.end) segment (λ i path e.
-      let (k, q, l, at, same) = all_at (λ path. Any (λ q. q.end ≡ path.end) paths) segment i path w.reduced.ends e in
-      subst (λ (end : PathEnd). EndsAmong records end) same (subst (λ (x : Path). EndsAmong records x.end) at (h.faults k q l)));
+  faults = settled_end records paths segment h.faults w;
   exact = λ s v.
       let truth : Truth = test_truth p.tests in
       let o : Outcome = after p records (Going s) in

@@ -1,6 +1,6 @@
 -- Two segments in one: the paths of the first and then of the second.
 use Rattle.std.specs.Prelude.{◌≡◌, ◌≤◌, ◌⊎◌, List, [], ◌∷◌, ◌++◌, length}
-use Rattle.std.specs.List.{flat_map}
+use Rattle.std.specs.List.{All, flat_map}
 use Rattle.sym_base.specs.declared.values.record.Record.{Record}
 use Rattle.sym_base.specs.declared.values.state.State.{State}
 use Rattle.sym_base.specs.declared.values.state.Outcome.{Outcome}
@@ -18,7 +18,7 @@ use Rattle.sym_path.specs.Giving.{outcomes}
 use Rattle.sym_path.specs.Joining.{IsSettled}
 use Rattle.sym_path.specs.Pairs.{HasAtMostPairs}
 use Rattle.sym_path.specs.Possible.{IsPossiblePair}
-use Rattle.sym_path.specs.Standing.{StandsFor}
+use Rattle.sym_path.specs.Standing.{EndsAmong, StandsFor}
 
 -- What paths give of an outcome: of a state what they give there, and a fault stays.
 abbrev pub given_after : Truth → List Path → Outcome → List Outcome
@@ -29,9 +29,14 @@ given_after truth paths (outcome.Ended fault) = outcome.Ended fault ∷ []
 abbrev pub given_by_both : Truth → List Path → List Path → State → List Outcome
 given_by_both truth left right s = flat_map (given_after truth right) (outcomes truth left s)
 
+-- The faults of the paths came at some of the records.
+abbrev pub HaveFaultsAmong : List Record → List Path → Type 0
+HaveFaultsAmong records paths = All (λ (path : Path). EndsAmong records path.end) paths
+
 -- The segment is the composition of two: it is settled, fits the script, has at most as many paths
 -- as the two have pairs, and stands for the records of the first one and then those of the second,
 -- whatever these are. At a state of which the two in turn give at most one outcome, it gives that.
+-- Its faults came at records at which those of the two came.
 pub record IsComposition (p : ScriptPlan) (left right segment : List Path) : Type 0 where
   pub settled : IsSettled segment
   pub fits : SegmentFits p segment
@@ -40,6 +45,8 @@ pub record IsComposition (p : ScriptPlan) (left right segment : List Path) : Typ
       StandsFor p (first ++ rest) segment
   pub gives : (s : State) → length (given_by_both (test_truth p.tests) left right s) ≤ 1 →
       outcomes (test_truth p.tests) segment s ≡ given_by_both (test_truth p.tests) left right s
+  pub faults : (records : List Record) → HaveFaultsAmong records left →
+      HaveFaultsAmong records right → HaveFaultsAmong records segment
 
 -- The paths of one path and then each of others that can come after it, in order.
 abbrev pub AreFollowed : ScriptPlan → Path → List Path → List Path → Type 0

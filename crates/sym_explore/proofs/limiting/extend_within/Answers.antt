@@ -14,17 +14,6 @@ pub explore_each-requires-clause-rec : goal.explore_each-requires-clause-rec
 explore_each-requires-clause-rec c =
     record_of (script_plan c.plan-plan.result.now) (checked_plan c.args.checked.now) c.args.rec.now c.plan-plan.ensures.same c.requires.rec
 
-pub explore_each-requires-2-clause-rec : goal.explore_each-requires-2-clause-rec
-explore_each-requires-2-clause-rec c =
-    record_of (script_plan c.plan-plan.result.now) (checked_plan c.args.checked.now) c.args.rec.now c.plan-plan.ensures.same c.requires.rec
-
-pub explore_each-requires-2-clause-fits : goal.explore_each-requires-2-clause-fits
-explore_each-requires-2-clause-fits c =
-    let p : ScriptPlan = checked_plan c.args.checked.now in
-    let is : c.in_ok-going.going.items ≡ chosen false c.args.segment = c.in_ok-going.ensures ∙ ap (chosen false) c.paths-2.ensures in
-    subst (λ (plan : ScriptPlan). SegmentFits plan c.in_ok-going.going.items) (sym c.plan-plan.ensures.same)
-    (subst (λ (ps : List Path). SegmentFits p ps) (sym is) (All-filter (is_chosen false) (PathFits p) c.args.segment c.requires.fits))
-
 -- Where the paths can't be too many, the longer segment is within the limit.
 pub returns-then-surely_fit : goal.returns-then-surely_fit
 returns-then-surely_fit c =
@@ -45,17 +34,3 @@ returns-then-surely_fit c =
       is_longer p c.args.rec.now old grown new small explored c.in_ok-settle.ensures,
       settled_within p old grown new c.path_bound.result c.args.limit small c.path_bound.ensures.bound few c.in_ok-settle.ensures within,
     )
-
-pub returns : goal.returns
-returns c =
-    let q : ScriptPlan = script_plan c.plan-plan.result.now in
-    let p : ScriptPlan = checked_plan c.args.checked.now in
-    let old : List Path = c.args.segment in
-    let grown : List Path = c.in_ok-grown-2.grown.items in
-    let same : q ≡ p = c.plan-plan.ensures.same in
-    let small = small_of q p same c.plan-plan.ensures.accepted.few in
-    let is : c.in_ok-going.going.items ≡ chosen false old = c.in_ok-going.ensures ∙ ap (chosen false) c.paths-2.ensures in
-    let apart = explored_of q p c.args.rec.now c.in_ok-going.going.items (chosen false old) grown same is
-    (record { exact = c.in_ok-grown-2.ensures.exact; fits = c.in_ok-grown-2.ensures.fits; few = c.in_ok-grown-2.ensures.few; faults = c.in_ok-grown-2.ensures.faults }) in
-    let explored = explored_apart p c.args.rec.now old grown c.requires.fits apart in
-    when_answered c.extend_by.result (λ e by. extended_from p c.args.rec.now old grown c.args.limit e small explored by) c.extend_by.ensures
