@@ -15,6 +15,7 @@ use Rattle.sym_table.specs.ChunkRecords.{all_records, chunk_records}
 use Rattle.sym_table.specs.RowRecords.{in_turn}
 use Rattle.sym_path.proofs.Lists.{drop_get}
 use Rattle.sym_run.specs.declared.runs.Run.{Run}
+use Rattle.sym_run.specs.Growing.{TakesOn}
 use Rattle.sym_run.specs.Runs.{AreTight, GroupsFit, GroupsStandFor, HasFound, IsFromTo, StandsForChunks}
 
 abbrev Found : Type 0
@@ -111,6 +112,35 @@ run_of_one p limit chunks n c run at ends fits found =
       within = omega arith;
       fits = fits;
       found = subst (λ (r : Result (List Record) Bad). HasFound p limit r run.bad run.groups) (sym (ap (all_records p) part ∙ none_after (chunk_records p c))) found;
+    }
+
+-- What a run found that goes on over rows, where no row before them is bad, and where one is.
+found_on : (p : ScriptPlan) (limit : ℕ) (found next : Result (List Record) Bad) (bad last : Option Bad) (old groups : List (Key × List (List Path)))
+    → HasFound p limit found bad old → (bad ≡ None → TakesOn p limit next old last groups) → ((b : Bad) → bad ≡ Some b → last ≡ Some b) → HasFound p limit (in_turn found next) last groups
+found_on p limit (Ok first) (Ok rest) bad last old groups h takes stays = let k = takes h.0 in (k.0, k.1, k.2 first h.2)
+found_on p limit (Ok first) (Err other) bad last old groups h takes stays = takes h.0
+found_on p limit (Err first) next bad last old groups h takes stays = stays first h
+
+-- A run and the chunk after it.
+pub run_extended : (p : ScriptPlan) (limit : ℕ) (chunks : List Chunk) (c : Chunk) (run longer : Run) → StandsForChunks p limit chunks run → slice_get chunks run.hi ≡ Some c
+    → IsFromTo run.lo (run.hi + 1) longer → GroupsFit p longer.groups
+    → (run.bad ≡ None → TakesOn p limit (chunk_records p c) run.groups longer.bad longer.groups) → ((b : Bad) → run.bad ≡ Some b → longer.bad ≡ Some b)
+    → StandsForChunks p limit chunks longer
+run_extended p limit chunks c run longer h at ends fits takes stays =
+    let within = slice_get_within chunks run.hi c at in
+    let order = h.order in
+    let one : (run.hi + 1) - run.hi ≡ 1 = omega arith in
+    let part : slice_range chunks run.hi (run.hi + 1) ≡ c ∷ [] = ap₂ (λ (m : ℕ) (cs : List Chunk). take m cs) one (drop_get chunks run.hi c at) in
+    let whole : all_records p (slice_range chunks longer.lo longer.hi) ≡ in_turn (all_records p (slice_range chunks run.lo run.hi)) (chunk_records p c) =
+    ap₂ (λ (lo hi : ℕ). all_records p (slice_range chunks lo hi)) ends.from ends.to
+    ∙ found_in_turn p chunks run.lo run.hi (run.hi + 1) order (omega arith)
+    ∙ ap (in_turn (all_records p (slice_range chunks run.lo run.hi))) (ap (all_records p) part ∙ none_after (chunk_records p c)) in
+    record {
+      order = rw (ends.from, ends.to) (omega arith);
+      within = rw ends.to (omega arith);
+      fits = fits;
+      found = subst (λ (r : Result (List Record) Bad). HasFound p limit r longer.bad longer.groups) (sym whole)
+          (found_on p limit (all_records p (slice_range chunks run.lo run.hi)) (chunk_records p c) run.bad longer.bad run.groups longer.groups h.found takes stays);
     }
 
 -- The chains of a run without a bad row are tight.

@@ -1,6 +1,6 @@
 -- The rows of a chunk, taken into groups one after the other.
 use Rattle.std.proofs.Common.{◌≡◌, ◌∙◌, ap, ap₂, sym, refl, subst, arith, ℕ, ◌+◌, List, [], ◌∷◌, ◌++◌, Option, Some, None, is_some, true, false, Result, Ok, Err, length, take, drop}
-use Rattle.std.proofs.lemmas.List.{length-take-le}
+use Rattle.std.proofs.lemmas.List.{append-nil, append_assoc, length-take-le}
 use Rattle.std.proofs.lemmas.Option.{slice_get_within}
 use Rattle.std.specs.Prelude.{slice_get}
 use Rattle.sym_base.specs.declared.values.value.Value.{Value}
@@ -19,15 +19,15 @@ use Rattle.sym_table.specs.Reading.{Row}
 use Rattle.sym_table.specs.RowRecords.{in_turn, record_or_bad, records_or_bad}
 use Rattle.sym_table.specs.Rows.{read_row}
 use Rattle.sym_table.proofs.RecordsAgree.{rows_append}
-use Rattle.sym_run.specs.Growing.{Grows}
+use Rattle.sym_run.specs.Growing.{Grows, TakesOn}
 use Rattle.sym_run.specs.Runs.{AreTight, GroupsFit, GroupsStandFor, HasFound}
 use Rattle.sym_run.proofs.JoinedGroups.{Chains, grown_fit, grown_tight, one_record}
 
--- The groups stand for the records of the first rows.
-pub record IsTaking (p : ScriptPlan) (limit : ℕ) (header : Header) (n : ℕ) (rows : List Row) (groups : Chains) : Type 0 where
+-- The groups stand for the records for which the first ones stood, and then those of the first rows.
+pub record IsTaking (p : ScriptPlan) (limit : ℕ) (header : Header) (n : ℕ) (rows : List Row) (first groups : Chains) : Type 0 where
   pub records : List Record
   pub are : records_or_bad p header n rows ≡ Ok records
-  pub stand : GroupsStandFor p records groups
+  pub stand : (before : List Record) → GroupsStandFor p before first → GroupsStandFor p (before ++ records) groups
   pub fits : GroupsFit p groups
   pub tight : AreTight p limit groups
 
@@ -54,49 +54,55 @@ bad_row p header n row rows bad e =
 taken_length : (rows : List Row) (i : ℕ) (row : Row) → slice_get rows i ≡ Some row → length (take i rows) ≡ i
 taken_length rows i row at = let within = slice_get_within rows i row at in length-take-le i rows (omega arith)
 
-pub taking_on : (p : ScriptPlan) (limit : ℕ) (header : Header) (n : ℕ) (rows : List Row) (i : ℕ) (row : Row) (rec : Record) (old new : Chains) → IsTaking p limit header n (take i rows) old → slice_get rows i ≡ Some row
-    → numbered (n + i) (read_row p.enums p.fields header row) ≡ decoded.Is rec → Grows p limit (key_of p rec) (λ rest. rest ≡ rec ∷ []) old new → IsTaking p limit header n (take (i + 1) rows) new
-taking_on p limit header n rows i row rec old new h at is g = record {
+pub taking_on : (p : ScriptPlan) (limit : ℕ) (header : Header) (n : ℕ) (rows : List Row) (i : ℕ) (row : Row) (rec : Record) (first old new : Chains) → IsTaking p limit header n (take i rows) first old → slice_get rows i ≡ Some row
+    → numbered (n + i) (read_row p.enums p.fields header row) ≡ decoded.Is rec → Grows p limit (key_of p rec) (λ rest. rest ≡ rec ∷ []) old new → IsTaking p limit header n (take (i + 1) rows) first new
+taking_on p limit header n rows i row rec first old new h at is g = record {
   records = h.records ++ rec ∷ [];
   are =
       ap (records_or_bad p header n) (take_get rows i row at)
       ∙ rows_append p header n (take i rows) (row ∷ [])
       ∙ ap₂ in_turn h.are (ap (λ m. records_or_bad p header (n + m) (row ∷ [])) (taken_length rows i row at) ∙ one_row p header (n + i) row rec is);
-  stand = one_record p limit h.records rec old new g h.stand;
+  stand = λ before s.
+      subst (λ (rs : List Record). GroupsStandFor p rs new) (append_assoc before h.records (rec ∷ []))
+      (one_record p limit (before ++ h.records) rec old new g (h.stand before s));
   fits = grown_fit p limit (key_of p rec) (λ rest. rest ≡ rec ∷ []) old new g h.fits;
   tight = grown_tight p limit (key_of p rec) (λ rest. rest ≡ rec ∷ []) old new g h.tight;
 }
 
 -- The row is the first that is no record.
-pub taken_bad : (p : ScriptPlan) (limit : ℕ) (header : Header) (n : ℕ) (rows : List Row) (i : ℕ) (row : Row) (bad : Bad) (groups : Chains) → IsTaking p limit header n (take i rows) groups → slice_get rows i ≡ Some row
+pub taken_bad : (p : ScriptPlan) (limit : ℕ) (header : Header) (n : ℕ) (rows : List Row) (i : ℕ) (row : Row) (bad : Bad) (first groups : Chains) → IsTaking p limit header n (take i rows) first groups → slice_get rows i ≡ Some row
     → numbered (n + i) (read_row p.enums p.fields header row) ≡ decoded.Bad bad → records_or_bad p header n rows ≡ Err bad
-taken_bad p limit header n rows i row bad groups h at is =
+taken_bad p limit header n rows i row bad first groups h at is =
     ap (records_or_bad p header n) (sym (take_and_drop i rows) ∙ ap (λ (rs : List Row). take i rows ++ rs) (drop_get rows i row at))
     ∙ rows_append p header n (take i rows) (row ∷ drop (i + 1) rows)
     ∙ ap₂ in_turn h.are (ap (λ m. records_or_bad p header (n + m) (row ∷ drop (i + 1) rows)) (taken_length rows i row at) ∙ bad_row p header (n + i) row (drop (i + 1) rows) bad is)
 
-pub taking_none : (p : ScriptPlan) (limit : ℕ) (header : Header) (n : ℕ) (groups : Chains) → groups ≡ [] → IsTaking p limit header n [] groups
-taking_none p limit header n groups none =
-    subst (IsTaking p limit header n []) (sym none) (record {
-      records = [];
-      are = refl;
-      stand = record { keys_are = refl; each = λ k d lt. absurd (omega arith) };
-      fits = λ k d lt. absurd (omega arith);
-      tight = λ k d lt. absurd (omega arith);
-    })
+pub taking_none : (p : ScriptPlan) (limit : ℕ) (header : Header) (n : ℕ) (groups : Chains) → GroupsFit p groups → AreTight p limit groups → IsTaking p limit header n [] groups groups
+taking_none p limit header n groups fits tight = record {
+  records = [];
+  are = refl;
+  stand = λ before s. subst (λ (rs : List Record). GroupsStandFor p rs groups) (sym (append-nil before)) s;
+  fits = fits;
+  tight = tight;
+}
 
 -- All rows are records.
-pub taken_all : (p : ScriptPlan) (limit : ℕ) (header : Header) (n : ℕ) (rows : List Row) (groups : Chains) → IsTaking p limit header n rows groups → HasFound p limit (records_or_bad p header n rows) None groups
-taken_all p limit header n rows groups h =
-    subst (λ (found : Result (List Record) Bad). HasFound p limit found None groups) (sym h.are) (refl, h.tight, h.stand)
+pub taken_all : (p : ScriptPlan) (limit : ℕ) (header : Header) (n : ℕ) (rows : List Row) (first groups : Chains) → IsTaking p limit header n rows first groups → TakesOn p limit (records_or_bad p header n rows) first None groups
+taken_all p limit header n rows first groups h =
+    subst (λ (found : Result (List Record) Bad). TakesOn p limit found first None groups) (sym h.are) (refl, h.tight, h.stand)
+
+-- What no groups take on.
+pub taken_first : (p : ScriptPlan) (limit : ℕ) (found : Result (List Record) Bad) (bad : Option Bad) (groups : Chains) → TakesOn p limit found [] bad groups → HasFound p limit found bad groups
+taken_first p limit (Ok records) bad groups h = (h.0, h.1, h.2 [] (record { keys_are = refl; each = λ k d lt. absurd (omega arith) }))
+taken_first p limit (Err first) bad groups h = h
 
 -- ---- what decoding told
 pub record_told : (bad : Option Bad) (rec : Record) (d : Decoded) → is_some bad ≡ false → Fills bad rec d → d ≡ decoded.Is rec
 record_told None rec d e h = h
 record_told (Some bad) rec d e h = cc
 
-pub bad_told : (p : ScriptPlan) (limit : ℕ) (header : Header) (n : ℕ) (rows : List Row) (i : ℕ) (row : Row) (bad : Option Bad) (rec : Record) (groups : Chains) → IsTaking p limit header n (take i rows) groups → slice_get rows i ≡ Some row
-    → is_some bad ≡ true → Fills bad rec (numbered (n + i) (read_row p.enums p.fields header row)) → HasFound p limit (records_or_bad p header n rows) bad groups
-bad_told p limit header n rows i row None rec groups h at e told = cc
-bad_told p limit header n rows i row (Some bad) rec groups h at e told =
-    subst (λ (found : Result (List Record) Bad). HasFound p limit found (Some bad) groups) (sym (taken_bad p limit header n rows i row bad groups h at told)) refl
+pub bad_told : (p : ScriptPlan) (limit : ℕ) (header : Header) (n : ℕ) (rows : List Row) (i : ℕ) (row : Row) (bad : Option Bad) (rec : Record) (first groups : Chains) → IsTaking p limit header n (take i rows) first groups → slice_get rows i ≡ Some row
+    → is_some bad ≡ true → Fills bad rec (numbered (n + i) (read_row p.enums p.fields header row)) → TakesOn p limit (records_or_bad p header n rows) first bad groups
+bad_told p limit header n rows i row None rec first groups h at e told = cc
+bad_told p limit header n rows i row (Some bad) rec first groups h at e told =
+    subst (λ (found : Result (List Record) Bad). TakesOn p limit found first (Some bad) groups) (sym (taken_bad p limit header n rows i row bad first groups h at told)) refl

@@ -1,5 +1,5 @@
 -- How the groups of a run grow where the chain of a key takes on more records.
-use Rattle.std.specs.Prelude.{◌≡◌, ℕ, Bool, true, false, List, [], ◌∷◌, ◌++◌, Option, Some, None, if◌then◌else◌}
+use Rattle.std.specs.Prelude.{◌≡◌, ℕ, Bool, true, false, List, [], ◌∷◌, ◌++◌, Option, Some, None, Result, Ok, Err, if◌then◌else◌}
 use Rattle.std.specs.List.{All}
 use Rattle.std.specs.Map.{keys_of, lookup}
 use Rattle.sym_base.specs.declared.values.value.Key.{Key}
@@ -8,7 +8,9 @@ use Rattle.sym_check.specs.Meaning.Groups.{is_among, is_key, keys, not_among, re
 use Rattle.sym_check.specs.Plan.ScriptPlans.{ScriptPlan}
 use Rattle.sym_path.specs.declared.path.Path.{Path}
 use Rattle.sym_plain.specs.Pairs.{put}
+use Rattle.sym_table.specs.declared.bad.Bad.{Bad}
 use Rattle.sym_run.specs.Chains.{ChainFits, ChainStandsFor, IsTight}
+use Rattle.sym_run.specs.Runs.{AreTight, GroupsStandFor}
 
 -- What was found for a key stands for its records: a chain, or no group where there are none.
 abbrev pub FoundStandsFor : ScriptPlan → List Record → Option (List (List Path)) → Type 0
@@ -44,6 +46,16 @@ abbrev pub JoinsUnless : ScriptPlan → ℕ → Key → List (List Path)
 JoinsUnless p limit key right old None new =
     Grows p limit key (λ rest. ChainStandsFor p rest right) old new
 JoinsUnless p limit key right old (Some chain) new = IsAbsent key old new × (chain ≡ right)
+
+-- Groups take on what was found of rows. Where all rows are records, these come after the records
+-- for which the groups stood, whatever these are; else there is the first row that is none.
+abbrev pub TakesOn : ScriptPlan → ℕ → Result (List Record) Bad
+    → List (Key × List (List Path)) → Option Bad → List (Key × List (List Path)) → Type 0
+TakesOn p limit (Ok records) old bad new =
+    (bad ≡ None) × AreTight p limit new
+    × ((before : List Record) → GroupsStandFor p before old →
+    GroupsStandFor p (before ++ records) new)
+TakesOn p limit (Err first) old bad new = bad ≡ Some first
 
 -- The groups of the first records have taken on the other records of these keys.
 pub record AreJoined (p : ScriptPlan) (first rest : List Record) (ks : List Key)

@@ -1,11 +1,12 @@
 //! The run of one chunk.
-ghost use Rattle.std.specs.Prelude.{◌≡◌, ◌<◌, ◌+◌, [], List, Some, IfOk, slice_get};
+ghost use Rattle.std.specs.Prelude.{◌≡◌, ◌<◌, ◌≤◌, ◌+◌, All, List, Some, IfOk, length, slice_get};
 ghost use Rattle.sym_check.specs.Checking.CheckedScripts.{checked_plan};
 ghost use Rattle.sym_plain.specs.Pairs.{HaveDistinctKeys};
 ghost use Rattle.sym_table.specs.ChunkRecords.{chunk_records};
 ghost use Rattle.sym_table.specs.Rows.{FitsChunk};
 ghost use Rattle.sym_table.specs.declared.chunk.Chunk.{Chunk as OneChunk};
-ghost use Rattle.sym_run.specs.Runs.{GroupsFit, HasFound, IsFromTo, StandsForChunks};
+ghost use Rattle.sym_run.specs.Growing.{TakesOn};
+ghost use Rattle.sym_run.specs.Runs.{AreTight, GroupsFit, IsFromTo, StandsForChunks};
 
 use crate::chains::Chain;
 use crate::grouping::take_record;
@@ -18,9 +19,9 @@ use sym_check::Checked;
 use sym_plain::Buffers;
 use sym_table::{Bad, Chunk, decode_into};
 
-/// Takes the records of a chunk's rows into the chains of their keys, up to the first row that is
-/// no record.
-fn take_rows(
+/// Takes the records of a chunk's rows into the chains of their keys, after those that these stand
+/// for, up to the first row that is no record.
+pub(crate) fn take_rows(
     alloc: Global,
     checked: &Checked,
     chunk: &Chunk,
@@ -28,10 +29,11 @@ fn take_rows(
     limit: u32,
 ) -> Result<Option<Bad>, NoMemory>
     requires chunk { FitsChunk (checked_plan checked.now).fields chunk.now }
-    requires empty { map.old.entries ≡ [] }
+    requires fits { GroupsFit (checked_plan checked.now) map.old.entries }
+    requires tight { AreTight (checked_plan checked.now) limit map.old.entries }
     requires distinct { HaveDistinctKeys map.old.entries }
     ensures found { let p = checked_plan checked.now in IfOk result (λ bad.
-        HasFound p limit (chunk_records p chunk.now) bad map.new.entries) }
+        TakesOn p limit (chunk_records p chunk.now) map.old.entries bad map.new.entries) }
     ensures fits { IfOk result (λ bad. GroupsFit (checked_plan checked.now) map.new.entries) }
     ensures distinct { HaveDistinctKeys map.new.entries }
 {
@@ -79,4 +81,25 @@ pub fn of_chunk(
         groups: RunGroups::of_map(map),
         bad,
     })
+}
+
+/// The run of all of the chunks: that of the first one, which takes on the others in turn. For
+/// callers who have the chunks in one list: other workers join the runs of theirs.
+pub fn of_chunks(
+    alloc: Global,
+    checked: &Checked,
+    chunks: &[Chunk],
+    limit: u32,
+) -> Result<Run, NoMemory>
+    requires fit { All (FitsChunk (checked_plan checked.now).fields) chunks.now }
+    requires some { 1 ≤ length chunks.now }
+    requires few { length chunks.now ≤ 64 }
+    ensures chunks { IfOk result (IsFromTo 0 (length chunks.now)) }
+    ensures stands { IfOk result (StandsForChunks (checked_plan checked.now) limit chunks.now) }
+{
+    let mut run = of_chunk(alloc, checked, &chunks[0], 0, limit)?;
+    'chunks: for number in 1..chunks.len() {
+        run = run.extend(alloc, checked, &chunks[number], limit)?;
+    }
+    Ok(run)
 }

@@ -15,7 +15,7 @@ mod runs;
 
 pub use bracketing::{JoinTree, apply_joined, join_all};
 pub use chains::Chain;
-pub use chunks::of_chunk;
+pub use chunks::{of_chunk, of_chunks};
 pub use pushing::push;
 pub use run_groups::RunGroups;
 pub use runs::{Applied, Run};

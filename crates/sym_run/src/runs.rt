@@ -1,20 +1,22 @@
 //! Runs of chunks: their groups, or the first of their rows that is no record.
-ghost use Rattle.std.specs.Prelude.{◌≡◌, List, None, IfOk};
+ghost use Rattle.std.specs.Prelude.{◌≡◌, ◌<◌, ◌+◌, List, None, Some, IfOk, slice_get};
 ghost use Rattle.sym_base.specs.declared.values.record.Record.{Record as OneRecord};
 ghost use Rattle.sym_check.specs.Checking.CheckedScripts.{checked_plan};
 ghost use Rattle.sym_plain.specs.Pairs.{after_records};
 ghost use Rattle.sym_table.specs.declared.chunk.Chunk.{Chunk as OneChunk};
+ghost use Rattle.sym_table.specs.Rows.{FitsChunk};
 ghost use Rattle.sym_run.specs.Applying.{AreValid, IfDone, bad_of};
 ghost use Rattle.sym_run.specs.Runs.{AreTight, GroupsFit, GroupsStandFor, IsFromTo, StandsForChunks};
 
 use crate::applying::apply_all;
+use crate::chunks::take_rows;
 use crate::joining::join_groups;
 use crate::run_groups::RunGroups;
 use std::alloc::Global;
 use sym_base::NoMemory;
 use sym_check::Checked;
 use sym_plain::Groups;
-use sym_table::Bad;
+use sym_table::{Bad, Chunk};
 
 /// What the records of neighbouring chunks do to each group, or the first of their rows that is no
 /// record.
@@ -125,6 +127,52 @@ impl Run {
             hi,
             groups: join_groups(alloc, checked, groups, next, limit)?,
             bad: None,
+        })
+    }
+
+    /// The run of this one's chunks and then the next chunk: `join` with that chunk's run, which
+    /// isn't made. The chains take on the chunk's records where they are, so that no segment begins
+    /// anew with the chunk, and a key that is there isn't copied. Where the run has a bad row, the
+    /// chunk isn't read.
+    pub fn extend(
+        self,
+        alloc: Global,
+        checked: &Checked,
+        chunk: &Chunk,
+        limit: u32,
+    ) -> Result<Run, NoMemory>
+        requires chunk { FitsChunk (checked_plan checked.now).fields chunk.now }
+        requires number { self.hi < 64 }
+        requires fits { GroupsFit (checked_plan checked.now) self.groups }
+        requires tight { self.bad ≡ None → AreTight (checked_plan checked.now) limit self.groups }
+        ensures chunks { IfOk result (IsFromTo self.lo (self.hi + 1)) }
+        ensures fits { IfOk result (λ run. GroupsFit (checked_plan checked.now) run.groups) }
+        ensures stands { (chunks : List OneChunk) →
+            StandsForChunks (checked_plan checked.now) limit chunks self →
+            slice_get chunks self.hi ≡ Some chunk.now →
+            IfOk result (StandsForChunks (checked_plan checked.now) limit chunks) }
+    {
+        let Run {
+            lo,
+            hi,
+            groups,
+            bad,
+        } = self;
+        if bad.is_some() {
+            return Ok(Run {
+                lo,
+                hi: hi + 1,
+                groups,
+                bad,
+            });
+        }
+        let mut map = groups.into_map();
+        let bad = take_rows(alloc, checked, chunk, &mut map, limit)?;
+        Ok(Run {
+            lo,
+            hi: hi + 1,
+            groups: RunGroups::of_map(map),
+            bad,
         })
     }
 

@@ -8,7 +8,7 @@ use Rattle.sym_run.proofs.chunks.take_rows.Goals as goal
 
 pub rows-init : goal.rows-init
 rows-init c = record {
-  taking = taking_none (checked_plan c.args.checked.now) c.args.limit c.args.chunk.now.header c.args.chunk.now.first_no c.args.map.now.entries c.requires.empty;
+  taking = taking_none (checked_plan c.args.checked.now) c.args.limit c.args.chunk.now.header c.args.chunk.now.first_no c.args.map.now.entries c.requires.fits c.requires.tight;
   distinct = c.requires.distinct;
 }
 
@@ -18,7 +18,7 @@ returns-then-is_some-clause-found c =
     let rows : List Row = c.args.chunk.now.rows in
     let within : c.rows.index < length rows = rw c.as_slice-row-items.ensures at c.rows-test.true in
     let at : slice_get rows c.rows.index ≡ Some c.row-item.result = slice_get_read rows (length rows) c.rows.index c.row-item.result refl within (rw c.as_slice-row-items.ensures at c.row-item.is) in
-    bad_told p c.args.limit c.args.chunk.now.header c.args.chunk.now.first_no rows c.rows.index c.row-item.result c.in_ok-bad.bad c.decode_into.new.into c.rows.map.entries
+    bad_told p c.args.limit c.args.chunk.now.header c.args.chunk.now.first_no rows c.rows.index c.row-item.result c.in_ok-bad.bad c.decode_into.new.into c.args.map.now.entries c.rows.map.entries
     c.rows.invariant.taking at (sym c.is_some.ensures ∙ c.if-is_some.true) c.in_ok-bad.ensures.read
 
 pub rows-preserved : goal.rows-preserved
@@ -29,7 +29,7 @@ rows-preserved c =
     let at : slice_get rows c.rows.index ≡ Some c.row-item.result = slice_get_read rows (length rows) c.rows.index c.row-item.result refl within (rw c.as_slice-row-items.ensures at c.row-item.is) in
     record {
       taking =
-          taking_on p c.args.limit c.args.chunk.now.header c.args.chunk.now.first_no rows c.rows.index c.row-item.result c.decode_into.new.into c.rows.map.entries c.take_record.new.map.entries
+          taking_on p c.args.limit c.args.chunk.now.header c.args.chunk.now.first_no rows c.rows.index c.row-item.result c.decode_into.new.into c.args.map.now.entries c.rows.map.entries c.take_record.new.map.entries
           c.rows.invariant.taking at
           (record_told c.in_ok-bad.bad c.decode_into.new.into _ (sym c.is_some.ensures ∙ c.if-is_some.false) c.in_ok-bad.ensures.read)
           c.in_ok-take_record.ensures.grows;
