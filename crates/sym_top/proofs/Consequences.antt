@@ -186,7 +186,7 @@ module _ (call : Call) (out err : Sunk) (result : Status) where
       (record { status_is = status_is; sinks = line_told why untouched line }))
   stop-expected held end _ is (script_unread unread) status_is untouched line =
       subst (λ s. Unless s (Answers call held end out err result)) (sym status_is) tt
-  stop-expected held end _ is (file_unread command program records number asked prog fine unread) status_is untouched line =
+  stop-expected held end _ is (file_unread run program records number asked prog fine unread) status_is untouched line =
       subst (λ s. Unless s (Answers call held end out err result)) (sym status_is) tt
   stop-expected held end _ is no_memory status_is untouched line =
       subst (λ s. Unless s (Answers call held end out err result)) (sym status_is) tt
@@ -238,7 +238,7 @@ module _ (call : Call) (out err : Sunk) (result : Status) where
       result ≡ status.NoMemory
   stop-complete m _ (at_end why stop) status_is = absurd (never-whole m.held m.end why m.is_end m.whole stop)
   stop-complete m _ (script_unread unread) status_is = absurd (m.read place.Script unread)
-  stop-complete m _ (file_unread command program records number asked prog fine unread) status_is =
+  stop-complete m _ (file_unread run program records number asked prog fine unread) status_is =
       absurd (m.read (place.File number) unread)
   stop-complete m _ no_memory status_is = status_is
 
@@ -279,7 +279,7 @@ module _ (call : Call) (out err : Sunk) (result : Status) where
       let cause : why ≡ refusal.Usage = cc in
       inl (status_is ∙ ap status_of_refusal cause)
   usage-stop held _ none (script_unread unread) status_is = absurd (unnamed place.Script none unread)
-  usage-stop held _ none (file_unread command program records number asked prog fine unread) status_is =
+  usage-stop held _ none (file_unread run program records number asked prog fine unread) status_is =
       absurd (unnamed (place.File number) none unread)
   usage-stop held _ none no_memory status_is = inr status_is
 
@@ -337,14 +337,14 @@ module _ (call : Call) (out err : Sunk) (result : Status) where
 
   end-words : (held : Held) (end : End) → IsEnd call.asked held end → status_of end ≡ status.Usage → IsUsage call
   end-words held _ (usage none) e = none
-  end-words held _ (no_program command why asked is) e = absurd (program-words held.script why is e)
-  end-words held _ (problem command program why asked is first) e = absurd (pass-words why e)
-  end-words held _ (report command program records asked is fine) e = absurd (fault-words _ e)
+  end-words held _ (no_program run why asked is) e = absurd (program-words held.script why is e)
+  end-words held _ (problem run program why asked is first) e = absurd (pass-words why e)
+  end-words held _ (report run program records asked is fine) e = absurd (fault-words _ e)
 
   stop-words : (held : Held) (why : Refusal) → IsStop call held why → status_of_refusal why ≡ status.Usage → IsUsage call
   stop-words held _ (at_end why stop) e = end-words held (Refused why) stop e
   stop-words held _ (script_unread unread) e = cc
-  stop-words held _ (file_unread command program records number asked prog fine unread) e = cc
+  stop-words held _ (file_unread run program records number asked prog fine unread) e = cc
   stop-words held _ no_memory e = cc
 
   cut-words : (text : List ℕ) (why : Refusal) → WriteFails out text why → status_of_refusal why ≡ status.Usage → ⊥

@@ -1,9 +1,11 @@
+mod CommandExamples
 pub mod Consequences
 pub mod EndsFound
 mod MadeExamples
 pub mod MadeLines
+pub mod Matching
 mod MessageExamples
-pub mod Names
+pub mod Numerals
 pub mod Preparing
 pub mod ProgramsFound
 pub mod Rows

@@ -29,8 +29,9 @@ use Rattle.sym_top.specs.declared.refusal.Refusal.{Refusal}
 use Rattle.sym_top.specs.declared.refusal.Refusal.TheVariants as refusal
 use Rattle.sym_top.specs.declared.report.Report.{Report}
 use Rattle.sym_top.specs.declared.status.Status.TheVariants as status
-use Rattle.sym_top.specs.declared.commands.Command.{Command as CommandRead}
-use Rattle.sym_top.specs.Commands.{FileNames, command_of, file_rules, name_at, names_of}
+use Rattle.sym_top.specs.declared.commands.Command.TheVariants as command
+use Rattle.sym_top.specs.declared.commands.Run.{Run as RunRead}
+use Rattle.sym_top.specs.Commands.{FileNames, Runs, command_of, file_rules, name_at, names_of}
 use Rattle.sym_top.specs.Ends.{Held, IsTextOf, report_in, usage, no_program, problem, report, report_of}
 use Rattle.sym_top.specs.Loading.{MayRefuse, Loads, Unloads, refused, unread, no_memory, Reports, StopsFiles, stops, Ready, Stops}
 use Rattle.sym_top.specs.Messages.{headers_of, line_of}
@@ -39,7 +40,7 @@ use Rattle.sym_top.specs.Programs as programs
 use Rattle.sym_top.specs.Promises.{Call, MayHold, MayScript, ReadFailed, IsStop, WriteFails, call_names}
 use Rattle.sym_top.specs.Promises as promise
 use Rattle.sym_top.specs.Refusals.{parse_refusal, check_refusal, read_refusal, pass_refusal, write_refusal}
-use Rattle.sym_top.specs.Words.{command_seen}
+use Rattle.sym_top.specs.Words.{run_seen}
 use Rattle.sym_top.specs.Telling.{Sunk, HasPrefix, Failed, Short}
 use Rattle.sym_top.proofs.ProgramsFound.{parsed-unparsed, program-found, none-found}
 
@@ -155,25 +156,41 @@ usage-stops call asked =
       line = refl;
     }
 
--- A call that asks for this command.
-module _ (call : Call) (read : CommandRead) (asked : command_of call.asked ≡ Some (command_seen read)) where
-  names-known : call_names call ≡ names_of (Some (command_seen read))
+some-script : (holds : Holds) (name : Option (List ℕ)) → (text : List ℕ) × MayScript holds name text
+some-script holds None = ([], refl)
+some-script holds (Some name) = some-bytes (holds name)
+
+-- A call for which memory ran out while its arguments were read.
+pub memory-stops : (call : Call) → Stops call (record { why = refusal.NoMemory; command = None; checked = None })
+memory-stops call =
+    let text = some-script call.holds (call_names call).script in
+    let others = some-files call.holds (call_names call).files in
+    record {
+      held = record { script = text.0; files = others.0 };
+      may = (text.1, others.1);
+      stop = promise.no_memory;
+      line = refl;
+    }
+
+-- A call that asks for this run.
+module _ (call : Call) (read : RunRead) (asked : command_of call.asked ≡ Some (Runs (run_seen read))) where
+  names-known : call_names call ≡ names_of (Some (Runs (run_seen read)))
   names-known = ap names_of asked
 
-  may-by : (held : Held) → May (call.holds (command_seen read).script) held.script → MayAll call.holds (command_seen read).files held.files →
+  may-by : (held : Held) → May (call.holds (run_seen read).script) held.script → MayAll call.holds (run_seen read).files held.files →
       MayHold call held
   may-by held script files =
       let P : FileNames → Type 0 = λ names. MayScript call.holds names.script held.script × MayAll call.holds names.files held.files in
       subst P (sym names-known) (script, files)
 
-  script-failed : Rose (call.before (command_seen read).script) (call.after (command_seen read).script) → ReadFailed call place.Script
+  script-failed : Rose (call.before (run_seen read).script) (call.after (run_seen read).script) → ReadFailed call place.Script
   script-failed rose = record {
-    name = (command_seen read).script;
+    name = (run_seen read).script;
     named = ap (λ (names : FileNames). name_at names place.Script) names-known;
     rose = rose;
   }
 
-  file-failed : (number : ℕ) (name : List ℕ) → slice_get (command_seen read).files number ≡ Some name → Rose (call.before name) (call.after name) →
+  file-failed : (number : ℕ) (name : List ℕ) → slice_get (run_seen read).files number ≡ Some name → Rose (call.before name) (call.after name) →
       ReadFailed call (place.File number)
   file-failed number name named rose = record {
     name = name;
@@ -181,23 +198,23 @@ module _ (call : Call) (read : CommandRead) (asked : command_of call.asked ≡ S
     rose = rose;
   }
 
-  named-line : (headers : List (List ℕ)) (why : Refusal) → line_of (names_of (Some (command_seen read))) headers why ≡ line_of (call_names call) headers why
+  named-line : (headers : List (List ℕ)) (why : Refusal) → line_of (names_of (Some (Runs (run_seen read)))) headers why ≡ line_of (call_names call) headers why
   named-line headers why = ap (λ names. line_of names headers why) (sym names-known)
 
-  pub load-stops : (why : Refusal) → Unloads (call.holds (command_seen read).script) (call.before (command_seen read).script) (call.after (command_seen read).script) why →
-      Stops call (record { why = why; command = Some read; checked = None })
+  pub load-stops : (why : Refusal) → Unloads (call.holds (run_seen read).script) (call.before (run_seen read).script) (call.after (run_seen read).script) why →
+      Stops call (record { why = why; command = Some (command.Run read); checked = None })
   load-stops _ (refused text why may is) =
-      let others = some-files call.holds (command_seen read).files in
+      let others = some-files call.holds (run_seen read).files in
       let held : Held = record { script = text; files = others.0 } in
       record {
         held = held;
         may = may-by held may others.1;
-        stop = promise.at_end why (no_program (command_seen read) why asked is);
+        stop = promise.at_end why (no_program (run_seen read) why asked is);
         line = named-line [] why ∙ ap (λ r. line_of (call_names call) (program_headers r) why) (sym (none-found text why is));
       }
   load-stops _ (unread rose) =
-      let text = some-bytes (call.holds (command_seen read).script) in
-      let others = some-files call.holds (command_seen read).files in
+      let text = some-bytes (call.holds (run_seen read).script) in
+      let others = some-files call.holds (run_seen read).files in
       let held : Held = record { script = text.0; files = others.0 } in
       record {
         held = held;
@@ -206,8 +223,8 @@ module _ (call : Call) (read : CommandRead) (asked : command_of call.asked ≡ S
         line = named-line [] (refusal.Read place.Script);
       }
   load-stops _ no_memory =
-      let text = some-bytes (call.holds (command_seen read).script) in
-      let others = some-files call.holds (command_seen read).files in
+      let text = some-bytes (call.holds (run_seen read).script) in
+      let others = some-files call.holds (run_seen read).files in
       let held : Held = record { script = text.0; files = others.0 } in
       record {
         held = held;
@@ -216,8 +233,8 @@ module _ (call : Call) (read : CommandRead) (asked : command_of call.asked ≡ S
         line = refl;
       }
 
-  pub ready-by : (program : Program) (made : Report) → Loads (call.holds (command_seen read).script) program →
-      Reports program (file_rules (command_seen read)) call.holds (command_seen read).files made → Ready call made
+  pub ready-by : (program : Program) (made : Report) → Loads (call.holds (run_seen read).script) program →
+      Reports program (file_rules (run_seen read)) call.holds (run_seen read).files made → Ready call made
   ready-by program made loads reports =
       let held : Held = record { script = loads.text; files = reports.files } in
       record {
@@ -225,7 +242,7 @@ module _ (call : Call) (read : CommandRead) (asked : command_of call.asked ≡ S
         may = may-by held loads.may reports.may;
         has = record {
           end = report_of program reports.records;
-          is_end = report (command_seen read) program reports.records asked loads.is_program reports.fine;
+          is_end = report (run_seen read) program reports.records asked loads.is_program reports.fine;
           whole = tt;
           status_is = reports.status_is;
           text_is = reports.text_is;
@@ -233,12 +250,12 @@ module _ (call : Call) (read : CommandRead) (asked : command_of call.asked ≡ S
       }
 
 -- What stops it after its script was accepted.
-module _ (call : Call) (read : CommandRead) (asked : command_of call.asked ≡ Some (command_seen read))
+module _ (call : Call) (read : RunRead) (asked : command_of call.asked ≡ Some (Runs (run_seen read)))
     (checked : Checked) (middle : Counts) (lower : (name : List ℕ) → call.before name ≤ middle name)
-    (loads : Loads (call.holds (command_seen read).script) (checked_program checked)) where
-  known : (why : Refusal) (files : List (List ℕ)) → MayAll call.holds (command_seen read).files files →
+    (loads : Loads (call.holds (run_seen read).script) (checked_program checked)) where
+  known : (why : Refusal) (files : List (List ℕ)) → MayAll call.holds (run_seen read).files files →
       IsStop call (record { script = loads.text; files = files }) why →
-      Stops call (record { why = why; command = Some read; checked = Some checked })
+      Stops call (record { why = why; command = Some (command.Run read); checked = Some checked })
   known why files may stop =
       let held : Held = record { script = loads.text; files = files } in
       record {
@@ -251,27 +268,27 @@ module _ (call : Call) (read : CommandRead) (asked : command_of call.asked ≡ S
       }
 
   problem-stops : (why : PassErr) →
-      HasFirstProblem (checked_program checked).plan (file_rules (command_seen read)) call.holds (command_seen read).files 1 why →
-      Stops call (record { why = pass_refusal why; command = Some read; checked = Some checked })
+      HasFirstProblem (checked_program checked).plan (file_rules (run_seen read)) call.holds (run_seen read).files 1 why →
+      Stops call (record { why = pass_refusal why; command = Some (command.Run read); checked = Some checked })
   problem-stops why s =
       known (pass_refusal why) s.files s.may
-      (promise.at_end (pass_refusal why) (problem (command_seen read) (checked_program checked) why asked loads.is_program s.problem))
+      (promise.at_end (pass_refusal why) (problem (run_seen read) (checked_program checked) why asked loads.is_program s.problem))
 
   error-stops : (why : PassErr) →
-      StopsPass (checked_program checked).plan (file_rules (command_seen read)) call.holds (command_seen read).files middle call.after why →
-      Stops call (record { why = pass_refusal why; command = Some read; checked = Some checked })
+      StopsPass (checked_program checked).plan (file_rules (run_seen read)) call.holds (run_seen read).files middle call.after why →
+      Stops call (record { why = pass_refusal why; command = Some (command.Run read); checked = Some checked })
   error-stops (pass_error.Read file) s =
       known (refusal.Read (place.File file)) s.files s.may
-      (promise.file_unread (command_seen read) (checked_program checked) s.records file asked loads.is_program s.fine
+      (promise.file_unread (run_seen read) (checked_program checked) s.records file asked loads.is_program s.fine
       (file-failed call read asked file s.name s.named (omega (arith, lower s.name, s.rose))))
   error-stops (pass_error.TooLarge file) s = problem-stops (pass_error.TooLarge file) s
   error-stops (pass_error.Head file fault) s = problem-stops (pass_error.Head file fault) s
   error-stops (pass_error.Bad file bad) s = problem-stops (pass_error.Bad file bad) s
   error-stops pass_error.NoMemory s =
-      let others = some-files call.holds (command_seen read).files in
+      let others = some-files call.holds (run_seen read).files in
       known refusal.NoMemory others.0 others.1 promise.no_memory
 
   pub files-stop : (why : Refusal) →
-      StopsFiles (checked_program checked) (file_rules (command_seen read)) call.holds (command_seen read).files middle call.after why →
-      Stops call (record { why = why; command = Some read; checked = Some checked })
+      StopsFiles (checked_program checked) (file_rules (run_seen read)) call.holds (run_seen read).files middle call.after why →
+      Stops call (record { why = why; command = Some (command.Run read); checked = Some checked })
   files-stop _ (stops why s) = error-stops why s

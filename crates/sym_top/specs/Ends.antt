@@ -14,7 +14,7 @@ use Rattle.sym_top.specs.declared.refusal.Refusal.{Refusal}
 use Rattle.sym_top.specs.declared.refusal.Refusal.TheVariants as refusal
 use Rattle.sym_top.specs.declared.status.Status.{Status}
 use Rattle.sym_top.specs.declared.status.Status.TheVariants as status
-use Rattle.sym_top.specs.Commands.{Asked, Command, command_of, file_rules}
+use Rattle.sym_top.specs.Commands.{Asked, Run, Runs, command_of, file_rules}
 use Rattle.sym_top.specs.Programs.{Program, IsProgram, IsNoProgram}
 use Rattle.sym_top.specs.Refusals.{pass_refusal, status_of_refusal}
 
@@ -56,17 +56,17 @@ report_of program records =
 pub data IsEnd (asked : Asked) (held : Held) : End → Type 0 where
   usage : command_of asked ≡ None
       → IsEnd asked held (Refused refusal.Usage)
-  no_program : (command : Command) (why : Refusal)
-      → command_of asked ≡ Some command
+  no_program : (run : Run) (why : Refusal)
+      → command_of asked ≡ Some (Runs run)
       → IsNoProgram held.script why
       → IsEnd asked held (Refused why)
-  problem : (command : Command) (program : Program) (why : PassErr)
-      → command_of asked ≡ Some command
+  problem : (run : Run) (program : Program) (why : PassErr)
+      → command_of asked ≡ Some (Runs run)
       → IsProgram held.script program
-      → FirstProblem program.plan (file_rules command) 0 1 held.files why
+      → FirstProblem program.plan (file_rules run) 0 1 held.files why
       → IsEnd asked held (Refused (pass_refusal why))
-  report : (command : Command) (program : Program) (records : List Record)
-      → command_of asked ≡ Some command
+  report : (run : Run) (program : Program) (records : List Record)
+      → command_of asked ≡ Some (Runs run)
       → IsProgram held.script program
-      → AllFine program.plan (file_rules command) 1 held.files records
+      → AllFine program.plan (file_rules run) 1 held.files records
       → IsEnd asked held (report_of program records)

@@ -1,10 +1,12 @@
 pub mod CheckLines
+pub mod CommandLines
 pub mod Commands
 pub mod EndReading
 pub mod Ends
 pub mod Loading
 pub mod Making
 pub mod Messages
+pub mod Numbers
 pub mod Programs
 pub mod Promises
 pub mod Refusals

@@ -8,7 +8,6 @@ use Rattle.sym_table.specs.declared.bad.BadCause.{BadCause}
 use Rattle.sym_table.specs.declared.bad.BadCause.TheVariants as cause
 use Rattle.sym_table.specs.declared.header.HeadFault.{HeadFault}
 use Rattle.sym_table.specs.declared.header.HeadFault.TheVariants as head
-use Rattle.sym_top.specs.declared.refusal.Place.{Place}
 use Rattle.sym_top.specs.declared.refusal.Place.TheVariants as place
 use Rattle.sym_top.specs.declared.refusal.Refusal.{Refusal}
 use Rattle.sym_top.specs.declared.refusal.Refusal.TheVariants as refusal

@@ -11,7 +11,7 @@ use Rattle.sym_top.specs.declared.refusal.Refusal.{Refusal}
 use Rattle.sym_top.specs.declared.refusal.Refusal.TheVariants as refusal
 use Rattle.sym_top.specs.declared.status.Status.{Status}
 use Rattle.sym_top.specs.declared.status.Status.TheVariants as status
-use Rattle.sym_top.specs.Commands.{Asked, Command, FileNames, command_of, file_rules, name_at, names_of}
+use Rattle.sym_top.specs.Commands.{Asked, Run, Runs, FileNames, command_of, file_rules, name_at, names_of}
 use Rattle.sym_top.specs.Ends.{End, Refused, Held, IsEnd, IsTextOf, IsWhole, status_of}
 use Rattle.sym_top.specs.Messages.{line_of}
 use Rattle.sym_top.specs.Programs.{Program, IsProgram, headers_in}
@@ -80,10 +80,10 @@ pub data IsStop (call : Call) (held : Held) : Refusal → Type 0 where
       → IsStop call held why
   script_unread : ReadFailed call place.Script
       → IsStop call held (refusal.Read place.Script)
-  file_unread : (command : Command) (program : Program) (records : List Record) (number : ℕ)
-      → command_of call.asked ≡ Some command
+  file_unread : (run : Run) (program : Program) (records : List Record) (number : ℕ)
+      → command_of call.asked ≡ Some (Runs run)
       → IsProgram held.script program
-      → AllFine program.plan (file_rules command) 1 (take number held.files) records
+      → AllFine program.plan (file_rules run) 1 (take number held.files) records
       → ReadFailed call (place.File number)
       → IsStop call held (refusal.Read (place.File number))
   no_memory : IsStop call held refusal.NoMemory

@@ -1,22 +1,26 @@
-//! The arguments after the program's name.
-ghost use Rattle.std.specs.Prelude.{◌≡◌, ◌≤◌, [], map, IfSome, length};
-ghost use Rattle.std.specs.List.{list_all};
-ghost use Rattle.std.specs.String.{string_bytes};
+//! Commands, and the files that they name.
+ghost use Rattle.std.specs.Prelude.{◌≡◌};
 ghost use Rattle.std.specs.Option.{option_map};
-ghost use Rattle.sym_base.specs.declared.limits.TheConstants as limit;
-ghost use Rattle.sym_top.specs.Commands.{is_option as is_option_of, is_name as is_name_of, are_files as are_files_of, command_in, file_name as file_name_in, names_of as names_of_command};
+ghost use Rattle.sym_top.specs.Commands.{file_name as file_name_in, names_of as names_of_command};
 ghost use Rattle.sym_top.specs.Words.{command_seen, names_seen};
 
 use crate::refusal::Place;
-use sym_base::{FILE_MAX_DEFAULT, FILES_MAX};
+use sym_engine::Options;
 
-/// `run SCRIPT FILE...`: the names of the script and of the files of records, and the most bytes
-/// that each file may have.
-#[derive(Clone, Copy)]
-pub struct Command<'a> {
+/// `run`: the form of the report, how files are cut and worked on, and the names of the script and
+/// of the files of records.
+#[derive(Drop)]
+pub struct Run<'a> {
+    pub form: &'a str,
+    pub options: Options,
     pub script: &'a str,
-    pub files: &'a [String],
-    pub max_bytes: u64,
+    pub files: Vec<String>,
+}
+
+/// What is asked for.
+#[derive(Drop)]
+pub enum Command<'a> {
+    Run(Run<'a>),
 }
 
 /// The names of the files that a command reads.
@@ -26,59 +30,14 @@ pub struct FileNames<'a> {
     pub files: &'a [String],
 }
 
-// Whether a word is an option: longer than the `-` that it begins with.
-fn is_option(word: &str) -> bool
-    ensures { result ≡ is_option_of word.now }
-{
-    match word.as_bytes() {
-        [first, _, ..] => *first == b'-',
-        _ => false,
-    }
-}
-
-// Whether no word is an option.
-fn are_names(words: &[String]) -> bool
-    ensures { result ≡ list_all (λ word. is_name_of (string_bytes word)) words.now }
-{
-    words.iter().all(|word| !is_option(word.as_str()))
-}
-
-// Whether the arguments name one file or more, and no more than a run takes.
-fn are_files(words: &[String]) -> bool
-    ensures { result ≡ are_files_of (map string_bytes words.now) }
-{
-    1 <= words.len() && words.len() <= FILES_MAX && are_names(words)
-}
-
-/// The command that the arguments ask for; `None` where they are those of none.
-pub fn read_words(words: &[String]) -> Option<Command<'_>>
-    ensures read { option_map command_seen result ≡ command_in (map string_bytes words.now) }
-    ensures few { IfSome result (λ command. length command.files.now ≤ limit.FILES_MAX) }
-    ensures size { IfSome result (λ command. command.max_bytes ≤ limit.FILE_MAX) }
-{
-    match words {
-        [word, script, files @ ..] => {
-            if word.as_str() == "run" && !is_option(script.as_str()) && are_files(files) {
-                return Some(Command {
-                    script: script.as_str(),
-                    files,
-                    max_bytes: FILE_MAX_DEFAULT,
-                });
-            }
-            None
-        }
-        _ => None,
-    }
-}
-
 /// The names of the files that the command reads; none where there is no command.
-pub fn names_of<'a>(command: &Option<Command<'a>>) -> FileNames<'a>
+pub fn names_of<'m>(command: &'m Option<Command<'_>>) -> FileNames<'m>
     ensures { names_seen result ≡ names_of_command (option_map command_seen command.now) }
 {
     match command {
-        Some(command) => FileNames {
-            script: Some(command.script),
-            files: command.files,
+        Some(Command::Run(run)) => FileNames {
+            script: Some(run.script),
+            files: run.files.as_slice(),
         },
         None => FileNames {
             script: None,

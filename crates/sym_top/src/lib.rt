@@ -1,18 +1,23 @@
 //! The top call: arguments in, report out.
 #![tactic(auto)]
 
+mod arguments;
 mod check_line;
+mod command_lines;
 mod commands;
 pub mod laws;
 mod load;
 mod making;
+mod matches;
 mod message;
+mod numbers;
 mod printing;
 mod refusal;
 mod report;
 mod status;
 mod summary;
 mod top;
+mod words;
 
 pub use message::refuse_start;
 pub use refusal::StartErr;

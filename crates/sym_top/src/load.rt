@@ -1,14 +1,17 @@
 //! Everything of a run but the writing: its script, its files, its report.
-ghost use Rattle.std.specs.Prelude.{◌≡◌, ◌≤◌, ℕ, List, map, length, IfOk, IfErr};
+ghost use Rattle.std.specs.Prelude.{◌≡◌, ◌≤◌, ℕ, List, Some, None, map, length, IfOk, IfErr};
 ghost use Rattle.std.specs.String.{string_bytes};
 ghost use Rattle.sym_base.specs.declared.limits.TheConstants as limit;
+ghost use Rattle.sym_top.specs.Commands.{Runs, command_in};
 ghost use Rattle.sym_top.specs.Loading.{MayRefuse, Loads, Unloads, Ready, Stops};
 ghost use Rattle.sym_top.specs.Programs.{IsProgram, checked_program};
 ghost use Rattle.sym_top.specs.Promises.{called, IsUsage};
+ghost use Rattle.sym_top.specs.Words.{run_seen, IsRun};
 
-use crate::commands::{Command, read_words};
+use crate::commands::{Command, Run};
 use crate::refusal::{Place, Refusal, check_refusal, parse_refusal, read_refusal};
 use crate::report::{Report, report_files};
+use crate::words::read_words;
 use std::alloc::Global;
 use sym_base::{SCRIPT_MAX, Store, read_all};
 use sym_check::{Checked, check};
@@ -56,6 +59,53 @@ fn load_script<F: Store>(alloc: Global, files: &mut F, name: &str) -> Result<Che
     accept(alloc, text.as_slice())
 }
 
+// The report of a run.
+fn prepare_run<'a, F: Store>(
+    alloc: Global,
+    run: Run<'a>,
+    files: &mut F,
+) -> Result<Report, Failure<'a>>
+    requires { IsRun run }
+    ensures ready { (words : List (List ℕ)) → command_in words ≡ Some (Runs (run_seen run.entry)) →
+        let call = called F.holds F.faults words files.old files.new in
+        IfOk result (Ready call) }
+    ensures stopped { (words : List (List ℕ)) → command_in words ≡ Some (Runs (run_seen run.entry)) →
+        let call = called F.holds F.faults words files.old files.new in
+        IfErr result (Stops call) }
+    ensures same { F.holds files.new ≡ F.holds files.old }
+    ensures later { (other : List ℕ) → F.faults files.old other ≤ F.faults files.new other }
+{
+    let checked = match load_script(alloc, files, run.script) {
+        Ok(checked) => checked,
+        Err(why) => {
+            return Err(Failure {
+                why,
+                command: Some(Command::Run(run)),
+                checked: None,
+            });
+        }
+    };
+    match report_files(alloc, &checked, files, run.files.as_slice(), &run.options) {
+        Ok(report) => Ok(report),
+        Err(why) => Err(Failure {
+            why,
+            command: Some(Command::Run(run)),
+            checked: Some(checked),
+        }),
+    }
+}
+
+// A call whose arguments are those of no command, or weren't read for want of memory.
+fn no_command<'a>(why: Refusal) -> Failure<'a>
+    ensures { result ≡ record { why = why; command = None; checked = None } }
+{
+    Failure {
+        why,
+        command: None,
+        checked: None,
+    }
+}
+
 /// Reads the files that the arguments name, and makes the run's report.
 pub fn prepare<'a, F: Store>(
     alloc: Global,
@@ -74,32 +124,9 @@ pub fn prepare<'a, F: Store>(
     ensures same { F.holds files.new ≡ F.holds files.old }
     ensures later { (other : List ℕ) → F.faults files.old other ≤ F.faults files.new other }
 {
-    let command = match read_words(words) {
-        Some(command) => command,
-        None => {
-            return Err(Failure {
-                why: Refusal::Usage,
-                command: None,
-                checked: None,
-            });
-        }
-    };
-    let checked = match load_script(alloc, files, command.script) {
-        Ok(checked) => checked,
-        Err(why) => {
-            return Err(Failure {
-                why,
-                command: Some(command),
-                checked: None,
-            });
-        }
-    };
-    match report_files(alloc, &checked, files, command.files, command.max_bytes) {
-        Ok(report) => Ok(report),
-        Err(why) => Err(Failure {
-            why,
-            command: Some(command),
-            checked: Some(checked),
-        }),
+    match read_words(alloc, words) {
+        Ok(Some(Command::Run(run))) => prepare_run(alloc, run, files),
+        Ok(None) => Err(no_command(Refusal::Usage)),
+        Err(_) => Err(no_command(Refusal::NoMemory)),
     }
 }

@@ -7,6 +7,7 @@ ghost use Rattle.sym_check.specs.Checking.CheckedScripts.{checked_tree, checked_
 ghost use Rattle.sym_report.specs.ReportRows.{heads_of, row_of, some_faulty};
 ghost use Rattle.sym_report.specs.Tables.{row_text, table_text};
 ghost use Rattle.sym_engine.specs.FileRecords.{plain_rules};
+ghost use Rattle.sym_engine.specs.Options.{InRange};
 ghost use Rattle.sym_top.specs.Loading.{Reports, StopsFiles, listed};
 ghost use Rattle.sym_top.specs.Programs.{checked_program};
 
@@ -15,13 +16,9 @@ use crate::status::Status;
 use std::alloc::Global;
 use sym_base::{NoMemory, Store};
 use sym_check::Checked;
-use sym_engine::{LIMIT_DEFAULT, Options, WORKERS_DEFAULT, pass};
+use sym_engine::{Options, pass};
 use sym_plain::Groups;
 use sym_report::{Heads, TableForm, heads, report_row};
-
-// The rows of a chunk. Rows are folded in their order, so that the groups don't depend on it: a
-// round is small enough that its rows are still in the cache when they are folded.
-const CHUNK_ROWS: u32 = 16;
 
 /// A report's text, and the status with which it is written.
 #[derive(Drop)]
@@ -115,37 +112,31 @@ fn report_groups(alloc: Global, checked: &Checked, groups: &Groups) -> Result<Re
     })
 }
 
-/// The report of a script over the records of the files of these names, in order, of which each may
-/// have `max_bytes` bytes.
+/// The report of a script over the records of the files of these names, in order, which are cut and
+/// worked on by the options.
 pub fn report_files<F: Store>(
     alloc: Global,
     checked: &Checked,
     files: &mut F,
     names: &[String],
-    max_bytes: u64,
+    options: &Options,
 ) -> Result<Report, Refusal>
     requires few { length names.now ≤ limit.FILES_MAX }
-    requires size { max_bytes ≤ limit.FILE_MAX }
+    requires range { InRange options.now }
     ensures ready { let names = map string_bytes names.now in
         let program = checked_program checked.now in
-        let rules = plain_rules max_bytes in
+        let rules = plain_rules options.now.max_bytes in
         IfOk result (Reports program rules (F.holds files.old) names) }
     ensures stopped { let names = map string_bytes names.now in
         let program = checked_program checked.now in
-        let rules = plain_rules max_bytes in
+        let rules = plain_rules options.now.max_bytes in
         let before = F.faults files.old in
         let after = F.faults files.new in
         IfErr result (StopsFiles program rules (F.holds files.old) names before after) }
     ensures same { F.holds files.new ≡ F.holds files.old }
     ensures later { (other : List ℕ) → F.faults files.old other ≤ F.faults files.new other }
 {
-    let options = Options {
-        chunk: CHUNK_ROWS,
-        limit: LIMIT_DEFAULT,
-        workers: WORKERS_DEFAULT,
-        max_bytes,
-    };
-    let groups = match pass(alloc, checked, files, names, &options) {
+    let groups = match pass(alloc, checked, files, names, options) {
         Ok(groups) => groups,
         Err(error) => return Err(pass_refusal(error)),
     };

@@ -97,9 +97,19 @@ fn run<F: Store, O: Sink, E: Sink>(
 
 /// Runs the program on these arguments, `words`, which are those after its name.
 ///
-/// `run SCRIPT FILE...` runs the script over the records of the files, in order, and writes the
-/// report to `out`. The script has at most 65,536 bytes, each file at most 67,108,864, and there
-/// are at most 65,536 files. What is refused is told on `err`, in one line.
+/// `run [--form NAME] [--chunk N] [--limit N] [--workers N] [--max-bytes N] SCRIPT FILE...` runs the
+/// script over the records of the files, in order, and writes the report to `out`. The script has
+/// at most 65,536 bytes, and there are at most 65,536 files. What is refused is told on `err`, in
+/// one line.
+///
+/// Options may stand anywhere, each at most once. The form is `table`. A number is 1 to 10 digits:
+///
+/// - `--chunk`, the rows of a chunk: 1 to 65,536, by default 1,024;
+/// - `--limit`, the path limit: 1 to 256, by default 16;
+/// - `--workers`, the workers of a round: 1 to 64, by default 4;
+/// - `--max-bytes`, the most bytes of each file: 1 to 268,435,456, by default 67,108,864.
+///
+/// No report depends on the first three.
 ///
 /// The order is: arguments, the script's reading, its size, the script, then of each file its
 /// reading, its size, its header and its first row that is no record, then the writing. A read that

@@ -13,7 +13,7 @@ returns-in-Err-clause-stopped g c =
 
 pub returns-in-Ok-report_groups-clause-ready : goal.returns-in-Ok-report_groups-clause-ready
 returns-in-Ok-report_groups-clause-ready g c =
-    reports-by (checked_program c.args.checked.now) (plain_rules c.args.max_bytes) (g.F.Store.holds c.args.files.now)
+    reports-by (checked_program c.args.checked.now) (plain_rules c.args.options.now.max_bytes) (g.F.Store.holds c.args.files.now)
     (map string_bytes c.args.names.now) c.in-Ok.groups c.in-Ok-report_groups.report c.in-Ok.ensures.passed
     c.in-Ok-report_groups.ensures.text c.in-Ok-report_groups.ensures.status
 

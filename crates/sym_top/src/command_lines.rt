@@ -1,0 +1,80 @@
+//! The command lines, as `clap` reads them.
+ghost use Rattle.std.specs.Prelude.{◌≡◌, IfOk};
+ghost use Rattle.clap.specs.Words.{app_of, with_rule};
+ghost use Rattle.sym_top.specs.CommandLines.{option_rule, word_rule, words_rule, bare_app, with_pass_options, run_app};
+
+use crate::arguments::{
+    CHUNK_NAME, FILES_NAME, FORM_NAME, LIMIT_NAME, MAX_BYTES_NAME, RUN_NAME, SCRIPT_NAME,
+    WORKERS_NAME,
+};
+use clap::{Arg, ArgAction, Command};
+use std::alloc::{AllocError, Global};
+
+// Adds `--NAME VALUE`.
+fn with_option<'a>(
+    alloc: Global,
+    command: Command<'a>,
+    name: &'a str,
+) -> Result<Command<'a>, AllocError>
+    ensures { IfOk result (λ c.
+        app_of c ≡ with_rule (app_of command.entry) (option_rule name.entry.now)) }
+{
+    command.arg(Arg::new(alloc, name).long(name).action(ArgAction::Set))
+}
+
+// Adds one word.
+fn with_word<'a>(
+    alloc: Global,
+    command: Command<'a>,
+    name: &'a str,
+) -> Result<Command<'a>, AllocError>
+    ensures { IfOk result (λ c.
+        app_of c ≡ with_rule (app_of command.entry) (word_rule name.entry.now)) }
+{
+    command.arg(Arg::new(alloc, name).action(ArgAction::Set).required(true))
+}
+
+// Adds one word or more.
+fn with_words<'a>(
+    alloc: Global,
+    command: Command<'a>,
+    name: &'a str,
+) -> Result<Command<'a>, AllocError>
+    ensures { IfOk result (λ c.
+        app_of c ≡ with_rule (app_of command.entry) (words_rule name.entry.now)) }
+{
+    command.arg(
+        Arg::new(alloc, name)
+            .action(ArgAction::Append)
+            .required(true),
+    )
+}
+
+// A command without arguments.
+fn bare_command<'a>(alloc: Global, name: &'a str) -> Command<'a>
+    ensures { app_of result ≡ bare_app name.entry.now }
+{
+    Command::new(alloc, name)
+        .disable_help_flag(true)
+        .disable_version_flag(true)
+}
+
+// Adds `[--chunk N] [--limit N] [--workers N]`.
+fn with_pass_options<'a>(alloc: Global, command: Command<'a>) -> Result<Command<'a>, AllocError>
+    ensures { IfOk result (λ c. app_of c ≡ with_pass_options (app_of command.entry)) }
+{
+    let chunked = with_option(alloc, command, CHUNK_NAME)?;
+    let limited = with_option(alloc, chunked, LIMIT_NAME)?;
+    with_option(alloc, limited, WORKERS_NAME)
+}
+
+/// `run [--form NAME] [--chunk N] [--limit N] [--workers N] [--max-bytes N] SCRIPT FILE...`
+pub fn run_command<'a>(alloc: Global) -> Result<Command<'a>, AllocError>
+    ensures { IfOk result (λ c. app_of c ≡ run_app) }
+{
+    let formed = with_option(alloc, bare_command(alloc, RUN_NAME), FORM_NAME)?;
+    let optional = with_pass_options(alloc, formed)?;
+    let sized = with_option(alloc, optional, MAX_BYTES_NAME)?;
+    let scripted = with_word(alloc, sized, SCRIPT_NAME)?;
+    with_words(alloc, scripted, FILES_NAME)
+}
