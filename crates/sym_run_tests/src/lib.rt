@@ -18,3 +18,5 @@ mod runs;
 mod scripts;
 #[cfg(test)]
 mod walk;
+#[cfg(test)]
+mod words;

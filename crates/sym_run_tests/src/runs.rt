@@ -212,8 +212,8 @@ fn sinks_of(alloc: Global, run: &Run) -> Result<(MemSink, MemSink), NoMemory> {
     Ok((out, err))
 }
 
-// The top call. No other function makes it, since proofs beside its long contract are slow.
-fn call(
+/// The top call. No other function makes it, since proofs beside its long contract are slow.
+pub(crate) fn call(
     alloc: Global,
     words: &Vec<String>,
     store: &mut MemStore,
