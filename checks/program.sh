@@ -439,7 +439,14 @@ row "another case of the command" 2 usage Run counts.symple first.csv
 row "an option" 2 usage run --form counts.symple first.csv
 row "a version" 2 usage --version
 row "help" 2 usage run counts.symple first.csv -h
-row "two dashes" 2 usage run -- counts.symple first.csv
+row "options" 0 'user | n\na | 1\nb | 1\n--\n' \
+    run --chunk 1 counts.symple --limit=1 first.csv --workers 2
+row "a form" 0 'user | n\na | 1\nb | 1\n--\n' run counts.symple first.csv --form table
+row "another form" 2 usage run --form html counts.symple first.csv
+row "a number out of its range" 2 usage run --chunk 0 counts.symple first.csv
+row "an option twice" 2 usage run --chunk 2 --chunk 2 counts.symple first.csv
+row "a size limit" 7 'first.csv: too large' run --max-bytes 1 counts.symple first.csv
+row "two dashes" 5 '-x: read fault' run -- counts.symple -x
 row "an argument that isn't UTF-8" 2 usage run counts.symple "$(printf '\377')"
 row "an empty argument" 5 ': read fault' run '' first.csv
 row "faulty arguments before an absent script" 2 usage run absent.symple
