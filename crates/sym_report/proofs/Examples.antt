@@ -18,7 +18,8 @@ use Rattle.sym_report.specs.declared.rows.Heads.{Heads}
 use Rattle.sym_report.specs.declared.rows.Row.{Row}
 use Rattle.sym_report.specs.declared.rows.RowBody.TheVariants.{Columns, Over, Arith}
 use Rattle.sym_report.specs.ReportRows.{heads_of, key_columns, row_of, is_faulty, some_faulty}
-use Rattle.sym_report.specs.Tables.{value_text, table_text}
+use Rattle.sym_report.specs.ValueTexts.{value_text}
+use Rattle.sym_report.specs.Tables.{shown_word, table_text}
 
 abbrev sessions : Heads
 sessions = record {
@@ -62,20 +63,20 @@ unfolding digits
 one_group = refl
 
 -- A control character is shown as `?`, in words alone and in lists of words.
-tab_in_a_word : value_text (column.Word (codes "a\tb")) ≡ codes "a?b"
+tab_in_a_word : value_text shown_word (column.Word (codes "a\tb")) ≡ codes "a?b"
 tab_in_a_word = refl
 
-some_words : value_text (column.Words (codes "a" ∷ codes "\n" ∷ codes "" ∷ [])) ≡ codes "[a ? ]"
+some_words : value_text shown_word (column.Words (codes "a" ∷ codes "\n" ∷ codes "" ∷ [])) ≡ codes "[a ? ]"
 some_words = refl
 
-some_numbers : value_text (column.Nums (negsuc 2 ∷ pos 12 ∷ [])) ≡ codes "[-3 12]"
+some_numbers : value_text shown_word (column.Nums (negsuc 2 ∷ pos 12 ∷ [])) ≡ codes "[-3 12]"
 unfolding digits
 some_numbers = refl
 
-no_numbers : value_text (column.Nums []) ≡ codes "[]"
+no_numbers : value_text shown_word (column.Nums []) ≡ codes "[]"
 no_numbers = refl
 
-no_quotient : value_text (column.Bad fault.Zero) ≡ codes "zero divisor"
+no_quotient : value_text shown_word (column.Bad fault.Zero) ≡ codes "zero divisor"
 no_quotient = refl
 
 -- Faults and columns that couldn't be computed make a row faulty.

@@ -2,8 +2,9 @@
 use Rattle.std.proofs.Common.{◌≡◌, ℕ, Bool, true, false, not, ◌==◌, List, [], ◌∷◌, ◌++◌}
 use Rattle.std.proofs.Common.{length, map, refl, sym, ap, ◌∙◌, append_assoc, rules}
 use Rattle.std.proofs.lemmas.List.{append-nil}
+use Rattle.std.specs.List.{zip}
 use Rattle.sym_report.specs.Appending.{lead, continued}
-use Rattle.sym_report.specs.Tables.{joined}
+use Rattle.sym_report.specs.ValueTexts.{joined}
 
 -- The code appends texts that are joined where nothing stands before them.
 pub joined_continued :
@@ -65,3 +66,13 @@ one_more into middle new separator text started led appended =
     ∙ ap (λ front. front ++ text) led
     ∙ append_assoc into (lead separator started) text
     ∙ ap (λ rest. into ++ (lead separator started ++ rest)) (sym (append-nil text))
+
+-- Two lists have a pair exactly where both have items.
+pub some_zipped :
+    {A B : Type 0} (xs : List A) (ys : List B) (first second : Bool) →
+    first ≡ (length xs == 0) → second ≡ (length ys == 0) → first ≡ false →
+    not second ≡ not (length (zip xs ys) == 0)
+some_zipped [] ys first second is_first is_second some = cc
+some_zipped (x ∷ xs) [] first second is_first is_second some = ap not is_second
+some_zipped (x ∷ xs) (y ∷ ys) first second is_first is_second some =
+    ap not is_second ∙ some-items y ys ∙ sym (some-items (x, y) (zip xs ys))

@@ -1,16 +1,24 @@
-//! Reports: what is shown of each group, and the text of the form `table`.
+//! Reports: what is shown of each group, and its text in the forms `table`, `csv` and `pairs`.
 #![tactic(auto)]
 
 mod calls;
+mod chosen;
+mod csvs;
+mod fields;
+mod form;
 mod keys;
-mod lines;
+mod page;
+mod pairs;
+mod report;
 mod rows;
 mod shown;
 mod table;
 
 pub use calls::{heads, report_row};
+pub use chosen::{add_row, begin_report, choose, end_report, is_named, report_bytes};
+pub use csvs::CsvForm;
+pub use form::ReportForm;
+pub use pairs::PairsForm;
+pub use report::write_report;
 pub use rows::{Heads, Row, RowBody};
 pub use table::TableForm;
-
-#[cfg(test)]
-mod tests;

@@ -1,6 +1,7 @@
 //! What a report shows: names, and rows of values or faults.
-ghost use Rattle.std.specs.Prelude.{◌≡◌, IfOk};
+ghost use Rattle.std.specs.Prelude.{◌≡◌, ◌↔◌, IfOk, IsTrue};
 ghost use Rattle.std.specs.List.{list_any};
+ghost use Rattle.sym_report.specs.Forms.{HasColumns, IsUnder};
 ghost use Rattle.sym_report.specs.ReportRows.{is_bad, is_faulty};
 
 use std::alloc::Global;
@@ -55,6 +56,25 @@ impl Row {
         let keys = self.keys.copy(alloc)?;
         let body = self.body.copy(alloc)?;
         Ok(Row { keys, body })
+    }
+
+    /// Whether the row belongs under these names: it has as many keys, and as many columns unless
+    /// it shows a fault.
+    pub fn is_under(&self, heads: &Heads) -> bool
+        ensures { IsTrue result ↔ IsUnder heads.now self.now }
+    {
+        self.keys.len() == heads.keys.len() && has_columns(&heads.columns, &self.body)
+    }
+}
+
+// Whether the body has a column for each name, unless it shows a fault.
+fn has_columns(names: &Texts, body: &RowBody) -> bool
+    ensures { IsTrue result ↔ HasColumns names.now body.now }
+{
+    match body {
+        RowBody::Columns(columns) => columns.len() == names.len(),
+        RowBody::Over { .. } => true,
+        RowBody::Arith { .. } => true,
     }
 }
 

@@ -18,7 +18,7 @@ use sym_base::{NoMemory, Store};
 use sym_check::Checked;
 use sym_engine::{Options, pass};
 use sym_plain::Groups;
-use sym_report::{Heads, TableForm, heads, report_row};
+use sym_report::{Heads, ReportForm, TableForm, heads, report_row};
 
 /// A report's text, and the status with which it is written.
 #[derive(Drop)]

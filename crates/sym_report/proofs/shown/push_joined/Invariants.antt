@@ -5,5 +5,5 @@ use Rattle.sym_report.proofs.shown.push_joined.Given as goal
 
 abbrev pub invariant-items : goal.invariant-items
 invariant-items g l =
-    l.into.items ++ continued l.separator l.started (map g.T.Shown.text (drop l.item-index l.items))
-    ≡ l.initial.into.items ++ continued l.separator l.initial.started (map g.T.Shown.text l.items)
+    l.into.items ++ continued l.separator l.started (map (g.T.Shown.text l.style) (drop l.item-index l.items))
+    ≡ l.initial.into.items ++ continued l.separator l.initial.started (map (g.T.Shown.text l.style) l.items)

@@ -1,7 +1,7 @@
 -- What was appended, and what the names that are left add, is the whole.
 use Rattle.std.proofs.Common.{◌≡◌, ◌++◌, drop, codes}
 use Rattle.sym_report.specs.Appending.{continued}
-use Rattle.sym_report.proofs.lines.push_names.Given as goal
+use Rattle.sym_report.proofs.table.push_names.Given as goal
 
 abbrev pub invariant-names : goal.invariant-names
 invariant-names l =

@@ -1,0 +1,55 @@
+//! A form of the test's own: `<` for the names, `.` for each row, `>` for the end.
+ghost use Rattle.std.specs.Prelude.{codes};
+
+use std::alloc::Global;
+use sym_base::NoMemory;
+use sym_report::{Heads, ReportForm, Row};
+
+/// A report in marks.
+#[derive(Drop)]
+pub(crate) struct Marks {
+    bytes: Vec<u8>,
+}
+
+impl Marks {
+    pub(crate) fn new(alloc: Global) -> Marks {
+        Marks {
+            bytes: Vec::new(alloc),
+        }
+    }
+}
+
+impl ReportForm for Marks {
+    ghost called = { λ f. codes "marks" };
+
+    ghost texts = { λ f. record {
+        begin = λ heads. codes "<";
+        row = λ heads row. codes ".";
+        end = λ heads. codes ">";
+    } };
+
+    ghost gathered = { λ f. f.bytes.items };
+
+    fn name(&self) -> &str {
+        "marks"
+    }
+
+    fn begin(&mut self, _alloc: Global, _heads: &Heads) -> Result<(), NoMemory> {
+        self.bytes.push(b'<')?;
+        Ok(())
+    }
+
+    fn row(&mut self, _alloc: Global, _heads: &Heads, _row: &Row) -> Result<(), NoMemory> {
+        self.bytes.push(b'.')?;
+        Ok(())
+    }
+
+    fn end(&mut self, _alloc: Global, _heads: &Heads) -> Result<(), NoMemory> {
+        self.bytes.push(b'>')?;
+        Ok(())
+    }
+
+    fn bytes(&self) -> &[u8] {
+        &self.bytes
+    }
+}

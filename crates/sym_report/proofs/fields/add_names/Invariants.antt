@@ -1,0 +1,6 @@
+-- The fields that were added are those of the first items.
+use Rattle.std.proofs.Common.{◌≡◌, ◌++◌, take}
+use Rattle.sym_report.proofs.fields.add_names.Given as goal
+
+abbrev pub invariant-names : goal.invariant-names
+invariant-names l = l.fields ≡ l.initial.fields ++ take l.name-index l.names
