@@ -1,6 +1,6 @@
 -- The first form of a name among the forms that are left.
-use Rattle.std.proofs.Common.{◌≡◌, ◌∙◌, ℕ, ◌+◌, ◌<◌, ◌≤◌, Bool, true, List, ◌∷◌, Option, Some, None}
-use Rattle.std.proofs.Common.{length, drop, get_or, if◌then◌else◌, refl, sym, ap, slice_get}
+use Rattle.std.proofs.Common.{◌≡◌, ◌∙◌, ℕ, ◌+◌, ◌<◌, ◌≤◌, true, List, ◌∷◌, Some, None}
+use Rattle.std.proofs.Common.{length, drop, get_or, if◌then◌else◌, refl, sym, ap}
 use Rattle.std.proofs.lemmas.List.{drop_all, drop_more}
 use Rattle.std.proofs.lemmas.Option.{slice_get_read}
 use Rattle.std.specs.Str.{bytes_eq}

@@ -1,11 +1,8 @@
 -- The rows of groups belong under the names of their report.
-use Rattle.std.proofs.Common.{◌≡◌, ◌∙◌, ℕ, List, [], ◌∷◌, length, map, refl, sym, ap, arith}
+use Rattle.std.proofs.Common.{◌≡◌, ◌∙◌, ℕ, List, [], ◌∷◌, length, refl, sym, arith}
 use Rattle.std.proofs.lemmas.List.{length-map}
-use Rattle.std.proofs.lemmas.List.Elements.{All-map}
 use Rattle.std.proofs.lemmas.Slice.Zip.{AllZip-long}
 use Rattle.std.specs.List.{All, zip}
-use Rattle.sym_base.specs.declared.tree.name.Name.{Name}
-use Rattle.sym_base.specs.declared.values.value.Value.{Value}
 use Rattle.sym_base.specs.declared.values.value.Key.{Key}
 use Rattle.sym_base.specs.declared.values.state.Outcome.{Outcome}
 use Rattle.sym_base.specs.declared.values.state.Outcome.TheVariants.{Going, Ended}
@@ -14,12 +11,11 @@ use Rattle.sym_base.specs.declared.values.state.FaultKind.TheVariants as fault
 use Rattle.sym_base.specs.Trees.{ScriptTree}
 use Rattle.sym_check.proofs.AcceptedPlans.{each_long}
 use Rattle.sym_check.specs.Meaning.Validity.{IsKey, IsOfField}
-use Rattle.sym_check.specs.Plan.ScriptPlans.{ScriptPlan, ColumnOf}
+use Rattle.sym_check.specs.Plan.ScriptPlans.{ScriptPlan}
 use Rattle.sym_check.specs.Rules.Declarations.{IsGroupField}
 use Rattle.sym_check.specs.Rules.Scripts.{IsAccepted}
-use Rattle.sym_plain.specs.Shown.{columns, value_column}
 use Rattle.sym_report.specs.Forms.{HasColumns, IsUnder}
-use Rattle.sym_report.specs.ReportRows.{heads_of, row_of, body_of, fault_body, key_columns, field_labels}
+use Rattle.sym_report.specs.ReportRows.{heads_of, row_of, body_of, fault_body, key_columns}
 
 -- The group line names as many fields as tell groups apart.
 grouped : (t : ScriptTree) (p : ScriptPlan) → IsAccepted t p → length p.group ≡ length t.group

@@ -3,7 +3,6 @@
 -- for a fault. The form is this project's profile.
 use Rattle.std.specs.Prelude.{ℕ, List, [], ◌∷◌, ◌++◌, map, codes}
 use Rattle.csv.specs.Writing as csv
-use Rattle.sym_base.specs.declared.values.report.Column.{Column}
 use Rattle.sym_report.specs.declared.rows.Heads.{Heads}
 use Rattle.sym_report.specs.declared.rows.Row.{Row}
 use Rattle.sym_report.specs.declared.rows.RowBody.{RowBody}

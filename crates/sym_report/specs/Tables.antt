@@ -1,7 +1,6 @@
 -- The form `table`, for people: a line of names, a line for each row, and a last line. The form is
 -- this project's profile.
 use Rattle.std.specs.Prelude.{ℕ, nat_lt, ◌==◌, ◌||◌, if◌then◌else◌, List, [], ◌∷◌, ◌++◌, map, codes}
-use Rattle.sym_base.specs.declared.values.report.Column.{Column}
 use Rattle.sym_report.specs.declared.rows.Heads.{Heads}
 use Rattle.sym_report.specs.declared.rows.Row.{Row}
 use Rattle.sym_report.specs.declared.rows.RowBody.{RowBody}

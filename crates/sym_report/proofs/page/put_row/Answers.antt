@@ -1,4 +1,4 @@
-use Rattle.std.proofs.Common.{◌≡◌, ◌≢◌, ◌∙◌, ◌++◌, ap, append-nil}
+use Rattle.std.proofs.Common.{◌≢◌, ◌∙◌, ◌++◌, ap, append-nil}
 use Rattle.csv.specs.Records.{fields_of}
 use Rattle.csv.specs.Writing.{writer_setup}
 use Rattle.csv.specs.declared.writer.QuoteStyle.TheVariants as style
