@@ -23,9 +23,9 @@ impl ReportForm for Marks {
     ghost called = { λ f. codes "marks" };
 
     ghost texts = { λ f. record {
-        begin = λ heads. codes "<";
-        row = λ heads row. codes ".";
-        end = λ heads. codes ">";
+      begin = λ heads. codes "<";
+      row = λ heads row. codes ".";
+      end = λ heads. codes ">";
     } };
 
     ghost gathered = { λ f. f.bytes.items };

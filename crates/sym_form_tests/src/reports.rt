@@ -211,19 +211,32 @@ fn add_all(
     Ok(())
 }
 
-// The bytes of a report in a form.
-fn bytes_in(
+fn add_report(
     alloc: Global,
     form: &mut Box<dyn ReportForm>,
     report: GivenReport,
-) -> Result<Vec<u8>, NoMemory> {
+) -> Result<(), NoMemory> {
     let heads = heads_of(alloc, report)?;
     begin_report(alloc, form, &heads)?;
     add_all(alloc, form, &heads, report.rows)?;
-    end_report(alloc, form, &heads)?;
+    end_report(alloc, form, &heads)
+}
+
+fn copy_bytes(alloc: Global, form: &Box<dyn ReportForm>) -> Result<Vec<u8>, NoMemory> {
     let mut bytes = Vec::new(alloc);
     bytes.extend_from_slice(report_bytes(form))?;
     Ok(bytes)
+}
+
+// The bytes of a report in a form.
+fn bytes_in(
+    alloc: Global,
+    form: Box<dyn ReportForm>,
+    report: GivenReport,
+) -> Result<Vec<u8>, NoMemory> {
+    let mut form = form;
+    add_report(alloc, &mut form, report)?;
+    copy_bytes(alloc, &form)
 }
 
 // The bytes of a report in the first form of this name; none if no form is called so.
@@ -234,7 +247,7 @@ fn report_in(alloc: Global, name: &str, report: GivenReport) -> Result<Vec<u8>, 
     forms.push(Box::new(alloc, PairsForm::new(alloc))?)?;
     forms.push(Box::new(alloc, Marks::new(alloc))?)?;
     match choose(forms, name) {
-        Some(mut form) => bytes_in(alloc, &mut form, report),
+        Some(form) => bytes_in(alloc, form, report),
         None => Ok(Vec::new(alloc)),
     }
 }
