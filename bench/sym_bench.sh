@@ -1,5 +1,5 @@
-# Read by bench/explore.sh and bench/paths.sh, which have set `here` to this directory: builds the
-# program `sym_bench`, with rt on PATH.
+# Read by bench/explore.sh, bench/paths.sh and bench/runs.sh, which have set `here` to this
+# directory: builds the program `sym_bench`, with rt on PATH.
 # shellcheck shell=sh disable=SC2034,SC2154 # what the scripts use, and what they have set
 turns=3
 crate=$(dirname "$here")/crates/sym_bench

@@ -1,13 +1,16 @@
 # Writes a log of `records` records of `users` users, the same ones at every run: time goes on by 0
 # to 7 seconds a record, and the user is drawn, both by the generator x -> 16807 x mod 2^31 - 1,
-# from 1 on.
+# from 1 on. With acts=1 each record has an action too: of eight, one puts into the cart (c), one
+# buys (b), and the others view (v).
 
 BEGIN {
-    print "ts,user"
+    print acts ? "ts,user,what" : "ts,user"
+    split("c b v v v v v v", actions, " ")
     number = 1
     for (record = 0; record < records; record++) {
         number = (number * 16807) % 2147483647
         time += number % 8
-        print time ",u" int(number / 8) % users
+        line = time ",u" int(number / 8) % users
+        print acts ? line "," actions[int(number / 65536) % 8 + 1] : line
     }
 }

@@ -1,22 +1,28 @@
-//! The program `sym_bench`: how long exploring takes beside the sequential step, and how long
-//! paths take to follow one another and to be settled. What it finds is written on standard output,
-//! and the processor time on standard error.
+//! The program `sym_bench`: how long exploring takes beside the sequential step, how long paths take
+//! to follow one another and to be settled, and how long a pass takes record by record and by runs.
+//! What it finds is written on standard output, and the processor time on standard error.
 #![tactic(auto)]
 
 mod chain;
 mod comparing;
 mod log;
+mod measuring;
+mod passes;
 mod paths;
+mod rounds;
 mod scripts;
 mod shown;
 mod stop;
+mod workloads;
 
 use crate::comparing::compare;
 use crate::log::records_of;
+use crate::measuring::{Way, measured};
 use crate::paths::{Kind, Timed, follow_in_turn, settle_in_turn};
 use crate::scripts::{LISTS, checked_script, text_of};
 use crate::shown::shown;
 use crate::stop::Stop;
+use crate::workloads::workload_of;
 use std::env;
 use std::process::ExitCode;
 use std::rt::Env;
@@ -50,8 +56,8 @@ fn number_at(words: &[String], index: usize) -> Result<u32, Stop> {
     }
 }
 
-/// `explore SCRIPT ROUNDS LIMIT`, `settle apart|touching|equal PATHS LENGTH TURNS` or
-/// `follow moved|copied LENGTH TURNS`.
+/// `explore SCRIPT ROUNDS LIMIT`, `settle apart|touching|equal PATHS LENGTH TURNS`,
+/// `follow moved|copied LENGTH TURNS` or `pass log|rows|fold|runs|joins WORKLOAD RECORDS LIMIT`.
 fn run<R: Env + AllocGlobal + CpuClock + Print + Eprint>(rt: &R) -> Result<(), Stop> {
     let words = words_of(rt)?;
     let command = word_at(&words, 0)?;
@@ -61,6 +67,8 @@ fn run<R: Env + AllocGlobal + CpuClock + Print + Eprint>(rt: &R) -> Result<(), S
         settle(rt, &words)
     } else if command == "follow" {
         follow(rt, &words)
+    } else if command == "pass" {
+        pass(rt, &words)
     } else {
         Err(Stop::Usage)
     }
@@ -173,4 +181,35 @@ fn follow_paths<R: AllocGlobal + CpuClock + Print + Eprint>(
 ) -> Result<(), Stop> {
     let timed = follow_in_turn(rt, rt.alloc(), checked, is_moved, length, turns)?;
     tell(rt, "follow", timed)
+}
+
+fn way_of(word: &str) -> Result<Way, Stop> {
+    if word == "log" {
+        Ok(Way::Log)
+    } else if word == "rows" {
+        Ok(Way::Rows)
+    } else if word == "fold" {
+        Ok(Way::Fold)
+    } else if word == "runs" {
+        Ok(Way::Runs)
+    } else if word == "joins" {
+        Ok(Way::Joins)
+    } else {
+        Err(Stop::Usage)
+    }
+}
+
+/// Takes a pass over a log that is made.
+fn pass<R: AllocGlobal + CpuClock + Print + Eprint>(rt: &R, words: &[String]) -> Result<(), Stop> {
+    let way = way_of(word_at(words, 1)?)?;
+    let workload = workload_of(word_at(words, 2)?)?;
+    let records = number_at(words, 3)?;
+    let limit = number_at(words, 4)?;
+    let checked = checked_script(rt.alloc(), workload.script)?;
+    let found = measured(rt, rt.alloc(), &checked, workload, way, records, limit)?;
+    let text = found.text;
+    println!(rt; "{text}")?;
+    let time = found.time.as_nanos();
+    eprintln!(rt; "pass {time}")?;
+    Ok(())
 }

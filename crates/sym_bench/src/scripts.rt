@@ -6,7 +6,7 @@ use sym_uses::checking::checked_text;
 
 /// Sessions of a user: of every state two paths go on, until the first session ends one more ends
 /// at each record, and then each path is that of one state.
-const SESSIONS: &str = "field ts: num; field user: word; group user; \
+pub(crate) const SESSIONS: &str = "field ts: num; field user: word; group user; \
     state last: hold(num = 0); state n: int [0..1000] = 0; state done: nums [0..1000]; \
     test gap(h: num, t: num) = t - h > 30; \
     update { if gap(last, ts) { push done n; n = 1; } else { n = n + 1; } keep last(ts); } \
