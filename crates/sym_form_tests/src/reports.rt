@@ -5,10 +5,7 @@ use std::alloc::Global;
 use std::process::Abort;
 use std::test::Fail;
 use sym_base::{NoMemory, ReportFault};
-use sym_report::{
-    CsvForm, Heads, PairsForm, ReportForm, TableForm, add_row, begin_report, choose, end_report,
-    report_bytes,
-};
+use sym_report::{CsvForm, Heads, PairsForm, ReportForm, TableForm, choose, report_bytes};
 
 /// A report, and its text in each form.
 #[derive(Clone, Copy)]
@@ -194,7 +191,7 @@ fn add_given(
 ) -> Result<(), NoMemory> {
     let row = row_of(alloc, given)?;
     if row.is_under(heads) {
-        add_row(alloc, form, heads, &row)?;
+        form.row(alloc, heads, &row)?;
     }
     Ok(())
 }
@@ -211,43 +208,31 @@ fn add_all(
     Ok(())
 }
 
-fn add_report(
+// Writes a report, and copies its bytes.
+fn bytes_of(
     alloc: Global,
     form: &mut Box<dyn ReportForm>,
-    report: GivenReport,
-) -> Result<(), NoMemory> {
-    let heads = heads_of(alloc, report)?;
-    begin_report(alloc, form, &heads)?;
-    add_all(alloc, form, &heads, report.rows)?;
-    end_report(alloc, form, &heads)
-}
-
-fn copy_bytes(alloc: Global, form: &Box<dyn ReportForm>) -> Result<Vec<u8>, NoMemory> {
+    heads: &Heads,
+    rows: &[GivenRow],
+) -> Result<Vec<u8>, NoMemory> {
+    form.begin(alloc, heads)?;
+    add_all(alloc, form, heads, rows)?;
+    form.end(alloc, heads)?;
     let mut bytes = Vec::new(alloc);
     bytes.extend_from_slice(report_bytes(form))?;
     Ok(bytes)
 }
 
-// The bytes of a report in a form.
-fn bytes_in(
-    alloc: Global,
-    form: Box<dyn ReportForm>,
-    report: GivenReport,
-) -> Result<Vec<u8>, NoMemory> {
-    let mut form = form;
-    add_report(alloc, &mut form, report)?;
-    copy_bytes(alloc, &form)
-}
-
 // The bytes of a report in the first form of this name; none if no form is called so.
 fn report_in(alloc: Global, name: &str, report: GivenReport) -> Result<Vec<u8>, NoMemory> {
+    let heads = heads_of(alloc, report)?;
     let mut forms: Vec<Box<dyn ReportForm>> = Vec::new(alloc);
     forms.push(Box::new(alloc, TableForm::new(alloc))?)?;
     forms.push(Box::new(alloc, CsvForm::new(alloc))?)?;
     forms.push(Box::new(alloc, PairsForm::new(alloc))?)?;
     forms.push(Box::new(alloc, Marks::new(alloc))?)?;
     match choose(forms, name) {
-        Some(form) => bytes_in(alloc, form, report),
+        Some(mut form) => bytes_of(alloc, &mut form, &heads, report.rows),
         None => Ok(Vec::new(alloc)),
     }
 }

@@ -66,7 +66,8 @@ one_group = refl
 tab_in_a_word : value_text shown_word (column.Word (codes "a\tb")) ≡ codes "a?b"
 tab_in_a_word = refl
 
-some_words : value_text shown_word (column.Words (codes "a" ∷ codes "\n" ∷ codes "" ∷ [])) ≡ codes "[a ? ]"
+some_words :
+    value_text shown_word (column.Words (codes "a" ∷ codes "\n" ∷ codes "" ∷ [])) ≡ codes "[a ? ]"
 some_words = refl
 
 some_numbers : value_text shown_word (column.Nums (negsuc 2 ∷ pos 12 ∷ [])) ≡ codes "[-3 12]"

@@ -1,5 +1,5 @@
 -- Reports in each form, tried on examples.
-use Rattle.std.specs.Prelude.{◌≡◌, refl, ℕ, pos, negsuc, List, [], ◌∷◌, Some, None, codes}
+use Rattle.std.specs.Prelude.{◌≡◌, refl, ℕ, pos, negsuc, List, [], ◌∷◌, ◌++◌, Some, None, codes}
 use Rattle.std.specs.Fmt.{digits}
 use Rattle.csv.specs.Writing.{escaped, fields_text, is_blank}
 use Rattle.sym_base.specs.declared.values.report.Column.TheVariants as column
@@ -48,7 +48,8 @@ purchases_in_csv = refl
 
 purchases_in_pairs :
     report_text pairs_form purchases carts
-    ≡ codes "user=\"ann\" buys=1 paid=1299 biggest=1299\nuser=\"Smith, Bob\" buys=1 paid=250 biggest=250\n"
+    ≡ codes "user=\"ann\" buys=1 paid=1299 biggest=1299\n"
+    ++ codes "user=\"Smith, Bob\" buys=1 paid=250 biggest=250\n"
 unfolding digits
 purchases_in_pairs = refl
 
@@ -59,11 +60,15 @@ faults = record { keys = codes "user" ∷ []; columns = codes "n" ∷ codes "m" 
 abbrev past : Row
 past = record { keys = column.Word (codes "a") ∷ []; body = Over (codes "n") 4 }
 
-fault_in_csv : report_text csv_form faults (past ∷ []) ≡ codes "user,n,m,fault\na,,,n overflows at record 4\n"
+fault_in_csv :
+    report_text csv_form faults (past ∷ [])
+    ≡ codes "user,n,m,fault\na,,,n overflows at record 4\n"
 unfolding digits escaped fields_text is_blank
 fault_in_csv = refl
 
-fault_in_pairs : report_text pairs_form faults (past ∷ []) ≡ codes "user=\"a\" fault=\"n overflows at record 4\"\n"
+fault_in_pairs :
+    report_text pairs_form faults (past ∷ [])
+    ≡ codes "user=\"a\" fault=\"n overflows at record 4\"\n"
 unfolding digits
 fault_in_pairs = refl
 
@@ -73,11 +78,15 @@ alone = record { keys = []; columns = codes "n" ∷ [] }
 abbrev failed : Row
 failed = record { keys = []; body = Arith 2 }
 
-failed_in_csv : report_text csv_form alone (failed ∷ []) ≡ codes "n,fault\n,arithmetic at record 2\n"
+failed_in_csv :
+    report_text csv_form alone (failed ∷ [])
+    ≡ codes "n,fault\n,arithmetic at record 2\n"
 unfolding digits escaped fields_text is_blank
 failed_in_csv = refl
 
-failed_in_pairs : report_text pairs_form alone (failed ∷ []) ≡ codes "fault=\"arithmetic at record 2\"\n"
+failed_in_pairs :
+    report_text pairs_form alone (failed ∷ [])
+    ≡ codes "fault=\"arithmetic at record 2\"\n"
 unfolding digits
 failed_in_pairs = refl
 
@@ -128,7 +137,9 @@ unfolding digits
 mixed_in_pairs = refl
 
 -- What is quoted: line feeds and quotes in `csv`, quotes and backslashes in `pairs`.
-lines_in_csv : csv_line (codes "a\nb" ∷ codes "" ∷ codes " c " ∷ codes "\"" ∷ []) ≡ codes "\"a\nb\",, c ,\"\"\"\"\n"
+lines_in_csv :
+    csv_line (codes "a\nb" ∷ codes "" ∷ codes " c " ∷ codes "\"" ∷ [])
+    ≡ codes "\"a\nb\",, c ,\"\"\"\"\n"
 unfolding escaped fields_text is_blank
 lines_in_csv = refl
 
@@ -136,8 +147,13 @@ marks_in_pairs : quoted_word (codes "a\"\\\nb") ≡ codes "\"a\\\"\\\\\nb\""
 marks_in_pairs = refl
 
 -- The first form of a name is the one that is chosen.
-first_of_two : form_named (λ (f : List ℕ × ℕ). f.0) (codes "a") ((codes "b", 1) ∷ (codes "a", 2) ∷ (codes "a", 3) ∷ []) ≡ Some (codes "a", 2)
+first_of_two :
+    form_named (λ (f : List ℕ × ℕ). f.0) (codes "a")
+    ((codes "b", 1) ∷ (codes "a", 2) ∷ (codes "a", 3) ∷ [])
+    ≡ Some (codes "a", 2)
 first_of_two = refl
 
-none_of_two : form_named (λ (f : List ℕ × ℕ). f.0) (codes "c") ((codes "b", 1) ∷ (codes "a", 2) ∷ []) ≡ None
+none_of_two :
+    form_named (λ (f : List ℕ × ℕ). f.0) (codes "c") ((codes "b", 1) ∷ (codes "a", 2) ∷ [])
+    ≡ None
 none_of_two = refl

@@ -1,7 +1,8 @@
 -- Whether rows may differ in length is nothing that the text of a row depends on.
-use Rattle.std.proofs.Common.{◌≡◌, ℕ, ◌==◌, List, [], ◌∷◌, ◌++◌, length, refl, ap, ap₂, if◌then◌else◌}
-use Rattle.csv.specs.Writing.{default_writer, by_style, needs_quotes, escaped, field_text, fields_text}
-use Rattle.csv.specs.Writing.{is_blank, row_body, row_text, end_text}
+use Rattle.std.proofs.Common.{◌≡◌, ℕ, ◌==◌, List, [], ◌∷◌, ◌++◌, length, if◌then◌else◌}
+use Rattle.std.proofs.Common.{refl, ap, ap₂}
+use Rattle.csv.specs.Writing.{default_writer, by_style, needs_quotes, escaped, field_text}
+use Rattle.csv.specs.Writing.{fields_text, is_blank, row_body, row_text, end_text}
 use Rattle.sym_report.specs.Pages.{page_setup}
 
 escaped_same : (field : List ℕ) → escaped page_setup field ≡ escaped default_writer field
@@ -35,7 +36,8 @@ blank_same [] = refl
 blank_same (field ∷ []) = ap (λ text. length text == 0) (field_same field)
 blank_same (field ∷ next ∷ rest) = refl
 
-pub row_same : (fields : List (List ℕ)) → row_text page_setup fields ≡ row_text default_writer fields
+pub row_same :
+    (fields : List (List ℕ)) → row_text page_setup fields ≡ row_text default_writer fields
 row_same fields =
     ap₂
     (λ text blank.

@@ -1,6 +1,7 @@
 -- What the text of a report is in a form, which rows belong under which names, and which form has a
 -- name. That a report is made by a form that is handed in is this project's profile.
-use Rattle.std.specs.Prelude.{◌≡◌, ℕ, if◌then◌else◌, List, [], ◌∷◌, ◌++◌, length, Option, Some, None}
+use Rattle.std.specs.Prelude.{◌≡◌, ℕ, if◌then◌else◌, List, [], ◌∷◌, ◌++◌, length}
+use Rattle.std.specs.Prelude.{Option, Some, None}
 use Rattle.std.specs.List.{flat_map}
 use Rattle.std.specs.Str.{bytes_eq}
 use Rattle.sym_report.specs.declared.rows.Heads.{Heads}

@@ -1,4 +1,7 @@
-//! The form that is chosen from some, and reports through it, whatever form it is.
+//! The form that is chosen from some, and the calls of a form, whatever it is. Each call has a
+//! function, since a loop that calls a box itself has goals that no answer may cite. A crate above
+//! writes such functions of its own: where one of another crate is lent a box, the check can't tell
+//! that it keeps it.
 ghost use Rattle.std.specs.Prelude.{◌≡◌, ◌++◌, OnOk, OnErr};
 ghost use Rattle.std.specs.Str.{bytes_eq};
 ghost use Rattle.sym_report.specs.Forms.{IsUnder, form_named};
@@ -29,7 +32,7 @@ pub fn choose(forms: Vec<Box<dyn ReportForm>>, name: &str) -> Option<Box<dyn Rep
 }
 
 /// Appends the text of the names above the rows. After an `Err` the bytes are as before.
-pub fn begin_report(
+pub(crate) fn begin_report(
     alloc: Global,
     form: &mut Box<dyn ReportForm>,
     heads: &Heads,
@@ -45,7 +48,7 @@ pub fn begin_report(
 
 /// Appends the text of a row that belongs under these names. After an `Err` the bytes are as
 /// before.
-pub fn add_row(
+pub(crate) fn add_row(
     alloc: Global,
     form: &mut Box<dyn ReportForm>,
     heads: &Heads,
@@ -62,7 +65,7 @@ pub fn add_row(
 }
 
 /// Appends the text of the report's end. After an `Err` the bytes are as before.
-pub fn end_report(
+pub(crate) fn end_report(
     alloc: Global,
     form: &mut Box<dyn ReportForm>,
     heads: &Heads,

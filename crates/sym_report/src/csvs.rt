@@ -1,6 +1,7 @@
 //! The form `csv`.
 ghost use Rattle.std.specs.Prelude.{◌≡◌, ◌++◌, ◌∷◌, [], codes, OnOk, OnErr};
-ghost use Rattle.sym_report.specs.Csvs.{body_fields, csv_form, csv_line, empty_fields, head_fields, row_fields};
+ghost use Rattle.sym_report.specs.Csvs.{csv_form, csv_line, empty_fields};
+ghost use Rattle.sym_report.specs.Csvs.{body_fields, head_fields, row_fields};
 ghost use Rattle.sym_report.specs.ValueTexts.{over_fault, arith_fault};
 
 use crate::fields::{Fields, add_empty, add_names, add_values};

@@ -15,7 +15,7 @@ mod shown;
 mod table;
 
 pub use calls::{heads, report_row};
-pub use chosen::{add_row, begin_report, choose, end_report, is_named, report_bytes};
+pub use chosen::{choose, is_named, report_bytes};
 pub use csvs::CsvForm;
 pub use form::ReportForm;
 pub use pairs::PairsForm;

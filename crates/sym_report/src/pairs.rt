@@ -2,7 +2,8 @@
 ghost use Rattle.std.specs.Prelude.{◌≡◌, ◌++◌, ◌==◌, List, ℕ, [], not, codes, length, map, OnOk};
 ghost use Rattle.std.specs.List.{zip};
 ghost use Rattle.sym_report.specs.Appending.{continued};
-ghost use Rattle.sym_report.specs.Pairs.{pair_text, pair_texts, fault_pair, body_pairs, pairs_line, pairs_form};
+ghost use Rattle.sym_report.specs.Pairs.{pair_text, pair_texts, fault_pair, body_pairs};
+ghost use Rattle.sym_report.specs.Pairs.{pairs_line, pairs_form};
 ghost use Rattle.sym_report.specs.ValueTexts.{over_fault, arith_fault};
 
 use crate::form::ReportForm;

@@ -5,5 +5,6 @@ use Rattle.sym_report.proofs.shown.push_joined.Given as goal
 
 abbrev pub invariant-items : goal.invariant-items
 invariant-items g l =
-    l.into.items ++ continued l.separator l.started (map (g.T.Shown.text l.style) (drop l.item-index l.items))
-    ≡ l.initial.into.items ++ continued l.separator l.initial.started (map (g.T.Shown.text l.style) l.items)
+    let text = g.T.Shown.text l.style in
+    l.into.items ++ continued l.separator l.started (map text (drop l.item-index l.items))
+    ≡ l.initial.into.items ++ continued l.separator l.initial.started (map text l.items)
