@@ -22,11 +22,11 @@ use Rattle.sym_parse.specs.Parsing.Scripts.{script, start}
 use Rattle.sym_parse.specs.Syntax.Scripts.{IsScript}
 use Rattle.sym_parse.proofs.LawfulExpressions.{lexemes-suit}
 use Rattle.sym_parse.proofs.LawfulScripts.{script-lawful}
-use Rattle.sym_parse.proofs.ScriptsFound.{script-found}
+use Rattle.sym_parse.proofs.RecognizingScripts.{script-found}
 use Rattle.sym_parse.proofs.ScriptsComplete.{script-reads}
 
 -- One of each kind may stand.
-some : (k : LimitKind) → 1 ≤ most k
+pub some : (k : LimitKind) → 1 ≤ most k
 some limit.Enums = omega arith
 some limit.Labels = omega arith
 some limit.Fields = omega arith

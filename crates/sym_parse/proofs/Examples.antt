@@ -16,6 +16,8 @@ use Rattle.sym_parse.specs.Parsing.Declarations.{num, literal_value, kind_ref, b
 use Rattle.sym_parse.specs.Parsing.Expressions.{chain, chain_from, call_or_name, number_leaf, named, primary, unary, product, sum, relation, negation, conjunction, expr, expression}
 use Rattle.sym_parse.specs.Parsing.Scripts.{enums, fields, states, tests, columns, report, script}
 use Rattle.sym_parse.specs.Parsing.Statements.{begins_statement, assignment, simple, statement, statements, statements_from, block, update}
+use Rattle.sym_parse.specs.Places.{IsUnexpected}
+use Rattle.sym_parse.proofs.Refusing.{text-unexpected}
 use Rattle.sym_parse.specs.Printed as form
 use Rattle.sym_parse.specs.Printed.{script_text}
 use Rattle.sym_parse.specs.Steps.{next, place, passed, sees_word, sees_sign, sees_name, sees_number, sees_text, is_done, word, sign, name, number, done, one_statement, one_operand, repeated, separated}
@@ -39,6 +41,16 @@ no_number = refl
 no_assign : parsed (codes "field x: num; state n: int [0..3] = 0; update { n 1; } report { n = n; }") ≡ Err (Expected 50)
 unfolding parsed lexed_from keyword_of keywords symbol_of symbols next place passed sees_word sees_sign sees_name word sign name number repeated header kind_ref default_value num range clamp int_cell cell_decl field group state enums fields states tests one_statement begins_statement assignment simple statement statements_from statements block update script
 no_assign = refl
+
+-- At these places, and before none, no sentence goes on.
+no_bytes_there : IsUnexpected [] 0
+no_bytes_there = text-unexpected [] 0 no_bytes
+
+no_colon_there : IsUnexpected (codes "field x num;") 8
+no_colon_there = text-unexpected (codes "field x num;") 8 no_colon
+
+no_assign_there : IsUnexpected (codes "field x: num; state n: int [0..3] = 0; update { n 1; } report { n = n; }") 50
+no_assign_there = text-unexpected (codes "field x: num; state n: int [0..3] = 0; update { n 1; } report { n = n; }") 50 no_assign
 
 -- A hold cell has at most four parts.
 fifth_part : parsed (codes "field x: num; state n: hold(num = 0, num = 0, num = 0, num = 0, num = 0);") ≡ Err (Limit 64 Parts)

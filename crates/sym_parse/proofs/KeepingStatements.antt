@@ -1,5 +1,5 @@
 -- Statements are read the same up to a token, whatever follows it, and up to where a limit is passed.
-use Rattle.std.proofs.Common.{◌≡◌, ℕ, zero, suc, ◌<◌, ◌≤◌, List, ◌++◌, length, length-append, Ok, refl, ap, arith}
+use Rattle.std.proofs.Common.{◌≡◌, ℕ, zero, suc, ◌<◌, ◌≤◌, List, ◌++◌, length, length-append, Ok, refl, ap, subst, arith}
 use Rattle.sym_base.specs.declared.tree.name.Name.{Name}
 use Rattle.sym_base.specs.Trees.{StmtTree, StmtsTree, Let, Set, Push, Keep, KeepFrom, If, Done, Then}
 use Rattle.sym_lex.specs.declared.keyword.Keyword.TheVariants as keyword
@@ -14,7 +14,8 @@ use Rattle.sym_parse.proofs.Keeping.{Small, Along, Agrees, Keeps, Even, level, t
 use Rattle.sym_parse.proofs.KeepingExpressions.{if-agrees-where, values-keeps, expression-keeps}
 use Rattle.sym_parse.specs.Syntax.Statements as syntax
 use Rattle.sym_parse.specs.Syntax.Statements.{IsStatement, IsIf, IsIfWithin}
-use Rattle.sym_parse.proofs.StatementsFound.{statement-found, if-found}
+use Rattle.sym_parse.proofs.Recognizing.{Numbers, Took, Says, Statements, fits-self}
+use Rattle.sym_parse.proofs.RecognizingStatements.{Statement, one-line, if-says}
 
 -- A statement takes a token.
 if-some : (most : LimitKind → ℕ) (room : ℕ) (ls : List Lexeme) (x : StmtTree) → IsIfWithin most room ls x → 0 < length ls
@@ -32,8 +33,11 @@ statement-some most room ls x (syntax.branch is) = if-some most room ls x is
 
 statement-takes : (most : LimitKind → ℕ) (room : ℕ) (i j : Input) (x : StmtTree) → statement most room (if_statement most room) i ≡ Ok (x, j) → length j.rest < length i.rest
 statement-takes most room i j x e =
-    let t = statement-found most room (if_statement most room) (IsIfWithin most room) (if-found most room) i j x e in
-    let some = statement-some most room t.taken x t.means in
+    let m : Numbers = record { most = most; room = room } in
+    let if-line = if-says most room in
+    let t : Took Statements m (Statement m (if_statement most room) (λ n. IsIfWithin n.most n.room) if-line) i x j =
+    subst (λ o. Says Statements m (Statement m (if_statement most room) (λ n. IsIfWithin n.most n.room) if-line) i o) e ((one-line m (if_statement most room) (λ n. IsIfWithin n.most n.room) if-line).says i tt) in
+    let some = statement-some most room t.taken x (t.means m (fits-self m)).0 in
     let all : length i.rest ≡ length (t.taken ++ j.rest) = ap length t.splits in
     omega (arith, some, all, length-append t.taken j.rest)
 

@@ -6,10 +6,11 @@ pub mod Chains
 pub mod Statements
 pub mod Lists
 pub mod Taking
-pub mod ExpressionsFound
-pub mod StatementsFound
-pub mod DeclarationsFound
-pub mod ScriptsFound
+pub mod Recognizing
+pub mod RecognizingExpressions
+pub mod RecognizingStatements
+pub mod RecognizingDeclarations
+pub mod RecognizingScripts
 pub mod Reaching
 pub mod ExpressionsComplete
 pub mod StatementsComplete

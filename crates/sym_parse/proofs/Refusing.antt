@@ -1,7 +1,7 @@
 -- Where no sentence goes on, and that wider limits change nothing before the one that is passed.
 use Rattle.std.proofs.Common.{◌≡◌, ◌≢◌, ℕ, zero, suc, ◌+◌, ◌-◌, ◌<◌, ◌≤◌, ◌⊎◌, inl, inr, List, [], ◌∷◌, ◌++◌, length, slice_get, Some, None, Result, Ok, Err, IsErrOf, refl, ap, sym, ◌∙◌, subst, arith, append_assoc}
 use Rattle.std.proofs.lemmas.Bool.{cases_lt}
-use Rattle.std.proofs.lemmas.List.{length-map, map-append}
+use Rattle.std.proofs.lemmas.List.{append-nil, length-map, map-append}
 use Rattle.std.proofs.lemmas.Option.{slice_get_past}
 use Rattle.sym_base.specs.declared.tree.script.Script.{Script}
 use Rattle.sym_base.specs.Trees.{ScriptTree}
@@ -18,11 +18,14 @@ use Rattle.sym_parse.specs.Lexemes.{Lexeme, lexeme_of, lexemes_of}
 use Rattle.sym_parse.specs.Limits.{most}
 use Rattle.sym_parse.specs.Steps.{Input, Parsed}
 use Rattle.sym_parse.specs.Parsing.Scripts.{script, start}
-use Rattle.sym_parse.specs.Sentences.{IsSentence, BeginNoSentence, IsUnexpected, token, end, IsNoEarlier, IsKeptBy, IsReached}
+use Rattle.sym_parse.specs.Sentences.{IsSentence, BeginNoSentence, IsNoEarlier, IsKeptBy}
+use Rattle.sym_parse.specs.Places.{IsUnexpected, token, end, IsReached}
 use Rattle.sym_parse.proofs.Reaching.{at}
 use Rattle.sym_parse.proofs.Keeping.{Along, ahead, same, Agrees}
 use Rattle.sym_parse.proofs.KeepingScripts.{script-keeps}
 use Rattle.sym_parse.proofs.ScriptsComplete.{script-reads}
+use Rattle.sym_parse.proofs.RecognizingScripts.{script-goes-on}
+use Rattle.sym_parse.proofs.Answering.{some}
 
 -- ---- two readings of a whole list of lexemes
 
@@ -131,12 +134,14 @@ at-token text tokens left at r e p s =
     let left-after : left ≡ length us = sym s.after ∙ sym (length-map s.rest (lexeme_of text)) in
     let here : script most (start (ls ++ l ∷ us)) ≡ Err (stop.Expected (suc (length us))) = ap (λ (m : List Lexeme). script most (start m)) (sym apart) ∙ e ∙ ap (λ (m : ℕ). Err (stop.Expected (suc m))) left-after in
     let none : BeginNoSentence (lexemes_of text (s.front ++ s.token ∷ [])) = subst BeginNoSentence (sym (map-append (lexeme_of text) s.front (s.token ∷ []))) (none-begins most ls us l here) in
-    token s.front s.rest s.token (subst (λ (m : List Token). Reads 0 text (Ok m)) s.splits r) (sym (ap (place_or (length text)) s.stands) ∙ p) none
+    token s.front s.rest s.token (subst (λ (m : List Token). Reads 0 text (Ok m)) s.splits r) (sym (ap (place_or (length text)) s.stands) ∙ p) (script-goes-on most some ls (l ∷ us) here) none
 
 at-place : (text : List ℕ) (tokens : List Token) (left at : ℕ) → Reads 0 text (Ok tokens) → reading text tokens ≡ Err (stop.Expected left) → left ≤ length tokens → place_of_left (length text) tokens left ≡ at → IsUnexpected text at
 at-place text tokens zero at r e h p =
     let past : slice_get tokens (length tokens - 0) ≡ None = slice_get_past tokens (length tokens - 0) (omega arith) in
-    end tokens r (sym (ap (place_or (length text)) past) ∙ p) (none-is most (lexemes_of text tokens) e)
+    let ls : List Lexeme = lexemes_of text tokens in
+    let whole : script most (start (ls ++ [])) ≡ Err (stop.Expected 0) = ap (λ (m : List Lexeme). script most (start m)) (append-nil ls) ∙ e in
+    end tokens r (sym (ap (place_or (length text)) past) ∙ p) (script-goes-on most some ls [] whole) (none-is most ls e)
 at-place text tokens (suc left) at r e h p = at-token text tokens left at r e p (split tokens left (omega (arith, h)))
 
 tokens-unexpected : (text : List ℕ) (tokens : List Token) (o : Parsed ScriptTree) (at : ℕ) → Reads 0 text (Ok tokens) → reading text tokens ≡ o → IsNoEarlier (length (lexemes_of text tokens)) o →

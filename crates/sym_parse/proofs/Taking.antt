@@ -1,50 +1,16 @@
--- What the end of a parser says of the tokens that it took: single tokens, steps one after another,
--- and choices.
-use Rattle.std.proofs.Common.{◌≡◌, ℕ, ℤ, Bool, true, false, if◌then◌else◌, List, [], ◌∷◌, ◌++◌, Option, Some, None, Ok, Err, refl, ap, ◌∙◌, subst, rules}
+-- What a parser of one token says: the token that it took, or that it took none.
+use Rattle.std.proofs.Common.{◌≡◌, ℕ, ℤ, Bool, true, false, if◌then◌else◌, List, [], ◌∷◌, Option, Some, None, Ok, Err, length, pos, refl, ap, rules}
 use Rattle.std.proofs.lemmas.Option.{same_Some}
 use denote.Enum.Bare.{same_true}
-use Rattle.sym_base.specs.declared.tree.name.Name.{Name as NameRecord}
+use Rattle.sym_base.specs.declared.tree.expression.BinOp.{BinOp}
 use Rattle.sym_lex.specs.declared.keyword.Keyword.{Keyword}
 use Rattle.sym_lex.specs.declared.symbol.Symbol.{Symbol}
 use Rattle.sym_lex.specs.contracts.keyword.Keyword as keywords
 use Rattle.sym_lex.specs.contracts.symbol.Symbol as symbols
+use Rattle.sym_parse.specs.declared.stop.Stop.TheVariants as stop
 use Rattle.sym_parse.specs.Lexemes.{Terminal, Name, Number, Str, Word, Sign, Lexeme, IsKeyword, IsSign, IsNumeral, IsText, IsName}
-use Rattle.sym_parse.specs.Steps.{Input, Parsed, Parser, and_then, bump, refuse, next, next_of, after_first, place, place_of, passed, word_of, sign_of, name_of, number_of, text_of, is_this_word, is_this_sign, named, taken, sees_word, sees_sign, word, sign, name, number, text}
-
--- ---- outcomes
-
--- A parser's Ok.
-abbrev pub ended : {A : Type 0} → A → Input → Parsed A
-ended x i = Ok (x, i)
-
-value_or : {A : Type 0} → A × Input → Parsed A → A × Input
-value_or d (Ok p) = p
-value_or d (Err stop) = d
-
-pub ok_parts : {A : Type 0} (x y : A) (i j : Input) → ended x i ≡ ended y j → (x ≡ y) × (i ≡ j)
-unfolding value_or
-ok_parts x y i j e = (ap (λ o. (value_or (x, i) o).0) e, ap (λ o. (value_or (x, i) o).1) e)
-
--- The first step ended Ok, and so did what follows it.
-pub record After {A B : Type 0} (o : Parsed A) (f : A → Parser B) (y : B) (k : Input) : Type 0 where
-  pub value : A
-  pub input : Input
-  pub first : o ≡ Ok (value, input)
-  pub rest : f value input ≡ Ok (y, k)
-
-pub after : {A B : Type 0} (o : Parsed A) (f : A → Parser B) (y : B) (k : Input) → and_then o f ≡ Ok (y, k) → After o f y k
-after (Ok p) f y k e = record { value = p.0; input = p.1; first = refl; rest = e }
-after (Err stop) f y k e = cc
-
-pub by_test : {A : Type 0} (b : Bool) (o p : Parsed A) (r : Parsed A) (P : Type 0) → (if b then o else p) ≡ r → (b ≡ true → o ≡ r → P) → (b ≡ false → p ≡ r → P) → P
-by_test true o p r P e f g = f refl e
-by_test false o p r P e f g = g refl e
-
--- What follows a first lexeme.
-pub tail_of : {l : Lexeme} {x y z : List Lexeme} → x ≡ l ∷ y → y ≡ z → x ≡ l ∷ z
-tail_of {l} p q = p ∙ ap (λ (m : List Lexeme). l ∷ m) q
-
--- ---- one token
+use Rattle.sym_parse.specs.Steps.{Input, Parsed, Parser, bump, next, next_of, after_first, place, place_of, passed, word_of, sign_of, name_of, number_of, text_of, is_this_word, is_this_sign, named, taken, sees_word, sees_sign, word, sign, name, number, text}
+use Rattle.sym_parse.specs.Parsing.Expressions.{op_in}
 
 -- A token was taken, and nothing was counted.
 pub record Step (Is : Lexeme → Type 0) (i j : Input) : Type 0 where
@@ -53,6 +19,19 @@ pub record Step (Is : Lexeme → Type 0) (i j : Input) : Type 0 where
   pub is : Is lexeme
   pub statements : j.statements ≡ i.statements
   pub operands : j.operands ≡ i.operands
+
+abbrev pub Tells : {A : Type 0} → (A → Lexeme → Type 0) → Input → Parsed A → Type 0
+Tells Is i (Ok read) = Step (Is read.0) i read.1
+Tells Is i (Err (stop.Expected left)) = left ≡ length i.rest
+Tells Is i (Err (stop.Limit left which)) = ⊥
+Tells Is i (Err stop.NoMemory) = Unit {0}
+
+-- A parser of one token, at inputs where a test of the next token has been passed; and such a token.
+pub record Token {A : Type 0} (Seen : Input → Type 0) (p : Parser A) (Is : A → Lexeme → Type 0) : Type 0 where
+  pub value : A
+  pub lexeme : Lexeme
+  pub is : Is value lexeme
+  pub says : (i : Input) → Seen i → Tells Is i (p i)
 
 -- The first of some lexemes.
 record First (Is : Lexeme → Type 0) (ls : List Lexeme) : Type 0 where
@@ -85,28 +64,6 @@ first-sign s (l ∷ rest) e = record { lexeme = l; splits = refl; is = is-sign s
 step : (Is : Lexeme → Type 0) (i : Input) → First Is i.rest → Step Is i (passed i)
 unfolding passed
 step Is i f = record { lexeme = f.lexeme; splits = f.splits; is = f.is; statements = refl; operands = refl }
-
-pub bump-word : (k : Keyword) (i : Input) → sees_word k i ≡ true → Step (IsKeyword k) i (passed i)
-unfolding sees_word next
-bump-word k i e = step (IsKeyword k) i (first-word k i.rest e)
-
-pub bump-sign : (s : Symbol) (i : Input) → sees_sign s i ≡ true → Step (IsSign s) i (passed i)
-unfolding sees_sign next
-bump-sign s i e = step (IsSign s) i (first-sign s i.rest e)
-
-pub word-ok : (k : Keyword) (i j : Input) (u : Unit {0}) → word k i ≡ Ok (u, j) → Step (IsKeyword k) i j
-unfolding word
-word-ok k i j u e =
-    by_test (sees_word k i) (bump i) (refuse i) (Ok (u, j)) (Step (IsKeyword k) i j) e
-    (λ t f. subst (λ m. Step (IsKeyword k) i m) (ok_parts tt u (passed i) j f).1 (bump-word k i t))
-    (λ t f. cc)
-
-pub sign-ok : (s : Symbol) (i j : Input) (u : Unit {0}) → sign s i ≡ Ok (u, j) → Step (IsSign s) i j
-unfolding sign
-sign-ok s i j u e =
-    by_test (sees_sign s i) (bump i) (refuse i) (Ok (u, j)) (Step (IsSign s) i j) e
-    (λ t f. subst (λ m. Step (IsSign s) i m) (ok_parts tt u (passed i) j f).1 (bump-sign s i t))
-    (λ t f. cc)
 
 -- A name is taken with its text and its place.
 is-name : (t : Terminal) (text : List ℕ) → name_of (Some t) ≡ Some text → t ≡ Name text
@@ -146,46 +103,85 @@ first-name text i e = in-list i.rest text e
     in-list [] t f = cc
     in-list (l ∷ rest) t f = record { lexeme = l; splits = refl; is = record { text = is-name l.terminal t f; place = refl } }
 
-named-ok : (i j : Input) (n : NameRecord) (o : Option (List ℕ)) → name_of (next_of i.rest) ≡ o → named (place i) o i ≡ Ok (n, j) → Step (IsName n) i j
-named-ok i j n None o e = cc
-named-ok i j n (Some text) o e =
-    let parts = ok_parts (record { text = text; at = place i }) n (passed i) j e in
-    let taken : Step (IsName (record { text = text; at = place i })) i (passed i) = step (IsName (record { text = text; at = place i })) i (first-name text i o) in
-    subst (λ (m : NameRecord). Step (IsName m) i j) parts.0 (subst (λ (m : Input). Step (IsName (record { text = text; at = place i })) i m) parts.1 taken)
+if-tells : {A : Type 0} (Is : A → Lexeme → Type 0) (i : Input) (b : Bool) (o p : Parsed A) → (b ≡ true → Tells Is i o) → Tells Is i p → Tells Is i (if b then o else p)
+if-tells Is i true o p f g = f refl
+if-tells Is i false o p f g = g
 
-pub name-ok : (i j : Input) (n : NameRecord) → name i ≡ Ok (n, j) → Step (IsName n) i j
-unfolding name next
-name-ok i j n e = named-ok i j n (name_of (next_of i.rest)) refl e
+named-tells : (i : Input) (o : Option (List ℕ)) → name_of (next_of i.rest) ≡ o → Tells IsName i (named (place i) o i)
+named-tells i None e = refl
+named-tells i (Some t) e = step (IsName (record { text = t; at = place i })) i (first-name t i e)
 
-number-in : (i j : Input) (n : ℤ) (o : Option ℤ) → number_of (next_of i.rest) ≡ o → taken o i ≡ Ok (n, j) → Step (IsNumeral n) i j
-number-in i j n None o e = cc
-number-in i j n (Some m) o e =
-    let parts = ok_parts m n (passed i) j e in
-    subst (λ (k : ℤ). Step (IsNumeral k) i j) parts.0 (subst (λ (k : Input). Step (IsNumeral m) i k) parts.1 (step (IsNumeral m) i (first-number m i.rest o)))
+number-tells : (i : Input) (o : Option ℤ) → number_of (next_of i.rest) ≡ o → Tells IsNumeral i (taken o i)
+number-tells i None e = refl
+number-tells i (Some n) e = step (IsNumeral n) i (first-number n i.rest e)
 
-pub number-ok : (i j : Input) (n : ℤ) → number i ≡ Ok (n, j) → Step (IsNumeral n) i j
-unfolding number next
-number-ok i j n e = number-in i j n (number_of (next_of i.rest)) refl e
+text-tells : (i : Input) (o : Option (List ℕ)) → text_of (next_of i.rest) ≡ o → Tells IsText i (taken o i)
+text-tells i None e = refl
+text-tells i (Some t) e = step (IsText t) i (first-text t i.rest e)
 
-text-in : (i j : Input) (t : List ℕ) (o : Option (List ℕ)) → text_of (next_of i.rest) ≡ o → taken o i ≡ Ok (t, j) → Step (IsText t) i j
-text-in i j t None o e = cc
-text-in i j t (Some m) o e =
-    let parts = ok_parts m t (passed i) j e in
-    subst (λ (k : List ℕ). Step (IsText k) i j) parts.0 (subst (λ (k : Input). Step (IsText m) i k) parts.1 (step (IsText m) i (first-text m i.rest o)))
+-- ---- one token
 
-pub text-ok : (i j : Input) (t : List ℕ) → text i ≡ Ok (t, j) → Step (IsText t) i j
-unfolding text next
-text-ok i j t e = text-in i j t (text_of (next_of i.rest)) refl e
+pub word-seen : (k : Keyword) → Token (λ i. sees_word k i ≡ true) bump (λ u. IsKeyword k)
+unfolding sees_word next
+word-seen k = record { value = tt; lexeme = record { terminal = Word k; at = 0 }; is = refl; says = λ i e. step (IsKeyword k) i (first-word k i.rest e) }
 
--- ---- several tokens
+pub sign-seen : (s : Symbol) → Token (λ i. sees_sign s i ≡ true) bump (λ u. IsSign s)
+unfolding sees_sign next
+sign-seen s = record { value = tt; lexeme = record { terminal = Sign s; at = 0 }; is = refl; says = λ i e. step (IsSign s) i (first-sign s i.rest e) }
 
--- The tokens that were taken are those of the tree.
-pub record Took {A : Type 0} (P : List Lexeme → A → Type 0) (i : Input) (x : A) (j : Input) : Type 0 where
-  pub taken : List Lexeme
-  pub splits : i.rest ≡ taken ++ j.rest
-  pub means : P taken x
+first-operator : (ops : Terminal → Option BinOp) (b : BinOp) (ls : List Lexeme) → op_in ops (next_of ls) ≡ Some b → First (λ l. ops l.terminal ≡ Some b) ls
+first-operator ops b [] e = cc
+first-operator ops b (l ∷ rest) e = record { lexeme = l; splits = refl; is = e }
 
-pub took_along : {A : Type 0} (P : List Lexeme → A → Type 0) (i j k : Input) (x y : A) → ended x j ≡ ended y k → Took P i x j → Took P i y k
-took_along P i j k x y e t =
-    let parts = ok_parts x y j k e in
-    subst (λ m. Took P i y m) parts.1 (subst (λ m. Took P i m j) parts.0 t)
+-- An operator that is next somewhere.
+pub operator-seen : (ops : Terminal → Option BinOp) (b : BinOp) (i : Input) → op_in ops (next i) ≡ Some b → Token (λ j. op_in ops (next j) ≡ Some b) bump (λ u l. ops l.terminal ≡ Some b)
+unfolding next
+operator-seen ops b i e =
+    let f = first-operator ops b i.rest e in
+    record { value = tt; lexeme = f.lexeme; is = f.is; says = λ j g. step (λ l. ops l.terminal ≡ Some b) j (first-operator ops b j.rest g) }
+
+module _ {Seen : Input → Type 0} where
+  pub word-token : (k : Keyword) → Token Seen (word k) (λ u. IsKeyword k)
+  unfolding word
+  word-token k = record {
+    value = tt;
+    lexeme = record { terminal = Word k; at = 0 };
+    is = refl;
+    says = λ i e. if-tells (λ u. IsKeyword k) i (sees_word k i) (bump i) _ ((word-seen k).says i) refl;
+  }
+
+  pub sign-token : (s : Symbol) → Token Seen (sign s) (λ u. IsSign s)
+  unfolding sign
+  sign-token s = record {
+    value = tt;
+    lexeme = record { terminal = Sign s; at = 0 };
+    is = refl;
+    says = λ i e. if-tells (λ u. IsSign s) i (sees_sign s i) (bump i) _ ((sign-seen s).says i) refl;
+  }
+
+  pub name-token : Token Seen name IsName
+  unfolding name next
+  name-token = record {
+    value = record { text = 120 ∷ []; at = 0 };
+    lexeme = record { terminal = Name (120 ∷ []); at = 0 };
+    is = record { text = refl; place = refl };
+    says = λ i e. named-tells i (name_of (next_of i.rest)) refl;
+  }
+
+  pub number-token : Token Seen number IsNumeral
+  unfolding number next
+  number-token = record {
+    value = pos 0;
+    lexeme = record { terminal = Number (pos 0); at = 0 };
+    is = refl;
+    says = λ i e. number-tells i (number_of (next_of i.rest)) refl;
+  }
+
+  pub text-token : Token Seen text IsText
+  unfolding text next
+  text-token = record {
+    value = [];
+    lexeme = record { terminal = Str []; at = 0 };
+    is = refl;
+    says = λ i e. text-tells i (text_of (next_of i.rest)) refl;
+  }

@@ -6,5 +6,6 @@ pub mod Parsing
 pub mod Views
 pub mod Answers
 pub mod Sentences
+pub mod Places
 pub mod Bare
 pub mod Printed

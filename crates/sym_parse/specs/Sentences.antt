@@ -1,14 +1,9 @@
 -- Which lexemes are a sentence of the grammar, and which begin one.
-use Rattle.std.specs.Prelude.{◌≡◌, ℕ, ◌≤◌, List, [], ◌∷◌, ◌++◌, length, Ok, Err}
+use Rattle.std.specs.Prelude.{◌≡◌, ℕ, ◌≤◌, List, ◌++◌, length, Ok, Err}
 use Rattle.sym_base.specs.Trees.{ScriptTree}
-use Rattle.sym_lex.specs.declared.token.Token.{Token}
-use Rattle.sym_lex.specs.Rules.{Reads}
 use Rattle.sym_parse.specs.declared.error.LimitKind.{LimitKind}
 use Rattle.sym_parse.specs.declared.stop.Stop.TheVariants as stop
-use Rattle.sym_parse.specs.Answers.{place_of_left}
-use Rattle.sym_parse.specs.Lexemes.{Lexeme, lexemes_of}
-use Rattle.sym_parse.specs.Limits.{most}
-use Rattle.sym_parse.specs.Parsing.Scripts.{script, start}
+use Rattle.sym_parse.specs.Lexemes.{Lexeme}
 use Rattle.sym_parse.specs.Steps.{Parsed}
 use Rattle.sym_parse.specs.Syntax.Scripts.{IsScript}
 
@@ -21,14 +16,6 @@ pub record IsSentence (ls : List Lexeme) : Type 0 where
 -- Whatever lexemes follow these, and whatever the limits, they are no script's.
 abbrev pub BeginNoSentence : List Lexeme → Type 0
 BeginNoSentence ls = (rest : List Lexeme) → IsSentence (ls ++ rest) → ⊥
-
--- At this place of the text no sentence goes on: none begins with the tokens up to the one there,
--- or the tokens of the whole text, which ends there, are none.
-pub data IsUnexpected (text : List ℕ) (at : ℕ) : Type 0 where
-  token : (front rest : List Token) (t : Token) → Reads 0 text (Ok (front ++ t ∷ rest)) →
-      t.at ≡ at → BeginNoSentence (lexemes_of text (front ++ t ∷ [])) → IsUnexpected text at
-  end : (tokens : List Token) → Reads 0 text (Ok tokens) →
-      length text ≡ at → (IsSentence (lexemes_of text tokens) → ⊥) → IsUnexpected text at
 
 -- No more than so many tokens are left where reading ends or stops.
 abbrev pub IsNoEarlier : {A : Type 0} → ℕ → Parsed A → Type 0
@@ -44,12 +31,3 @@ IsKeptBy (Ok read) wide = wide ≡ Ok read
 IsKeptBy (Err (stop.Expected left)) wide = wide ≡ Err (stop.Expected left)
 IsKeptBy (Err (stop.Limit left which)) wide = IsNoEarlier left wide
 IsKeptBy (Err stop.NoMemory) wide = ⊥
-
--- The text's tokens pass a limit at this place: with wider limits reading comes at least as far.
-pub record IsReached (text : List ℕ) (at : ℕ) : Type 0 where
-  pub tokens : List Token
-  pub lexed : Reads 0 text (Ok tokens)
-  pub left : ℕ
-  pub stands : place_of_left (length text) tokens left ≡ at
-  pub further : (wider : LimitKind → ℕ) → ((k : LimitKind) → most k ≤ wider k) →
-      IsNoEarlier left (script wider (start (lexemes_of text tokens)))

@@ -9,7 +9,7 @@ ghost use Rattle.sym_parse.specs.Answers.{Gives, IsScriptOf, ended, parsed, plac
 ghost use Rattle.sym_parse.specs.Lexemes.{lexemes_of};
 ghost use Rattle.sym_parse.specs.Limits.{most};
 ghost use Rattle.sym_parse.specs.Parsing.Scripts as spec;
-ghost use Rattle.sym_parse.specs.Sentences.{IsReached, IsUnexpected};
+ghost use Rattle.sym_parse.specs.Places.{IsReached, IsUnexpected};
 ghost use Rattle.sym_parse.specs.declared.error.LimitKind.{LimitKind};
 
 use crate::error::ParseErr;

@@ -8,7 +8,7 @@ use Rattle.sym_parse.specs.declared.error.LimitKind.{LimitKind}
 use Rattle.sym_parse.specs.declared.error.ParseErr.{ParseErr}
 use Rattle.sym_parse.specs.declared.error.ParseErr.TheVariants as parse_error
 use Rattle.sym_parse.specs.Answers.{IsScriptOf, parsed}
-use Rattle.sym_parse.specs.Sentences.{IsUnexpected, IsReached}
+use Rattle.sym_parse.specs.Places.{IsUnexpected, IsReached}
 use Rattle.sym_check.specs.Checking.CheckedScripts.{checked_tree, checked_plan}
 use Rattle.sym_check.specs.Plan.ScriptPlans.{ScriptPlan}
 use Rattle.sym_check.specs.Rules.Scripts.{IsAccepted, BreaksScript, plan_of}

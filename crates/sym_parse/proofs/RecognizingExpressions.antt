@@ -1,0 +1,294 @@
+-- What is read as an expression is one, and the tokens before the place where reading it stops begin
+-- one. Its operands are counted.
+use Rattle.std.proofs.Common.{◌≡◌, ℕ, zero, suc, ◌+◌, ◌-◌, ◌<◌, ◌≤◌, true, List, [], ◌∷◌, ◌++◌, Option, Some, None, Ok, Err, refl, sym, subst, arith, append_assoc}
+use Rattle.std.proofs.lemmas.List.{append-nil}
+use Rattle.sym_base.specs.declared.tree.name.Name.{Name as NameRecord}
+use Rattle.sym_base.specs.declared.tree.expression.BinOp.{BinOp}
+use Rattle.sym_base.specs.Trees.{ExprTree, ExprsTree, Num, Words, Named, Neg, Not, Bin, End, More}
+use Rattle.sym_base.specs.Sizes.{operand_count, operands_count}
+use Rattle.sym_lex.specs.declared.keyword.Keyword.TheVariants as keyword
+use Rattle.sym_lex.specs.declared.symbol.Symbol.TheVariants as symbol
+use Rattle.sym_parse.specs.declared.error.LimitKind.{LimitKind}
+use Rattle.sym_parse.specs.declared.error.LimitKind.TheVariants as limit
+use Rattle.sym_parse.specs.Lexemes.{Terminal, Lexeme, Name, IsName}
+use Rattle.sym_parse.specs.Steps.{Input, Parsed, Parser, and_then, next, sees_word, sees_sign}
+use Rattle.sym_parse.specs.Syntax.Expressions as syntax
+use Rattle.sym_parse.specs.Syntax.Expressions.{Line, Whole, Negation, Signed, IsGrouped, IsValues, IsPrimary, IsUnary, IsProduct, IsSum, IsRelation, IsNegation, IsConjunction, IsExpression, IsLine, Within, IsExprWithin, product_op, sum_op, compare_op, and_op, or_op}
+use Rattle.sym_parse.specs.Parsing.Expressions.{op_in, chain, chain_from, chain_turn, values, values_from, further, call, call_or_name, number_leaf, text_leaf, named, parens, primary, minus, unary, product, sum, relation, relation_turn, not_line, negation, conjunction, expr, line, lines, expression}
+use Rattle.sym_parse.proofs.Taking.{word-seen, sign-seen, sign-token, name-token, number-token, text-token, operator-seen}
+use Rattle.sym_parse.proofs.Recognizing.{Numbers, Meaning, Counting, Operands, Statements, Nothing, Says, Exists, Any, Recognizes, exists-as, exists-one, as-line, Shift, unchanged, by-numbers, uncounted-line, exists-sized, stops-sized, then-line, last-line, token-line, pure-line, refuse-line, choose-line, seen-line, view-line, turns-line, here-line, opened-line, operand-line}
+
+-- ---- values
+
+-- What an expression counts for.
+abbrev pub weight : Counting → ExprTree → ℕ
+weight Operands e = operand_count e
+weight Statements e = 0
+weight Nothing e = 0
+
+abbrev pub weights : Counting → ExprsTree → ℕ
+weights Operands es = operands_count es
+weights Statements es = 0
+weights Nothing es = 0
+
+weights-one : (w : Counting) (e : ExprTree) (c : ℕ) → c ≡ weight w e → c + 0 ≡ weights w (More e End)
+weights-one Operands e c h = omega (arith, h)
+weights-one Statements e c h = omega (arith, h)
+weights-one Nothing e c h = omega (arith, h)
+
+weights-more : (w : Counting) (e : ExprTree) (es : ExprsTree) (c d : ℕ) → c ≡ weight w e → d ≡ weights w es → c + d ≡ weights w (More e es)
+weights-more Operands e es c d h k = omega (arith, h, k)
+weights-more Statements e es c d h k = omega (arith, h, k)
+weights-more Nothing e es c d h k = omega (arith, h, k)
+
+-- Such an expression, and what it counts for.
+abbrev pub Counted : Counting → (Numbers → List Lexeme → ExprTree → Type 0) → Meaning ExprTree
+Counted w P n ls c e = P n ls e × (c ≡ weight w e)
+
+module _ (w : Counting) (m : Numbers) (P : Numbers → List Lexeme → ExprTree → Type 0) (item : Parser ExprTree) (each : Recognizes w m Any item (Counted w P)) where
+  abbrev Values : Meaning ExprsTree
+  Values n ls c es = IsValues (P n) ls es × (c ≡ weights w es)
+
+  -- What follows a value.
+  abbrev Further : ExprTree → List Lexeme → ℕ → Meaning ExprsTree
+  Further x xs c n ys d es = Counted w P n xs c x → Values n (xs ++ ys) (c + d) (More x es)
+
+  further-line : (more : Parser ExprsTree) → Recognizes w m Any more Values → (x : ExprTree) (xs : List Lexeme) (c : ℕ) → Recognizes w m Any (further item more) (Further x xs c)
+  further-line more goes x xs c =
+      choose-line (token-line (sign-seen symbol.Comma) (λ u l. as-line w m Values _ (λ n ls d es f v comma is. (syntax.more l is.0 comma v.0, weights-more w x es c d is.1 v.1)) goes))
+      (pure-line End (λ n f is. (subst (λ (ls : List Lexeme). IsValues (P n) ls (More x End)) (sym (append-nil xs)) (syntax.one is.0), weights-one w x c is.1)))
+
+  values-some : Exists m Values
+  values-some =
+      let e = each.some in
+      record { tokens = e.tokens; count = e.count; value = More e.value End; least = e.least; means = λ n f. let is = e.means n f in (syntax.one is.0, omega (arith, weights-one w e.value e.count is.1)) }
+
+  values-from-line : (k : ℕ) → Recognizes w m Any (values_from item k) Values
+  unfolding values_from
+  values-from-line zero = refuse-line values-some
+  values-from-line (suc k) = then-line each (λ x xs c. then-line (further-line (values_from item k) (values-from-line k) x xs c) (λ es ys d.
+      pure-line _ (λ n f further is. let v = further is in (subst (λ (ls : List Lexeme). IsValues (P n) (xs ++ ls) (More x es)) (sym (append-nil ys)) v.0, omega (arith, v.1)))))
+
+  pub values-line : Recognizes w m Any (values item) Values
+  unfolding values
+  values-line = turns-line (values_from item) values-from-line
+
+-- ---- chains
+
+module _ (m : Numbers) (P : Numbers → List Lexeme → ExprTree → Type 0) (item : Parser ExprTree) (each : Recognizes Operands m Any item (Counted Operands P)) (ops : Terminal → Option BinOp) where
+  abbrev Group : Numbers → List Lexeme → ExprTree → Type 0
+  Group n ls e = IsGrouped ops (P n) ls e
+
+  -- What follows a group.
+  abbrev After : ExprTree → List Lexeme → ℕ → Meaning ExprTree
+  After left xs c n ys d e = Counted Operands Group n xs c left → Counted Operands Group n (xs ++ ys) (c + d) e
+
+  group-ends : {Seen : Input → Type 0} (left : ExprTree) (xs : List Lexeme) (c : ℕ) → Recognizes Operands m Seen (λ i. Ok (left, i)) (After left xs c)
+  group-ends left xs c = pure-line left (λ n f g. (subst (λ (ls : List Lexeme). Group n ls left) (sym (append-nil xs)) g.0, omega (arith, g.1)))
+
+  turn-says : (more : ExprTree → Parser ExprTree) → ((x : ExprTree) (xs : List Lexeme) (c : ℕ) → Recognizes Operands m Any (more x) (After x xs c)) → (left : ExprTree) (xs : List Lexeme) (c : ℕ)
+      (o : Option BinOp) (i : Input) → op_in ops (next i) ≡ o → Says Operands m (After left xs c) i (chain_turn ops item more left o i)
+  turn-says more goes left xs c None i e = (group-ends {Seen = Any} left xs c).says i tt
+  turn-says more goes left xs c (Some b) i e =
+      let turn : Recognizes Operands m (λ j. op_in ops (next j) ≡ Some b) (chain_turn ops item more left (Some b)) (After left xs c) =
+      here-line (group-ends {Seen = Any} left xs c).some (λ at. token-line (operator-seen ops b i e) (λ u l. then-line each (λ right ys d.
+      as-line Operands m (After (Bin b left right at) (xs ++ l ∷ ys) (c + d)) _
+      (λ n zs t x f after is op first g.
+      let whole : Group n (xs ++ l ∷ ys) (Bin b left right at) = subst (λ (p : ℕ). Group n (xs ++ l ∷ ys) (Bin b left right p)) (sym (first l (ys ++ zs) refl)) (syntax.more b l g.0 op is.0) in
+      let all = after (whole, omega (arith, g.1, is.1)) in
+      (subst (λ (ls : List Lexeme). Group n ls x) (append_assoc xs (l ∷ ys) zs) all.0, omega (arith, all.1)))
+      (goes (Bin b left right at) (xs ++ l ∷ ys) (c + d))))) in
+      turn.says i e
+
+  chain-from-line : (k : ℕ) (left : ExprTree) (xs : List Lexeme) (c : ℕ) → Recognizes Operands m Any (chain_from ops item k left) (After left xs c)
+  unfolding chain_from
+  chain-from-line zero left xs c = group-ends left xs c
+  chain-from-line (suc k) left xs c = view-line (λ i. op_in ops (next i)) (chain_turn ops item (chain_from ops item k) left) (group-ends {Seen = Any} left xs c).some (turn-says (chain_from ops item k) (chain-from-line k) left xs c)
+
+  pub chain-line : Recognizes Operands m Any (chain ops item) (Counted Operands Group)
+  unfolding chain
+  chain-line = then-line each (λ x xs c. as-line Operands m (After x xs c) _ (λ n ls d e f g is. g (syntax.one is.0, is.1)) (turns-line (λ k. chain_from ops item k x) (λ k. chain-from-line k x xs c)))
+
+-- ---- the lines
+
+module _ (m : Numbers) (deeper : Line → Parser ExprTree) (D : Numbers → Line → List Lexeme → ExprTree → Type 0)
+    (below : 0 < m.room → (x : Line) → Recognizes Operands m Any (deeper x) (Counted Operands (λ n. D n x))) where
+  abbrev Primary : Meaning ExprTree
+  Primary = Counted Operands (λ n. IsPrimary (D n))
+
+  -- A name alone is an expression of each line.
+  one-leaf : Exists m (λ n ls c e. Primary n ls (suc c) e)
+  one-leaf =
+      let l : Lexeme = record { terminal = Name (120 ∷ []); at = 0 } in
+      record { tokens = l ∷ []; count = 0; value = Named (record { text = 120 ∷ []; at = 0 }); least = 0; means = λ n f. (syntax.name l (record { text = refl; place = refl }), refl) }
+
+  one-name : Exists m Primary
+  one-name = exists-one m Primary one-leaf
+
+  one-unary : Exists m (Counted Operands (λ n. IsUnary (D n)))
+  one-unary = exists-as Operands m Primary _ (λ n ls c e f is. (syntax.plain is.0, is.1)) one-name
+
+  one-negation : Exists m (Counted Operands (λ n. IsNegation (D n)))
+  one-negation = exists-as Operands m Primary _ (λ n ls c e f is. (syntax.plain (syntax.alone (syntax.one (syntax.one (syntax.plain is.0)))), is.1)) one-name
+
+  call-line : (x : NameRecord) (l : Lexeme) → Recognizes Operands m (λ i. sees_sign symbol.OpenParen i ≡ true) (call m.most m.room deeper x) (λ n ls c e. IsName x l → Primary n (l ∷ ls) (suc c) e)
+  unfolding call
+  call-line x l =
+      opened-line m.room (sign-seen symbol.OpenParen) (record { tokens = []; count = 0; value = Named x; least = 0; means = λ n f is. (syntax.name l is, refl) })
+      (λ some begin. then-line (values-line Operands m (λ n. D n Whole) (deeper Whole) (below some Whole)) (λ es xs c. token-line (sign-token symbol.CloseParen) (λ u end.
+      pure-line _ (λ n f z v o is. (syntax.call l begin end is o v.0 z, omega (arith, v.1))))))
+
+  number-line : Recognizes Operands m Any (number_leaf m.most m.room deeper) Primary
+  unfolding number_leaf
+  number-line = operand-line (here-line one-leaf (λ at. token-line number-token (λ x l. pure-line _ (λ n f is first.
+      (subst (λ (a : ℕ). IsPrimary (D n) (l ∷ []) (Num x a)) (sym (first l [] refl)) (syntax.number l is), refl)))))
+
+  text-line : Recognizes Operands m Any (text_leaf m.most m.room deeper) Primary
+  unfolding text_leaf
+  text-line = operand-line (here-line one-leaf (λ at. token-line text-token (λ t l. pure-line _ (λ n f is first.
+      (subst (λ (a : ℕ). IsPrimary (D n) (l ∷ []) (Words t a)) (sym (first l [] refl)) (syntax.text l is), refl)))))
+
+  named-line : Recognizes Operands m Any (named m.most m.room deeper) Primary
+  unfolding named call_or_name
+  named-line = operand-line (token-line name-token (λ x l. choose-line (call-line x l) (pure-line (Named x) (λ n f is. (syntax.name l is, refl)))))
+
+  parens-line : Recognizes Operands m (λ i. sees_sign symbol.OpenParen i ≡ true) (parens m.most m.room deeper) Primary
+  unfolding parens
+  parens-line = opened-line m.room (sign-seen symbol.OpenParen) one-name (λ some begin. then-line (below some Whole) (λ e xs c. token-line (sign-token symbol.CloseParen) (λ u end.
+      pure-line _ (λ n f z is o. (syntax.parens begin end o is.0 z, omega (arith, is.1))))))
+
+  primary-line : Recognizes Operands m Any (primary m.most m.room deeper) Primary
+  unfolding primary
+  primary-line = choose-line (seen-line number-line) (choose-line (seen-line text-line) (choose-line (seen-line named-line) (choose-line parens-line (refuse-line one-name))))
+
+  minus-line : Recognizes Operands m (λ i. sees_sign symbol.Minus i ≡ true) (minus m.most m.room deeper) (Counted Operands (λ n. IsUnary (D n)))
+  unfolding minus
+  minus-line = here-line one-unary (λ at. opened-line m.room (sign-seen symbol.Minus) (exists-as Operands m (Counted Operands (λ n. IsUnary (D n))) _ (λ n ls c e f is first. is) one-unary) (λ some l.
+      last-line (λ e. Neg e at) (below some Signed)
+      (λ n xs c e is o first. (subst (λ (a : ℕ). IsUnary (D n) (l ∷ xs) (Neg e a)) (sym (first l xs refl)) (syntax.minus l o is.0), is.1))))
+
+  unary-line : Recognizes Operands m Any (unary m.most m.room deeper) (Counted Operands (λ n. IsUnary (D n)))
+  unfolding unary
+  unary-line = choose-line minus-line (as-line Operands m Primary _ (λ n ls c e f is. (syntax.plain is.0, is.1)) primary-line)
+
+  product-line : Recognizes Operands m Any (product m.most m.room deeper) (Counted Operands (λ n. IsProduct (D n)))
+  unfolding product
+  product-line = chain-line m (λ n. IsUnary (D n)) (unary m.most m.room deeper) unary-line product_op
+
+  sum-line : Recognizes Operands m Any (sum m.most m.room deeper) (Counted Operands (λ n. IsSum (D n)))
+  unfolding sum
+  sum-line = chain-line m (λ n. IsProduct (D n)) (product m.most m.room deeper) product-line sum_op
+
+  abbrev Relation : ExprTree → List Lexeme → ℕ → Meaning ExprTree
+  Relation left xs c n ys d e = Counted Operands (λ k. IsSum (D k)) n xs c left → Counted Operands (λ k. IsRelation (D k)) n (xs ++ ys) (c + d) e
+
+  relation-ends : {Seen : Input → Type 0} (left : ExprTree) (xs : List Lexeme) (c : ℕ) → Recognizes Operands m Seen (λ i. Ok (left, i)) (Relation left xs c)
+  relation-ends left xs c = pure-line left (λ n f is. (subst (λ (ls : List Lexeme). IsRelation (D n) ls left) (sym (append-nil xs)) (syntax.alone is.0), omega (arith, is.1)))
+
+  relation-says : (left : ExprTree) (xs : List Lexeme) (c : ℕ) (o : Option BinOp) (i : Input) → op_in compare_op (next i) ≡ o → Says Operands m (Relation left xs c) i (relation_turn m.most m.room deeper left o i)
+  relation-says left xs c None i e = (relation-ends {Seen = Any} left xs c).says i tt
+  relation-says left xs c (Some b) i e =
+      let turn : Recognizes Operands m (λ j. op_in compare_op (next j) ≡ Some b) (relation_turn m.most m.room deeper left (Some b)) (Relation left xs c) =
+      here-line (relation-ends {Seen = Any} left xs c).some (λ at. token-line (operator-seen compare_op b i e) (λ u l. last-line (λ right. Bin b left right at) sum-line
+      (λ n ys d right is op first g. (subst (λ (a : ℕ). IsRelation (D n) (xs ++ l ∷ ys) (Bin b left right a)) (sym (first l ys refl)) (syntax.compared b l g.0 op is.0), omega (arith, g.1, is.1))))) in
+      turn.says i e
+
+  relation-line : Recognizes Operands m Any (relation m.most m.room deeper) (Counted Operands (λ n. IsRelation (D n)))
+  unfolding relation
+  relation-line = then-line sum-line (λ left xs c. view-line (λ i. op_in compare_op (next i)) (relation_turn m.most m.room deeper left) (relation-ends {Seen = Any} left xs c).some (relation-says left xs c))
+
+  not-line : Recognizes Operands m (λ i. sees_word keyword.Not i ≡ true) (not_line m.most m.room deeper) (Counted Operands (λ n. IsNegation (D n)))
+  unfolding not_line
+  not-line = here-line one-negation (λ at. opened-line m.room (word-seen keyword.Not) (exists-as Operands m (Counted Operands (λ n. IsNegation (D n))) _ (λ n ls c e f is first. is) one-negation) (λ some l.
+      last-line (λ e. Not e at) (below some Negation)
+      (λ n xs c e is o first. (subst (λ (a : ℕ). IsNegation (D n) (l ∷ xs) (Not e a)) (sym (first l xs refl)) (syntax.not l o is.0), is.1))))
+
+  negation-line : Recognizes Operands m Any (negation m.most m.room deeper) (Counted Operands (λ n. IsNegation (D n)))
+  unfolding negation
+  negation-line = choose-line not-line (as-line Operands m (Counted Operands (λ n. IsRelation (D n))) _ (λ n ls c e f is. (syntax.plain is.0, is.1)) relation-line)
+
+  conjunction-line : Recognizes Operands m Any (conjunction m.most m.room deeper) (Counted Operands (λ n. IsConjunction (D n)))
+  unfolding conjunction
+  conjunction-line = chain-line m (λ n. IsNegation (D n)) (negation m.most m.room deeper) negation-line and_op
+
+  pub expr-line : Recognizes Operands m Any (expr m.most m.room deeper) (Counted Operands (λ n. IsExpression (D n)))
+  unfolding expr
+  expr-line = chain-line m (λ n. IsConjunction (D n)) (conjunction m.most m.room deeper) conjunction-line or_op
+
+  each-line : (x : Line) → Recognizes Operands m Any (line m.most m.room deeper x) (Counted Operands (λ n. IsLine (D n) x))
+  each-line Whole = expr-line
+  each-line Negation = negation-line
+  each-line Signed = unary-line
+
+-- ---- levels, and whole expressions
+
+abbrev pub inside : (most : LimitKind → ℕ) (room : ℕ) → Shift (record { most = most; room = suc room }) (record { most = most; room = room })
+inside most room = record {
+  other = λ n. record n { room = n.room - 1 };
+  least = suc;
+  wide = λ n f. record { wide = f.wide; deep = omega (arith, f.deep); enough = f.enough; free = omega arith };
+  fits = λ a n f. record { wide = f.wide; deep = omega (arith, f.deep); enough = λ k. omega (arith, f.enough k); free = omega (arith, f.free) };
+}
+
+within-more : (room : ℕ) (x : Line) (ls : List Lexeme) (e : ExprTree) → 0 < room → IsLine (Within (room - 1)) x ls e → Within room x ls e
+unfolding Within
+within-more zero x ls e h is = absurd (omega (arith, h))
+within-more (suc room) x ls e h is = let same : suc room - 1 ≡ room = omega arith in subst (λ (r : ℕ). IsLine (Within r) x ls e) same is
+
+module _ (most : LimitKind → ℕ) where
+  lines-line : (room : ℕ) → 0 < room → (x : Line) → Recognizes Operands (record { most = most; room = room }) Any (lines most room x) (Counted Operands (λ n. Within n.room x))
+  unfolding lines
+  lines-line zero some x = absurd (omega (arith, some))
+  lines-line (suc room) some x =
+      let m : Numbers = record { most = most; room = suc room } in
+      as-line Operands m _ (Counted Operands (λ n. Within n.room x)) (λ n ls c e f is. (within-more n.room x ls e (omega (arith, f.deep)) is.0, is.1))
+      (by-numbers Operands m (record { most = most; room = room }) (Counted Operands (λ n. IsLine (Within n.room) x)) (inside most room) (λ w. refl)
+      (each-line (record { most = most; room = room }) (lines most room) (λ n. Within n.room) (lines-line room) x))
+
+module _ (m : Numbers) where
+  abbrev Expression : Meaning ExprTree
+  Expression = Counted Statements (λ n. IsExprWithin n.most n.room)
+
+  abbrev CountedExpression : Meaning ExprTree
+  CountedExpression = Counted Operands (λ n. IsExpression (Within n.room))
+
+  whole : (n : Numbers) (ls : List Lexeme) (c : ℕ) (e : ExprTree) → CountedExpression n ls c e → operand_count e ≤ n.most limit.Operands → IsExprWithin n.most n.room ls e
+  unfolding Within
+  whole n ls c e is few = record { whole = is.0; few = few }
+
+  -- The operands of an expression are counted from 0, and none counts after it.
+  says-whole : (i : Input) (o : Parsed ExprTree) → Says Operands m CountedExpression (record i { operands = 0 }) o → Says Statements m Expression i (and_then o (λ e j. Ok (e, record j { operands = 0 })))
+  says-whole i (Ok read) t =
+      let c = t.counts in
+      record {
+        taken = t.taken;
+        count = 0;
+        splits = t.splits;
+        counts = record { more = omega (arith, c.same); few = λ h. omega (arith, c.same, h); same = refl };
+        means = λ n f. let is = t.means n f in (whole n t.taken t.count read.0 is (omega (arith, is.1, c.more, c.few (omega arith), f.wide limit.Operands)), refl);
+      }
+  says-whole i (Err stopped) s = stops-sized m m CountedExpression (λ n. IsExprWithin n.most n.room) (unchanged m) limit.Operands operand_count whole (record i { operands = 0 }) i refl stopped s
+
+  pub expression-line : Recognizes Statements m Any (expression m.most m.room) Expression
+  unfolding expression
+  expression-line =
+      let inner = expr-line m (lines m.most m.room) (λ n. Within n.room) (lines-line m.most m.room) in
+      record {
+        some = exists-sized m m CountedExpression (λ n. IsExprWithin n.most n.room) (unchanged m) limit.Operands operand_count whole inner.some;
+        says = λ i h. says-whole i (expr m.most m.room (lines m.most m.room) (record i { operands = 0 })) (inner.says (record i { operands = 0 }) tt);
+      }
+
+-- Where as many levels are free as a script may open.
+abbrev pub fresh : Numbers → Numbers
+fresh n = record n { room = n.most limit.Depth }
+
+abbrev pub from_fresh : (m : Numbers) → Shift m (fresh m)
+from_fresh m = record {
+  other = fresh;
+  least = λ a. a;
+  wide = λ n f. record { wide = f.wide; deep = f.wide limit.Depth; enough = f.enough; free = omega arith };
+  fits = λ a n f. record { wide = f.wide; deep = f.wide limit.Depth; enough = f.enough; free = f.enough limit.Depth };
+}
+
+pub value-line : (m : Numbers) → Recognizes Nothing m Any (expression m.most (m.most limit.Depth)) (λ n ls c e. IsExprWithin n.most (n.most limit.Depth) ls e)
+value-line m = uncounted-line Statements m _ (λ n. IsExprWithin n.most (n.most limit.Depth)) (λ n ls c e is. is.0) (by-numbers Statements m (fresh m) (Expression (fresh m)) (from_fresh m) (λ w. refl) (expression-line (fresh m)))

@@ -1,0 +1,35 @@
+-- Where a text is refused.
+use Rattle.std.specs.Prelude.{◌≡◌, ℕ, ◌≤◌, List, [], ◌∷◌, ◌++◌, length, Ok}
+use Rattle.sym_lex.specs.declared.token.Token.{Token}
+use Rattle.sym_lex.specs.Rules.{Reads}
+use Rattle.sym_parse.specs.declared.error.LimitKind.{LimitKind}
+use Rattle.sym_parse.specs.Answers.{place_of_left}
+use Rattle.sym_parse.specs.Lexemes.{Lexeme, lexemes_of}
+use Rattle.sym_parse.specs.Limits.{most}
+use Rattle.sym_parse.specs.Parsing.Scripts.{script, start}
+use Rattle.sym_parse.specs.Sentences.{IsSentence, BeginNoSentence, IsNoEarlier}
+
+-- Some lexemes after these make them a script's, by some limits.
+pub record CanGoOn (front : List Lexeme) : Type 0 where
+  pub rest : List Lexeme
+  pub sentence : IsSentence (front ++ rest)
+
+-- The first place of the text at which no sentence goes on. The tokens before the one there begin
+-- a sentence, and with it they begin none; or the tokens of the whole text, which ends there,
+-- begin a sentence and are none.
+pub data IsUnexpected (text : List ℕ) (at : ℕ) : Type 0 where
+  token : (front rest : List Token) (t : Token) → Reads 0 text (Ok (front ++ t ∷ rest)) →
+      t.at ≡ at → CanGoOn (lexemes_of text front) →
+      BeginNoSentence (lexemes_of text (front ++ t ∷ [])) → IsUnexpected text at
+  end : (tokens : List Token) → Reads 0 text (Ok tokens) → length text ≡ at →
+      CanGoOn (lexemes_of text tokens) → (IsSentence (lexemes_of text tokens) → ⊥) →
+      IsUnexpected text at
+
+-- The text's tokens pass a limit at this place: with wider limits reading comes at least as far.
+pub record IsReached (text : List ℕ) (at : ℕ) : Type 0 where
+  pub tokens : List Token
+  pub lexed : Reads 0 text (Ok tokens)
+  pub left : ℕ
+  pub stands : place_of_left (length text) tokens left ≡ at
+  pub further : (wider : LimitKind → ℕ) → ((k : LimitKind) → most k ≤ wider k) →
+      IsNoEarlier left (script wider (start (lexemes_of text tokens)))
