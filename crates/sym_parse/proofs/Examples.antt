@@ -16,8 +16,8 @@ use Rattle.sym_parse.specs.Parsing.Declarations.{num, literal_value, kind_ref, b
 use Rattle.sym_parse.specs.Parsing.Expressions.{chain, chain_from, call_or_name, number_leaf, named, primary, unary, product, sum, relation, negation, conjunction, expr, expression}
 use Rattle.sym_parse.specs.Parsing.Scripts.{enums, fields, states, tests, columns, report, script}
 use Rattle.sym_parse.specs.Parsing.Statements.{begins_statement, assignment, simple, statement, statements, statements_from, block, update}
-use Rattle.sym_parse.specs.Places.{IsUnexpected}
-use Rattle.sym_parse.proofs.Refusing.{text-unexpected}
+use Rattle.sym_parse.specs.Places.{IsUnexpected, IsPassed}
+use Rattle.sym_parse.proofs.Refusing.{text-unexpected, text-passed}
 use Rattle.sym_parse.specs.Printed as form
 use Rattle.sym_parse.specs.Printed.{script_text}
 use Rattle.sym_parse.specs.Steps.{next, place, passed, sees_word, sees_sign, sees_name, sees_number, sees_text, is_done, word, sign, name, number, done, one_statement, one_operand, repeated, separated}
@@ -61,6 +61,13 @@ fifth_part = refl
 fourth_group_field : parsed (codes "field a: num; group a, a, a, a;") ≡ Err (Limit 29 GroupFields)
 unfolding parsed lexed_from keyword_of keywords symbol_of symbols next place passed sees_word sees_sign sees_name word sign name repeated separated header kind_ref default_value field names group enums fields script
 fourth_group_field = refl
+
+-- At these places their limits are passed.
+fifth_part_there : IsPassed (codes "field x: num; state n: hold(num = 0, num = 0, num = 0, num = 0, num = 0);") 64 Parts
+fifth_part_there = text-passed (codes "field x: num; state n: hold(num = 0, num = 0, num = 0, num = 0, num = 0);") 64 Parts fifth_part
+
+fourth_group_field_there : IsPassed (codes "field a: num; group a, a, a, a;") 29 GroupFields
+fourth_group_field_there = text-passed (codes "field a: num; group a, a, a, a;") 29 GroupFields fourth_group_field
 
 -- ---- a counter of each x: its cell goes up by one at each record, to 3 at most
 

@@ -12,7 +12,7 @@ use Rattle.sym_parse.specs.Lexemes.{Lexeme, IsSign}
 use Rattle.sym_parse.specs.Steps.{Input, Parsed, Parser, and_then, ◌>>=◌, ◌>>◌, pure, choose, refuse, full, here, bump, place, place_of, opening, one_operand, one_statement, repeated, separated}
 use Rattle.sym_parse.specs.Syntax.Declarations as syntax
 use Rattle.sym_parse.specs.Syntax.Declarations.{AreItems, AreFurther, AreAtMost, AreSome, AreSeparated}
-use Rattle.sym_parse.proofs.Taking.{Token, Tells, sign-seen}
+use Rattle.sym_parse.proofs.Taking.{Token, Tells, step-some, sign-seen}
 
 -- ---- what is said
 
@@ -85,7 +85,7 @@ pub record Stopped {A : Type 0} (m : Numbers) (R : Meaning A) (i : Input) (left 
 
 abbrev pub Stops : {A : Type 0} → Numbers → Meaning A → Input → Stop → Type 0
 Stops m R i (stop.Expected left) = Stopped m R i left
-Stops m R i (stop.Limit left which) = Stopped m R i left
+Stops m R i (stop.Limit left which) = Stopped m R i left × (0 < left)
 Stops m R i stop.NoMemory = Unit {0}
 
 abbrev pub Says : {A : Type 0} → Counting → Numbers → Meaning A → Input → Parsed A → Type 0
@@ -129,7 +129,7 @@ counts-step Nothing m i j k b s o q = record { more = q.more; few = q.few; same 
 
 stops-as : {A B : Type 0} (m k : Numbers) (P : Meaning A) (R : Meaning B) (i j : Input) → ((left : ℕ) → Stopped m P i left → Stopped k R j left) → (s : Stop) → Stops m P i s → Stops k R j s
 stops-as m k P R i j each (stop.Expected left) s = each left s
-stops-as m k P R i j each (stop.Limit left which) s = each left s
+stops-as m k P R i j each (stop.Limit left which) s = (each left s.0, s.1)
 stops-as m k P R i j each stop.NoMemory s = tt
 
 -- Numbers that are made of others.
@@ -363,8 +363,12 @@ pure-line {A} {w} {m} {Seen} {R} x is = record {
 pub refuse-line : {A : Type 0} {w : Counting} {m : Numbers} {Seen : Input → Type 0} {R : Meaning A} → Exists m R → Recognizes w m Seen (refuse {A = A}) R
 refuse-line {A} {w} {m} {Seen} {R} some = record { some = some; says = λ i h. stopped-here m R i (length i.rest) refl some }
 
-pub full-line : {A : Type 0} {w : Counting} {m : Numbers} {Seen : Input → Type 0} {R : Meaning A} (which : LimitKind) → Exists m R → Recognizes w m Seen (full {A = A} which) R
-full-line {A} {w} {m} {Seen} {R} which some = record { some = some; says = λ i h. stopped-here m R i (length i.rest) refl some }
+-- Where a limit is passed there is a token.
+abbrev pub There : (Input → Type 0) → Type 0
+There Seen = (i : Input) → Seen i → 0 < length i.rest
+
+pub full-line : {A : Type 0} {w : Counting} {m : Numbers} {Seen : Input → Type 0} {R : Meaning A} (which : LimitKind) → Exists m R → There Seen → Recognizes w m Seen (full {A = A} which) R
+full-line {A} {w} {m} {Seen} {R} which some there = record { some = some; says = λ i h. (stopped-here m R i (length i.rest) refl some, there i h) }
 
 if-says : {A : Type 0} (w : Counting) (m : Numbers) (R : Meaning A) (i : Input) (b : Bool) (o p : Parsed A) → (b ≡ true → Says w m R i o) → Says w m R i p → Says w m R i (if b then o else p)
 if-says w m R i true o p a b = a refl
@@ -372,14 +376,14 @@ if-says w m R i false o p a b = b
 
 -- By a test of the next token.
 pub choose-says : {A : Type 0} {w : Counting} {m : Numbers} {Seen : Input → Type 0} {test : Input → Bool} {q : Parser A} {R : Meaning A} (p : Parser A) →
-    ((i : Input) → test i ≡ true → Says w m R i (p i)) → Recognizes w m Any q R → Recognizes w m Seen (choose test p q) R
+    ((i : Input) → test i ≡ true → Says w m R i (p i)) → Recognizes w m Seen q R → Recognizes w m Seen (choose test p q) R
 choose-says {A} {w} {m} {Seen} {test} {q} {R} p first second = record {
   some = second.some;
-  says = λ i h. if-says w m R i (test i) (p i) (q i) (first i) (second.says i tt);
+  says = λ i h. if-says w m R i (test i) (p i) (q i) (first i) (second.says i h);
 }
 
 pub choose-line : {A : Type 0} {w : Counting} {m : Numbers} {Seen : Input → Type 0} {test : Input → Bool} {p q : Parser A} {R : Meaning A} →
-    Recognizes w m (λ i. test i ≡ true) p R → Recognizes w m Any q R → Recognizes w m Seen (choose test p q) R
+    Recognizes w m (λ i. test i ≡ true) p R → Recognizes w m Seen q R → Recognizes w m Seen (choose test p q) R
 choose-line {A} {w} {m} {Seen} {test} {p} {q} {R} first second = choose-says p first.says second
 
 -- A test was no matter.
@@ -436,7 +440,7 @@ here-line {A} {w} {m} {Seen} {f} {R} some each = record { some = some; says = λ
 pub opened-line : {B : Type 0} {w : Counting} {m : Numbers} {Seen : Input → Type 0} {p : Parser B} {Is : Unit {0} → Lexeme → Type 0} {R : Meaning B} (room : ℕ) → Token Seen bump Is → Exists m R →
     (0 < room → (l : Lexeme) → Recognizes w m Any p (λ n ys c y. Is tt l → R n (l ∷ ys) c y)) → Recognizes w m Seen (opening room >> p) R
 unfolding opening
-opened-line {B} {w} {m} {Seen} {p} {Is} {R} zero first some rest = record { some = some; says = λ i h. stopped-here m R i (length i.rest) refl some }
+opened-line {B} {w} {m} {Seen} {p} {Is} {R} zero first some rest = record { some = some; says = λ i h. (stopped-here m R i (length i.rest) refl some, step-some (first.says i h)) }
 opened-line {B} {w} {m} {Seen} {p} {Is} {R} (suc room) first some rest = token-line {f = λ u. p} first (λ u l. rest (omega arith) l)
 
 -- What was counted before a line counts too.
@@ -453,33 +457,33 @@ exists-one m R g = record { tokens = g.tokens; count = suc g.count; value = g.va
 abbrev pub begun : Bool → Input → ℕ → LimitKind → Parsed (Unit {0})
 begun b i left which = if b then Ok (tt, i) else Err (stop.Limit left which)
 
-pub begun-says : {A : Type 0} (w : Counting) (m : Numbers) (R : Meaning A) (i j : Input) (which : LimitKind) (p : Parser A) (b : Bool) → (b ≡ true → Says w m R i (p j)) → Exists m R →
+pub begun-says : {A : Type 0} (w : Counting) (m : Numbers) (R : Meaning A) (i j : Input) (which : LimitKind) (p : Parser A) (b : Bool) → (b ≡ true → Says w m R i (p j)) → Exists m R → 0 < length i.rest →
     Says w m R i (and_then (begun b j (length i.rest) which) (λ u. p))
-begun-says w m R i j which p true f some = f refl
-begun-says w m R i j which p false f some = stopped-here m R i (length i.rest) refl some
+begun-says w m R i j which p true f some there = f refl
+begun-says w m R i j which p false f some there = (stopped-here m R i (length i.rest) refl some, there)
 
 -- An operand is counted, and then read.
-pub operand-line : {A : Type 0} {m : Numbers} {Seen : Input → Type 0} {p : Parser A} {R : Meaning A} → Recognizes Operands m Any p (λ n ls c x. R n ls (suc c) x) →
+pub operand-line : {A : Type 0} {m : Numbers} {Seen : Input → Type 0} {p : Parser A} {R : Meaning A} → There Seen → Recognizes Operands m Any p (λ n ls c x. R n ls (suc c) x) →
     Recognizes Operands m Seen (one_operand (m.most limit.Operands) >> p) R
 unfolding one_operand
-operand-line {A} {m} {Seen} {p} {R} r =
+operand-line {A} {m} {Seen} {p} {R} there r =
     let some = exists-one m R r.some in
     record {
       some = some;
       says = λ i h. let j : Input = record i { operands = i.operands + 1 } in
-          begun-says Operands m R i j limit.Operands p (nat_lt i.operands (m.most limit.Operands)) (λ e. says-one Operands m R i j (p j) refl refl refl (grind (arith, nat_tests)) (r.says j tt)) some;
+          begun-says Operands m R i j limit.Operands p (nat_lt i.operands (m.most limit.Operands)) (λ e. says-one Operands m R i j (p j) refl refl refl (grind (arith, nat_tests)) (r.says j tt)) some (there i h);
     }
 
 -- A statement is counted, and then read.
-pub statement-line : {A : Type 0} {m : Numbers} {Seen Then : Input → Type 0} {p : Parser A} {R : Meaning A} → ((i : Input) → Seen i → Then (record i { statements = i.statements + 1 })) →
+pub statement-line : {A : Type 0} {m : Numbers} {Seen Then : Input → Type 0} {p : Parser A} {R : Meaning A} → There Seen → ((i : Input) → Seen i → Then (record i { statements = i.statements + 1 })) →
     Recognizes Statements m Then p (λ n ls c x. R n ls (suc c) x) → Recognizes Statements m Seen (one_statement (m.most limit.Statements) >> p) R
 unfolding one_statement
-statement-line {A} {m} {Seen} {Then} {p} {R} kept r =
+statement-line {A} {m} {Seen} {Then} {p} {R} there kept r =
     let some = exists-one m R r.some in
     record {
       some = some;
       says = λ i h. let j : Input = record i { statements = i.statements + 1 } in
-          begun-says Statements m R i j limit.Statements p (nat_lt i.statements (m.most limit.Statements)) (λ e. says-one Statements m R i j (p j) refl refl refl (grind (arith, nat_tests)) (r.says j (kept i h))) some;
+          begun-says Statements m R i j limit.Statements p (nat_lt i.statements (m.most limit.Statements)) (λ e. says-one Statements m R i j (p j) refl refl refl (grind (arith, nat_tests)) (r.says j (kept i h))) some (there i h);
     }
 
 -- ---- lists
@@ -492,7 +496,7 @@ pub record Listed {A : Type 0} (Are : List Lexeme → List A → Type 0) (most :
   pub few : length all ≤ most
 
 module _ {A : Type 0} (w : Counting) (m : Numbers) (which : LimitKind) (begins : Input → Bool) (item : Parser A) (Item : Numbers → List Lexeme → A → Type 0)
-    (each : Recognizes w m Any item (λ n ls c x. Item n ls x)) where
+    (each : Recognizes w m Any item (λ n ls c x. Item n ls x)) (there : There (λ i. begins i ≡ true)) where
   no-more : {Seen : Input → Type 0} (Are : Numbers → List Lexeme → List A → Type 0) → ((n : Numbers) → Are n [] []) → (found : List A) → length found ≤ m.most which →
       Recognizes w m Seen (pure found) (λ n ls c all. Listed (Are n) (n.most which) found ls all)
   no-more Are none found few = pure-line found (λ n f. record { items = []; are = sym (append-nil found); means = none n; few = omega (arith, few, f.wide which) })
@@ -504,7 +508,7 @@ module _ {A : Type 0} (w : Counting) (m : Numbers) (which : LimitKind) (begins :
   unfolding repeated
   repeated-line zero found e =
       let none = no-more {Seen = Any} (λ n. AreItems (Item n)) (λ n. syntax.none) found (omega (arith, e)) in
-      choose-line (full-line which none.some) none
+      choose-line (full-line which none.some there) none
   repeated-line (suc free) found e =
       choose-line
       (then-line (seen-line each) (λ x xs c. as-line w m (Repeated (found ++ x ∷ [])) _
@@ -547,7 +551,7 @@ module _ {A : Type 0} (w : Counting) (m : Numbers) (which : LimitKind) (begins :
   unfolding separated
   separated-line zero found e =
       choose-line
-      (token-line (sign-seen symbol.Comma) (λ u l. choose-line {test = begins} (full-line which (one-too-many found l)) (refuse-line (one-too-many found l))))
+      (token-line (sign-seen symbol.Comma) (λ u l. choose-line {test = begins} (full-line which (one-too-many found l) there) (refuse-line (one-too-many found l))))
       (no-more (λ n. AreFurther (Item n)) (λ n. syntax.none) found (omega (arith, e)))
   separated-line (suc free) found e =
       choose-line

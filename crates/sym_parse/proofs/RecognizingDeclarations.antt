@@ -1,6 +1,6 @@
 -- What is read as a declaration is one, and the tokens before the place where reading it stops begin
 -- one.
-use Rattle.std.proofs.Common.{ℕ, ◌≤◌, ℤ, neg_ℤ, true, false, List, [], ◌∷◌, None, Some, refl, subst, sym}
+use Rattle.std.proofs.Common.{◌≡◌, ℕ, ◌<◌, ◌≤◌, ℤ, neg_ℤ, true, false, List, [], ◌∷◌, length, None, Some, refl, subst, sym}
 use Rattle.sym_base.specs.declared.tree.declaration.Literal.TheVariants as literal
 use Rattle.sym_base.specs.declared.tree.declaration.CellDecl.TheVariants as cell
 use Rattle.sym_lex.specs.declared.keyword.Keyword.TheVariants as keyword
@@ -8,11 +8,11 @@ use Rattle.sym_lex.specs.declared.symbol.Symbol.TheVariants as symbol
 use Rattle.sym_parse.specs.declared.error.LimitKind.{LimitKind}
 use Rattle.sym_parse.specs.declared.error.LimitKind.TheVariants as limit
 use Rattle.sym_parse.specs.Lexemes.{Lexeme}
-use Rattle.sym_parse.specs.Steps.{sees_name, name}
+use Rattle.sym_parse.specs.Steps.{Input, next, sees_word, sees_name, name}
 use Rattle.sym_parse.specs.Syntax.Declarations as syntax
 use Rattle.sym_parse.specs.Syntax.Declarations.{AreSeparated, IsOneName, IsNum, IsLiteral, IsKind, IsEnum, IsHeader, IsDefault, IsField, IsGroup, IsRange, IsPart, IsClamp, IsCell, IsState, IsParam, IsTest, IsColumn}
 use Rattle.sym_parse.specs.Parsing.Declarations.{num, literal_value, begins_kind, kind_ref, header, default_value, field, group, range, clamp, part, param, names, enum_decl, parts, int_cell, nums_cell, hold_cell, label_cell, cell_decl, state, params, test_decl, column}
-use Rattle.sym_parse.proofs.Taking.{word-seen, sign-seen, word-token, sign-token, name-token, number-token, text-token}
+use Rattle.sym_parse.proofs.Taking.{there, name-there, word-seen, sign-seen, word-token, sign-token, name-token, number-token, text-token}
 use Rattle.sym_parse.proofs.RecognizingExpressions.{value-line}
 use Rattle.sym_parse.proofs.Recognizing.{Numbers, Any, Counting, Nothing, Recognizes, then-line, last-line, token-line, alone-line, pure-line, choose-line, seen-line, here-line, StandsAt, list-line}
 
@@ -77,12 +77,16 @@ module _ {w : Counting} {m : Numbers} where
   param-line = token-line name-token (λ x l. token-line (sign-token symbol.Colon) (λ u colon.
       last-line (λ t. record { name = x; kind = t }) kind-line (λ n ks a t kp is name. syntax.param l colon name is kp)))
 
+kind-there : (i : Input) → begins_kind i ≡ true → 0 < length i.rest
+unfolding begins_kind sees_name sees_word next
+kind-there = there begins_kind (λ st op. refl)
+
 -- ---- declarations
 
 module _ (m : Numbers) (some : (k : LimitKind) → 1 ≤ m.most k) where
   names-line : (which : LimitKind) → Recognizes Nothing m Any (names m.most which) (λ n ls c x. AreSeparated (n.most which) IsOneName ls x)
   unfolding names
-  names-line which = list-line Nothing m which sees_name name (λ n. IsOneName) one-name-line (some which)
+  names-line which = list-line Nothing m which sees_name name (λ n. IsOneName) one-name-line name-there (some which)
 
   pub enum-line : Recognizes Nothing m Any (enum_decl m.most) (λ n ls c x. IsEnum n.most ls x)
   unfolding enum_decl
@@ -106,7 +110,7 @@ module _ (m : Numbers) (some : (k : LimitKind) → 1 ≤ m.most k) where
 
   parts-line : Recognizes Nothing m Any (parts m.most) (λ n ls c x. AreSeparated (n.most limit.Parts) IsPart ls x)
   unfolding parts
-  parts-line = list-line Nothing m limit.Parts begins_kind part (λ n. IsPart) part-line (some limit.Parts)
+  parts-line = list-line Nothing m limit.Parts begins_kind part (λ n. IsPart) part-line kind-there (some limit.Parts)
 
   hold-line : Recognizes Nothing m Any (hold_cell m.most) (λ n ls c x. IsCell n.most ls x)
   unfolding hold_cell
@@ -129,7 +133,7 @@ module _ (m : Numbers) (some : (k : LimitKind) → 1 ≤ m.most k) where
 
   params-line : Recognizes Nothing m Any (params m.most) (λ n ls c x. AreSeparated (n.most limit.Parameters) IsParam ls x)
   unfolding params
-  params-line = list-line Nothing m limit.Parameters sees_name param (λ n. IsParam) param-line (some limit.Parameters)
+  params-line = list-line Nothing m limit.Parameters sees_name param (λ n. IsParam) param-line name-there (some limit.Parameters)
 
   pub test-line : Recognizes Nothing m Any (test_decl m.most) (λ n ls c x. IsTest n.most ls x)
   unfolding test_decl

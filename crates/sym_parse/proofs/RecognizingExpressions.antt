@@ -11,12 +11,12 @@ use Rattle.sym_lex.specs.declared.symbol.Symbol.TheVariants as symbol
 use Rattle.sym_parse.specs.declared.error.LimitKind.{LimitKind}
 use Rattle.sym_parse.specs.declared.error.LimitKind.TheVariants as limit
 use Rattle.sym_parse.specs.Lexemes.{Terminal, Lexeme, Name, IsName}
-use Rattle.sym_parse.specs.Steps.{Input, Parsed, Parser, and_then, next, sees_word, sees_sign}
+use Rattle.sym_parse.specs.Steps.{Input, Parsed, Parser, and_then, next, sees_word, sees_sign, sees_name, sees_number, sees_text}
 use Rattle.sym_parse.specs.Syntax.Expressions as syntax
 use Rattle.sym_parse.specs.Syntax.Expressions.{Line, Whole, Negation, Signed, IsGrouped, IsValues, IsPrimary, IsUnary, IsProduct, IsSum, IsRelation, IsNegation, IsConjunction, IsExpression, IsLine, Within, IsExprWithin, product_op, sum_op, compare_op, and_op, or_op}
 use Rattle.sym_parse.specs.Parsing.Expressions.{op_in, chain, chain_from, chain_turn, values, values_from, further, call, call_or_name, number_leaf, text_leaf, named, parens, primary, minus, unary, product, sum, relation, relation_turn, not_line, negation, conjunction, expr, line, lines, expression}
-use Rattle.sym_parse.proofs.Taking.{word-seen, sign-seen, sign-token, name-token, number-token, text-token, operator-seen}
-use Rattle.sym_parse.proofs.Recognizing.{Numbers, Meaning, Counting, Operands, Statements, Nothing, Says, Exists, Any, Recognizes, exists-as, exists-one, as-line, Shift, unchanged, by-numbers, uncounted-line, exists-sized, stops-sized, then-line, last-line, token-line, pure-line, refuse-line, choose-line, seen-line, view-line, turns-line, here-line, opened-line, operand-line}
+use Rattle.sym_parse.proofs.Taking.{name-there, number-there, text-there, word-seen, sign-seen, sign-token, name-token, number-token, text-token, operator-seen}
+use Rattle.sym_parse.proofs.Recognizing.{Numbers, Meaning, Counting, Operands, Statements, Nothing, Says, Exists, Any, Recognizes, exists-as, exists-one, as-line, Shift, unchanged, by-numbers, uncounted-line, exists-sized, stops-sized, then-line, last-line, token-line, pure-line, refuse-line, choose-line, view-line, turns-line, here-line, opened-line, operand-line}
 
 -- ---- values
 
@@ -138,19 +138,19 @@ module _ (m : Numbers) (deeper : Line → Parser ExprTree) (D : Numbers → Line
       (λ some begin. then-line (values-line Operands m (λ n. D n Whole) (deeper Whole) (below some Whole)) (λ es xs c. token-line (sign-token symbol.CloseParen) (λ u end.
       pure-line _ (λ n f z v o is. (syntax.call l begin end is o v.0 z, omega (arith, v.1))))))
 
-  number-line : Recognizes Operands m Any (number_leaf m.most m.room deeper) Primary
+  number-line : Recognizes Operands m (λ i. sees_number i ≡ true) (number_leaf m.most m.room deeper) Primary
   unfolding number_leaf
-  number-line = operand-line (here-line one-leaf (λ at. token-line number-token (λ x l. pure-line _ (λ n f is first.
+  number-line = operand-line number-there (here-line one-leaf (λ at. token-line number-token (λ x l. pure-line _ (λ n f is first.
       (subst (λ (a : ℕ). IsPrimary (D n) (l ∷ []) (Num x a)) (sym (first l [] refl)) (syntax.number l is), refl)))))
 
-  text-line : Recognizes Operands m Any (text_leaf m.most m.room deeper) Primary
+  text-line : Recognizes Operands m (λ i. sees_text i ≡ true) (text_leaf m.most m.room deeper) Primary
   unfolding text_leaf
-  text-line = operand-line (here-line one-leaf (λ at. token-line text-token (λ t l. pure-line _ (λ n f is first.
+  text-line = operand-line text-there (here-line one-leaf (λ at. token-line text-token (λ t l. pure-line _ (λ n f is first.
       (subst (λ (a : ℕ). IsPrimary (D n) (l ∷ []) (Words t a)) (sym (first l [] refl)) (syntax.text l is), refl)))))
 
-  named-line : Recognizes Operands m Any (named m.most m.room deeper) Primary
+  named-line : Recognizes Operands m (λ i. sees_name i ≡ true) (named m.most m.room deeper) Primary
   unfolding named call_or_name
-  named-line = operand-line (token-line name-token (λ x l. choose-line (call-line x l) (pure-line (Named x) (λ n f is. (syntax.name l is, refl)))))
+  named-line = operand-line name-there (token-line name-token (λ x l. choose-line (call-line x l) (pure-line (Named x) (λ n f is. (syntax.name l is, refl)))))
 
   parens-line : Recognizes Operands m (λ i. sees_sign symbol.OpenParen i ≡ true) (parens m.most m.room deeper) Primary
   unfolding parens
@@ -159,7 +159,7 @@ module _ (m : Numbers) (deeper : Line → Parser ExprTree) (D : Numbers → Line
 
   primary-line : Recognizes Operands m Any (primary m.most m.room deeper) Primary
   unfolding primary
-  primary-line = choose-line (seen-line number-line) (choose-line (seen-line text-line) (choose-line (seen-line named-line) (choose-line parens-line (refuse-line one-name))))
+  primary-line = choose-line number-line (choose-line text-line (choose-line named-line (choose-line parens-line (refuse-line one-name))))
 
   minus-line : Recognizes Operands m (λ i. sees_sign symbol.Minus i ≡ true) (minus m.most m.room deeper) (Counted Operands (λ n. IsUnary (D n)))
   unfolding minus

@@ -1,5 +1,5 @@
 -- What is read as a script is one, and the tokens before the place where reading it stops begin one.
-use Rattle.std.proofs.Common.{◌≡◌, ℕ, ◌+◌, ◌≤◌, List, [], ◌∷◌, ◌++◌, length, Ok, Err, refl, ap, sym, ◌∙◌, subst, arith, length-append}
+use Rattle.std.proofs.Common.{◌≡◌, ℕ, ◌+◌, ◌<◌, ◌≤◌, List, [], ◌∷◌, ◌++◌, length, Ok, Err, refl, ap, sym, ◌∙◌, subst, arith, length-append}
 use Rattle.std.proofs.lemmas.List.{append-nil}
 use Rattle.sym_base.specs.Trees.{ScriptTree}
 use Rattle.sym_lex.specs.declared.keyword.Keyword.TheVariants as keyword
@@ -16,31 +16,31 @@ use Rattle.sym_parse.specs.Parsing.Declarations.{enum_decl, field, group, state,
 use Rattle.sym_parse.specs.Parsing.Statements.{update}
 use Rattle.sym_parse.specs.Places.{CanGoOn}
 use Rattle.sym_parse.specs.Parsing.Scripts.{enums, fields, states, tests, columns, report, script, start}
-use Rattle.sym_parse.proofs.Taking.{word-token, sign-token}
-use Rattle.sym_parse.proofs.Recognizing.{Numbers, Fits, Meaning, Says, Nothing, Any, Recognizes, fits-self, then-line, last-line, token-line, pure-line, choose-line, refuse-line, any-line, some-line}
+use Rattle.sym_parse.proofs.Taking.{word-there, name-there, word-token, sign-token}
+use Rattle.sym_parse.proofs.Recognizing.{Numbers, Fits, Stopped, Meaning, Says, Nothing, Any, Recognizes, fits-self, then-line, last-line, token-line, pure-line, choose-line, refuse-line, any-line, some-line}
 use Rattle.sym_parse.proofs.RecognizingStatements.{update-line}
 use Rattle.sym_parse.proofs.RecognizingDeclarations.{enum-line, field-line, group-line, state-line, test-line, column-line}
 
 module _ (m : Numbers) (some : (k : LimitKind) → 1 ≤ m.most k) where
   enums-line : Recognizes Nothing m Any (enums m.most) (λ n ls c x. AreAtMost (n.most limit.Enums) (IsEnum n.most) ls x)
   unfolding enums
-  enums-line = any-line Nothing m limit.Enums (sees_word keyword.Enum) (enum_decl m.most) (λ n. IsEnum n.most) (enum-line m some)
+  enums-line = any-line Nothing m limit.Enums (sees_word keyword.Enum) (enum_decl m.most) (λ n. IsEnum n.most) (enum-line m some) (word-there keyword.Enum)
 
   fields-line : Recognizes Nothing m Any (fields m.most) (λ n ls c x. AreSome (n.most limit.Fields) IsField ls x)
   unfolding fields
-  fields-line = some-line Nothing m limit.Fields (sees_word keyword.Field) field (λ n. IsField) field-line (some limit.Fields)
+  fields-line = some-line Nothing m limit.Fields (sees_word keyword.Field) field (λ n. IsField) field-line (word-there keyword.Field) (some limit.Fields)
 
   states-line : Recognizes Nothing m Any (states m.most) (λ n ls c x. AreSome (n.most limit.Cells) (IsState n.most) ls x)
   unfolding states
-  states-line = some-line Nothing m limit.Cells (sees_word keyword.State) (state m.most) (λ n. IsState n.most) (state-line m some) (some limit.Cells)
+  states-line = some-line Nothing m limit.Cells (sees_word keyword.State) (state m.most) (λ n. IsState n.most) (state-line m some) (word-there keyword.State) (some limit.Cells)
 
   tests-line : Recognizes Nothing m Any (tests m.most) (λ n ls c x. AreAtMost (n.most limit.Tests) (IsTest n.most) ls x)
   unfolding tests
-  tests-line = any-line Nothing m limit.Tests (sees_word keyword.Test) (test_decl m.most) (λ n. IsTest n.most) (test-line m some)
+  tests-line = any-line Nothing m limit.Tests (sees_word keyword.Test) (test_decl m.most) (λ n. IsTest n.most) (test-line m some) (word-there keyword.Test)
 
   columns-line : Recognizes Nothing m Any (columns m.most) (λ n ls c x. AreSome (n.most limit.Columns) (IsColumn n.most) ls x)
   unfolding columns
-  columns-line = some-line Nothing m limit.Columns sees_name (column m.most) (λ n. IsColumn n.most) (column-line m some) (some limit.Columns)
+  columns-line = some-line Nothing m limit.Columns sees_name (column m.most) (λ n. IsColumn n.most) (column-line m some) name-there (some limit.Columns)
 
   report-line : Recognizes Nothing m Any (report m.most) (λ n ls c x. IsReport n.most ls x)
   unfolding report
@@ -112,11 +112,20 @@ module _ (most : LimitKind → ℕ) (some : (k : LimitKind) → 1 ≤ most k) wh
       subst (λ (xs : List Lexeme). IsScript most xs s) (sym (t.splits ∙ ap (λ (xs : List Lexeme). t.taken ++ xs) all.1 ∙ append-nil t.taken)) (t.means Whole (fits-self Whole))
 
   -- The tokens before the place where reading stops can go on.
-  pub script-goes-on : (front rest : List Lexeme) → script most (start (front ++ rest)) ≡ Err (stop.Expected (length rest)) → CanGoOn front
-  script-goes-on front rest e =
-      let s = (said (front ++ rest) (Err (stop.Expected (length rest))) e).0 in
+  goes-on : (front rest : List Lexeme) (left : ℕ) → length rest ≡ left → Stopped Whole Script (start (front ++ rest)) left → CanGoOn front
+  goes-on front rest left e s =
       let g = s.goes_on in
       let n : Numbers = record { most = λ k. most k + g.least; room = g.least } in
       let fits : Fits Whole g.least n = record { wide = λ k. omega arith; deep = omega arith; enough = λ k. omega arith; free = omega arith } in
-      let same : front ≡ s.front = same-front front s.front rest s.rest s.splits (sym s.after) in
+      let same : front ≡ s.front = same-front front s.front rest s.rest s.splits (e ∙ sym s.after) in
       subst CanGoOn (sym same) (record { rest = g.tokens; sentence = record { limits = n.most; tree = g.value; script = g.means n fits } })
+
+  pub unexpected-goes-on : (front rest : List Lexeme) → script most (start (front ++ rest)) ≡ Err (stop.Expected (length rest)) → CanGoOn front
+  unexpected-goes-on front rest e = goes-on front rest (length rest) refl (said (front ++ rest) (Err (stop.Expected (length rest))) e).0
+
+  pub passed-goes-on : (front rest : List Lexeme) (which : LimitKind) → script most (start (front ++ rest)) ≡ Err (stop.Limit (length rest) which) → CanGoOn front
+  passed-goes-on front rest which e = goes-on front rest (length rest) refl (said (front ++ rest) (Err (stop.Limit (length rest) which)) e).0.0
+
+  -- Where a limit is passed there is a token.
+  pub passed-there : (ls : List Lexeme) (left : ℕ) (which : LimitKind) → script most (start ls) ≡ Err (stop.Limit left which) → 0 < left
+  passed-there ls left which e = (said ls (Err (stop.Limit left which)) e).0.1

@@ -9,17 +9,21 @@ use Rattle.sym_lex.specs.declared.symbol.Symbol.TheVariants as symbol
 use Rattle.sym_parse.specs.declared.error.LimitKind.{LimitKind}
 use Rattle.sym_parse.specs.declared.error.LimitKind.TheVariants as limit
 use Rattle.sym_parse.specs.Lexemes.{Lexeme, Word, Sign, IsKeyword, IsName}
-use Rattle.sym_parse.specs.Steps.{Input, Parsed, Parser, ◌>>◌, refuse, next, sees_word, opening, one_statement}
+use Rattle.sym_parse.specs.Steps.{Input, Parsed, Parser, ◌>>◌, refuse, next, sees_word, sees_name, opening, one_statement}
 use Rattle.sym_parse.specs.Syntax.Expressions.{IsExprWithin}
 use Rattle.sym_parse.specs.Syntax.Statements as syntax
 use Rattle.sym_parse.specs.Syntax.Statements.{IsStatement, AreStatements, IsBlock, IsElse, IsIf, IsIfWithin, IsBlockWithin}
 use Rattle.sym_parse.specs.Syntax.Scripts as scripts
 use Rattle.sym_parse.specs.Syntax.Scripts.{IsUpdate}
 use Rattle.sym_parse.specs.Parsing.Expressions.{expression}
-use Rattle.sym_parse.specs.Parsing.Statements.{binding, assignment, push, kept_values, kept_cell, keep, simple, statement, statements_from, statements, block, otherwise, else_part, branches, if_statement, update}
-use Rattle.sym_parse.proofs.Taking.{word-seen, word-token, sign-token, name-token}
+use Rattle.sym_parse.specs.Parsing.Statements.{begins_statement, binding, assignment, push, kept_values, kept_cell, keep, simple, statement, statements_from, statements, block, otherwise, else_part, branches, if_statement, update}
+use Rattle.sym_parse.proofs.Taking.{there, word-there, word-seen, word-token, sign-token, name-token}
 use Rattle.sym_parse.proofs.Recognizing.{Numbers, Fits, Meaning, Statements, Nothing, Says, Exists, Any, Recognizes, stopped-here, begun-says, says-last, says-as, as-line, by-numbers, exists-sized, stops-sized, then-line, last-line, token-line, pure-line, choose-says, choose-line, seen-line, turns-line, statement-line}
 use Rattle.sym_parse.proofs.RecognizingExpressions.{expression-line, values-line, inside, fresh, from_fresh}
+
+statement-there : (i : Input) → begins_statement i ≡ true → 0 < length i.rest
+unfolding begins_statement sees_name sees_word next
+statement-there = there begins_statement (λ st op. refl)
 
 module _ (m : Numbers) (if_here : Parser StmtTree) (IsIfHere : Numbers → List Lexeme → StmtTree → Type 0)
     (inner : (i : Input) → sees_word keyword.If i ≡ true → Says Statements m (λ n ls c s. IsIfHere n ls s × (c ≡ stmt_count s)) i (if_here i)) where
@@ -68,9 +72,9 @@ module _ (m : Numbers) (if_here : Parser StmtTree) (IsIfHere : Numbers → List 
   unfolding simple
   simple-line = choose-line (seen-line binding-line) (choose-line (seen-line push-line) (choose-line (seen-line keep-line) assignment-line))
 
-  pub one-line : Recognizes Statements m Any (statement m.most m.room if_here) Statement
+  pub one-line : Recognizes Statements m (λ i. begins_statement i ≡ true) (statement m.most m.room if_here) Statement
   unfolding statement
-  one-line = choose-says if_here (λ i h. says-as Statements m _ Statement (λ n ls c s f is. (syntax.branch is.0, is.1)) i (if_here i) (inner i h)) (statement-line (λ i h. tt) simple-line)
+  one-line = choose-says if_here (λ i h. says-as Statements m _ Statement (λ n ls c s f is. (syntax.branch is.0, is.1)) i (if_here i) (inner i h)) (statement-line statement-there (λ i h. tt) simple-line)
 
   abbrev Several : Meaning StmtsTree
   Several n ls c ss = AreStatements n.most n.room (IsIfHere n) ls ss × (c ≡ stmts_count ss)
@@ -79,7 +83,7 @@ module _ (m : Numbers) (if_here : Parser StmtTree) (IsIfHere : Numbers → List 
   unfolding statements_from
   statements-from-line zero = pure-line Done (λ n f. (syntax.none, refl))
   statements-from-line (suc k) = choose-line
-      (seen-line (then-line one-line (λ s xs c. last-line (λ rest. Then s rest) (statements-from-line k) (λ n ys d ss rest is. (syntax.more is.0 rest.0, omega (arith, is.1, rest.1))))))
+      (then-line one-line (λ s xs c. last-line (λ rest. Then s rest) (statements-from-line k) (λ n ys d ss rest is. (syntax.more is.0 rest.0, omega (arith, is.1, rest.1)))))
       (pure-line Done (λ n f. (syntax.none, refl)))
 
   statements-line : Recognizes Statements m Any (statements m.most m.room if_here) Several
@@ -152,12 +156,12 @@ module _ (most : LimitKind → ℕ) where
   if-says zero i h =
       let m : Numbers = record { most = most; room = 0 } in
       let j : Input = record i { statements = i.statements + 1 } in
-      begun-says Statements m one-if-means i j limit.Statements (opening zero >> refuse) (nat_lt i.statements (most limit.Statements)) (λ e. stopped-here m one-if-means i (length i.rest) refl (one-if m)) (one-if m)
+      begun-says Statements m one-if-means i j limit.Statements (opening zero >> refuse) (nat_lt i.statements (most limit.Statements)) (λ e. (stopped-here m one-if-means i (length i.rest) refl (one-if m), word-there keyword.If i h)) (one-if m) (word-there keyword.If i h)
   if-says (suc room) i h =
       let m : Numbers = record { most = most; room = suc room } in
       let k : Numbers = record { most = most; room = room } in
       let all : Recognizes Statements m (λ j. sees_word keyword.If j ≡ true) (if_statement most (suc room)) one-if-means =
-      statement-line still-if (token-line (word-seen keyword.If) (λ u l. as-line Statements m _ _ (λ n ls c s f is if. let b = is if in (within-if n.most n.room (l ∷ ls) s (omega (arith, f.deep)) b.0, b.1))
+      statement-line (word-there keyword.If) still-if (token-line (word-seen keyword.If) (λ u l. as-line Statements m _ _ (λ n ls c s f is if. let b = is if in (within-if n.most n.room (l ∷ ls) s (omega (arith, f.deep)) b.0, b.1))
       (by-numbers Statements m k _ (inside most room) (λ w. refl) (branches-line k (if_statement most room) (λ n. IsIfWithin n.most n.room) (if-says room) l)))) in
       all.says i h
 

@@ -1,5 +1,5 @@
 -- What a parser of one token says: the token that it took, or that it took none.
-use Rattle.std.proofs.Common.{◌≡◌, ℕ, ℤ, Bool, true, false, if◌then◌else◌, List, [], ◌∷◌, Option, Some, None, Ok, Err, length, pos, refl, ap, rules}
+use Rattle.std.proofs.Common.{◌≡◌, ℕ, suc, ◌<◌, ℤ, Bool, true, false, if◌then◌else◌, List, [], ◌∷◌, Option, Some, None, Ok, Err, length, pos, refl, ap, arith, rules}
 use Rattle.std.proofs.lemmas.Option.{same_Some}
 use denote.Enum.Bare.{same_true}
 use Rattle.sym_base.specs.declared.tree.expression.BinOp.{BinOp}
@@ -9,7 +9,7 @@ use Rattle.sym_lex.specs.contracts.keyword.Keyword as keywords
 use Rattle.sym_lex.specs.contracts.symbol.Symbol as symbols
 use Rattle.sym_parse.specs.declared.stop.Stop.TheVariants as stop
 use Rattle.sym_parse.specs.Lexemes.{Terminal, Name, Number, Str, Word, Sign, Lexeme, IsKeyword, IsSign, IsNumeral, IsText, IsName}
-use Rattle.sym_parse.specs.Steps.{Input, Parsed, Parser, bump, next, next_of, after_first, place, place_of, passed, word_of, sign_of, name_of, number_of, text_of, is_this_word, is_this_sign, named, taken, sees_word, sees_sign, word, sign, name, number, text}
+use Rattle.sym_parse.specs.Steps.{Input, Parsed, Parser, bump, next, next_of, after_first, place, place_of, passed, word_of, sign_of, name_of, number_of, text_of, is_this_word, is_this_sign, named, taken, sees_word, sees_sign, sees_name, sees_number, sees_text, word, sign, name, number, text}
 use Rattle.sym_parse.specs.Parsing.Expressions.{op_in}
 
 -- A token was taken, and nothing was counted.
@@ -19,6 +19,9 @@ pub record Step (Is : Lexeme → Type 0) (i j : Input) : Type 0 where
   pub is : Is lexeme
   pub statements : j.statements ≡ i.statements
   pub operands : j.operands ≡ i.operands
+
+pub step-some : {Is : Lexeme → Type 0} {i j : Input} → Step Is i j → 0 < length i.rest
+step-some {Is} {i} {j} s = let all : length i.rest ≡ suc (length j.rest) = ap length s.splits in omega (arith, all)
 
 abbrev pub Tells : {A : Type 0} → (A → Lexeme → Type 0) → Input → Parsed A → Type 0
 Tells Is i (Ok read) = Step (Is read.0) i read.1
@@ -120,6 +123,31 @@ text-tells i None e = refl
 text-tells i (Some t) e = step (IsText t) i (first-text t i.rest e)
 
 -- ---- one token
+
+-- A test that no end passes.
+there-in : (test : Input → Bool) → ((st op : ℕ) → test (record { rest = []; statements = st; operands = op }) ≡ false) → (ls : List Lexeme) (st op : ℕ) →
+    test (record { rest = ls; statements = st; operands = op }) ≡ true → 0 < length ls
+there-in test none [] st op e = let f = none st op in cc
+there-in test none (l ∷ ls) st op e = omega arith
+
+pub there : (test : Input → Bool) → ((st op : ℕ) → test (record { rest = []; statements = st; operands = op }) ≡ false) → (i : Input) → test i ≡ true → 0 < length i.rest
+there test none i e = there-in test none i.rest i.statements i.operands e
+
+pub word-there : (k : Keyword) (i : Input) → sees_word k i ≡ true → 0 < length i.rest
+unfolding sees_word next
+word-there k = there (sees_word k) (λ st op. refl)
+
+pub name-there : (i : Input) → sees_name i ≡ true → 0 < length i.rest
+unfolding sees_name next
+name-there = there sees_name (λ st op. refl)
+
+pub number-there : (i : Input) → sees_number i ≡ true → 0 < length i.rest
+unfolding sees_number next
+number-there = there sees_number (λ st op. refl)
+
+pub text-there : (i : Input) → sees_text i ≡ true → 0 < length i.rest
+unfolding sees_text next
+text-there = there sees_text (λ st op. refl)
 
 pub word-seen : (k : Keyword) → Token (λ i. sees_word k i ≡ true) bump (λ u. IsKeyword k)
 unfolding sees_word next

@@ -1,5 +1,6 @@
 -- Where a text is refused.
 use Rattle.std.specs.Prelude.{◌≡◌, ℕ, ◌≤◌, List, [], ◌∷◌, ◌++◌, length, Ok}
+use Rattle.sym_base.specs.Trees.{ScriptTree}
 use Rattle.sym_lex.specs.declared.token.Token.{Token}
 use Rattle.sym_lex.specs.Rules.{Reads}
 use Rattle.sym_parse.specs.declared.error.LimitKind.{LimitKind}
@@ -7,12 +8,21 @@ use Rattle.sym_parse.specs.Answers.{place_of_left}
 use Rattle.sym_parse.specs.Lexemes.{Lexeme, lexemes_of}
 use Rattle.sym_parse.specs.Limits.{most}
 use Rattle.sym_parse.specs.Parsing.Scripts.{script, start}
+use Rattle.sym_parse.specs.Syntax.Scripts.{IsScript}
 use Rattle.sym_parse.specs.Sentences.{IsSentence, BeginNoSentence, IsNoEarlier}
 
 -- Some lexemes after these make them a script's, by some limits.
 pub record CanGoOn (front : List Lexeme) : Type 0 where
   pub rest : List Lexeme
   pub sentence : IsSentence (front ++ rest)
+
+-- Some lexemes after these make them a script's, by limits of which that of a kind is this at most.
+pub record BeginsWithin (which : LimitKind) (number : ℕ) (front : List Lexeme) : Type 0 where
+  pub limits : LimitKind → ℕ
+  pub few : limits which ≤ number
+  pub rest : List Lexeme
+  pub tree : ScriptTree
+  pub script : IsScript limits (front ++ rest) tree
 
 -- The first place of the text at which no sentence goes on. The tokens before the one there begin
 -- a sentence, and with it they begin none; or the tokens of the whole text, which ends there,
@@ -33,3 +43,14 @@ pub record IsReached (text : List ℕ) (at : ℕ) : Type 0 where
   pub stands : place_of_left (length text) tokens left ≡ at
   pub further : (wider : LimitKind → ℕ) → ((k : LimitKind) → most k ≤ wider k) →
       IsNoEarlier left (script wider (start (lexemes_of text tokens)))
+
+-- The token at this place of the text passes the limit of a kind. The tokens before it begin a
+-- sentence, and with it they begin none within that limit, whatever the others are.
+pub record IsPassed (text : List ℕ) (at : ℕ) (which : LimitKind) : Type 0 where
+  pub front : List Token
+  pub token : Token
+  pub rest : List Token
+  pub lexed : Reads 0 text (Ok (front ++ token ∷ rest))
+  pub stands : token.at ≡ at
+  pub goes_on : CanGoOn (lexemes_of text front)
+  pub none : BeginsWithin which (most which) (lexemes_of text (front ++ token ∷ [])) → ⊥
