@@ -9,10 +9,10 @@ use Rattle.sym_parse.specs.declared.error.LimitKind.TheVariants as limit
 use Rattle.sym_parse.specs.declared.stop.Stop.{Stop}
 use Rattle.sym_parse.specs.declared.stop.Stop.TheVariants as stop
 use Rattle.sym_parse.specs.Lexemes.{Lexeme, IsSign}
-use Rattle.sym_parse.specs.Steps.{Input, Parsed, Parser, and_then, ◌>>=◌, ◌>>◌, pure, choose, refuse, full, here, bump, place, place_of, opening, one_operand, one_statement, repeated, separated}
+use Rattle.sym_parse.specs.Steps.{Input, Parsed, Parser, and_then, ◌>>=◌, ◌>>◌, pure, choose, refuse, full, here, bump, passed, place, place_of, opening, one_operand, one_statement, repeated, separated}
 use Rattle.sym_parse.specs.Syntax.Declarations as syntax
 use Rattle.sym_parse.specs.Syntax.Declarations.{AreItems, AreFurther, AreAtMost, AreSome, AreSeparated}
-use Rattle.sym_parse.proofs.Taking.{Token, Tells, step-some, sign-seen}
+use Rattle.sym_parse.proofs.Taking.{Token, Tells, Sees, sees-one, sign-seen}
 
 -- ---- what is said
 
@@ -85,7 +85,7 @@ pub record Stopped {A : Type 0} (m : Numbers) (R : Meaning A) (i : Input) (left 
 
 abbrev pub Stops : {A : Type 0} → Numbers → Meaning A → Input → Stop → Type 0
 Stops m R i (stop.Expected left) = Stopped m R i left
-Stops m R i (stop.Limit left which) = Stopped m R i left × (0 < left)
+Stops m R i (stop.Limit left which) = (k : ℕ) × (left ≡ suc k) × Stopped m R i k
 Stops m R i stop.NoMemory = Unit {0}
 
 abbrev pub Says : {A : Type 0} → Counting → Numbers → Meaning A → Input → Parsed A → Type 0
@@ -129,7 +129,7 @@ counts-step Nothing m i j k b s o q = record { more = q.more; few = q.few; same 
 
 stops-as : {A B : Type 0} (m k : Numbers) (P : Meaning A) (R : Meaning B) (i j : Input) → ((left : ℕ) → Stopped m P i left → Stopped k R j left) → (s : Stop) → Stops m P i s → Stops k R j s
 stops-as m k P R i j each (stop.Expected left) s = each left s
-stops-as m k P R i j each (stop.Limit left which) s = (each left s.0, s.1)
+stops-as m k P R i j each (stop.Limit left which) s = (s.0, s.1, each s.0 s.2)
 stops-as m k P R i j each stop.NoMemory s = tt
 
 -- Numbers that are made of others.
@@ -363,16 +363,53 @@ pure-line {A} {w} {m} {Seen} {R} x is = record {
 pub refuse-line : {A : Type 0} {w : Counting} {m : Numbers} {Seen : Input → Type 0} {R : Meaning A} → Exists m R → Recognizes w m Seen (refuse {A = A}) R
 refuse-line {A} {w} {m} {Seen} {R} some = record { some = some; says = λ i h. stopped-here m R i (length i.rest) refl some }
 
--- Where a limit is passed there is a token.
-abbrev pub There : (Input → Type 0) → Type 0
-There Seen = (i : Input) → Seen i → 0 < length i.rest
+-- The next token begins something of the line.
+pub record Starts {A : Type 0} (m : Numbers) (R : Meaning A) (i : Input) : Type 0 where
+  pub token : Lexeme
+  pub rest : List Lexeme
+  pub splits : i.rest ≡ token ∷ rest
+  pub goes_on : Exists m (λ n ls c x. R n (token ∷ ls) c x)
 
-pub full-line : {A : Type 0} {w : Counting} {m : Numbers} {Seen : Input → Type 0} {R : Meaning A} (which : LimitKind) → Exists m R → There Seen → Recognizes w m Seen (full {A = A} which) R
-full-line {A} {w} {m} {Seen} {R} which some there = record { some = some; says = λ i h. (stopped-here m R i (length i.rest) refl some, there i h) }
+pub starts : {A B : Type 0} {m : Numbers} {R : Meaning B} {Is : A → Lexeme → Type 0} {i : Input} → Sees Is i → ((x : A) (l : Lexeme) → Exists m (λ n ls c y. Is x l → R n (l ∷ ls) c y)) → Starts m R i
+starts {A} {B} {m} {R} {Is} {i} sees each =
+    let t = sees.step in
+    let e = each sees.value t.lexeme in
+    record { token = t.lexeme; rest = (passed i).rest; splits = t.splits; goes_on = record { tokens = e.tokens; count = e.count; value = e.value; least = e.least; means = λ n f. e.means n f t.is } }
+
+-- A line that takes a token and then stops at the end begins with it.
+front-alone : (front rest : List Lexeme) (l : Lexeme) → l ∷ [] ≡ front ++ rest → length rest ≡ 0 → front ≡ l ∷ []
+front-alone front [] l e f = sym (append-nil front) ∙ sym e
+front-alone front (k ∷ rest) l e f = absurd (omega (arith, f))
+
+pub starts-alone : {A B : Type 0} {w : Counting} {m : Numbers} {p : Parser B} {R : Meaning B} {Is : A → Lexeme → Type 0} {i : Input} → Recognizes w m Any p R →
+    ((x : A) (l : Lexeme) → Is x l → p (record { rest = l ∷ []; statements = 0; operands = 0 }) ≡ Err (stop.Expected 0)) → Sees Is i → Starts m R i
+starts-alone {A} {B} {w} {m} {p} {R} {Is} {i} line alone sees =
+    let t = sees.step in
+    let j : Input = record { rest = t.lexeme ∷ []; statements = 0; operands = 0 } in
+    let s : Stopped m R j 0 = subst (λ (o : Parsed B). Says w m R j o) (alone sees.value t.lexeme t.is) (line.says j tt) in
+    let e = s.goes_on in
+    let one : s.front ≡ t.lexeme ∷ [] = front-alone s.front s.rest t.lexeme s.splits s.after in
+    record {
+      token = t.lexeme;
+      rest = (passed i).rest;
+      splits = t.splits;
+      goes_on = record { tokens = e.tokens; count = e.count; value = e.value; least = e.least; means = λ n f. subst (λ (ls : List Lexeme). R n (ls ++ e.tokens) e.count e.value) one (e.means n f) };
+    }
+
+-- A token that passes a limit can stand where it does.
+pub passes-here : {A : Type 0} (m : Numbers) (R : Meaning A) (i : Input) (which : LimitKind) → Starts m R i → Stops m R i (stop.Limit (length i.rest) which)
+passes-here m R i which s = (length s.rest, ap length s.splits, record { front = s.token ∷ []; rest = s.rest; splits = s.splits; after = refl; goes_on = s.goes_on })
+
+pub full-line : {A : Type 0} {w : Counting} {m : Numbers} {Seen : Input → Type 0} {R : Meaning A} (which : LimitKind) → Exists m R → ((i : Input) → Seen i → Starts m R i) → Recognizes w m Seen (full {A = A} which) R
+full-line {A} {w} {m} {Seen} {R} which some first = record { some = some; says = λ i h. passes-here m R i which (first i h) }
 
 if-says : {A : Type 0} (w : Counting) (m : Numbers) (R : Meaning A) (i : Input) (b : Bool) (o p : Parsed A) → (b ≡ true → Says w m R i o) → Says w m R i p → Says w m R i (if b then o else p)
 if-says w m R i true o p a b = a refl
 if-says w m R i false o p a b = b
+
+if-either : {A : Type 0} (w : Counting) (m : Numbers) (R : Meaning A) (i : Input) (b : Bool) (o p : Parsed A) → (b ≡ true → Says w m R i o) → (b ≡ false → Says w m R i p) → Says w m R i (if b then o else p)
+if-either w m R i true o p a b = a refl
+if-either w m R i false o p a b = b refl
 
 -- By a test of the next token.
 pub choose-says : {A : Type 0} {w : Counting} {m : Numbers} {Seen : Input → Type 0} {test : Input → Bool} {q : Parser A} {R : Meaning A} (p : Parser A) →
@@ -381,6 +418,10 @@ choose-says {A} {w} {m} {Seen} {test} {q} {R} p first second = record {
   some = second.some;
   says = λ i h. if-says w m R i (test i) (p i) (q i) (first i) (second.says i h);
 }
+
+pub choose-other : {A : Type 0} {w : Counting} {m : Numbers} {Seen : Input → Type 0} {test : Input → Bool} {q : Parser A} {R : Meaning A} (p : Parser A) →
+    ((i : Input) → test i ≡ true → Says w m R i (p i)) → Recognizes w m (λ i. Seen i × (test i ≡ false)) q R → Recognizes w m Seen (choose test p q) R
+choose-other {A} {w} {m} {Seen} {test} {q} {R} p first second = record { some = second.some; says = λ i h. if-either w m R i (test i) (p i) (q i) (first i) (λ e. second.says i (h, e)) }
 
 pub choose-line : {A : Type 0} {w : Counting} {m : Numbers} {Seen : Input → Type 0} {test : Input → Bool} {p q : Parser A} {R : Meaning A} →
     Recognizes w m (λ i. test i ≡ true) p R → Recognizes w m Seen q R → Recognizes w m Seen (choose test p q) R
@@ -436,11 +477,20 @@ here-line {A} {w} {m} {Seen} {f} {R} some each = record { some = some; says = λ
 
 -- ---- what is counted
 
+one-is : (Is : Unit {0} → Lexeme → Type 0) (u : Unit {0}) (l : Lexeme) → Is u l → Is tt l
+one-is Is u l is = is
+
 -- A level is opened by the next token, and what follows stands in it.
-pub opened-line : {B : Type 0} {w : Counting} {m : Numbers} {Seen : Input → Type 0} {p : Parser B} {Is : Unit {0} → Lexeme → Type 0} {R : Meaning B} (room : ℕ) → Token Seen bump Is → Exists m R →
+pub opened-line : {B : Type 0} {w : Counting} {m : Numbers} {Seen : Input → Type 0} {p : Parser B} {Is : Unit {0} → Lexeme → Type 0} {R : Meaning B} (room : ℕ) → Token Seen bump Is →
+    ((l : Lexeme) → Exists m (λ n ys c y. Is tt l → R n (l ∷ ys) c y)) →
     (0 < room → (l : Lexeme) → Recognizes w m Any p (λ n ys c y. Is tt l → R n (l ∷ ys) c y)) → Recognizes w m Seen (opening room >> p) R
 unfolding opening
-opened-line {B} {w} {m} {Seen} {p} {Is} {R} zero first some rest = record { some = some; says = λ i h. (stopped-here m R i (length i.rest) refl some, step-some (first.says i h)) }
+opened-line {B} {w} {m} {Seen} {p} {Is} {R} zero first some rest =
+    let e = some first.lexeme in
+    record {
+      some = record { tokens = first.lexeme ∷ e.tokens; count = e.count; value = e.value; least = e.least; means = λ n f. e.means n f (one-is Is first.value first.lexeme first.is) };
+      says = λ i h. passes-here m R i limit.Depth (starts (sees-one first i h) (λ u l. some l));
+    }
 opened-line {B} {w} {m} {Seen} {p} {Is} {R} (suc room) first some rest = token-line {f = λ u. p} first (λ u l. rest (omega arith) l)
 
 -- What was counted before a line counts too.
@@ -457,33 +507,33 @@ exists-one m R g = record { tokens = g.tokens; count = suc g.count; value = g.va
 abbrev pub begun : Bool → Input → ℕ → LimitKind → Parsed (Unit {0})
 begun b i left which = if b then Ok (tt, i) else Err (stop.Limit left which)
 
-pub begun-says : {A : Type 0} (w : Counting) (m : Numbers) (R : Meaning A) (i j : Input) (which : LimitKind) (p : Parser A) (b : Bool) → (b ≡ true → Says w m R i (p j)) → Exists m R → 0 < length i.rest →
+pub begun-says : {A : Type 0} (w : Counting) (m : Numbers) (R : Meaning A) (i j : Input) (which : LimitKind) (p : Parser A) (b : Bool) → (b ≡ true → Says w m R i (p j)) → Starts m R i →
     Says w m R i (and_then (begun b j (length i.rest) which) (λ u. p))
-begun-says w m R i j which p true f some there = f refl
-begun-says w m R i j which p false f some there = (stopped-here m R i (length i.rest) refl some, there)
+begun-says w m R i j which p true f first = f refl
+begun-says w m R i j which p false f first = passes-here m R i which first
 
 -- An operand is counted, and then read.
-pub operand-line : {A : Type 0} {m : Numbers} {Seen : Input → Type 0} {p : Parser A} {R : Meaning A} → There Seen → Recognizes Operands m Any p (λ n ls c x. R n ls (suc c) x) →
+pub operand-line : {A : Type 0} {m : Numbers} {Seen : Input → Type 0} {p : Parser A} {R : Meaning A} → ((i : Input) → Seen i → Starts m R i) → Recognizes Operands m Any p (λ n ls c x. R n ls (suc c) x) →
     Recognizes Operands m Seen (one_operand (m.most limit.Operands) >> p) R
 unfolding one_operand
-operand-line {A} {m} {Seen} {p} {R} there r =
+operand-line {A} {m} {Seen} {p} {R} first r =
     let some = exists-one m R r.some in
     record {
       some = some;
       says = λ i h. let j : Input = record i { operands = i.operands + 1 } in
-          begun-says Operands m R i j limit.Operands p (nat_lt i.operands (m.most limit.Operands)) (λ e. says-one Operands m R i j (p j) refl refl refl (grind (arith, nat_tests)) (r.says j tt)) some (there i h);
+          begun-says Operands m R i j limit.Operands p (nat_lt i.operands (m.most limit.Operands)) (λ e. says-one Operands m R i j (p j) refl refl refl (grind (arith, nat_tests)) (r.says j tt)) (first i h);
     }
 
 -- A statement is counted, and then read.
-pub statement-line : {A : Type 0} {m : Numbers} {Seen Then : Input → Type 0} {p : Parser A} {R : Meaning A} → There Seen → ((i : Input) → Seen i → Then (record i { statements = i.statements + 1 })) →
+pub statement-line : {A : Type 0} {m : Numbers} {Seen Then : Input → Type 0} {p : Parser A} {R : Meaning A} → ((i : Input) → Seen i → Starts m R i) → ((i : Input) → Seen i → Then (record i { statements = i.statements + 1 })) →
     Recognizes Statements m Then p (λ n ls c x. R n ls (suc c) x) → Recognizes Statements m Seen (one_statement (m.most limit.Statements) >> p) R
 unfolding one_statement
-statement-line {A} {m} {Seen} {Then} {p} {R} there kept r =
+statement-line {A} {m} {Seen} {Then} {p} {R} first kept r =
     let some = exists-one m R r.some in
     record {
       some = some;
       says = λ i h. let j : Input = record i { statements = i.statements + 1 } in
-          begun-says Statements m R i j limit.Statements p (nat_lt i.statements (m.most limit.Statements)) (λ e. says-one Statements m R i j (p j) refl refl refl (grind (arith, nat_tests)) (r.says j (kept i h))) some (there i h);
+          begun-says Statements m R i j limit.Statements p (nat_lt i.statements (m.most limit.Statements)) (λ e. says-one Statements m R i j (p j) refl refl refl (grind (arith, nat_tests)) (r.says j (kept i h))) (first i h);
     }
 
 -- ---- lists
@@ -496,7 +546,7 @@ pub record Listed {A : Type 0} (Are : List Lexeme → List A → Type 0) (most :
   pub few : length all ≤ most
 
 module _ {A : Type 0} (w : Counting) (m : Numbers) (which : LimitKind) (begins : Input → Bool) (item : Parser A) (Item : Numbers → List Lexeme → A → Type 0)
-    (each : Recognizes w m Any item (λ n ls c x. Item n ls x)) (there : There (λ i. begins i ≡ true)) where
+    (each : Recognizes w m Any item (λ n ls c x. Item n ls x)) (first : (i : Input) → begins i ≡ true → Starts m (λ n ls c x. Item n ls x) i) where
   no-more : {Seen : Input → Type 0} (Are : Numbers → List Lexeme → List A → Type 0) → ((n : Numbers) → Are n [] []) → (found : List A) → length found ≤ m.most which →
       Recognizes w m Seen (pure found) (λ n ls c all. Listed (Are n) (n.most which) found ls all)
   no-more Are none found few = pure-line found (λ n f. record { items = []; are = sym (append-nil found); means = none n; few = omega (arith, few, f.wide which) })
@@ -504,11 +554,33 @@ module _ {A : Type 0} (w : Counting) (m : Numbers) (which : LimitKind) (begins :
   abbrev Repeated : List A → Meaning (List A)
   Repeated found n ls c all = Listed (AreItems (Item n)) (n.most which) found ls all
 
+  repeated-starts : (found : List A) (i : Input) → begins i ≡ true → Starts m (Repeated found) i
+  repeated-starts found i h =
+      let s = first i h in
+      let x = s.goes_on in
+      record {
+        token = s.token;
+        rest = s.rest;
+        splits = s.splits;
+        goes_on = record {
+          tokens = x.tokens ++ [];
+          count = 0;
+          value = found ++ x.value ∷ [];
+          least = x.least + suc (length found);
+          means = λ n f. record {
+            items = x.value ∷ [];
+            are = refl;
+            means = syntax.more (x.means n (fits-first m x.least (suc (length found)) n f)) syntax.none;
+            few = omega (arith, f.enough which, length-append found (x.value ∷ []));
+          };
+        };
+      }
+
   repeated-line : (free : ℕ) (found : List A) → free + length found ≡ m.most which → Recognizes w m Any (repeated which begins item free found) (Repeated found)
   unfolding repeated
   repeated-line zero found e =
       let none = no-more {Seen = Any} (λ n. AreItems (Item n)) (λ n. syntax.none) found (omega (arith, e)) in
-      choose-line (full-line which none.some there) none
+      choose-line (full-line which none.some (repeated-starts found)) none
   repeated-line (suc free) found e =
       choose-line
       (then-line (seen-line each) (λ x xs c. as-line w m (Repeated (found ++ x ∷ [])) _
@@ -531,9 +603,8 @@ module _ {A : Type 0} (w : Counting) (m : Numbers) (which : LimitKind) (begins :
   Separated found n ls c all = Listed (AreFurther (Item n)) (n.most which) found ls all
 
   -- One more than may stand.
-  one-too-many : (found : List A) (comma : Lexeme) → Exists m (λ n ls c all. IsSign symbol.Comma comma → Separated found n (comma ∷ ls) c all)
-  one-too-many found comma =
-      let x = each.some in
+  one-too-many : (found : List A) (front : List Lexeme) (comma : Lexeme) → Exists m (λ n ls c x. Item n (front ++ ls) x) → Exists m (λ n ls c all. IsSign symbol.Comma comma → Separated found n (comma ∷ (front ++ ls)) c all)
+  one-too-many found front comma x =
       record {
         tokens = x.tokens ++ [];
         count = 0;
@@ -542,16 +613,19 @@ module _ {A : Type 0} (w : Counting) (m : Numbers) (which : LimitKind) (begins :
         means = λ n f is. record {
           items = x.value ∷ [];
           are = refl;
-          means = syntax.more comma is (x.means n (fits-first m x.least (suc (length found)) n f)) syntax.none;
+          means = subst (λ (ls : List Lexeme). AreFurther (Item n) (comma ∷ ls) (x.value ∷ [])) (append_assoc front x.tokens []) (syntax.more comma is (x.means n (fits-first m x.least (suc (length found)) n f)) syntax.none);
           few = omega (arith, f.enough which, length-append found (x.value ∷ []));
         };
       }
+
+  separated-starts : (found : List A) (comma : Lexeme) (i : Input) → begins i ≡ true → Starts m (λ n ls c all. IsSign symbol.Comma comma → Separated found n (comma ∷ ls) c all) i
+  separated-starts found comma i h = let s = first i h in record { token = s.token; rest = s.rest; splits = s.splits; goes_on = one-too-many found (s.token ∷ []) comma s.goes_on }
 
   separated-line : (free : ℕ) (found : List A) → free + length found ≡ m.most which → Recognizes w m Any (separated which begins item free found) (Separated found)
   unfolding separated
   separated-line zero found e =
       choose-line
-      (token-line (sign-seen symbol.Comma) (λ u l. choose-line {test = begins} (full-line which (one-too-many found l) there) (refuse-line (one-too-many found l))))
+      (token-line (sign-seen symbol.Comma) (λ u l. choose-line {test = begins} (full-line which (one-too-many found [] l each.some) (separated-starts found l)) (refuse-line (one-too-many found [] l each.some))))
       (no-more (λ n. AreFurther (Item n)) (λ n. syntax.none) found (omega (arith, e)))
   separated-line (suc free) found e =
       choose-line

@@ -4,19 +4,19 @@ use Rattle.std.proofs.Common.{◌≡◌, ℕ, zero, suc, ◌+◌, ◌-◌, ◌<�
 use Rattle.std.proofs.lemmas.List.{append-nil}
 use Rattle.sym_base.specs.declared.tree.name.Name.{Name as NameRecord}
 use Rattle.sym_base.specs.declared.tree.expression.BinOp.{BinOp}
-use Rattle.sym_base.specs.Trees.{ExprTree, ExprsTree, Num, Words, Named, Neg, Not, Bin, End, More}
+use Rattle.sym_base.specs.Trees.{ExprTree, ExprsTree, Num, Words, Named, Call, Neg, Not, Bin, End, More}
 use Rattle.sym_base.specs.Sizes.{operand_count, operands_count}
 use Rattle.sym_lex.specs.declared.keyword.Keyword.TheVariants as keyword
 use Rattle.sym_lex.specs.declared.symbol.Symbol.TheVariants as symbol
 use Rattle.sym_parse.specs.declared.error.LimitKind.{LimitKind}
 use Rattle.sym_parse.specs.declared.error.LimitKind.TheVariants as limit
-use Rattle.sym_parse.specs.Lexemes.{Terminal, Lexeme, Name, IsName}
+use Rattle.sym_parse.specs.Lexemes.{Terminal, Lexeme, Name, Sign, IsName, IsSign, IsKeyword}
 use Rattle.sym_parse.specs.Steps.{Input, Parsed, Parser, and_then, next, sees_word, sees_sign, sees_name, sees_number, sees_text}
 use Rattle.sym_parse.specs.Syntax.Expressions as syntax
 use Rattle.sym_parse.specs.Syntax.Expressions.{Line, Whole, Negation, Signed, IsGrouped, IsValues, IsPrimary, IsUnary, IsProduct, IsSum, IsRelation, IsNegation, IsConjunction, IsExpression, IsLine, Within, IsExprWithin, product_op, sum_op, compare_op, and_op, or_op}
 use Rattle.sym_parse.specs.Parsing.Expressions.{op_in, chain, chain_from, chain_turn, values, values_from, further, call, call_or_name, number_leaf, text_leaf, named, parens, primary, minus, unary, product, sum, relation, relation_turn, not_line, negation, conjunction, expr, line, lines, expression}
-use Rattle.sym_parse.proofs.Taking.{name-there, number-there, text-there, word-seen, sign-seen, sign-token, name-token, number-token, text-token, operator-seen}
-use Rattle.sym_parse.proofs.Recognizing.{Numbers, Meaning, Counting, Operands, Statements, Nothing, Says, Exists, Any, Recognizes, exists-as, exists-one, as-line, Shift, unchanged, by-numbers, uncounted-line, exists-sized, stops-sized, then-line, last-line, token-line, pure-line, refuse-line, choose-line, view-line, turns-line, here-line, opened-line, operand-line}
+use Rattle.sym_parse.proofs.Taking.{sees-a-name, sees-a-number, sees-a-text, word-seen, sign-seen, sign-token, name-token, number-token, text-token, operator-seen}
+use Rattle.sym_parse.proofs.Recognizing.{Numbers, Meaning, Counting, Operands, Statements, Nothing, Says, Exists, Any, StandsAt, Recognizes, starts, exists-as, exists-one, as-line, Shift, unchanged, by-numbers, uncounted-line, exists-sized, stops-sized, then-line, last-line, token-line, pure-line, refuse-line, choose-line, view-line, turns-line, here-line, opened-line, operand-line}
 
 -- ---- values
 
@@ -112,7 +112,7 @@ module _ (m : Numbers) (P : Numbers → List Lexeme → ExprTree → Type 0) (it
 -- ---- the lines
 
 module _ (m : Numbers) (deeper : Line → Parser ExprTree) (D : Numbers → Line → List Lexeme → ExprTree → Type 0)
-    (below : 0 < m.room → (x : Line) → Recognizes Operands m Any (deeper x) (Counted Operands (λ n. D n x))) where
+    (below : 0 < m.room → (x : Line) → Recognizes Operands m Any (deeper x) (Counted Operands (λ n. D n x))) (deep : (x : Line) → Exists m (Counted Operands (λ n. D n x))) where
   abbrev Primary : Meaning ExprTree
   Primary = Counted Operands (λ n. IsPrimary (D n))
 
@@ -131,30 +131,49 @@ module _ (m : Numbers) (deeper : Line → Parser ExprTree) (D : Numbers → Line
   one-negation : Exists m (Counted Operands (λ n. IsNegation (D n)))
   one-negation = exists-as Operands m Primary _ (λ n ls c e f is. (syntax.plain (syntax.alone (syntax.one (syntax.one (syntax.plain is.0)))), is.1)) one-name
 
+  -- Where a level is opened, a name can stand in it.
+  call-starts : (x : NameRecord) (l begin : Lexeme) → Exists m (λ n ls c e. IsSign symbol.OpenParen begin → IsName x l → Primary n (l ∷ begin ∷ ls) (suc c) e)
+  call-starts x l begin =
+      let e = deep Whole in
+      let end : Lexeme = record { terminal = Sign symbol.CloseParen; at = 0 } in
+      record { tokens = e.tokens ++ end ∷ []; count = e.count; value = Call x (More e.value End); least = e.least; means = λ n f o is. let v = e.means n f in (syntax.call l begin end is o (syntax.one v.0) refl, omega (arith, v.1)) }
+
+  parens-starts : (begin : Lexeme) → Exists m (λ n ls c e. IsSign symbol.OpenParen begin → Primary n (begin ∷ ls) c e)
+  parens-starts begin =
+      let e = deep Whole in
+      let end : Lexeme = record { terminal = Sign symbol.CloseParen; at = 0 } in
+      record { tokens = e.tokens ++ end ∷ []; count = e.count; value = e.value; least = e.least; means = λ n f o. let v = e.means n f in (syntax.parens begin end o v.0 refl, v.1) }
+
+  minus-starts : (at : ℕ) (l : Lexeme) → Exists m (λ n ls c e. IsSign symbol.Minus l → StandsAt at (l ∷ ls) → Counted Operands (λ k. IsUnary (D k)) n (l ∷ ls) c e)
+  minus-starts at l = let e = deep Signed in record { tokens = e.tokens; count = e.count; value = Neg e.value l.at; least = e.least; means = λ n f o first. let v = e.means n f in (syntax.minus l o v.0, v.1) }
+
+  not-starts : (at : ℕ) (l : Lexeme) → Exists m (λ n ls c e. IsKeyword keyword.Not l → StandsAt at (l ∷ ls) → Counted Operands (λ k. IsNegation (D k)) n (l ∷ ls) c e)
+  not-starts at l = let e = deep Negation in record { tokens = e.tokens; count = e.count; value = Not e.value l.at; least = e.least; means = λ n f o first. let v = e.means n f in (syntax.not l o v.0, v.1) }
+
   call-line : (x : NameRecord) (l : Lexeme) → Recognizes Operands m (λ i. sees_sign symbol.OpenParen i ≡ true) (call m.most m.room deeper x) (λ n ls c e. IsName x l → Primary n (l ∷ ls) (suc c) e)
   unfolding call
   call-line x l =
-      opened-line m.room (sign-seen symbol.OpenParen) (record { tokens = []; count = 0; value = Named x; least = 0; means = λ n f is. (syntax.name l is, refl) })
+      opened-line m.room (sign-seen symbol.OpenParen) (call-starts x l)
       (λ some begin. then-line (values-line Operands m (λ n. D n Whole) (deeper Whole) (below some Whole)) (λ es xs c. token-line (sign-token symbol.CloseParen) (λ u end.
       pure-line _ (λ n f z v o is. (syntax.call l begin end is o v.0 z, omega (arith, v.1))))))
 
   number-line : Recognizes Operands m (λ i. sees_number i ≡ true) (number_leaf m.most m.room deeper) Primary
   unfolding number_leaf
-  number-line = operand-line number-there (here-line one-leaf (λ at. token-line number-token (λ x l. pure-line _ (λ n f is first.
+  number-line = operand-line (λ i h. starts (sees-a-number i h) (λ x l. record { tokens = []; count = 1; value = Num x l.at; least = 0; means = λ n f is. (syntax.number l is, refl) })) (here-line one-leaf (λ at. token-line number-token (λ x l. pure-line _ (λ n f is first.
       (subst (λ (a : ℕ). IsPrimary (D n) (l ∷ []) (Num x a)) (sym (first l [] refl)) (syntax.number l is), refl)))))
 
   text-line : Recognizes Operands m (λ i. sees_text i ≡ true) (text_leaf m.most m.room deeper) Primary
   unfolding text_leaf
-  text-line = operand-line text-there (here-line one-leaf (λ at. token-line text-token (λ t l. pure-line _ (λ n f is first.
+  text-line = operand-line (λ i h. starts (sees-a-text i h) (λ t l. record { tokens = []; count = 1; value = Words t l.at; least = 0; means = λ n f is. (syntax.text l is, refl) })) (here-line one-leaf (λ at. token-line text-token (λ t l. pure-line _ (λ n f is first.
       (subst (λ (a : ℕ). IsPrimary (D n) (l ∷ []) (Words t a)) (sym (first l [] refl)) (syntax.text l is), refl)))))
 
   named-line : Recognizes Operands m (λ i. sees_name i ≡ true) (named m.most m.room deeper) Primary
   unfolding named call_or_name
-  named-line = operand-line name-there (token-line name-token (λ x l. choose-line (call-line x l) (pure-line (Named x) (λ n f is. (syntax.name l is, refl)))))
+  named-line = operand-line (λ i h. starts (sees-a-name i h) (λ x l. record { tokens = []; count = 1; value = Named x; least = 0; means = λ n f is. (syntax.name l is, refl) })) (token-line name-token (λ x l. choose-line (call-line x l) (pure-line (Named x) (λ n f is. (syntax.name l is, refl)))))
 
   parens-line : Recognizes Operands m (λ i. sees_sign symbol.OpenParen i ≡ true) (parens m.most m.room deeper) Primary
   unfolding parens
-  parens-line = opened-line m.room (sign-seen symbol.OpenParen) one-name (λ some begin. then-line (below some Whole) (λ e xs c. token-line (sign-token symbol.CloseParen) (λ u end.
+  parens-line = opened-line m.room (sign-seen symbol.OpenParen) parens-starts (λ some begin. then-line (below some Whole) (λ e xs c. token-line (sign-token symbol.CloseParen) (λ u end.
       pure-line _ (λ n f z is o. (syntax.parens begin end o is.0 z, omega (arith, is.1))))))
 
   primary-line : Recognizes Operands m Any (primary m.most m.room deeper) Primary
@@ -163,7 +182,7 @@ module _ (m : Numbers) (deeper : Line → Parser ExprTree) (D : Numbers → Line
 
   minus-line : Recognizes Operands m (λ i. sees_sign symbol.Minus i ≡ true) (minus m.most m.room deeper) (Counted Operands (λ n. IsUnary (D n)))
   unfolding minus
-  minus-line = here-line one-unary (λ at. opened-line m.room (sign-seen symbol.Minus) (exists-as Operands m (Counted Operands (λ n. IsUnary (D n))) _ (λ n ls c e f is first. is) one-unary) (λ some l.
+  minus-line = here-line one-unary (λ at. opened-line m.room (sign-seen symbol.Minus) (minus-starts at) (λ some l.
       last-line (λ e. Neg e at) (below some Signed)
       (λ n xs c e is o first. (subst (λ (a : ℕ). IsUnary (D n) (l ∷ xs) (Neg e a)) (sym (first l xs refl)) (syntax.minus l o is.0), is.1))))
 
@@ -199,7 +218,7 @@ module _ (m : Numbers) (deeper : Line → Parser ExprTree) (D : Numbers → Line
 
   not-line : Recognizes Operands m (λ i. sees_word keyword.Not i ≡ true) (not_line m.most m.room deeper) (Counted Operands (λ n. IsNegation (D n)))
   unfolding not_line
-  not-line = here-line one-negation (λ at. opened-line m.room (word-seen keyword.Not) (exists-as Operands m (Counted Operands (λ n. IsNegation (D n))) _ (λ n ls c e f is first. is) one-negation) (λ some l.
+  not-line = here-line one-negation (λ at. opened-line m.room (word-seen keyword.Not) (not-starts at) (λ some l.
       last-line (λ e. Not e at) (below some Negation)
       (λ n xs c e is o first. (subst (λ (a : ℕ). IsNegation (D n) (l ∷ xs) (Not e a)) (sym (first l xs refl)) (syntax.not l o is.0), is.1))))
 
@@ -235,6 +254,18 @@ unfolding Within
 within-more zero x ls e h is = absurd (omega (arith, h))
 within-more (suc room) x ls e h is = let same : suc room - 1 ≡ room = omega arith in subst (λ (r : ℕ). IsLine (Within r) x ls e) same is
 
+-- A name alone is an expression of each line, where a level is free.
+deep-name : (m : Numbers) (x : Line) → Exists m (Counted Operands (λ n. Within n.room x))
+deep-name m x =
+    let l : Lexeme = record { terminal = Name (120 ∷ []); at = 0 } in
+    let e : ExprTree = Named (record { text = 120 ∷ []; at = 0 }) in
+    record { tokens = l ∷ []; count = 1; value = e; least = 1; means = λ n f. (within-more n.room x (l ∷ []) e f.free (name-line (Within (n.room - 1)) x l (record { text = refl; place = refl })), refl) }
+  where
+    name-line : (D : Line → List Lexeme → ExprTree → Type 0) (y : Line) (l : Lexeme) → IsName (record { text = 120 ∷ []; at = 0 }) l → IsLine D y (l ∷ []) (Named (record { text = 120 ∷ []; at = 0 }))
+    name-line D Whole l is = syntax.one (syntax.one (syntax.plain (syntax.alone (syntax.one (syntax.one (syntax.plain (syntax.name l is)))))))
+    name-line D Negation l is = syntax.plain (syntax.alone (syntax.one (syntax.one (syntax.plain (syntax.name l is)))))
+    name-line D Signed l is = syntax.plain (syntax.name l is)
+
 module _ (most : LimitKind → ℕ) where
   lines-line : (room : ℕ) → 0 < room → (x : Line) → Recognizes Operands (record { most = most; room = room }) Any (lines most room x) (Counted Operands (λ n. Within n.room x))
   unfolding lines
@@ -243,7 +274,7 @@ module _ (most : LimitKind → ℕ) where
       let m : Numbers = record { most = most; room = suc room } in
       as-line Operands m _ (Counted Operands (λ n. Within n.room x)) (λ n ls c e f is. (within-more n.room x ls e (omega (arith, f.deep)) is.0, is.1))
       (by-numbers Operands m (record { most = most; room = room }) (Counted Operands (λ n. IsLine (Within n.room) x)) (inside most room) (λ w. refl)
-      (each-line (record { most = most; room = room }) (lines most room) (λ n. Within n.room) (lines-line room) x))
+      (each-line (record { most = most; room = room }) (lines most room) (λ n. Within n.room) (lines-line room) (deep-name (record { most = most; room = room })) x))
 
 module _ (m : Numbers) where
   abbrev Expression : Meaning ExprTree
@@ -272,7 +303,7 @@ module _ (m : Numbers) where
   pub expression-line : Recognizes Statements m Any (expression m.most m.room) Expression
   unfolding expression
   expression-line =
-      let inner = expr-line m (lines m.most m.room) (λ n. Within n.room) (lines-line m.most m.room) in
+      let inner = expr-line m (lines m.most m.room) (λ n. Within n.room) (lines-line m.most m.room) (deep-name m) in
       record {
         some = exists-sized m m CountedExpression (λ n. IsExprWithin n.most n.room) (unchanged m) limit.Operands operand_count whole inner.some;
         says = λ i h. says-whole i (expr m.most m.room (lines m.most m.room) (record i { operands = 0 })) (inner.says (record i { operands = 0 }) tt);

@@ -1,5 +1,5 @@
 -- What is read as a script is one, and the tokens before the place where reading it stops begin one.
-use Rattle.std.proofs.Common.{◌≡◌, ℕ, ◌+◌, ◌<◌, ◌≤◌, List, [], ◌∷◌, ◌++◌, length, Ok, Err, refl, ap, sym, ◌∙◌, subst, arith, length-append}
+use Rattle.std.proofs.Common.{◌≡◌, ℕ, suc, ◌+◌, ◌<◌, ◌≤◌, List, [], ◌∷◌, ◌++◌, length, Ok, Err, refl, ap, sym, ◌∙◌, subst, arith, append_assoc, length-append}
 use Rattle.std.proofs.lemmas.List.{append-nil}
 use Rattle.sym_base.specs.Trees.{ScriptTree}
 use Rattle.sym_lex.specs.declared.keyword.Keyword.TheVariants as keyword
@@ -16,31 +16,31 @@ use Rattle.sym_parse.specs.Parsing.Declarations.{enum_decl, field, group, state,
 use Rattle.sym_parse.specs.Parsing.Statements.{update}
 use Rattle.sym_parse.specs.Places.{CanGoOn}
 use Rattle.sym_parse.specs.Parsing.Scripts.{enums, fields, states, tests, columns, report, script, start}
-use Rattle.sym_parse.proofs.Taking.{word-there, name-there, word-token, sign-token}
+use Rattle.sym_parse.proofs.Taking.{word-token, sign-token}
 use Rattle.sym_parse.proofs.Recognizing.{Numbers, Fits, Stopped, Meaning, Says, Nothing, Any, Recognizes, fits-self, then-line, last-line, token-line, pure-line, choose-line, refuse-line, any-line, some-line}
 use Rattle.sym_parse.proofs.RecognizingStatements.{update-line}
-use Rattle.sym_parse.proofs.RecognizingDeclarations.{enum-line, field-line, group-line, state-line, test-line, column-line}
+use Rattle.sym_parse.proofs.RecognizingDeclarations.{enum-line, enum-starts, field-line, field-starts, group-line, state-line, state-starts, test-line, test-starts, column-line, column-starts}
 
 module _ (m : Numbers) (some : (k : LimitKind) → 1 ≤ m.most k) where
   enums-line : Recognizes Nothing m Any (enums m.most) (λ n ls c x. AreAtMost (n.most limit.Enums) (IsEnum n.most) ls x)
   unfolding enums
-  enums-line = any-line Nothing m limit.Enums (sees_word keyword.Enum) (enum_decl m.most) (λ n. IsEnum n.most) (enum-line m some) (word-there keyword.Enum)
+  enums-line = any-line Nothing m limit.Enums (sees_word keyword.Enum) (enum_decl m.most) (λ n. IsEnum n.most) (enum-line m some) (enum-starts m some)
 
   fields-line : Recognizes Nothing m Any (fields m.most) (λ n ls c x. AreSome (n.most limit.Fields) IsField ls x)
   unfolding fields
-  fields-line = some-line Nothing m limit.Fields (sees_word keyword.Field) field (λ n. IsField) field-line (word-there keyword.Field) (some limit.Fields)
+  fields-line = some-line Nothing m limit.Fields (sees_word keyword.Field) field (λ n. IsField) field-line field-starts (some limit.Fields)
 
   states-line : Recognizes Nothing m Any (states m.most) (λ n ls c x. AreSome (n.most limit.Cells) (IsState n.most) ls x)
   unfolding states
-  states-line = some-line Nothing m limit.Cells (sees_word keyword.State) (state m.most) (λ n. IsState n.most) (state-line m some) (word-there keyword.State) (some limit.Cells)
+  states-line = some-line Nothing m limit.Cells (sees_word keyword.State) (state m.most) (λ n. IsState n.most) (state-line m some) (state-starts m some) (some limit.Cells)
 
   tests-line : Recognizes Nothing m Any (tests m.most) (λ n ls c x. AreAtMost (n.most limit.Tests) (IsTest n.most) ls x)
   unfolding tests
-  tests-line = any-line Nothing m limit.Tests (sees_word keyword.Test) (test_decl m.most) (λ n. IsTest n.most) (test-line m some) (word-there keyword.Test)
+  tests-line = any-line Nothing m limit.Tests (sees_word keyword.Test) (test_decl m.most) (λ n. IsTest n.most) (test-line m some) (test-starts m some)
 
   columns-line : Recognizes Nothing m Any (columns m.most) (λ n ls c x. AreSome (n.most limit.Columns) (IsColumn n.most) ls x)
   unfolding columns
-  columns-line = some-line Nothing m limit.Columns sees_name (column m.most) (λ n. IsColumn n.most) (column-line m some) name-there (some limit.Columns)
+  columns-line = some-line Nothing m limit.Columns sees_name (column m.most) (λ n. IsColumn n.most) (column-line m some) (column-starts m some) (some limit.Columns)
 
   report-line : Recognizes Nothing m Any (report m.most) (λ n ls c x. IsReport n.most ls x)
   unfolding report
@@ -123,9 +123,14 @@ module _ (most : LimitKind → ℕ) (some : (k : LimitKind) → 1 ≤ most k) wh
   pub unexpected-goes-on : (front rest : List Lexeme) → script most (start (front ++ rest)) ≡ Err (stop.Expected (length rest)) → CanGoOn front
   unexpected-goes-on front rest e = goes-on front rest (length rest) refl (said (front ++ rest) (Err (stop.Expected (length rest))) e).0
 
-  pub passed-goes-on : (front rest : List Lexeme) (which : LimitKind) → script most (start (front ++ rest)) ≡ Err (stop.Limit (length rest) which) → CanGoOn front
-  passed-goes-on front rest which e = goes-on front rest (length rest) refl (said (front ++ rest) (Err (stop.Limit (length rest) which)) e).0.0
+  -- The token that passes a limit can go on too.
+  pub passed-goes-on : (front rest : List Lexeme) (l : Lexeme) (which : LimitKind) → script most (start (front ++ l ∷ rest)) ≡ Err (stop.Limit (suc (length rest)) which) → CanGoOn (front ++ l ∷ [])
+  passed-goes-on front rest l which e =
+      let s = (said (front ++ l ∷ rest) (Err (stop.Limit (suc (length rest)) which)) e).0 in
+      let apart : front ++ l ∷ rest ≡ (front ++ l ∷ []) ++ rest = sym (append_assoc front (l ∷ []) rest) in
+      let left : length rest ≡ s.0 = omega (arith, s.1) in
+      goes-on (front ++ l ∷ []) rest s.0 left (subst (λ (ls : List Lexeme). Stopped Whole Script (start ls) s.0) apart s.2)
 
   -- Where a limit is passed there is a token.
   pub passed-there : (ls : List Lexeme) (left : ℕ) (which : LimitKind) → script most (start ls) ≡ Err (stop.Limit left which) → 0 < left
-  passed-there ls left which e = (said ls (Err (stop.Limit left which)) e).0.1
+  passed-there ls left which e = let s = (said ls (Err (stop.Limit left which)) e).0 in omega (arith, s.1)

@@ -1,6 +1,6 @@
 -- What is read as statements is that, and the tokens before the place where reading them stops begin
 -- some. They are counted.
-use Rattle.std.proofs.Common.{◌≡◌, ℕ, zero, suc, ◌+◌, ◌-◌, ◌<◌, ◌≤◌, true, nat_lt, List, [], ◌∷◌, ◌++◌, length, Ok, Err, refl, subst, arith}
+use Rattle.std.proofs.Common.{◌≡◌, ℕ, zero, suc, ◌+◌, ◌-◌, ◌<◌, ◌≤◌, Bool, true, false, ◌||◌, nat_lt, List, [], ◌∷◌, ◌++◌, Ok, Err, refl, subst, arith}
 use Rattle.sym_base.specs.declared.tree.name.Name.{Name as NameRecord}
 use Rattle.sym_base.specs.Trees.{StmtTree, StmtsTree, If, Done, Then}
 use Rattle.sym_base.specs.Sizes.{stmt_count, stmts_count}
@@ -8,8 +8,9 @@ use Rattle.sym_lex.specs.declared.keyword.Keyword.TheVariants as keyword
 use Rattle.sym_lex.specs.declared.symbol.Symbol.TheVariants as symbol
 use Rattle.sym_parse.specs.declared.error.LimitKind.{LimitKind}
 use Rattle.sym_parse.specs.declared.error.LimitKind.TheVariants as limit
-use Rattle.sym_parse.specs.Lexemes.{Lexeme, Word, Sign, IsKeyword, IsName}
-use Rattle.sym_parse.specs.Steps.{Input, Parsed, Parser, ◌>>◌, refuse, next, sees_word, sees_name, opening, one_statement}
+use Rattle.sym_parse.specs.declared.stop.Stop.TheVariants as stop
+use Rattle.sym_parse.specs.Lexemes.{Lexeme, Name, Word, Sign, IsKeyword, IsName}
+use Rattle.sym_parse.specs.Steps.{Input, Parsed, Parser, ◌>>◌, refuse, next, sees_word, sees_sign, sees_name, sign, name, opening, one_statement}
 use Rattle.sym_parse.specs.Syntax.Expressions.{IsExprWithin}
 use Rattle.sym_parse.specs.Syntax.Statements as syntax
 use Rattle.sym_parse.specs.Syntax.Statements.{IsStatement, AreStatements, IsBlock, IsElse, IsIf, IsIfWithin, IsBlockWithin}
@@ -17,13 +18,10 @@ use Rattle.sym_parse.specs.Syntax.Scripts as scripts
 use Rattle.sym_parse.specs.Syntax.Scripts.{IsUpdate}
 use Rattle.sym_parse.specs.Parsing.Expressions.{expression}
 use Rattle.sym_parse.specs.Parsing.Statements.{begins_statement, binding, assignment, push, kept_values, kept_cell, keep, simple, statement, statements_from, statements, block, otherwise, else_part, branches, if_statement, update}
-use Rattle.sym_parse.proofs.Taking.{there, word-there, word-seen, word-token, sign-token, name-token}
-use Rattle.sym_parse.proofs.Recognizing.{Numbers, Fits, Meaning, Statements, Nothing, Says, Exists, Any, Recognizes, stopped-here, begun-says, says-last, says-as, as-line, by-numbers, exists-sized, stops-sized, then-line, last-line, token-line, pure-line, choose-says, choose-line, seen-line, turns-line, statement-line}
+use Rattle.sym_parse.proofs.Taking.{sees-one, sees-a-name, word-seen, word-token, sign-token, name-token}
+use Rattle.sym_parse.proofs.Recognizing.{Numbers, Fits, Meaning, Statements, Nothing, Says, Exists, Any, Recognizes, Starts, starts, starts-alone, passes-here, exists-one, begun-says, says-last, says-as, as-line, by-numbers, exists-sized, stops-sized, then-line, last-line, token-line, pure-line, choose-says, choose-other, choose-line, seen-line, turns-line, statement-line}
+use Rattle.sym_parse.proofs.Reaching.{at, sees-word, sees-word-as, word-goes, name-goes}
 use Rattle.sym_parse.proofs.RecognizingExpressions.{expression-line, values-line, inside, fresh, from_fresh}
-
-statement-there : (i : Input) → begins_statement i ≡ true → 0 < length i.rest
-unfolding begins_statement sees_name sees_word next
-statement-there = there begins_statement (λ st op. refl)
 
 module _ (m : Numbers) (if_here : Parser StmtTree) (IsIfHere : Numbers → List Lexeme → StmtTree → Type 0)
     (inner : (i : Input) → sees_word keyword.If i ≡ true → Says Statements m (λ n ls c s. IsIfHere n ls s × (c ≡ stmt_count s)) i (if_here i)) where
@@ -72,9 +70,43 @@ module _ (m : Numbers) (if_here : Parser StmtTree) (IsIfHere : Numbers → List 
   unfolding simple
   simple-line = choose-line (seen-line binding-line) (choose-line (seen-line push-line) (choose-line (seen-line keep-line) assignment-line))
 
+  let-alone : (u : Unit {0}) (l : Lexeme) → IsKeyword keyword.Let l → simple m.most m.room if_here (at (l ∷ []) 0 0) ≡ Err (stop.Expected 0)
+  unfolding simple binding name next
+  let-alone u l is = rw (sees-word l [] 0 0 keyword.Let is, word-goes l [] 0 0 keyword.Let is) refl
+
+  push-alone : (u : Unit {0}) (l : Lexeme) → IsKeyword keyword.Push l → simple m.most m.room if_here (at (l ∷ []) 0 0) ≡ Err (stop.Expected 0)
+  unfolding simple push name next
+  push-alone u l is = rw (sees-word-as l [] 0 0 keyword.Let (Word keyword.Push) is, sees-word l [] 0 0 keyword.Push is, word-goes l [] 0 0 keyword.Push is) refl
+
+  keep-alone : (u : Unit {0}) (l : Lexeme) → IsKeyword keyword.Keep l → simple m.most m.room if_here (at (l ∷ []) 0 0) ≡ Err (stop.Expected 0)
+  unfolding simple keep name next
+  keep-alone u l is =
+      rw (sees-word-as l [] 0 0 keyword.Let (Word keyword.Keep) is, sees-word-as l [] 0 0 keyword.Push (Word keyword.Keep) is, sees-word l [] 0 0 keyword.Keep is, word-goes l [] 0 0 keyword.Keep is) refl
+
+  name-alone : (x : NameRecord) (l : Lexeme) → IsName x l → simple m.most m.room if_here (at (l ∷ []) 0 0) ≡ Err (stop.Expected 0)
+  unfolding simple assignment sign sees_sign next
+  name-alone x l is =
+      rw (sees-word-as l [] 0 0 keyword.Let (Name x.text) is.text, sees-word-as l [] 0 0 keyword.Push (Name x.text) is.text, sees-word-as l [] 0 0 keyword.Keep (Name x.text) is.text, name-goes l [] 0 0 x is) refl
+
+  counted-starts : (i : Input) → Starts m Simple i → Starts m Statement i
+  counted-starts i s = record { token = s.token; rest = s.rest; splits = s.splits; goes_on = exists-one m (λ n ls c x. Statement n (s.token ∷ ls) c x) s.goes_on }
+
+  -- What begins a statement other than an `if`.
+  simple-starts : (i : Input) → begins_statement i ≡ true → sees_word keyword.If i ≡ false → Starts m Statement i
+  unfolding begins_statement
+  simple-starts i h none = counted-starts i (by-token (sees_name i) (sees_word keyword.Let i) (sees_word keyword.Push i) (sees_word keyword.Keep i) (sees_word keyword.If i) refl refl refl refl none h)
+    where
+      by-token : (a b c d e : Bool) → sees_name i ≡ a → sees_word keyword.Let i ≡ b → sees_word keyword.Push i ≡ c → sees_word keyword.Keep i ≡ d → e ≡ false → a || (b || (c || (d || e))) ≡ true → Starts m Simple i
+      by-token true b c d e f g p q r h = starts-alone simple-line name-alone (sees-a-name i f)
+      by-token false true c d e f g p q r h = starts-alone simple-line let-alone (sees-one (word-seen keyword.Let) i g)
+      by-token false false true d e f g p q r h = starts-alone simple-line push-alone (sees-one (word-seen keyword.Push) i p)
+      by-token false false false true e f g p q r h = starts-alone simple-line keep-alone (sees-one (word-seen keyword.Keep) i q)
+      by-token false false false false true f g p q r h = cc
+      by-token false false false false false f g p q r h = cc
+
   pub one-line : Recognizes Statements m (λ i. begins_statement i ≡ true) (statement m.most m.room if_here) Statement
   unfolding statement
-  one-line = choose-says if_here (λ i h. says-as Statements m _ Statement (λ n ls c s f is. (syntax.branch is.0, is.1)) i (if_here i) (inner i h)) (statement-line statement-there (λ i h. tt) simple-line)
+  one-line = choose-other if_here (λ i h. says-as Statements m _ Statement (λ n ls c s f is. (syntax.branch is.0, is.1)) i (if_here i) (inner i h)) (statement-line (λ i h. simple-starts i h.0 h.1) (λ i h. tt) simple-line)
 
   abbrev Several : Meaning StmtsTree
   Several n ls c ss = AreStatements n.most n.room (IsIfHere n) ls ss × (c ≡ stmts_count ss)
@@ -133,22 +165,24 @@ still-if i e = e
 abbrev one-if-means : Meaning StmtTree
 one-if-means n ls c s = IsIfWithin n.most n.room ls s × (c ≡ stmt_count s)
 
-one-if : (m : Numbers) → Exists m one-if-means
-one-if m =
+if-starts : (m : Numbers) (k : Lexeme) → Exists m (λ n ls c s. IsKeyword keyword.If k → one-if-means n (k ∷ ls) c s)
+if-starts m k =
     let e = (expression-line m).some in
-    let k : Lexeme = record { terminal = Word keyword.If; at = 0 } in
     let begin : Lexeme = record { terminal = Sign symbol.OpenBrace; at = 0 } in
     let end : Lexeme = record { terminal = Sign symbol.CloseBrace; at = 0 } in
     record {
-      tokens = k ∷ (e.tokens ++ begin ∷ end ∷ []);
+      tokens = e.tokens ++ begin ∷ end ∷ [];
       count = 1;
       value = If e.value Done Done;
       least = suc (e.least + m.room);
-      means = λ n f.
+      means = λ n f if.
           let fits : Fits m e.least (record n { room = n.room - 1 }) = record { wide = f.wide; deep = omega (arith, f.free); enough = λ w. omega (arith, f.enough w); free = omega (arith, f.free) } in
-          let all : IsIf n.most (n.room - 1) (IsIfWithin n.most (n.room - 1)) (k ∷ (e.tokens ++ begin ∷ end ∷ [])) (If e.value Done Done) = syntax.branch k refl (e.means (record n { room = n.room - 1 }) fits).0 (syntax.block begin end refl syntax.none refl) syntax.none in
+          let all : IsIf n.most (n.room - 1) (IsIfWithin n.most (n.room - 1)) (k ∷ (e.tokens ++ begin ∷ end ∷ [])) (If e.value Done Done) = syntax.branch k if (e.means (record n { room = n.room - 1 }) fits).0 (syntax.block begin end refl syntax.none refl) syntax.none in
           (within-if n.most n.room (k ∷ (e.tokens ++ begin ∷ end ∷ [])) (If e.value Done Done) (omega (arith, f.free)) all, refl);
     }
+
+if-begins : (m : Numbers) (i : Input) → sees_word keyword.If i ≡ true → Starts m one-if-means i
+if-begins m i h = starts (sees-one (word-seen keyword.If) i h) (λ u k. if-starts m k)
 
 module _ (most : LimitKind → ℕ) where
   pub if-says : (room : ℕ) (i : Input) → sees_word keyword.If i ≡ true → Says Statements (record { most = most; room = room }) (λ n ls c s. IsIfWithin n.most n.room ls s × (c ≡ stmt_count s)) i (if_statement most room i)
@@ -156,12 +190,12 @@ module _ (most : LimitKind → ℕ) where
   if-says zero i h =
       let m : Numbers = record { most = most; room = 0 } in
       let j : Input = record i { statements = i.statements + 1 } in
-      begun-says Statements m one-if-means i j limit.Statements (opening zero >> refuse) (nat_lt i.statements (most limit.Statements)) (λ e. (stopped-here m one-if-means i (length i.rest) refl (one-if m), word-there keyword.If i h)) (one-if m) (word-there keyword.If i h)
+      begun-says Statements m one-if-means i j limit.Statements (opening zero >> refuse) (nat_lt i.statements (most limit.Statements)) (λ e. passes-here m one-if-means i limit.Depth (if-begins m i h)) (if-begins m i h)
   if-says (suc room) i h =
       let m : Numbers = record { most = most; room = suc room } in
       let k : Numbers = record { most = most; room = room } in
       let all : Recognizes Statements m (λ j. sees_word keyword.If j ≡ true) (if_statement most (suc room)) one-if-means =
-      statement-line (word-there keyword.If) still-if (token-line (word-seen keyword.If) (λ u l. as-line Statements m _ _ (λ n ls c s f is if. let b = is if in (within-if n.most n.room (l ∷ ls) s (omega (arith, f.deep)) b.0, b.1))
+      statement-line (if-begins m) still-if (token-line (word-seen keyword.If) (λ u l. as-line Statements m _ _ (λ n ls c s f is if. let b = is if in (within-if n.most n.room (l ∷ ls) s (omega (arith, f.deep)) b.0, b.1))
       (by-numbers Statements m k _ (inside most room) (λ w. refl) (branches-line k (if_statement most room) (λ n. IsIfWithin n.most n.room) (if-says room) l)))) in
       all.says i h
 

@@ -20,7 +20,7 @@ use Rattle.sym_parse.specs.Limits.{most}
 use Rattle.sym_parse.specs.Steps.{Input, Parsed}
 use Rattle.sym_parse.specs.Parsing.Scripts.{script, start}
 use Rattle.sym_parse.specs.Sentences.{IsSentence, BeginNoSentence, IsNoEarlier, IsKeptBy}
-use Rattle.sym_parse.specs.Places.{BeginsWithin, IsUnexpected, token, end, IsReached, IsPassed}
+use Rattle.sym_parse.specs.Places.{CanGoOn, BeginsWithin, IsUnexpected, token, end, IsReached, IsPassed}
 use Rattle.sym_parse.proofs.Reaching.{at}
 use Rattle.sym_parse.proofs.Keeping.{Keeps, Along, ahead, same, Agrees}
 use Rattle.sym_parse.proofs.KeepingScripts.{script-keeps}
@@ -223,14 +223,15 @@ passed-token text tokens left at which r e p s =
     let apart : lexemes_of text tokens ≡ ls ++ l ∷ us = ap (lexemes_of text) s.splits ∙ map-append (lexeme_of text) s.front (s.token ∷ s.rest) in
     let left-after : left ≡ length us = sym s.after ∙ sym (length-map s.rest (lexeme_of text)) in
     let here : script most (start (ls ++ l ∷ us)) ≡ Err (stop.Limit (suc (length us)) which) = ap (λ (m : List Lexeme). script most (start m)) (sym apart) ∙ e ∙ ap (λ (m : ℕ). Err (stop.Limit (suc m) which)) left-after in
+    let with : ls ++ l ∷ [] ≡ lexemes_of text (s.front ++ s.token ∷ []) = sym (map-append (lexeme_of text) s.front (s.token ∷ [])) in
     record {
       front = s.front;
       token = s.token;
       rest = s.rest;
       lexed = subst (λ (m : List Token). Reads 0 text (Ok m)) s.splits r;
       stands = sym (ap (place_or (length text)) s.stands) ∙ p;
-      goes_on = passed-goes-on most some ls (l ∷ us) which here;
-      none = subst (λ (m : List Lexeme). BeginsWithin which (most which) m → ⊥) (sym (map-append (lexeme_of text) s.front (s.token ∷ []))) (none-within most which ls us l here);
+      goes_on = subst CanGoOn with (passed-goes-on most some ls us l which here);
+      none = subst (λ (m : List Lexeme). BeginsWithin which (most which) m → ⊥) with (none-within most which ls us l here);
     }
 
 passed-place : (text : List ℕ) (tokens : List Token) (left at : ℕ) (which : LimitKind) → Reads 0 text (Ok tokens) → reading text tokens ≡ Err (stop.Limit left which) → left ≤ length tokens → 0 < left →

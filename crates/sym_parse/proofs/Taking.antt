@@ -1,5 +1,5 @@
 -- What a parser of one token says: the token that it took, or that it took none.
-use Rattle.std.proofs.Common.{◌≡◌, ℕ, suc, ◌<◌, ℤ, Bool, true, false, if◌then◌else◌, List, [], ◌∷◌, Option, Some, None, Ok, Err, length, pos, refl, ap, arith, rules}
+use Rattle.std.proofs.Common.{◌≡◌, ℕ, ℤ, Bool, true, false, if◌then◌else◌, List, [], ◌∷◌, Option, Some, None, Ok, Err, length, pos, refl, ap, rules}
 use Rattle.std.proofs.lemmas.Option.{same_Some}
 use denote.Enum.Bare.{same_true}
 use Rattle.sym_base.specs.declared.tree.expression.BinOp.{BinOp}
@@ -9,7 +9,7 @@ use Rattle.sym_lex.specs.contracts.keyword.Keyword as keywords
 use Rattle.sym_lex.specs.contracts.symbol.Symbol as symbols
 use Rattle.sym_parse.specs.declared.stop.Stop.TheVariants as stop
 use Rattle.sym_parse.specs.Lexemes.{Terminal, Name, Number, Str, Word, Sign, Lexeme, IsKeyword, IsSign, IsNumeral, IsText, IsName}
-use Rattle.sym_parse.specs.Steps.{Input, Parsed, Parser, bump, next, next_of, after_first, place, place_of, passed, word_of, sign_of, name_of, number_of, text_of, is_this_word, is_this_sign, named, taken, sees_word, sees_sign, sees_name, sees_number, sees_text, word, sign, name, number, text}
+use Rattle.sym_parse.specs.Steps.{Input, Parsed, Parser, bump, next, next_of, after_first, place, place_of, passed, word_of, sign_of, name_of, number_of, text_of, is_this_word, is_this_sign, is_there, named, taken, sees_word, sees_sign, sees_name, sees_number, sees_text, word, sign, name, number, text}
 use Rattle.sym_parse.specs.Parsing.Expressions.{op_in}
 
 -- A token was taken, and nothing was counted.
@@ -19,9 +19,6 @@ pub record Step (Is : Lexeme → Type 0) (i j : Input) : Type 0 where
   pub is : Is lexeme
   pub statements : j.statements ≡ i.statements
   pub operands : j.operands ≡ i.operands
-
-pub step-some : {Is : Lexeme → Type 0} {i j : Input} → Step Is i j → 0 < length i.rest
-step-some {Is} {i} {j} s = let all : length i.rest ≡ suc (length j.rest) = ap length s.splits in omega (arith, all)
 
 abbrev pub Tells : {A : Type 0} → (A → Lexeme → Type 0) → Input → Parsed A → Type 0
 Tells Is i (Ok read) = Step (Is read.0) i read.1
@@ -124,30 +121,29 @@ text-tells i (Some t) e = step (IsText t) i (first-text t i.rest e)
 
 -- ---- one token
 
--- A test that no end passes.
-there-in : (test : Input → Bool) → ((st op : ℕ) → test (record { rest = []; statements = st; operands = op }) ≡ false) → (ls : List Lexeme) (st op : ℕ) →
-    test (record { rest = ls; statements = st; operands = op }) ≡ true → 0 < length ls
-there-in test none [] st op e = let f = none st op in cc
-there-in test none (l ∷ ls) st op e = omega arith
+-- The next token is one of these.
+pub record Sees {A : Type 0} (Is : A → Lexeme → Type 0) (i : Input) : Type 0 where
+  pub value : A
+  pub step : Step (Is value) i (passed i)
 
-pub there : (test : Input → Bool) → ((st op : ℕ) → test (record { rest = []; statements = st; operands = op }) ≡ false) → (i : Input) → test i ≡ true → 0 < length i.rest
-there test none i e = there-in test none i.rest i.statements i.operands e
+pub sees-one : {Seen : Input → Type 0} {Is : Unit {0} → Lexeme → Type 0} → Token Seen bump Is → (i : Input) → Seen i → Sees Is i
+sees-one t i h = record { value = tt; step = t.says i h }
 
-pub word-there : (k : Keyword) (i : Input) → sees_word k i ≡ true → 0 < length i.rest
-unfolding sees_word next
-word-there k = there (sees_word k) (λ st op. refl)
+there-is : {A : Type 0} (o : Option A) → is_there o ≡ true → (x : A) × (o ≡ Some x)
+there-is None e = cc
+there-is (Some x) e = (x, refl)
 
-pub name-there : (i : Input) → sees_name i ≡ true → 0 < length i.rest
+pub sees-a-name : (i : Input) → sees_name i ≡ true → Sees IsName i
 unfolding sees_name next
-name-there = there sees_name (λ st op. refl)
+sees-a-name i h = let t = there-is (name_of (next_of i.rest)) h in record { value = record { text = t.0; at = place i }; step = step (IsName (record { text = t.0; at = place i })) i (first-name t.0 i t.1) }
 
-pub number-there : (i : Input) → sees_number i ≡ true → 0 < length i.rest
+pub sees-a-number : (i : Input) → sees_number i ≡ true → Sees IsNumeral i
 unfolding sees_number next
-number-there = there sees_number (λ st op. refl)
+sees-a-number i h = let t = there-is (number_of (next_of i.rest)) h in record { value = t.0; step = step (IsNumeral t.0) i (first-number t.0 i.rest t.1) }
 
-pub text-there : (i : Input) → sees_text i ≡ true → 0 < length i.rest
+pub sees-a-text : (i : Input) → sees_text i ≡ true → Sees IsText i
 unfolding sees_text next
-text-there = there sees_text (λ st op. refl)
+sees-a-text i h = let t = there-is (text_of (next_of i.rest)) h in record { value = t.0; step = step (IsText t.0) i (first-text t.0 i.rest t.1) }
 
 pub word-seen : (k : Keyword) → Token (λ i. sees_word k i ≡ true) bump (λ u. IsKeyword k)
 unfolding sees_word next

@@ -44,13 +44,13 @@ pub record IsReached (text : List ℕ) (at : ℕ) : Type 0 where
   pub further : (wider : LimitKind → ℕ) → ((k : LimitKind) → most k ≤ wider k) →
       IsNoEarlier left (script wider (start (lexemes_of text tokens)))
 
--- The token at this place of the text passes the limit of a kind. The tokens before it begin a
--- sentence, and with it they begin none within that limit, whatever the others are.
+-- The token at this place of the text passes the limit of a kind. With it the tokens before it
+-- begin a sentence, but none within that limit, whatever the others are.
 pub record IsPassed (text : List ℕ) (at : ℕ) (which : LimitKind) : Type 0 where
   pub front : List Token
   pub token : Token
   pub rest : List Token
   pub lexed : Reads 0 text (Ok (front ++ token ∷ rest))
   pub stands : token.at ≡ at
-  pub goes_on : CanGoOn (lexemes_of text front)
+  pub goes_on : CanGoOn (lexemes_of text (front ++ token ∷ []))
   pub none : BeginsWithin which (most which) (lexemes_of text (front ++ token ∷ [])) → ⊥
