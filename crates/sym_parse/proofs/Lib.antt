@@ -26,4 +26,5 @@ pub mod KeepingExpressions
 pub mod KeepingStatements
 pub mod KeepingScripts
 pub mod Refusing
+pub mod Expecting
 pub mod Examples

@@ -1,9 +1,12 @@
 -- Where a text is refused.
-use Rattle.std.specs.Prelude.{◌≡◌, ℕ, ◌≤◌, List, [], ◌∷◌, ◌++◌, length, Ok}
+use Rattle.std.specs.Prelude.{◌≡◌, ℕ, ◌≤◌, List, [], ◌∷◌, ◌++◌, length, Result, Ok, Err}
+use Rattle.sym_base.specs.declared.tree.script.Script.{Script}
 use Rattle.sym_base.specs.Trees.{ScriptTree}
 use Rattle.sym_lex.specs.declared.token.Token.{Token}
 use Rattle.sym_lex.specs.Rules.{Reads}
 use Rattle.sym_parse.specs.declared.error.LimitKind.{LimitKind}
+use Rattle.sym_parse.specs.declared.error.ParseErr.{ParseErr}
+use Rattle.sym_parse.specs.declared.error.ParseErr.TheVariants as answer
 use Rattle.sym_parse.specs.Answers.{place_of_left}
 use Rattle.sym_parse.specs.Lexemes.{Lexeme, lexemes_of}
 use Rattle.sym_parse.specs.Limits.{most}
@@ -54,3 +57,12 @@ pub record IsPassed (text : List ℕ) (at : ℕ) (which : LimitKind) : Type 0 wh
   pub stands : token.at ≡ at
   pub goes_on : CanGoOn (lexemes_of text (front ++ token ∷ []))
   pub none : BeginsWithin which (most which) (lexemes_of text (front ++ token ∷ [])) → ⊥
+
+-- What is answered on a text of which this place is unexpected: that place, a limit that is passed,
+-- or `NoMemory`.
+abbrev pub IsRefusedAt : ℕ → Result Script ParseErr → Type 0
+IsRefusedAt at (Ok _) = ⊥
+IsRefusedAt at (Err (answer.Lex fault)) = ⊥
+IsRefusedAt at (Err (answer.Expected place)) = place ≡ at
+IsRefusedAt at (Err (answer.Limit place which)) = Unit {0}
+IsRefusedAt at (Err answer.NoMemory) = Unit {0}

@@ -9,7 +9,7 @@ ghost use Rattle.sym_parse.specs.Answers.{Gives, IsScriptOf, ended, parsed, plac
 ghost use Rattle.sym_parse.specs.Lexemes.{lexemes_of};
 ghost use Rattle.sym_parse.specs.Limits.{most};
 ghost use Rattle.sym_parse.specs.Parsing.Scripts as spec;
-ghost use Rattle.sym_parse.specs.Places.{IsPassed, IsReached, IsUnexpected};
+ghost use Rattle.sym_parse.specs.Places.{IsPassed, IsReached, IsRefusedAt, IsUnexpected};
 ghost use Rattle.sym_parse.specs.declared.error.LimitKind.{LimitKind};
 
 use crate::error::ParseErr;
@@ -102,6 +102,7 @@ pub fn parse(alloc: Global, bytes: &[u8]) -> Result<Script, ParseErr>
         Gives result (Err (ParseErr.Lex f)) }
     ensures unexpected { (at : ℕ) → IsErrOf result (ParseErr.Expected at) →
         IsUnexpected bytes.now at }
+    ensures expected { (at : ℕ) → IsUnexpected bytes.now at → IsRefusedAt at result }
     ensures reached { (at : ℕ) (which : LimitKind) → IsErrOf result (ParseErr.Limit at which) →
         IsReached bytes.now at }
     ensures passed { (at : ℕ) (which : LimitKind) → IsErrOf result (ParseErr.Limit at which) →

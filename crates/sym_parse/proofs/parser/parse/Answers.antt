@@ -1,5 +1,6 @@
 -- The answer is that of the function, and so that of the relation.
 use Rattle.sym_parse.proofs.Answering.{accepted-by, one-by, complete-by, lawful-by, lexical-by, first-by}
+use Rattle.sym_parse.proofs.Expecting.{expected-by}
 use Rattle.sym_parse.proofs.Refusing.{unexpected-by, reached-by, passed-by}
 use Rattle.sym_parse.proofs.parser.parse.Goals as goal
 
@@ -29,3 +30,6 @@ returns-clause-reached c = reached-by c.args.bytes.now c.parse_text.result c.par
 
 pub returns-clause-passed : goal.returns-clause-passed
 returns-clause-passed c = passed-by c.args.bytes.now c.parse_text.result c.parse_text.ensures
+
+pub returns-clause-expected : goal.returns-clause-expected
+returns-clause-expected c = expected-by c.args.bytes.now c.parse_text.result c.parse_text.ensures
