@@ -7,7 +7,8 @@
 # - in the README's rows on a crate, each call and its clauses, between `fn CALL` and its body:
 #   (`CALL`: `CLAUSE`, `CLAUSE`);
 # - in a crate's README, docs/ARCHITECTURE.md, docs/DECISIONS.md and CONTRIBUTING.md, each single
-#   name in backticks, in the sources of some crate.
+#   name in backticks, in the sources of some crate;
+# - in docs/CALLS.md each public call with its clauses, by calls.py beside this file.
 # The last line counts what was looked up and what is missing.
 # shellcheck disable=SC2016 # the backticks are those of the documents
 set -u
@@ -184,6 +185,9 @@ check_clauses README.md
 for document in docs/ARCHITECTURE.md docs/DECISIONS.md CONTRIBUTING.md crates/*/README.md; do
     check_words "$document"
 done
+
+python3 "$here/calls.py"
+note $? "docs/CALLS.md: not the calls of the sources"
 
 echo "checks/names.sh: $found found, $missing missing"
 [ "$missing" -eq 0 ]
