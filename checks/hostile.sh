@@ -257,8 +257,7 @@ one_line_taken() {
 check_streams() {
     wide_report
     one_line_taken "$program"
-    # Killed by the signal, as a shell counts it, or told of the failed write.
-    [ "$status" -eq 141 ] || { [ "$status" -eq 6 ] && says 'write fault'; }
+    [ "$status" -eq 6 ] && says 'write fault'
     note $? "streams: a pipe whose reader is gone: status $status, $(cat err)"
     # shellcheck disable=SC2016 # the inner shell's arguments
     one_line_taken sh -c 'trap "" PIPE; exec "$0" "$@"' "$program"
@@ -453,16 +452,16 @@ random_below() {
 
 check_killed() {
     wide_report
-    # The writes are of 512 bytes, so that the report is written for some time.
+    # The writes are of 16 bytes, so that the report is written for some time.
     begin=$(date +%s%N)
-    CALL_PIECE=512 LD_PRELOAD=$work/calls.so "$program" run counts.symple wide.csv >out
+    CALL_PIECE=16 LD_PRELOAD=$work/calls.so "$program" run counts.symple wide.csv >out
     length=$((($(date +%s%N) - begin) / 1000))
     cmp -s out wide.txt
     note $? "killed: not a whole report"
     parts=0
     for turn in $(seq "$kills"); do
         : >out
-        CALL_PIECE=512 LD_PRELOAD=$work/calls.so "$program" run counts.symple wide.csv >out \
+        CALL_PIECE=16 LD_PRELOAD=$work/calls.so "$program" run counts.symple wide.csv >out \
             2>err &
         sleep "$(random_below "$length")"
         kill -9 $! 2>/dev/null
@@ -510,9 +509,9 @@ little_memory() {
     note $? "resources: of $*, $short were short and $whole whole"
 }
 
-# deep NAME STATUS LINE, of the script deep.symple: a stack of 256 KiB suffices.
+# deep NAME STATUS LINE, of the script deep.symple: a stack of 1 MiB suffices.
 deep() {
-    run limited -s 256 "$program" run deep.symple one.csv
+    run limited -s 1024 "$program" run deep.symple one.csv
     if [ -z "$3" ]; then
         [ "$status" -eq "$2" ] && [ ! -s err ]
         note $? "resources: $1 on a small stack: status $status, $(head -c 200 err)"
@@ -531,7 +530,7 @@ small_stack() {
     update "n = $(many '(' 64)n$(many ')' 64);"
     deep '64 parentheses' 0 ''
     update "n = $(many '-' 64)1;"
-    deep '64 signs' 1 ''
+    deep '64 signs' 0 ''
     update "if $(many 'not ' 63)1 < 2 { }"
     deep '63 negations' 0 ''
     update "$(many 'if 1 < 2 { ' 64)$(many '}' 64)"
@@ -544,18 +543,21 @@ small_stack() {
     deep '256 operands of conditions' 0 ''
     update "$(many 'n=0;' 511)"
     deep '511 statements' 0 ''
+    update "$(many 'n=0;' 447)$(many 'if 1 < 2 { ' 32)n = $(many '(' 32)0$(
+        many ' + x - x' 127)$(many ')' 32);$(many '}' 32)"
+    deep '480 statements, and 255 operands below 64 levels' 0 ''
     update "$(many 'if t(h, x) { } ' 10)"
     deep '1,024 paths' 0 ''
     update "$(many 'if t(h, x) { n=1; } ' 20)"
     deep 'paths beyond the bound' 3 'script: 1000000 paths'
     update "keep h(1$(many ,1 30000));"
-    deep 'a keep of 30,001 values' 3 'script: wrong kind at byte 125'
+    deep 'a keep of 30,001 values' 3 'script: wrong kind at byte 119'
     update "$(many 'if 1 < 2 { ' 65)"
-    deep '65 blocks' 3 'script: limit of depth at byte 834'
+    deep '65 blocks' 3 'script: limit of depth at byte 818'
     update "n = $(many '(' 60000)"
-    deep '60,000 parentheses' 3 'script: limit of depth at byte 188'
+    deep '60,000 parentheses' 3 'script: limit of depth at byte 182'
     update "if $(many 'not ' 15000)"
-    deep '15,000 negations' 3 'script: limit of depth at byte 379'
+    deep '15,000 negations' 3 'script: limit of depth at byte 369'
     printf 'field %s' "$(many 'a:num;field ' 5000)" >deep.symple
     deep '5,000 fields' 3 'script: limit of fields at byte 384'
     {
@@ -666,6 +668,10 @@ times_of_logs() {
     { printf user; yes ,x | tr -d '\n' | head -c $((mebibytes * 500000)); echo
         yes ,x | tr -d '\n' | head -c $((mebibytes * 500000)); } >log.csv
     timed 'a header and a record of many columns' 0 20 run counts.symple log.csv
+    # The hash of keys has no secret. These keys have one hash, so each is compared with all before
+    # it, and the time grows with the square of their number. docs/LANGUAGE.md says so.
+    seq -f 'Pgm6M30fx4FMGOwmeIHrKjYb%08.0f' 10000 | log user
+    timed '10,000 keys with one hash' 0 1000 run counts.symple log.csv
     times_of_wide_logs
 }
 
@@ -694,7 +700,7 @@ times_of_wide_logs() {
         echo '} report { c = count(w); }'
     } >paths.symple
     yes 1 | log x
-    timed '1,024 paths a record' 0 20 run paths.symple log.csv
+    timed '1,024 paths a record' 0 100 run paths.symple log.csv
     {
         echo 'field x: num; state h: hold(num = 0); state n: int [0..1000000000] = 0;'
         echo 'test t(p: num, k: num) = p < k; update {'
