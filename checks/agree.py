@@ -521,15 +521,18 @@ def differs(program, script, files, number):
 
 
 def smaller(program, script, files, number):
-    """The case with lines dropped, as long as the answers differ."""
+    """The case with lines dropped, as long as the answers differ, and a run is wanted to end with
+    the same status."""
     texts = [script] + files
+    status = differs(program, script, files, number)[1][0]
     for index in range(len(texts)):
         lines = texts[index].splitlines(True)
         at = 0
         while at < len(lines):
             fewer = lines[:at] + lines[at + 1 :]
             tried = texts[:index] + [b"".join(fewer)] + texts[index + 1 :]
-            if differs(program, tried[0], tried[1:], number):
+            found = differs(program, tried[0], tried[1:], number)
+            if found and found[1][0] == status:
                 texts, lines = tried, fewer
             else:
                 at += 1
