@@ -24,10 +24,11 @@ HEAD = re.compile(r"^(?:unsafe )?(?:pub )?(?:unsafe )?(impl|trait)\b")
 
 
 class Call:
-    def __init__(self, name, text, clauses):
+    def __init__(self, name, text, clauses, trait=None):
         self.name = name
         self.text = text
         self.clauses = clauses
+        self.trait = trait
 
     def returns(self):
         found = re.search(r"-> (.*?)(?: where\b| requires\b| ensures\b| \{|;|$)", self.text)
@@ -203,8 +204,19 @@ def calls_of(crate, traits):
                 wanted = match.group(2) and owner in names
             if wanted:
                 text, clauses = header_of(lines, at)
-                found.append(Call(f"{owner}::{name}" if owner else name, text, clauses))
+                whole = f"{owner}::{name}" if owner else name
+                found.append(Call(whole, text, clauses, trait))
     return found
+
+
+def inherit(calls):
+    """Gives each method of a trait that states no clause those of the trait."""
+    every = {call.name: call for own in calls.values() for call in own}
+    for own in calls.values():
+        for call in own:
+            if call.trait and not call.clauses:
+                above = every.get(f"{call.trait}::{call.name.split('::')[-1]}")
+                call.clauses = above.clauses if above else []
 
 
 def own_traits():
@@ -267,6 +279,7 @@ def faults_of(row, call):
 def main():
     traits = own_traits()
     calls = {crate: calls_of(crate, traits) for crate in crates()}
+    inherit(calls)
     if "--list" in sys.argv[1:]:
         for crate, found in calls.items():
             for call in found:
