@@ -451,6 +451,80 @@ row "an argument that isn't UTF-8" 2 usage run counts.symple "$(printf '\377')"
 row "an empty argument" 5 ': read fault' run '' first.csv
 row "faulty arguments before an absent script" 2 usage run absent.symple
 
+# Runs in chunks and by workers: each allocation of each worker fails too.
+printf 'ts,user\n10,a\n20,a\n60,a\n5,b\n61,a\n' >visits.csv
+visits='user | sessions | open | longest\na | 1 | 2 | 2\nb | 0 | 1 | none\n--\n'
+row "sessions by one worker" 0 "$visits" run --chunk 2 --workers 1 sessions.symple visits.csv
+row "sessions by two workers" 0 "$visits" run --chunk 1 --workers 2 sessions.symple visits.csv
+row "sessions in the smallest chunks and segments" 0 "$visits" \
+    run --chunk 1 --limit 1 --workers 64 sessions.symple visits.csv
+printf 'x\n5\n5\n5\n5\n5\n' >fives.csv
+row "a fault in the second chunk" 1 'n\nfault: n overflows at record 4\n--\n' \
+    run --chunk 2 --workers 3 capped.symple fives.csv
+printf 'ts,user\n1,a\nt,b\n2,a,x\n' >torn.csv
+row "the first bad record of two chunks" 4 'torn.csv: record 2: field ts is not a number' \
+    run --chunk 1 --workers 2 sessions.symple torn.csv
+
+# takes ARGUMENTS..: whether the program takes this command or form by now.
+takes() {
+    run "$program" "$@"
+    [ "$status" -eq 0 ] || {
+        echo "checks/program.sh: skipped: the program doesn't take $*"
+        return 1
+    }
+}
+
+# Forms.
+if takes run --form csv counts.symple first.csv; then
+    printf 'Time,"User ID",Action,Amount\n1,ann,cart,\n2,"a ""b"", c",cart,\n' >bought.csv
+    printf '3,ann,buy,1299\n4,"a ""b"", c",buy,250\n' >>bought.csv
+    row "a report as csv" 0 \
+        'user,buys,paid,biggest,fault\nann,1,1299,1299,\n"a ""b"", c",1,250,250,\n' \
+        run --form csv purchases.symple bought.csv
+    row "a report as pairs" 0 \
+        'user="ann" buys=1 paid=1299 biggest=1299
+user="a \\"b\\", c" buys=1 paid=250 biggest=250\n' \
+        run --form pairs purchases.symple bought.csv
+    row "a fault as csv" 1 'n,fault\n,n overflows at record 4\n' \
+        run --form csv capped.symple fives.csv
+    row "a fault as pairs" 1 'fault="n overflows at record 4"\n' \
+        run --form pairs capped.symple fives.csv
+    row "a list, a label and no number as csv" 0 \
+        'user,sessions,open,longest,fault\na,1,2,2,\nb,0,1,none,\n' \
+        run --form=csv --chunk 1 --workers 2 sessions.symple visits.csv
+fi
+
+# Checks of scripts, and runs over a made file.
+if takes check counts.symple; then
+    row "a check" 0 'cells 1 tests 0 paths 3\n' check capped.symple
+    row "a check of tests" 0 'cells 3 tests 1 paths 8\n' check sessions.symple
+    row "a check of labels" 0 'cells 3 tests 0 paths 7\n' check purchases.symple
+    row "a printed script" 0 \
+        'field x: num;
+state n: int [0..3] = 0;
+update {
+  n = n + 1;
+}
+report {
+  n = n;
+}\n' \
+        check --print capped.symple
+    printf 'field x num;' >faulty.symple
+    row "a check of a faulty script" 3 'script: unexpected token at byte 8' check faulty.symple
+    row "a check of an absent script" 5 'absent.symple: read fault' check absent.symple
+    row "a check with a file" 2 usage check capped.symple first.csv
+    out=/dev/full
+    row "a check on a full device" 6 'write fault' check capped.symple
+    out=$work/out
+fi
+if takes make 5 1; then
+    row "a made file" 0 'records 5\ngroups 3\nfaults 0\nsessions 0\n' make 5 1
+    row "a made file in chunks" 0 'records 5\ngroups 3\nfaults 0\nsessions 0\n' \
+        make --chunk 1 --limit 1 --workers 2 5 1
+    row "no record to make" 2 usage make 0 1
+    row "too many records to make" 2 usage make 1000001 1
+fi
+
 # Scripts that aren't read.
 row "an absent script" 5 'absent.symple: read fault' run absent.symple first.csv
 row "a folder as a script" 5 './: read fault' run ./ first.csv
