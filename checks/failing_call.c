@@ -5,8 +5,9 @@
 //   read, as it was given to open.
 // - CALL_PIECE: reads and writes take at most so many bytes.
 // - RUN_COMMAND: before the call that would fail, this is run by the shell, and nothing fails.
-// At the end of the program its numbers of opens, reads and writes are written to the file that
-// CALL_COUNT names. Works with the GNU C library.
+// At the end of the program its numbers of opens, reads and writes, and the microseconds that it
+// took of the processors, are written to the file that CALL_COUNT names. Works with the GNU C
+// library.
 
 #define _GNU_SOURCE
 #include <errno.h>
@@ -16,6 +17,7 @@
 #include <stdio.h>
 #include <stdlib.h>
 #include <string.h>
+#include <sys/resource.h>
 #include <sys/syscall.h>
 #include <unistd.h>
 
@@ -61,7 +63,12 @@ __attribute__((destructor)) static void end(void) {
     const char *name = getenv("CALL_COUNT");
     FILE *file = name ? fopen(name, "w") : NULL;
     if (file) {
-        fprintf(file, "%lu %lu %lu\n", calls[OPEN], calls[READ], calls[WRITE]);
+        struct rusage used;
+        getrusage(RUSAGE_SELF, &used);
+        long seconds = used.ru_utime.tv_sec + used.ru_stime.tv_sec;
+        long microseconds = used.ru_utime.tv_usec + used.ru_stime.tv_usec;
+        fprintf(file, "%lu %lu %lu %ld\n", calls[OPEN], calls[READ], calls[WRITE],
+                1000000 * seconds + microseconds);
         fclose(file);
     }
 }

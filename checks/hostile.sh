@@ -609,18 +609,9 @@ check_resources() {
 time_of() {
     least=
     for turn in 1 2 3; do
-        (
-            "$program" "$@" >out 2>err
-            echo $? >status
-            # The second line has the times of what this shell has run.
-            times
-        ) >spent
-        status=$(cat status)
-        length=$(awk 'NR == 2 {
-            gsub(/s/, "")
-            for (i = 1; i <= 2; i++) { split($i, part, "m"); sum += part[1] * 60 + part[2] }
-            printf "%d", sum * 1000000
-        }' spent)
+        rm -f count
+        run env LD_PRELOAD="$work/calls.so" CALL_COUNT=count "$program" "$@"
+        length=$(cut -d ' ' -f 4 count)
         [ -n "$least" ] && [ "$least" -le "$length" ] || least=$length
         # Runs of many seconds are not repeated.
         [ "$length" -lt 10000000 ] || break
