@@ -450,7 +450,7 @@ class Maker:
         elif what < 0.93:
             new = self.pick([b" ", encoded[begin:end] * 2])
         else:
-            new = self.pick([b"- ", b"not ", b"( ", b'"x" ', b"0 ", b"1000000000001 ", b"$ ", b"2x "])
+            new = self.pick([b"- ", b"not ", b"( ", b'"x" ', b"0 ", b"1000000000001 ", b"$ "])
         return (encoded[:begin] + new + encoded[end:]).decode()
 
 

@@ -574,20 +574,20 @@ small_stack() {
 
 # No thread can be started: the run ends as it does with one worker.
 no_threads() {
-    if [ "$(id -u)" -ne 0 ]; then
-        set --
-    elif command -v setpriv >/dev/null; then
-        chmod 755 .
-        set -- setpriv --reuid=65534 --regid=65534 --clear-groups --inh-caps=-all
-    else
-        skipped 'no leave to start threads: there is no setpriv'
+    if ! command -v prlimit >/dev/null || ! command -v setpriv >/dev/null; then
+        skipped 'no leave to start threads: there is no prlimit or no setpriv'
         return
     fi
+    set --
+    if [ "$(id -u)" -eq 0 ]; then
+        # The superuser has no such limit.
+        set -- setpriv --reuid=65534 --regid=65534 --clear-groups --inh-caps=-all
+    fi
     cp "$program" ./program
-    chmod 755 program
+    chmod 755 . program
     chmod 644 ./*.csv ./*.symple
     # shellcheck disable=SC2086 # words
-    run "$@" sh -c 'ulimit -u 1 && exec "$@"' sh ./program run $workers ${three#run }
+    run "$@" prlimit --nproc=1 ./program run $workers ${three#run }
     note_end "resources: no leave to start threads" 0 three.txt ''
 }
 
