@@ -1,9 +1,13 @@
 //! Tests of runs over files: rows, passes, groups and whole runs, over the public calls of
-//! `sym_plain`, `sym_table`, `sym_engine` and `sym_top`.
+//! `sym_plain`, `sym_table`, `sym_run`, `sym_engine` and `sym_top`.
 #![tactic(auto)]
 
 #[cfg(test)]
+mod agreement;
+#[cfg(test)]
 mod copies;
+#[cfg(test)]
+mod drawn;
 #[cfg(test)]
 mod files;
 #[cfg(test)]
@@ -20,3 +24,7 @@ mod scripts;
 mod walk;
 #[cfg(test)]
 mod words;
+#[cfg(test)]
+mod worked;
+#[cfg(test)]
+mod working;

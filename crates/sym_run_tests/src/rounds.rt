@@ -57,7 +57,7 @@ fn read_chunk(
 }
 
 // Reads the rows of chunks, in order.
-fn read_chunks(
+pub(crate) fn read_chunks(
     alloc: Global,
     checked: &Checked,
     chunks: &[Chunk],

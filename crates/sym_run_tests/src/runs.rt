@@ -6,7 +6,7 @@ use sym_base::{MemSink, MemStore, NoMemory};
 use sym_top::{StartErr, Status, refuse_start, symple};
 
 // Counts records up to three.
-const COUNTER: &str =
+pub(crate) const COUNTER: &str =
     "field x: num; state n: int [0..3] = 0; update { n = n + 1; } report { n = n; }";
 
 // The same, and stays at three.
@@ -31,16 +31,16 @@ macro_rules! sessions {
     };
 }
 
-const SESSIONS: &str = sessions!("0");
+pub(crate) const SESSIONS: &str = sessions!("0");
 
 // The same from a first time so early that its distance is no number.
-const EARLY: &str = sessions!("-1000000000000");
+pub(crate) const EARLY: &str = sessions!("-1000000000000");
 
-const TOGGLE: &str = "enum mode { idle, busy } field x: num; state phase: mode = idle; \
+pub(crate) const TOGGLE: &str = "enum mode { idle, busy } field x: num; state phase: mode = idle; \
     update { if phase is idle { phase = busy; } else { phase = idle; } } \
     report { phase = phase; }";
 
-const BY_USER: &str =
+pub(crate) const BY_USER: &str =
     "field user: word; group user; state n: int [0..1000000] = 0; update { n = n + 1; } \
     report { n = n; }";
 
@@ -52,7 +52,7 @@ const BY_DAY: &str = "field user: word; field day: word; group user, day; \
 const BY_ALL: &str = "enum mode { idle, busy } field user: word; field day: num; field what: mode; \
     group what, user, day; state n: int [0..9] = 0; update { n = n + 1; } report { n = n; }";
 
-const SUMS: &str = "field user: word; field x: num else 0; group user; \
+pub(crate) const SUMS: &str = "field user: word; field x: num else 0; group user; \
     state n: int [-1000000000000..1000000000000] = 0; \
     state xs: nums [-1000000000000..1000000000000]; update { n = n + x; push xs x; } \
     report { n = n; big = sum(xs) * 1000000000000; }";
@@ -62,7 +62,7 @@ const CLAMPED_SUMS: &str = "field user: word; field x: num else 0; group user; \
     state n: int [-1000000000000..1000000000000] = 0; state xs: nums [0..9] clamp; \
     update { n = n + x; push xs x; } report { n = n; big = sum(xs); }";
 
-const SHOWN: &str =
+pub(crate) const SHOWN: &str =
     "field user: word; group user; state n: int [0..9] = 7; state xs: nums [0..9]; update { } \
     report { q = n / 0; r = n / 2 - 10; m = min(xs); k = max(xs) + 1; }";
 
@@ -70,13 +70,13 @@ const CALCULATED: &str = "field x: num; state xs: nums [0..9]; update { if x > 3
     report { zero = max(xs) / 0; last = last(xs); \
     fourth = 1000000000000 * 1000000000000 * 1000000000000 * 1000000000000; rest = -7 % -1; }";
 
-const MIRROR: &str =
+pub(crate) const MIRROR: &str =
     "field x: num; state n: int [0..10] = 0; update { n = -1 * n + 10; } report { n = n; }";
 
-const DOUBLE: &str =
+pub(crate) const DOUBLE: &str =
     "field x: num; state n: int [0..1000000000000] = 0; update { n = 2 * n; } report { n = n; }";
 
-const QUOTIENT: &str =
+pub(crate) const QUOTIENT: &str =
     "field x: num; state n: int [0..9] = 0; update { n = n + x / x; } report { n = n; }";
 
 const CLAMPED_QUOTIENT: &str =
@@ -98,7 +98,7 @@ const TWO: &str = "field ts: num; field user from \"User ID\": num; state n: int
     update { n = n + 1; } report { n = n; }";
 
 // A file of 200 records.
-const TWO_HUNDRED: &str = "x\n\
+pub(crate) const TWO_HUNDRED: &str = "x\n\
     1\n1\n1\n1\n1\n1\n1\n1\n1\n1\n1\n1\n1\n1\n1\n1\n1\n1\n1\n1\n1\n1\n1\n1\n1\n\
     1\n1\n1\n1\n1\n1\n1\n1\n1\n1\n1\n1\n1\n1\n1\n1\n1\n1\n1\n1\n1\n1\n1\n1\n1\n\
     1\n1\n1\n1\n1\n1\n1\n1\n1\n1\n1\n1\n1\n1\n1\n1\n1\n1\n1\n1\n1\n1\n1\n1\n1\n\

@@ -61,6 +61,31 @@ pub(crate) fn check_rows<R: Row>(
     }
 }
 
+/// A row of a table that has a script of its own.
+pub(crate) trait Scripted: Row {
+    fn script(&self) -> &str;
+}
+
+// The place of the first row that doesn't hold under its own script, or whose script is refused.
+fn first_wrong_scripted<S: Scripted>(alloc: Global, rows: &[S]) -> Result<Option<usize>, NoMemory> {
+    'rows: for (place, row) in rows.iter().enumerate() {
+        match accepted(alloc, row.script()) {
+            Some(checked) if row.holds(alloc, &checked)? => {}
+            _ => return Ok(Some(place)),
+        }
+    }
+    Ok(None)
+}
+
+/// Fails the test at the first row that doesn't hold under its own script.
+pub(crate) fn check_scripted<S: Scripted>(
+    rt: &impl Abort,
+    alloc: Global,
+    rows: &[S],
+) -> Result<(), Fail> {
+    all_hold(rt, first_wrong_scripted(alloc, rows))
+}
+
 /// Fails the test at the row of this place, counted from 0.
 pub(crate) fn all_hold(
     rt: &impl Abort,

@@ -1,0 +1,161 @@
+//! Passes over one file by runs, in chunks and with limits of many sizes, and the sequential pass.
+ghost use Rattle.std.specs.Prelude.{◌≤◌};
+ghost use Rattle.sym_engine.specs.Options.{InRange};
+
+use std::alloc::Global;
+use sym_base::{FILE_MAX_DEFAULT, MemStore, NoMemory};
+use sym_check::Checked;
+use sym_engine::{
+    CHUNK_DEFAULT, LIMIT_MAX, Options, PassErr, WORKERS_DEFAULT, pass, sequential_pass,
+};
+use sym_plain::Groups;
+
+/// The rows of a chunk.
+const CHUNKS: [u32; 5] = [1, 2, 3, 7, CHUNK_DEFAULT];
+
+/// The path limits.
+const LIMITS: [u32; 4] = [1, 2, 16, LIMIT_MAX];
+
+/// What a pass has to come to.
+pub(crate) trait Wanted {
+    /// Whether it is this: groups, or why there are none.
+    fn is(
+        &self,
+        alloc: Global,
+        checked: &Checked,
+        passed: &Result<Groups, PassErr>,
+    ) -> Result<bool, NoMemory>;
+}
+
+/// How a file is passed over: by runs of so many rows and a limit, or in sequence.
+#[derive(Clone, Copy)]
+enum Way {
+    Runs(u32, u32),
+    InSequence,
+}
+
+fn store(alloc: Global, log: &str) -> Result<MemStore, NoMemory> {
+    let mut store = MemStore::new(alloc);
+    store.add(alloc, "log", log.as_bytes())?;
+    Ok(store)
+}
+
+fn names(alloc: Global) -> Result<Vec<String>, NoMemory> {
+    let mut names = Vec::new(alloc);
+    names.push(String::from_str(alloc, "log")?)?;
+    Ok(names)
+}
+
+fn options(chunk: u32, limit: u32) -> Options
+    requires some_rows { 1 ≤ chunk }
+    requires most_rows { chunk ≤ 1024 }
+    requires some_pairs { 1 ≤ limit }
+    requires most_pairs { limit ≤ 256 }
+    ensures { InRange result }
+{
+    Options {
+        chunk,
+        limit,
+        workers: WORKERS_DEFAULT,
+        max_bytes: FILE_MAX_DEFAULT,
+    }
+}
+
+// The pass over at most three files; `None` where the options aren't in their ranges.
+fn passed(
+    alloc: Global,
+    checked: &Checked,
+    files: &mut MemStore,
+    names: &[String],
+    way: Way,
+) -> Option<Result<Groups, PassErr>> {
+    if names.len() > 3 {
+        return None;
+    }
+    match way {
+        Way::Runs(chunk, limit)
+            if chunk >= 1 && chunk <= CHUNK_DEFAULT && limit >= 1 && limit <= LIMIT_MAX => {
+            Some(pass(alloc, checked, files, names, &options(chunk, limit)))
+        }
+        Way::Runs(_, _) => None,
+        Way::InSequence => {
+            let options = options(CHUNK_DEFAULT, LIMIT_MAX);
+            Some(sequential_pass(alloc, checked, files, names, &options))
+        }
+    }
+}
+
+fn passed_over(
+    alloc: Global,
+    checked: &Checked,
+    files: &mut MemStore,
+    way: Way,
+) -> Result<Option<Result<Groups, PassErr>>, NoMemory> {
+    Ok(passed(alloc, checked, files, names(alloc)?.as_slice(), way))
+}
+
+// Whether the pass over a log comes to this, if it is made in this way.
+fn way_is<W: Wanted>(
+    alloc: Global,
+    checked: &Checked,
+    log: &str,
+    way: Way,
+    wanted: &W,
+) -> Result<bool, NoMemory> {
+    match passed_over(alloc, checked, &mut store(alloc, log)?, way)? {
+        Some(passed) => wanted.is(alloc, checked, &passed),
+        None => Ok(false),
+    }
+}
+
+fn limits_are<W: Wanted>(
+    alloc: Global,
+    checked: &Checked,
+    log: &str,
+    chunk: u32,
+    wanted: &W,
+) -> Result<bool, NoMemory> {
+    'limits: for limit in LIMITS {
+        if !way_is(alloc, checked, log, Way::Runs(chunk, limit), wanted)? {
+            return Ok(false);
+        }
+    }
+    Ok(true)
+}
+
+/// Whether the passes over a log, by runs of each size, come to this.
+pub(crate) fn runs_are<W: Wanted>(
+    alloc: Global,
+    checked: &Checked,
+    log: &str,
+    wanted: &W,
+) -> Result<bool, NoMemory> {
+    'chunks: for chunk in CHUNKS {
+        if !limits_are(alloc, checked, log, chunk, wanted)? {
+            return Ok(false);
+        }
+    }
+    Ok(true)
+}
+
+/// Whether the sequential pass over a log comes to this.
+pub(crate) fn sequence_is<W: Wanted>(
+    alloc: Global,
+    checked: &Checked,
+    log: &str,
+    wanted: &W,
+) -> Result<bool, NoMemory> {
+    way_is(alloc, checked, log, Way::InSequence, wanted)
+}
+
+/// The groups of the sequential pass over a log; `None` where it has a problem.
+pub(crate) fn sequence_of(
+    alloc: Global,
+    checked: &Checked,
+    log: &str,
+) -> Result<Option<Groups>, NoMemory> {
+    match passed_over(alloc, checked, &mut store(alloc, log)?, Way::InSequence)? {
+        Some(Ok(groups)) => Ok(Some(groups)),
+        Some(Err(_)) | None => Ok(None),
+    }
+}
