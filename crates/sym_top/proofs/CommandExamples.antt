@@ -1,8 +1,8 @@
 -- Lists of arguments, and the commands that they ask for.
-use Rattle.std.proofs.Common.{◌≡◌, ℕ, List, [], ◌∷◌, Option, Some, None, refl, codes}
+use Rattle.std.proofs.Common.{◌≡◌, [], ◌∷◌, Some, None, true, refl, codes}
 use Rattle.clap.proofs.OnLiterals.{clap_on_literals}
-use Rattle.sym_top.specs.CommandLines.{run_app, matched}
-use Rattle.sym_top.specs.Commands.{Runs, command_in, run_of, run_found, run_options, options_found, form_found, files_found}
+use Rattle.sym_top.specs.CommandLines.{run_app, check_app, make_app, matched}
+use Rattle.sym_top.specs.Commands.{Runs, Checks, Makes, command_in, run_of, check_of, make_of, run_found, check_found, make_found, run_options, options_found, files_found}
 use Rattle.sym_top.specs.Numbers.{number_of}
 
 -- `run s f`
@@ -12,7 +12,7 @@ defaults : command_in (codes "run" ∷ codes "s" ∷ codes "f" ∷ []) ≡ Some 
   script = codes "s";
   files = codes "f" ∷ [];
 }))
-unfolding command_in run_of matched run_app run_found run_options options_found form_found files_found number_of clap_on_literals
+unfolding command_in run_of matched run_app run_found run_options options_found files_found number_of clap_on_literals
 defaults = refl
 
 -- `run --chunk 007 s f --limit=1 -- -g`
@@ -22,12 +22,12 @@ given : command_in (codes "run" ∷ codes "--chunk" ∷ codes "007" ∷ codes "s
   script = codes "s";
   files = codes "f" ∷ codes "-g" ∷ [];
 }))
-unfolding command_in run_of matched run_app run_found run_options options_found form_found files_found number_of clap_on_literals
+unfolding command_in run_of matched run_app run_found run_options options_found files_found number_of clap_on_literals
 given = refl
 
 -- `run --chunk 0 s f`
 zero_rows : command_in (codes "run" ∷ codes "--chunk" ∷ codes "0" ∷ codes "s" ∷ codes "f" ∷ []) ≡ None
-unfolding command_in run_of matched run_app run_found run_options options_found form_found files_found number_of clap_on_literals
+unfolding command_in run_of matched run_app run_found run_options options_found files_found number_of clap_on_literals
 zero_rows = refl
 
 -- `run --chunk 2 --chunk 2 s f`
@@ -49,3 +49,27 @@ no_file = refl
 help : command_in (codes "run" ∷ codes "--help" ∷ []) ≡ None
 unfolding command_in run_of matched run_app clap_on_literals
 help = refl
+
+-- `check s --print`
+printed : command_in (codes "check" ∷ codes "s" ∷ codes "--print" ∷ []) ≡ Some (Checks (record { script = codes "s"; print = true }))
+unfolding command_in check_of matched check_app check_found clap_on_literals
+printed = refl
+
+-- `check s f`
+two_scripts : command_in (codes "check" ∷ codes "s" ∷ codes "f" ∷ []) ≡ None
+unfolding command_in check_of matched check_app clap_on_literals
+two_scripts = refl
+
+-- `make --workers 2 5 1`
+made : command_in (codes "make" ∷ codes "--workers" ∷ codes "2" ∷ codes "5" ∷ codes "1" ∷ []) ≡ Some (Makes (record {
+  options = record { chunk = 1024; limit = 16; workers = 2; max_bytes = 67108864 };
+  records = 5;
+  seed = 1;
+}))
+unfolding command_in make_of matched make_app make_found options_found number_of clap_on_literals
+made = refl
+
+-- `make 0 1`
+no_records : command_in (codes "make" ∷ codes "0" ∷ codes "1" ∷ []) ≡ None
+unfolding command_in make_of matched make_app make_found options_found number_of clap_on_literals
+no_records = refl

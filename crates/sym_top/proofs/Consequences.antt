@@ -1,5 +1,6 @@
 -- What follows from what the top call says of each status.
-use Rattle.std.proofs.Common.{◌≡◌, ◌⊎◌, inl, inr, ℕ, Bool, true, false, if◌then◌else◌, List, [], ◌∷◌, map, Option, None, Some, refl, sym, ap, subst, ◌∙◌}
+use Rattle.std.proofs.Common.{◌≡◌, ◌⊎◌, inl, inr, ℕ, Bool, true, false, if◌then◌else◌, List, [], ◌∷◌, map, Option, None, Some, Result, Ok, Err, IfOk, IfErr, MatchResult, refl, sym, ap, subst, ◌∙◌}
+use Rattle.sym_base.specs.declared.values.record.Record.{Record}
 use Rattle.sym_check.specs.declared.elaborate.error.CheckErr.TheVariants as check_error
 use Rattle.sym_check.specs.declared.elaborate.error.CheckErr.{CheckErr}
 use Rattle.sym_engine.specs.declared.error.PassErr.{PassErr}
@@ -15,18 +16,17 @@ use Rattle.sym_top.specs.declared.refusal.Place.{Place}
 use Rattle.sym_top.specs.declared.refusal.Place.TheVariants as place
 use Rattle.sym_top.specs.declared.refusal.Refusal.{Refusal}
 use Rattle.sym_top.specs.declared.refusal.Refusal.TheVariants as refusal
-use Rattle.sym_top.specs.declared.report.Report.{Report}
 use Rattle.sym_top.specs.declared.status.Status.{Status}
 use Rattle.sym_top.specs.declared.status.Status.TheVariants as status
-use Rattle.sym_top.specs.Commands.{FileNames, name_at, names_of}
-use Rattle.sym_top.specs.Ends.{End, Refused, Reported, Held, IsEnd, usage, no_program, problem, report, IsWhole, status_of}
+use Rattle.sym_top.specs.Commands.{Command, Runs, Checks, Makes, FileNames, name_at, names_of}
+use Rattle.sym_top.specs.Ends.{End, whole_end, Refused, Reported, Said, Summed, Held, IsEnd, usage, no_program, problem, finished, IsWhole, script_of, status_of}
 use Rattle.sym_top.specs.EndReading.{command_end}
 use Rattle.sym_top.specs.Loading.{Ready, Stops, failure_line}
 use Rattle.sym_top.specs.Messages.{line_of}
-use Rattle.sym_top.specs.Programs.{IsNoProgram, too_large, unparsed, broken, headers_in}
-use Rattle.sym_top.specs.Promises.{Call, IsUsage, call_names, MayScript, MayHold, TellsScript, Told, ReadFailed, IsStop, at_end, script_unread, file_unread, no_memory, IsUntouched, WriteFails, failed, short, IsCause, stopped, cut, Refuses, Wrote, line_told, text_written, Answers, Unless, IsReported, IsRefused, IsUnwritten, MustReport}
+use Rattle.sym_top.specs.Programs.{Program, IsNoProgram, too_large, unparsed, broken}
+use Rattle.sym_top.specs.Promises.{Call, Says, Leaves, IsUsage, call_line, call_names, MayScript, MayHold, TellsScript, Told, ReadFailed, IsStop, at_end, script_unread, file_unread, no_memory, IsUntouched, WriteFails, failed, short, IsCause, stopped, cut, Refuses, Wrote, line_told, text_written, Answers, Unless, IsReported, IsRefused, IsUnwritten, MustReport}
 use Rattle.sym_top.specs.Refusals.{status_of_refusal, parse_refusal, check_refusal, pass_refusal}
-use Rattle.sym_top.specs.Telling.{Sunk, Has, Tells}
+use Rattle.sym_top.specs.Telling.{Sunk, Has, Short, Tells}
 use Rattle.sym_top.proofs.EndsFound.{found, one_end}
 
 -- ---- statuses
@@ -42,13 +42,15 @@ refusal-refused refusal.Write = λ h. h
 refusal-refused (refusal.TooLarge at) = λ h. h
 refusal-refused refusal.NoMemory = λ h. h
 
-faulty-reported : (b : Bool) → IsReported (if b then status.Faulted else status.Done)
+pub faulty-reported : (b : Bool) → IsReported (if b then status.Faulted else status.Done)
 faulty-reported true = tt
 faulty-reported false = tt
 
 pub whole-reported : (end : End) → IsWhole end → IsReported (status_of end)
 whole-reported (Refused why) whole = absurd whole
 whole-reported (Reported form heads rows) whole = faulty-reported (some_faulty rows)
+whole-reported (Said text) whole = tt
+whole-reported (Summed records rows) whole = faulty-reported (some_faulty rows)
 
 decided : (result : Status) → IsReported result ⊎ IsRefused result
 decided status.Done = inl tt
@@ -97,42 +99,91 @@ stop-refuses call out err failure result s status_is untouched told = record {
   line = subst (Tells err) s.line told;
 }
 
-cut-line : (names others : FileNames) (headers : List (List ℕ)) (out : Sunk) (text : List ℕ) (why : Refusal) →
-    WriteFails out text why → line_of names [] why ≡ line_of others headers why
-cut-line names others headers out text _ (failed prefix rose) = refl
-cut-line names others headers out text _ (short prefix rose) = refl
+cut-line : (call : Call) (held : Held) (names : FileNames) (out : Sunk) (text : List ℕ) (why : Refusal) →
+    WriteFails out text why → line_of names [] why ≡ call_line call held why
+cut-line call held names out text _ (failed prefix rose) = refl
+cut-line call held names out text _ (short prefix rose) = refl
 
-pub cut-refuses : (call : Call) (names : FileNames) (out err : Sunk) (made : Report) (why : Refusal) (result : Status) → Ready call made →
-    result ≡ status_of_refusal why → WriteFails out made.text.items why → Tells err (line_of names [] why) →
+pub cut-refuses : (call : Call) (names : FileNames) (out err : Sunk) (status : Status) (text : List ℕ) (why : Refusal) (result : Status) →
+    Ready call status text → result ≡ status_of_refusal why → WriteFails out text why → Tells err (line_of names [] why) →
     Refuses call out err result
-cut-refuses call names out err made why result ready status_is fails told = record {
+cut-refuses call names out err status text why result ready status_is fails told = record {
   held = ready.held;
   may = ready.may;
   why = why;
   status_is = status_is;
-  cause = cut made.status made.text.items ready.has fails;
-  line = subst (Tells err) (cut-line names (call_names call) (headers_in ready.held.script) out made.text.items why fails) told;
+  cause = cut status text ready.has fails;
+  line = subst (Tells err) (cut-line call ready.held names out text why fails) told;
 }
 
-pub ready-writes : (call : Call) (out : Sunk) (made : Report) → Ready call made → Has out made.text.items →
-    Wrote call out made.status
-ready-writes call out made ready has = record {
+pub ready-writes : (call : Call) (out : Sunk) (status : Status) (text : List ℕ) → Ready call status text → Has out text →
+    Wrote call out status
+ready-writes call out status text ready has = record {
   held = ready.held;
   may = ready.may;
-  text = made.text.items;
+  text = text;
   report = ready.has;
   written = has;
 }
 
-pub ready-reported : (call : Call) (made : Report) → Ready call made → IsReported made.status
-ready-reported call made ready =
+pub ready-reported : (call : Call) (status : Status) (text : List ℕ) → Ready call status text → IsReported status
+ready-reported call status text ready =
     subst IsReported (sym ready.has.status_is) (whole-reported ready.has.end ready.has.whole)
 
--- What the call says of each status.
-pub record Says (call : Call) (out err : Sunk) (result : Status) : Type 0 where
-  pub reported : IsReported result → Wrote call out result
-  pub refused : IsRefused result → Refuses call out err result
-  pub quiet : IsReported result → IsUntouched err
+pub stop-says : (call : Call) (out err : Sunk) (failure : Failure) (result : Status) → Stops call failure →
+    result ≡ status_of_refusal failure.why → IsUntouched out → Tells err (failure_line failure) → Says call out err result
+stop-says call out err failure result stops status_is untouched told = record {
+  reported = λ done. absurd (refusal-refused failure.why (subst IsReported status_is done));
+  refused = λ undone. stop-refuses call out err failure result stops status_is untouched told;
+  quiet = λ done. absurd (refusal-refused failure.why (subst IsReported status_is done));
+}
+
+pub ready-says : (call : Call) (out err : Sunk) (status : Status) (text : List ℕ) → Ready call status text → Has out text → IsUntouched err →
+    Says call out err status
+ready-says call out err status text ready has quiet = record {
+  reported = λ done. ready-writes call out status text ready has;
+  refused = λ undone. absurd (undone (ready-reported call status text ready));
+  quiet = λ done. quiet;
+}
+
+pub cut-says : (call : Call) (names : FileNames) (out err : Sunk) (status : Status) (text : List ℕ) (why : Refusal) (result : Status) →
+    Ready call status text → result ≡ status_of_refusal why → WriteFails out text why → Tells err (line_of names [] why) → Says call out err result
+cut-says call names out err status text why result ready status_is fails told = record {
+  reported = λ done. absurd (refusal-refused why (subst IsReported status_is done));
+  refused = λ undone. cut-refuses call names out err status text why result ready status_is fails told;
+  quiet = λ done. absurd (refusal-refused why (subst IsReported status_is done));
+}
+
+-- What was made is ready, or it stops the call.
+pub made-match : (made : Result Status Failure) (call : Call) (text gathered : List ℕ) → text ≡ gathered →
+    IfOk made (λ status. Ready call status gathered) → IfErr made (Stops call) → MatchResult made (λ status. Ready call status text) (Stops call)
+made-match (Ok status) call text gathered same ready stops = subst (Ready call status) (sym same) ready
+made-match (Err failure) call text gathered same ready stops = stops
+
+-- A call that stopped before it wrote leaves all that it has to leave.
+pub stop-leaves : {F O E : Type 0} (call : Call) (sunk_out : Sunk) (files : F) (out : O) (err err_after : E) (why : Refusal) (result : Status) →
+    result ≡ status_of_refusal why → Leaves call sunk_out files files out out err err_after result
+stop-leaves call sunk_out files out err err_after why result status_is = record {
+  unread = λ none. refl;
+  unwritten = λ stopped_early. refl;
+  memory = λ full. inl refl;
+  quiet = λ done. absurd (refusal-refused why (subst IsReported status_is done));
+}
+
+-- What a command leaves that isn't one of none.
+pub some-leaves : {F O E : Type 0} (call : Call) (sunk_out : Sunk) (files files_after : F) (out out_after : O) (err err_after : E) (result : Status) →
+    (IsUsage call → ⊥) → (IsUnwritten result → out_after ≡ out) → (result ≡ status.NoMemory → (out_after ≡ out) ⊎ Short sunk_out) →
+    (IsReported result → err_after ≡ err) → Leaves call sunk_out files files_after out out_after err err_after result
+some-leaves call sunk_out files files_after out out_after err err_after result some unwritten memory quiet = record {
+  unread = λ none. absurd (some none);
+  unwritten = unwritten;
+  memory = memory;
+  quiet = quiet;
+}
+
+-- A call that asks for a command isn't one that asks for none.
+pub asked-some : (o : Option Command) (command : Command) → o ≡ Some command → o ≡ None → ⊥
+asked-some o command some none = let e : Some command ≡ None = sym some ∙ none in cc
 
 -- ---- the bytes that a store tells are those that the files may hold
 
@@ -140,7 +191,7 @@ may-told : (o : Option (List ℕ)) (a b : List ℕ) → May o a → o ≡ Some b
 may-told None a b may e = cc
 may-told (Some x) a b may e = let same : x ≡ b = cc in may ∙ same
 
-files-told : (holds : Holds) (names files told : List (List ℕ)) → MayAll holds names files →
+pub files-told : (holds : Holds) (names files told : List (List ℕ)) → MayAll holds names files →
     map holds names ≡ map Some told → files ≡ told
 files-told holds [] [] [] may e = refl
 files-told holds [] [] (b ∷ bs) may e = cc
@@ -177,7 +228,7 @@ module _ (call : Call) (out err : Sunk) (result : Status) where
       (record { status_is = w.report.status_is; sinks = text_written w.report.end w.text w.report.whole w.report.text_is w.written quiet })
 
   stop-expected : (held : Held) (end : End) (why : Refusal) → IsEnd call.asked held end → IsStop call held why →
-      result ≡ status_of_refusal why → IsUntouched out → Tells err (line_of (call_names call) (headers_in held.script) why) →
+      result ≡ status_of_refusal why → IsUntouched out → Tells err (call_line call held why) →
       Unless result (Answers call held end out err result)
   stop-expected held end _ is (at_end why stop) status_is untouched line =
       let same : Refused why ≡ end = one_end call.asked held (Refused why) end stop is in
@@ -186,7 +237,7 @@ module _ (call : Call) (out err : Sunk) (result : Status) where
       (record { status_is = status_is; sinks = line_told why untouched line }))
   stop-expected held end _ is (script_unread unread) status_is untouched line =
       subst (λ s. Unless s (Answers call held end out err result)) (sym status_is) tt
-  stop-expected held end _ is (file_unread run program records number asked prog fine unread) status_is untouched line =
+  stop-expected held end _ is (file_unread command program records number asked prog fine unread) status_is untouched line =
       subst (λ s. Unless s (Answers call held end out err result)) (sym status_is) tt
   stop-expected held end _ is no_memory status_is untouched line =
       subst (λ s. Unless s (Answers call held end out err result)) (sym status_is) tt
@@ -197,7 +248,7 @@ module _ (call : Call) (out err : Sunk) (result : Status) where
   cut-expected P text _ (short prefix rose) status_is = subst (λ s. Unless s P) (sym status_is) tt
 
   cause-expected : (held : Held) (end : End) (why : Refusal) → IsEnd call.asked held end → IsCause call held out why →
-      result ≡ status_of_refusal why → Tells err (line_of (call_names call) (headers_in held.script) why) →
+      result ≡ status_of_refusal why → Tells err (call_line call held why) →
       Unless result (Answers call held end out err result)
   cause-expected held end why is (stopped stop untouched) status_is line =
       stop-expected held end why is stop status_is untouched line
@@ -238,7 +289,7 @@ module _ (call : Call) (out err : Sunk) (result : Status) where
       result ≡ status.NoMemory
   stop-complete m _ (at_end why stop) status_is = absurd (never-whole m.held m.end why m.is_end m.whole stop)
   stop-complete m _ (script_unread unread) status_is = absurd (m.read place.Script unread)
-  stop-complete m _ (file_unread run program records number asked prog fine unread) status_is =
+  stop-complete m _ (file_unread command program records number asked prog fine unread) status_is =
       absurd (m.read (place.File number) unread)
   stop-complete m _ no_memory status_is = status_is
 
@@ -261,7 +312,7 @@ module _ (call : Call) (out err : Sunk) (result : Status) where
   -- ---- arguments of no command
 
   usage-end : (held : Held) (end : End) → IsUsage call → IsEnd call.asked held end → Refused refusal.Usage ≡ end
-  usage-end held end none is = sym (ap (λ o. command_end o held) none) ∙ found call.asked held end is
+  usage-end held end none is = sym (ap (λ o. command_end call.asked o held) none) ∙ found call.asked held end is
 
   usage-whole : {A : Type 0} (held : Held) (end : End) → IsUsage call → IsEnd call.asked held end → IsWhole end → A
   usage-whole held end none is whole = absurd (subst IsWhole (sym (usage-end held end none is)) whole)
@@ -279,7 +330,7 @@ module _ (call : Call) (out err : Sunk) (result : Status) where
       let cause : why ≡ refusal.Usage = cc in
       inl (status_is ∙ ap status_of_refusal cause)
   usage-stop held _ none (script_unread unread) status_is = absurd (unnamed place.Script none unread)
-  usage-stop held _ none (file_unread run program records number asked prog fine unread) status_is =
+  usage-stop held _ none (file_unread command program records number asked prog fine unread) status_is =
       absurd (unnamed (place.File number) none unread)
   usage-stop held _ none no_memory status_is = inr status_is
 
@@ -335,16 +386,21 @@ module _ (call : Call) (out err : Sunk) (result : Status) where
   program-words text _ (unparsed why small is) e = parse-words why e
   program-words text _ (broken tree why small is breaks) e = check-words why e
 
+  whole-words : (command : Command) (program : Program) (records : List Record) → status_of (whole_end call.asked command program records) ≡ status.Usage → ⊥
+  whole-words (Runs run) program records e = fault-words _ e
+  whole-words (Checks check) program records e = cc
+  whole-words (Makes make) program records e = fault-words _ e
+
   end-words : (held : Held) (end : End) → IsEnd call.asked held end → status_of end ≡ status.Usage → IsUsage call
   end-words held _ (usage none) e = none
-  end-words held _ (no_program run why asked is) e = absurd (program-words held.script why is e)
-  end-words held _ (problem run program why asked is first) e = absurd (pass-words why e)
-  end-words held _ (report run program records asked is fine) e = absurd (fault-words _ e)
+  end-words held _ (no_program command why asked is) e = absurd (program-words (script_of command held) why is e)
+  end-words held _ (problem command program why asked is first) e = absurd (pass-words why e)
+  end-words held _ (finished command program records asked is fine) e = absurd (whole-words command program records e)
 
   stop-words : (held : Held) (why : Refusal) → IsStop call held why → status_of_refusal why ≡ status.Usage → IsUsage call
   stop-words held _ (at_end why stop) e = end-words held (Refused why) stop e
   stop-words held _ (script_unread unread) e = cc
-  stop-words held _ (file_unread run program records number asked prog fine unread) e = cc
+  stop-words held _ (file_unread command program records number asked prog fine unread) e = cc
   stop-words held _ no_memory e = cc
 
   cut-words : (text : List ℕ) (why : Refusal) → WriteFails out text why → status_of_refusal why ≡ status.Usage → ⊥

@@ -1,23 +1,32 @@
 -- What `clap`'s definition makes of words, and what it refuses.
-use Rattle.std.proofs.Common.{◌≡◌, ◌<◌, ◌≤◌, ◌==◌, true, false, List, [], ◌∷◌, map, inl, inr, length, Some, None, refl, sym, ap, arith, slice_index_or}
+use Rattle.std.proofs.Common.{◌≡◌, ◌<◌, ◌≤◌, ◌==◌, ◌&&◌, Bool, true, false, List, [], ◌∷◌, map, inl, inr, length, Some, None, refl, sym, ap, arith, slice_index_or}
 use Rattle.std.proofs.lemmas.Bool.{ne_eqb}
 use Rattle.clap.specs.Words.{App, Row, Text, matches_of, fault_of, IsAmong, Kinds, HasKind, kind_of, is_simple}
 use Rattle.clap.specs.Faults.{is_simple_and_free}
 use Rattle.clap.specs.declared.error.Error.{Error}
 use Rattle.clap.specs.declared.error.kind.ErrorKind.{ErrorKind}
 use Rattle.clap.specs.declared.error.kind.ErrorKind.TheVariants as kind
-use Rattle.sym_top.specs.declared.arguments.TheConstants as own
-use Rattle.std.specs.Str.{bytes_eq}
-use Rattle.sym_top.specs.CommandLines.{run_app, matched}
-use Rattle.sym_top.specs.Commands.{command_in, command_by, runs, run_of}
-
-pub run-simple : is_simple run_app ≡ true
-unfolding run_app
-run-simple = refl
+use Rattle.sym_top.specs.CommandLines.{run_app, check_app, make_app, matched}
+use Rattle.sym_top.specs.Commands.{command_in, command_by}
 
 pub run-free : is_simple_and_free run_app ≡ true
 unfolding run_app
 run-free = refl
+
+pub check-free : is_simple_and_free check_app ≡ true
+unfolding check_app
+check-free = refl
+
+pub make-free : is_simple_and_free make_app ≡ true
+unfolding make_app
+make-free = refl
+
+left : (a b : Bool) → (a && b) ≡ true → a ≡ true
+left true b e = refl
+left false b e = cc
+
+pub free-simple : (app : App) → is_simple_and_free app ≡ true → is_simple app ≡ true
+free-simple app free = left (is_simple app) _ free
 
 pub taken : (app : App) (words : List Text) (rows : List Row) → fault_of app words ≡ [] → rows ≡ matches_of app words → matched app words ≡ Some rows
 unfolding matched
@@ -47,9 +56,3 @@ pub command-none : {S : Type 0} (text : S → Text) (words : List S) → length 
 unfolding command_in
 command-none text [] none = refl
 command-none text (word ∷ rest) none = absurd (omega arith)
-
-pub by-run : (name : Text) (words : List Text) → bytes_eq name own.RUN_NAME.now ≡ true → command_by name words ≡ runs (run_of words)
-by-run name words is = rw is refl
-
-pub by-none : (name : Text) (words : List Text) → bytes_eq name own.RUN_NAME.now ≡ false → command_by name words ≡ None
-by-none name words is = rw is refl

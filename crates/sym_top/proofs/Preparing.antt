@@ -1,5 +1,5 @@
 -- What each exit before the writing of a report says of the run.
-use Rattle.std.proofs.Common.{◌≡◌, ◌≢◌, ℕ, ◌+◌, ◌<◌, ◌≤◌, inl, inr, List, [], ◌∷◌, map, length, replicate, Option, None, Some, Result, Ok, Err, IfOk, IfErr, IfSome, slice_get, if◌then◌else◌, refl, sym, ap, subst, ◌∙◌, arith}
+use Rattle.std.proofs.Common.{◌≡◌, ◌≢◌, ℕ, ◌+◌, ◌<◌, ◌≤◌, inl, inr, Bool, List, [], ◌∷◌, map, length, replicate, Option, None, Some, Result, Ok, Err, IfOk, IfErr, IfSome, slice_get, if◌then◌else◌, refl, sym, ap, subst, ◌∙◌, arith}
 use Rattle.std.proofs.lemmas.List.{length-replicate}
 use Rattle.sym_base.specs.Counts.{Rose}
 use Rattle.sym_base.specs.declared.limits.TheConstants as limit
@@ -8,12 +8,12 @@ use Rattle.sym_base.specs.declared.edge.read.ReadErr.{ReadErr}
 use Rattle.sym_base.specs.declared.edge.read.ReadErr.TheVariants as read_error
 use Rattle.sym_base.specs.declared.edge.sink.SinkErr.{SinkErr}
 use Rattle.sym_base.specs.declared.edge.sink.SinkErr.TheVariants as sink_error
+use Rattle.sym_base.specs.declared.values.record.Record.{Record}
 use Rattle.sym_base.specs.declared.values.value.Key.{Key}
 use Rattle.sym_base.specs.declared.values.state.Outcome.{Outcome}
 use Rattle.sym_parse.specs.declared.error.ParseErr.{ParseErr}
 use Rattle.sym_parse.specs.declared.error.ParseErr.TheVariants as parse_error
 use Rattle.sym_parse.specs.Answers.{IsScriptOf, parsed}
-use Rattle.sym_check.specs.Meaning.Groups.{pass}
 use Rattle.sym_check.specs.Rules.Scripts.{BreaksScript}
 use Rattle.sym_check.specs.declared.checking.accepted.Checked.{Checked}
 use Rattle.sym_check.specs.declared.elaborate.error.CheckErr.{CheckErr}
@@ -21,26 +21,32 @@ use Rattle.sym_check.specs.declared.elaborate.error.CheckErr.TheVariants as chec
 use Rattle.sym_engine.specs.declared.error.PassErr.{PassErr}
 use Rattle.sym_engine.specs.declared.error.PassErr.TheVariants as pass_error
 use Rattle.sym_engine.specs.FileRecords.{FileRules}
+use Rattle.sym_engine.specs.FirstProblems.{AllFine, FirstProblem, no_file}
 use Rattle.sym_engine.specs.Passing.{Holds, Counts, May, MayAll, PassedAll, HasFirstProblem, StopsPass}
+use Rattle.sym_report.specs.Forms.{FormTexts, report_text}
 use Rattle.sym_report.specs.ReportRows.{heads_of, row_of, some_faulty}
-use Rattle.sym_report.specs.Tables.{table_form, table_text}
 use Rattle.sym_top.specs.declared.refusal.Place.TheVariants as place
 use Rattle.sym_top.specs.declared.refusal.Refusal.{Refusal}
 use Rattle.sym_top.specs.declared.refusal.Refusal.TheVariants as refusal
-use Rattle.sym_top.specs.declared.report.Report.{Report}
+use Rattle.sym_top.specs.declared.status.Status.{Status}
 use Rattle.sym_top.specs.declared.status.Status.TheVariants as status
-use Rattle.sym_top.specs.declared.commands.Command.TheVariants as command
-use Rattle.sym_top.specs.declared.commands.Run.{Run as RunRead}
-use Rattle.sym_top.specs.Commands.{FileNames, Runs, command_of, file_rules, name_at, names_of}
-use Rattle.sym_top.specs.Ends.{Held, IsTextOf, report_in, usage, no_program, problem, report, report_of}
-use Rattle.sym_top.specs.Loading.{MayRefuse, Loads, Unloads, refused, unread, no_memory, Reports, StopsFiles, stops, Ready, Stops}
+use Rattle.sym_top.specs.declared.commands.Command.{Command as CommandRead}
+use Rattle.sym_top.specs.Commands.{Runs, Checks, Makes, FileNames, command_of, file_rules, name_at, names_of, shown_names, texts_of}
+use Rattle.sym_top.specs.Ends.{End, Held, IsWhole, status_of, IsTextOf, report_in, said, summed, usage, no_program, problem, finished, script_of, files_of, report_of, rows_of, rows_status, said_of, whole_end}
+use Rattle.sym_top.specs.Loading.{MayRefuse, Loads, Unloads, refused, unread, no_memory, Passed, StopsRecords, first, no_more, Reports, StopsFiles, stops, Ready, Stops}
+use Rattle.sym_top.specs.Making.{made_file, made_script}
 use Rattle.sym_top.specs.Messages.{headers_of, line_of}
-use Rattle.sym_top.specs.Programs.{Program, IsProgram, IsNoProgram, checked_program, program_headers}
+use Rattle.sym_top.specs.Programs.{Program, IsProgram, IsNoProgram, checked_program, program_headers, headers_in}
 use Rattle.sym_top.specs.Programs as programs
-use Rattle.sym_top.specs.Promises.{Call, MayHold, MayScript, ReadFailed, IsStop, WriteFails, call_names}
+use Rattle.sym_top.specs.Promises.{Call, MayHold, MayScript, ReadFailed, IsStop, WriteFails, call_line, call_names, call_script}
 use Rattle.sym_top.specs.Promises as promise
 use Rattle.sym_top.specs.Refusals.{parse_refusal, check_refusal, read_refusal, pass_refusal, write_refusal}
-use Rattle.sym_top.specs.Words.{run_seen}
+use Rattle.sym_top.specs.Summaries.{summary_text}
+use Rattle.sym_top.specs.declared.commands.Command.TheVariants as command
+use Rattle.sym_top.specs.declared.commands.Run.{Run as RunRead}
+use Rattle.sym_top.specs.declared.commands.Check.{Check as CheckRead}
+use Rattle.sym_top.specs.declared.commands.Make.{Make as MakeRead}
+use Rattle.sym_top.specs.Words.{command_seen, run_seen, check_seen, make_seen}
 use Rattle.sym_top.specs.Telling.{Sunk, HasPrefix, Failed, Short}
 use Rattle.sym_top.proofs.ProgramsFound.{parsed-unparsed, program-found, none-found}
 
@@ -107,12 +113,13 @@ unloads-by told before after text (Err why) may (inr is) = refused text why may 
 
 -- ---- the files
 
-pub reports-by : (program : Program) (rules : FileRules) (holds : Holds) (names : List (List ℕ)) (groups : List (Key × Outcome)) (made : Report) →
-    PassedAll program.plan rules holds names groups →
-    made.text.items ≡ table_text (heads_of program.tree program.plan) (map (row_of program.tree program.plan) groups) →
-    made.status ≡ (if some_faulty (map (row_of program.tree program.plan) groups) then status.Faulted else status.Done) →
-    Reports program rules holds names made
-reports-by program rules holds names groups made passed text_is status_is =
+pub reports-by : (form : FormTexts) (program : Program) (rules : FileRules) (holds : Holds) (names : List (List ℕ)) (groups : List (Key × Outcome))
+    (faulty : Bool) (made : Status) (text : List ℕ) → PassedAll program.plan rules holds names groups →
+    text ≡ report_text form (heads_of program.tree program.plan) (map (row_of program.tree program.plan) groups) →
+    faulty ≡ some_faulty (map (row_of program.tree program.plan) groups) →
+    made ≡ (if faulty then status.Faulted else status.Done) →
+    Reports form program rules holds names made text
+reports-by form program rules holds names groups faulty made text passed text_is faulty_is made_is =
     let row = row_of program.tree program.plan in
     let heads = heads_of program.tree program.plan in
     record {
@@ -120,10 +127,19 @@ reports-by program rules holds names groups made passed text_is status_is =
       may = passed.may;
       records = passed.records;
       fine = passed.fine;
-      status_is = status_is ∙ ap (λ gs. if some_faulty (map row gs) then status.Faulted else status.Done) passed.stands;
-      text_is = subst (IsTextOf (report_of program passed.records)) (sym (text_is ∙ ap (λ gs. table_text heads (map row gs)) passed.stands))
-          (report_in table_form heads (map row (pass program.plan passed.records)));
+      status_is = made_is ∙ ap (λ b. if b then status.Faulted else status.Done) (faulty_is ∙ ap (λ gs. some_faulty (map row gs)) passed.stands);
+      text_is = subst (IsTextOf (report_of form program passed.records)) (sym (text_is ∙ ap (λ gs. report_text form heads (map row gs)) passed.stands))
+          (report_in form heads (rows_of program passed.records));
     }
+
+-- The same of equal names, in an equal form, over a store that tells the same.
+pub reports-along : (form other : FormTexts) (program : Program) (rules : FileRules) (holds told : Holds) (names words : List (List ℕ)) (made : Status)
+    (text : List ℕ) → other ≡ form → holds ≡ told → names ≡ words → Reports form program rules holds names made text →
+    Reports other program rules told words made text
+reports-along form other program rules holds told names words made text forms stores same r =
+    subst (λ f. Reports f program rules told words made text) (sym forms)
+    (subst (λ h. Reports form program rules h words made text) stores
+    (subst (λ ns. Reports form program rules holds ns made text) same r))
 
 -- ---- all of it
 
@@ -135,9 +151,9 @@ some-bytes (Some bytes) = (bytes, refl)
 pub some-files : (holds : Holds) (names : List (List ℕ)) → (files : List (List ℕ)) × MayAll holds names files
 some-files holds [] = ([], tt)
 some-files holds (name ∷ names) =
-    let first = some-bytes (holds name) in
+    let one = some-bytes (holds name) in
     let rest = some-files holds names in
-    (first.0 ∷ rest.0, (first.1, rest.1))
+    (one.0 ∷ rest.0, (one.1, rest.1))
 
 -- Why a text isn't written whole.
 pub fails-by : (out : Sunk) (text : List ℕ) (why : SinkErr) → HasPrefix out text → (why ≡ sink_error.Failed → Failed out) →
@@ -145,150 +161,263 @@ pub fails-by : (out : Sunk) (text : List ℕ) (why : SinkErr) → HasPrefix out 
 fails-by out text sink_error.Failed prefix bad full = promise.failed prefix (bad refl)
 fails-by out text sink_error.NoMemory prefix bad full = promise.short prefix (full refl)
 
--- A call that asks for no command.
-pub usage-stops : (call : Call) → command_of call.asked ≡ None → Stops call (record { why = refusal.Usage; command = None; checked = None })
-usage-stops call asked =
-    let P : FileNames → Type 0 = λ names. MayScript call.holds names.script [] × MayAll call.holds names.files [] in
-    record {
-      held = record { script = []; files = [] };
-      may = subst P (sym (ap names_of asked)) (refl, tt);
-      stop = promise.at_end refusal.Usage (usage asked);
-      line = refl;
-    }
-
 some-script : (holds : Holds) (name : Option (List ℕ)) → (text : List ℕ) × MayScript holds name text
 some-script holds None = ([], refl)
 some-script holds (Some name) = some-bytes (holds name)
 
+-- Some bytes that the files of a call may hold.
+some-held : (call : Call) → (held : Held) × MayHold call held
+some-held call =
+    let text = some-script call.holds (call_names call).script in
+    let others = some-files call.holds (call_names call).files in
+    (record { script = text.0; files = others.0 }, (text.1, others.1))
+
+-- A call that asks for no command.
+pub usage-stops : (call : Call) → command_of call.asked ≡ None → Stops call (record { why = refusal.Usage; command = None; checked = None })
+usage-stops call asked =
+    let held = some-held call in
+    record {
+      held = held.0;
+      may = held.1;
+      stop = promise.at_end refusal.Usage (usage asked);
+      line = refl;
+    }
+
 -- A call for which memory ran out while its arguments were read.
 pub memory-stops : (call : Call) → Stops call (record { why = refusal.NoMemory; command = None; checked = None })
 memory-stops call =
-    let text = some-script call.holds (call_names call).script in
-    let others = some-files call.holds (call_names call).files in
+    let held = some-held call in
     record {
-      held = record { script = text.0; files = others.0 };
-      may = (text.1, others.1);
+      held = held.0;
+      may = held.1;
       stop = promise.no_memory;
       line = refl;
     }
 
--- A call that asks for this run.
-module _ (call : Call) (read : RunRead) (asked : command_of call.asked ≡ Some (Runs (run_seen read))) where
-  names-known : call_names call ≡ names_of (Some (Runs (run_seen read)))
-  names-known = ap names_of asked
+-- This status and this text are those of the end.
+pub record IsWholeEnd (end : End) (status : Status) (text : List ℕ) : Type 0 where
+  pub whole : IsWhole end
+  pub status_is : status ≡ status_of end
+  pub text_is : IsTextOf end text
 
-  may-by : (held : Held) → May (call.holds (run_seen read).script) held.script → MayAll call.holds (run_seen read).files held.files →
-      MayHold call held
-  may-by held script files =
-      let P : FileNames → Type 0 = λ names. MayScript call.holds names.script held.script × MayAll call.holds names.files held.files in
-      subst P (sym names-known) (script, files)
+-- A call that asks for this command.
+module _ (call : Call) (read : CommandRead) (asked : command_of call.asked ≡ Some (command_seen read)) where
+  named-line : (held : Held) (headers : List (List ℕ)) (why : Refusal) → headers ≡ headers_in (script_of (command_seen read) held) →
+      line_of (shown_names (Some (command_seen read))) headers why ≡ call_line call held why
+  named-line held headers why known =
+      ap (λ hs. line_of (shown_names (Some (command_seen read))) hs why) known
+      ∙ ap (λ o. line_of (shown_names o) (headers_in (call_script o held)) why) (sym asked)
 
-  script-failed : Rose (call.before (run_seen read).script) (call.after (run_seen read).script) → ReadFailed call place.Script
-  script-failed rose = record {
-    name = (run_seen read).script;
-    named = ap (λ (names : FileNames). name_at names place.Script) names-known;
-    rose = rose;
+  -- The line of a refusal that speaks of no field.
+  bare-line : (held : Held) (why : Refusal) →
+      line_of (shown_names (Some (command_seen read))) (headers_in (script_of (command_seen read) held)) why ≡ call_line call held why
+  bare-line held why = named-line held (headers_in (script_of (command_seen read) held)) why refl
+
+  pub memory-out : (checked : Option Checked) → Stops call (record { why = refusal.NoMemory; command = Some read; checked = checked })
+  memory-out checked =
+      let held = some-held call in
+      record {
+        held = held.0;
+        may = held.1;
+        stop = promise.no_memory;
+        line = bare-line held.0 refusal.NoMemory;
+      }
+
+  -- It is refused for its script, or for its files, which have these bytes.
+  pub refused-stops : (held : Held) (why : Refusal) → MayHold call held → IsNoProgram (script_of (command_seen read) held) why →
+      Stops call (record { why = why; command = Some read; checked = None })
+  refused-stops held why may is = record {
+    held = held;
+    may = may;
+    stop = promise.at_end why (no_program (command_seen read) why asked is);
+    line = named-line held [] why (ap program_headers (sym (none-found (script_of (command_seen read) held) why is)));
   }
 
+  pub known-stops : (held : Held) (checked : Checked) (why : Refusal) → MayHold call held →
+      IsProgram (script_of (command_seen read) held) (checked_program checked) → IsStop call held why →
+      Stops call (record { why = why; command = Some read; checked = Some checked })
+  known-stops held checked why may is stop = record {
+    held = held;
+    may = may;
+    stop = stop;
+    line = named-line held (headers_of (checked_program checked).plan.fields) why
+        (ap program_headers (sym (program-found (script_of (command_seen read) held) (checked_program checked) is)));
+  }
+
+  pub whole-ready : (held : Held) (program : Program) (records : List Record) (status : Status) (text : List ℕ) → MayHold call held →
+      IsProgram (script_of (command_seen read) held) program →
+      AllFine program.plan (file_rules (command_seen read)) 1 (files_of (command_seen read) held) records →
+      IsWholeEnd (whole_end call.asked (command_seen read) program records) status text → Ready call status text
+  whole-ready held program records status text may is fine end = record {
+    held = held;
+    may = may;
+    has = record {
+      end = whole_end call.asked (command_seen read) program records;
+      is_end = finished (command_seen read) program records asked is fine;
+      whole = end.whole;
+      status_is = end.status_is;
+      text_is = end.text_is;
+    };
+  }
+
+  -- Its script has this name.
+  module _ (name : List ℕ) (named : (names_of (Some (command_seen read))).script ≡ Some name)
+      (own : (held : Held) → script_of (command_seen read) held ≡ held.script) where
+    pub may-by : (held : Held) → May (call.holds name) held.script → MayAll call.holds (names_of (Some (command_seen read))).files held.files → MayHold call held
+    may-by held script files =
+        let P : FileNames → Type 0 = λ names. MayScript call.holds names.script held.script × MayAll call.holds names.files held.files in
+        let text : MayScript call.holds (names_of (Some (command_seen read))).script held.script = subst (λ o. MayScript call.holds o held.script) (sym named) script in
+        subst P (sym (ap names_of asked)) (text, files)
+
+    script-failed : Rose (call.before name) (call.after name) → ReadFailed call place.Script
+    script-failed rose = record {
+      name = name;
+      named = ap (λ o. name_at (names_of o) place.Script) asked ∙ named;
+      rose = rose;
+    }
+
+    pub load-stops : (why : Refusal) → Unloads (call.holds name) (call.before name) (call.after name) why →
+        Stops call (record { why = why; command = Some read; checked = None })
+    load-stops _ (refused text why may is) =
+        let others = some-files call.holds (names_of (Some (command_seen read))).files in
+        let held : Held = record { script = text; files = others.0 } in
+        refused-stops held why (may-by held may others.1) (subst (λ t. IsNoProgram t why) (sym (own held)) is)
+    load-stops _ (unread rose) =
+        let text = some-bytes (call.holds name) in
+        let others = some-files call.holds (names_of (Some (command_seen read))).files in
+        let held : Held = record { script = text.0; files = others.0 } in
+        record {
+          held = held;
+          may = may-by held text.1 others.1;
+          stop = promise.script_unread (script-failed rose);
+          line = bare-line held (refusal.Read place.Script);
+        }
+    load-stops _ no_memory = memory-out None
+
+-- ---- a run
+
+module _ (call : Call) (read : RunRead) (asked : command_of call.asked ≡ Some (Runs (run_seen read))) where
   file-failed : (number : ℕ) (name : List ℕ) → slice_get (run_seen read).files number ≡ Some name → Rose (call.before name) (call.after name) →
       ReadFailed call (place.File number)
   file-failed number name named rose = record {
     name = name;
-    named = ap (λ (names : FileNames). name_at names (place.File number)) names-known ∙ named;
+    named = ap (λ o. name_at (names_of o) (place.File number)) asked ∙ named;
     rose = rose;
   }
 
-  named-line : (headers : List (List ℕ)) (why : Refusal) → line_of (names_of (Some (Runs (run_seen read)))) headers why ≡ line_of (call_names call) headers why
-  named-line headers why = ap (λ names. line_of names headers why) (sym names-known)
-
-  pub load-stops : (why : Refusal) → Unloads (call.holds (run_seen read).script) (call.before (run_seen read).script) (call.after (run_seen read).script) why →
+  pub run-load-stops : (why : Refusal) → Unloads (call.holds read.script.now) (call.before read.script.now) (call.after read.script.now) why →
       Stops call (record { why = why; command = Some (command.Run read); checked = None })
-  load-stops _ (refused text why may is) =
-      let others = some-files call.holds (run_seen read).files in
-      let held : Held = record { script = text; files = others.0 } in
-      record {
-        held = held;
-        may = may-by held may others.1;
-        stop = promise.at_end why (no_program (run_seen read) why asked is);
-        line = named-line [] why ∙ ap (λ r. line_of (call_names call) (program_headers r) why) (sym (none-found text why is));
-      }
-  load-stops _ (unread rose) =
-      let text = some-bytes (call.holds (run_seen read).script) in
-      let others = some-files call.holds (run_seen read).files in
-      let held : Held = record { script = text.0; files = others.0 } in
-      record {
-        held = held;
-        may = may-by held text.1 others.1;
-        stop = promise.script_unread (script-failed rose);
-        line = named-line [] (refusal.Read place.Script);
-      }
-  load-stops _ no_memory =
-      let text = some-bytes (call.holds (run_seen read).script) in
-      let others = some-files call.holds (run_seen read).files in
-      let held : Held = record { script = text.0; files = others.0 } in
-      record {
-        held = held;
-        may = may-by held text.1 others.1;
-        stop = promise.no_memory;
-        line = refl;
-      }
+  run-load-stops = load-stops call (command.Run read) asked read.script.now refl (λ held. refl)
 
-  pub ready-by : (program : Program) (made : Report) → Loads (call.holds (run_seen read).script) program →
-      Reports program (file_rules (run_seen read)) call.holds (run_seen read).files made → Ready call made
-  ready-by program made loads reports =
+  run-may : (held : Held) → May (call.holds read.script.now) held.script → MayAll call.holds (run_seen read).files held.files → MayHold call held
+  run-may = may-by call (command.Run read) asked read.script.now refl (λ held. refl)
+
+  pub run-ready : (program : Program) (status : Status) (text : List ℕ) → Loads (call.holds read.script.now) program →
+      Reports (texts_of call.asked.forms read.form.now) program (file_rules (Runs (run_seen read))) call.holds (run_seen read).files status text →
+      Ready call status text
+  run-ready program status text loads reports =
       let held : Held = record { script = loads.text; files = reports.files } in
-      record {
-        held = held;
-        may = may-by held loads.may reports.may;
-        has = record {
-          end = report_of program reports.records;
-          is_end = report (run_seen read) program reports.records asked loads.is_program reports.fine;
-          whole = tt;
-          status_is = reports.status_is;
-          text_is = reports.text_is;
-        };
-      }
+      whole-ready call (command.Run read) asked held program reports.records status text (run-may held loads.may reports.may) loads.is_program reports.fine
+      (record { whole = tt; status_is = reports.status_is; text_is = reports.text_is })
 
--- What stops it after its script was accepted.
-module _ (call : Call) (read : RunRead) (asked : command_of call.asked ≡ Some (Runs (run_seen read)))
-    (checked : Checked) (middle : Counts) (lower : (name : List ℕ) → call.before name ≤ middle name)
-    (loads : Loads (call.holds (run_seen read).script) (checked_program checked)) where
-  known : (why : Refusal) (files : List (List ℕ)) → MayAll call.holds (run_seen read).files files →
-      IsStop call (record { script = loads.text; files = files }) why →
-      Stops call (record { why = why; command = Some (command.Run read); checked = Some checked })
-  known why files may stop =
-      let held : Held = record { script = loads.text; files = files } in
-      record {
-        held = held;
-        may = may-by call read asked held loads.may may;
-        stop = stop;
-        line = named-line call read asked (headers_of (checked_program checked).plan.fields) why
-            ∙ ap (λ r. line_of (call_names call) (program_headers r) why)
-            (sym (program-found loads.text (checked_program checked) loads.is_program));
-      }
+  -- What stops it after its script was accepted.
+  module _ (checked : Checked) (middle : Counts) (lower : (name : List ℕ) → call.before name ≤ middle name)
+      (loads : Loads (call.holds read.script.now) (checked_program checked)) where
+    known : (why : Refusal) (files : List (List ℕ)) → MayAll call.holds (run_seen read).files files →
+        IsStop call (record { script = loads.text; files = files }) why →
+        Stops call (record { why = why; command = Some (command.Run read); checked = Some checked })
+    known why files may stop =
+        let held : Held = record { script = loads.text; files = files } in
+        known-stops call (command.Run read) asked held checked why (run-may held loads.may may) loads.is_program stop
 
-  problem-stops : (why : PassErr) →
-      HasFirstProblem (checked_program checked).plan (file_rules (run_seen read)) call.holds (run_seen read).files 1 why →
-      Stops call (record { why = pass_refusal why; command = Some (command.Run read); checked = Some checked })
-  problem-stops why s =
-      known (pass_refusal why) s.files s.may
-      (promise.at_end (pass_refusal why) (problem (run_seen read) (checked_program checked) why asked loads.is_program s.problem))
+    problem-stops : (why : PassErr) →
+        HasFirstProblem (checked_program checked).plan (file_rules (Runs (run_seen read))) call.holds (run_seen read).files 1 why →
+        Stops call (record { why = pass_refusal why; command = Some (command.Run read); checked = Some checked })
+    problem-stops why s =
+        known (pass_refusal why) s.files s.may
+        (promise.at_end (pass_refusal why) (problem (Runs (run_seen read)) (checked_program checked) why asked loads.is_program s.problem))
 
-  error-stops : (why : PassErr) →
-      StopsPass (checked_program checked).plan (file_rules (run_seen read)) call.holds (run_seen read).files middle call.after why →
-      Stops call (record { why = pass_refusal why; command = Some (command.Run read); checked = Some checked })
-  error-stops (pass_error.Read file) s =
-      known (refusal.Read (place.File file)) s.files s.may
-      (promise.file_unread (run_seen read) (checked_program checked) s.records file asked loads.is_program s.fine
-      (file-failed call read asked file s.name s.named (omega (arith, lower s.name, s.rose))))
-  error-stops (pass_error.TooLarge file) s = problem-stops (pass_error.TooLarge file) s
-  error-stops (pass_error.Head file fault) s = problem-stops (pass_error.Head file fault) s
-  error-stops (pass_error.Bad file bad) s = problem-stops (pass_error.Bad file bad) s
-  error-stops pass_error.NoMemory s =
-      let others = some-files call.holds (run_seen read).files in
-      known refusal.NoMemory others.0 others.1 promise.no_memory
+    error-stops : (why : PassErr) →
+        StopsPass (checked_program checked).plan (file_rules (Runs (run_seen read))) call.holds (run_seen read).files middle call.after why →
+        Stops call (record { why = pass_refusal why; command = Some (command.Run read); checked = Some checked })
+    error-stops (pass_error.Read file) s =
+        known (refusal.Read (place.File file)) s.files s.may
+        (promise.file_unread (Runs (run_seen read)) (checked_program checked) s.records file asked loads.is_program s.fine
+        (file-failed file s.name s.named (omega (arith, lower s.name, s.rose))))
+    error-stops (pass_error.TooLarge file) s = problem-stops (pass_error.TooLarge file) s
+    error-stops (pass_error.Head file fault) s = problem-stops (pass_error.Head file fault) s
+    error-stops (pass_error.Bad file bad) s = problem-stops (pass_error.Bad file bad) s
+    error-stops pass_error.NoMemory s = memory-out call (command.Run read) asked (Some checked)
 
-  pub files-stop : (why : Refusal) →
-      StopsFiles (checked_program checked) (file_rules (run_seen read)) call.holds (run_seen read).files middle call.after why →
-      Stops call (record { why = why; command = Some (command.Run read); checked = Some checked })
-  files-stop _ (stops why s) = error-stops why s
+    pub run-files-stop : (why : Refusal) →
+        StopsFiles (checked_program checked) (file_rules (Runs (run_seen read))) call.holds (run_seen read).files middle call.after why →
+        Stops call (record { why = why; command = Some (command.Run read); checked = Some checked })
+    run-files-stop _ (stops why s) = error-stops why s
+
+-- ---- a check
+
+module _ (call : Call) (read : CheckRead) (asked : command_of call.asked ≡ Some (Checks (check_seen read))) where
+  pub check-load-stops : (why : Refusal) → Unloads (call.holds read.script.now) (call.before read.script.now) (call.after read.script.now) why →
+      Stops call (record { why = why; command = Some (command.Check read); checked = None })
+  check-load-stops = load-stops call (command.Check read) asked read.script.now refl (λ held. refl)
+
+  pub check-ready : (program : Program) (text : List ℕ) → Loads (call.holds read.script.now) program → text ≡ said_of read.print program →
+      Ready call status.Done text
+  check-ready program text loads text_is =
+      let held : Held = record { script = loads.text; files = [] } in
+      whole-ready call (command.Check read) asked held program [] status.Done text
+      (may-by call (command.Check read) asked read.script.now refl (λ h. refl) held loads.may tt) loads.is_program (no_file 1)
+      (record { whole = tt; status_is = refl; text_is = subst (IsTextOf (whole_end call.asked (Checks (check_seen read)) program [])) (sym text_is) (said (said_of read.print program)) })
+
+-- ---- a making
+
+module _ (call : Call) (read : MakeRead) (asked : command_of call.asked ≡ Some (Makes (make_seen read))) where
+  make-may : MayHold call (record { script = []; files = [] })
+  make-may =
+      let P : FileNames → Type 0 = λ names. MayScript call.holds names.script [] × MayAll call.holds names.files [] in
+      subst P (sym (ap names_of asked)) (refl, tt)
+
+  pub make-refused : (why : Refusal) → MayRefuse made_script why → Stops call (record { why = why; command = Some (command.Make read); checked = None })
+  make-refused why (inl same) =
+      subst (λ w. Stops call (record { why = w; command = Some (command.Make read); checked = None })) (sym same)
+      (memory-out call (command.Make read) asked None)
+  make-refused why (inr is) = refused-stops call (command.Make read) asked (record { script = []; files = [] }) why make-may is
+
+  pub make-files-stop : (checked : Checked) (why : Refusal) → IsProgram made_script (checked_program checked) →
+      StopsRecords (checked_program checked) (file_rules (Makes (make_seen read))) (made_file read.records read.seed ∷ []) why →
+      Stops call (record { why = why; command = Some (command.Make read); checked = Some checked })
+  make-files-stop checked _ is (first why problem_is) =
+      known-stops call (command.Make read) asked (record { script = []; files = [] }) checked (pass_refusal why) make-may is
+      (promise.at_end (pass_refusal why) (problem (Makes (make_seen read)) (checked_program checked) why asked is problem_is))
+  make-files-stop checked _ is no_more = memory-out call (command.Make read) asked (Some checked)
+
+  pub make-ready : (checked : Checked) (groups : List (Key × Outcome)) (status : Status) (text : List ℕ) → IsProgram made_script (checked_program checked) →
+      Passed (checked_program checked) (file_rules (Makes (make_seen read))) (made_file read.records read.seed ∷ []) groups →
+      text ≡ summary_text read.records (map (row_of (checked_program checked).tree (checked_program checked).plan) groups) →
+      status ≡ rows_status (map (row_of (checked_program checked).tree (checked_program checked).plan) groups) →
+      Ready call status text
+  make-ready checked groups status text is passed text_is status_is =
+      let program = checked_program checked in
+      let rows = map (row_of program.tree program.plan) in
+      whole-ready call (command.Make read) asked (record { script = []; files = [] }) program passed.records status text make-may is passed.fine
+      (record {
+        whole = tt;
+        status_is = status_is ∙ ap (λ gs. rows_status (rows gs)) passed.stands;
+        text_is = subst (IsTextOf (whole_end call.asked (Makes (make_seen read)) program passed.records))
+            (sym (text_is ∙ ap (λ gs. summary_text read.records (rows gs)) passed.stands)) (summed read.records (rows_of program passed.records));
+      })
+
+sure-first : (program : Program) (rules : FileRules) (files : List (List ℕ)) (why : PassErr) (found : List (List ℕ)) → found ≡ files →
+    FirstProblem program.plan rules 0 1 found why → StopsRecords program rules files (pass_refusal why)
+sure-first program rules files why found same problem_is =
+    first why (subst (λ fs. FirstProblem program.plan rules 0 1 fs why) same problem_is)
+
+-- Why a pass over files that a sure store holds is stopped.
+pub sure-stops : (program : Program) (rules : FileRules) (holds : Holds) (names files : List (List ℕ)) (why : PassErr) →
+    ((found : List (List ℕ)) → MayAll holds names found → found ≡ files) →
+    StopsPass program.plan rules holds names (λ name. 0) (λ name. 0) why → StopsRecords program rules files (pass_refusal why)
+sure-stops program rules holds names files (pass_error.Read file) same s = absurd (omega (arith, s.rose))
+sure-stops program rules holds names files (pass_error.TooLarge file) same s = sure-first program rules files (pass_error.TooLarge file) _ (same s.files s.may) s.problem
+sure-stops program rules holds names files (pass_error.Head file fault) same s = sure-first program rules files (pass_error.Head file fault) _ (same s.files s.may) s.problem
+sure-stops program rules holds names files (pass_error.Bad file bad) same s = sure-first program rules files (pass_error.Bad file bad) _ (same s.files s.may) s.problem
+sure-stops program rules holds names files pass_error.NoMemory same s = no_more

@@ -3,12 +3,16 @@
 use Rattle.std.specs.Prelude.{◌==◌, if◌then◌else◌, List, length, Option, None, Some, true}
 use Rattle.clap.specs.Words.{App, Rule, Row, Text, new_app, new_rule, with_rule, matches_of, fault_of}
 use Rattle.clap.specs.Simple.{on_top}
-use Rattle.clap.specs.declared.builder.action.ArgAction.TheVariants.{Set, Append}
+use Rattle.clap.specs.declared.builder.action.ArgAction.TheVariants.{Set, SetTrue, Append}
 use Rattle.sym_top.specs.declared.arguments.TheConstants as own
 
 -- `--NAME VALUE`, given at most once.
 abbrev pub option_rule : Text → Rule
 option_rule name = record (new_rule name) { long = Some name; action = Some Set }
+
+-- `--NAME`, given at most once.
+abbrev pub flag_rule : Text → Rule
+flag_rule name = record (new_rule name) { long = Some name; action = Some SetTrue }
 
 -- One word.
 abbrev pub word_rule : Text → Rule
@@ -36,6 +40,18 @@ run_app =
     let formed = with_rule (bare_app own.RUN_NAME.now) (option_rule own.FORM_NAME.now) in
     let sized = with_rule (with_pass_options formed) (option_rule own.MAX_BYTES_NAME.now) in
     with_rule (with_rule sized (word_rule own.SCRIPT_NAME.now)) (words_rule own.FILES_NAME.now)
+
+-- `check [--print] SCRIPT`
+unfoldable pub check_app : App
+check_app =
+    with_rule (with_rule (bare_app own.CHECK_NAME.now) (flag_rule own.PRINT_NAME.now))
+    (word_rule own.SCRIPT_NAME.now)
+
+-- `make [--chunk N] [--limit N] [--workers N] N SEED`
+unfoldable pub make_app : App
+make_app =
+    let counted = with_rule (with_pass_options (bare_app own.MAKE_NAME.now)) (word_rule own.RECORDS_NAME.now) in
+    with_rule counted (word_rule own.SEED_NAME.now)
 
 -- What `clap` finds for each argument of a command, where it takes the words.
 unfoldable pub matched : App → List Text → Option (List Row)

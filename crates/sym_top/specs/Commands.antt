@@ -1,7 +1,7 @@
 -- Commands: what the arguments after the program's name ask for.
 -- Commands, and what their numbers may be, are this project's profile.
-use Rattle.std.specs.Prelude.{ℕ, nat_le, if◌then◌else◌, List, [], ◌∷◌, length, Option, None, Some, option_and_then, slice_get}
-use Rattle.std.specs.Option.{unwrap_or}
+use Rattle.std.specs.Prelude.{ℕ, nat_le, Bool, true, false, if◌then◌else◌, List, [], ◌∷◌, length, map, Option, None, Some, is_some, option_and_then, slice_get}
+use Rattle.std.specs.Option.{option_map, option_map_or, unwrap_or}
 use Rattle.std.specs.Str.{bytes_eq}
 use Rattle.clap.specs.Words.{Row, first_of, all_of}
 use Rattle.sym_base.specs.declared.limits.TheConstants as limit
@@ -9,14 +9,30 @@ use Rattle.sym_engine.specs.FileRecords.{FileRules, plain_rules}
 use Rattle.sym_engine.specs.declared.options.Options.{Options}
 use Rattle.sym_top.specs.declared.refusal.Place.{Place}
 use Rattle.sym_top.specs.declared.refusal.Place.TheVariants as place
+use Rattle.sym_report.specs.Forms.{FormTexts, form_named}
+use Rattle.sym_top.specs.declared.numbers.NumberOption.{NumberOption}
 use Rattle.sym_top.specs.declared.numbers.NumberRange.{NumberRange}
 use Rattle.sym_top.specs.declared.arguments.TheConstants as own
-use Rattle.sym_top.specs.CommandLines.{run_app, matched}
-use Rattle.sym_top.specs.Numbers.{option_number}
+use Rattle.sym_top.specs.CommandLines.{run_app, check_app, make_app, matched}
+use Rattle.sym_top.specs.Numbers.{number_in, option_number}
 
--- What a call is asked: its arguments, those after the program's name.
+-- A form of reports: what it is called, and its texts.
+pub record Form : Type 0 where
+  pub name : List ℕ
+  pub texts : FormTexts
+
+-- The same of forms of any type, by what the type says of its values.
+unfoldable pub forms_of : {F : Type 0} → (F → List ℕ) → (F → FormTexts) → List F → List Form
+forms_of called texts forms = map (λ form. record { name = called form; texts = texts form }) forms
+
+-- What a call is asked: its arguments, those after the program's name, and the forms that it is
+-- handed.
 pub record Asked : Type 0 where
   pub words : List (List ℕ)
+  pub forms : List Form
+
+abbrev pub asks : List (List ℕ) → List Form → Asked
+asks words forms = record { words = words; forms = forms }
 
 -- `run`: the form of the report, how files are cut and worked on, the script and the files.
 pub record Run : Type 0 where
@@ -25,17 +41,42 @@ pub record Run : Type 0 where
   pub script : List ℕ
   pub files : List (List ℕ)
 
+-- `check`: the script, and whether it is printed.
+pub record Check : Type 0 where
+  pub script : List ℕ
+  pub print : Bool
+
+-- `make`: how the log is cut and worked on, how many records it has, and what it is drawn from.
+pub record Make : Type 0 where
+  pub options : Options
+  pub records : ℕ
+  pub seed : ℕ
+
 -- What is asked for.
 pub data Command : Type 0 where
   Runs : Run → Command
+  Checks : Check → Command
+  Makes : Make → Command
 
 infixl 10 ◌>>=◌
 abbrev pub ◌>>=◌ : {A B : Type 0} → Option A → (A → Option B) → Option B
 found >>= next = option_and_then next found
 
 -- The number of an option, by what was found.
-abbrev pub number_found : NumberRange → List ℕ → List Row → Option ℕ
-number_found range name rows = option_number range (first_of name rows)
+abbrev pub number_found : NumberOption → List ℕ → List Row → Option ℕ
+number_found option name rows = option_number option (first_of name rows)
+
+-- The number of a word, by what was found.
+abbrev pub word_number : NumberRange → List ℕ → List Row → Option ℕ
+word_number range name rows = option_and_then (number_in range) (first_of name rows)
+
+abbrev pub is_given : Option (List ℕ) → Bool
+is_given None = false
+is_given (Some text) = bytes_eq text own.GIVEN.now
+
+-- Whether a flag is given, by what was found.
+abbrev pub flag_found : List ℕ → List Row → Bool
+flag_found name rows = is_given (first_of name rows)
 
 -- How files are cut and worked on, each with at most so many bytes.
 unfoldable pub options_found : List Row → ℕ → Option Options
@@ -51,13 +92,9 @@ run_options rows = do
   max_bytes ← number_found own.MAX_BYTES own.MAX_BYTES_NAME.now rows
   options_found rows max_bytes
 
--- A form's name, where there is such a form: the default is the only one yet.
-abbrev pub known_form : List ℕ → Option (List ℕ)
-known_form name = if bytes_eq name own.FORM_DEFAULT.now then Some name else None
-
 -- The form of the report.
-unfoldable pub form_found : List Row → Option (List ℕ)
-form_found rows = known_form (unwrap_or (first_of own.FORM_NAME.now rows) own.FORM_DEFAULT.now)
+abbrev pub form_found : List Row → List ℕ
+form_found rows = unwrap_or (first_of own.FORM_NAME.now rows) own.FORM_DEFAULT.now
 
 -- No more files than a run takes.
 abbrev pub few_files : List (List ℕ) → Option (List (List ℕ))
@@ -71,35 +108,74 @@ files_found rows = option_and_then few_files (all_of own.FILES_NAME.now rows)
 unfoldable pub run_found : List Row → Option Run
 run_found rows = do
   options ← run_options rows
-  form ← form_found rows
   script ← first_of own.SCRIPT_NAME.now rows
   files ← files_found rows
-  Some (record { form = form; options = options; script = script; files = files })
+  Some (record { form = form_found rows; options = options; script = script; files = files })
 
--- The run that words ask for, the first of which is `run`.
+-- The check that was found.
+unfoldable pub check_found : List Row → Option Check
+check_found rows = do
+  script ← first_of own.SCRIPT_NAME.now rows
+  Some (record { script = script; print = flag_found own.PRINT_NAME.now rows })
+
+-- The making that was found.
+unfoldable pub make_found : List Row → Option Make
+make_found rows = do
+  options ← options_found rows limit.FILE_MAX_DEFAULT
+  records ← word_number own.RECORDS own.RECORDS_NAME.now rows
+  seed ← word_number own.SEEDS own.SEED_NAME.now rows
+  Some (record { options = options; records = records; seed = seed })
+
+-- What words ask for by the command that is the first of them.
 unfoldable pub run_of : List (List ℕ) → Option Run
 run_of words = option_and_then run_found (matched run_app words)
 
--- The same as a command.
-abbrev pub runs : Option Run → Option Command
-runs None = None
-runs (Some run) = Some (Runs run)
+unfoldable pub check_of : List (List ℕ) → Option Check
+check_of words = option_and_then check_found (matched check_app words)
 
--- The command of this name.
+unfoldable pub make_of : List (List ℕ) → Option Make
+make_of words = option_and_then make_found (matched make_app words)
+
+-- The same as a command, by its name.
 abbrev pub command_by : List ℕ → List (List ℕ) → Option Command
-command_by name words = if bytes_eq name own.RUN_NAME.now then runs (run_of words) else None
+command_by name words =
+    if bytes_eq name own.RUN_NAME.now then option_map (λ run. Runs run) (run_of words)
+    else if bytes_eq name own.CHECK_NAME.now then option_map (λ check. Checks check) (check_of words)
+    else if bytes_eq name own.MAKE_NAME.now then option_map (λ make. Makes make) (make_of words)
+    else None
 
 -- The command of a list of words.
 unfoldable pub command_in : List (List ℕ) → Option Command
 command_in [] = None
 command_in (name ∷ rest) = command_by name (name ∷ rest)
 
--- The command that is asked for, where there is one.
-abbrev pub command_of : Asked → Option Command
-command_of asked = command_in asked.words
+-- The first form of this name, if there is one.
+abbrev pub form_of : List Form → List ℕ → Option Form
+form_of forms name = form_named (λ (form : Form). form.name) name forms
 
--- The names of the files that a command reads: of its script, where it has one, and of its files of
--- records, in order.
+abbrev pub no_texts : FormTexts
+no_texts = record { begin = λ heads. []; row = λ heads row. []; end = λ heads. [] }
+
+-- Its texts; none if there is no such form.
+abbrev pub texts_of : List Form → List ℕ → FormTexts
+texts_of forms name = option_map_or (λ (form : Form). form.texts) (form_of forms name) no_texts
+
+-- The command can be carried out with these forms: the form that it names is one of them.
+abbrev pub is_handed : List Form → Command → Bool
+is_handed forms (Runs run) = is_some (form_of forms run.form)
+is_handed forms (Checks check) = true
+is_handed forms (Makes make) = true
+
+abbrev pub handed : List Form → Option Command → Option Command
+handed forms None = None
+handed forms (Some command) = if is_handed forms command then Some command else None
+
+-- The command that is asked for, if there is one.
+abbrev pub command_of : Asked → Option Command
+command_of asked = handed asked.forms (command_in asked.words)
+
+-- The names of the files of the store that a command reads: of its script, if it has one, and of
+-- its files of records, in order.
 pub record FileNames : Type 0 where
   pub script : Option (List ℕ)
   pub files : List (List ℕ)
@@ -107,16 +183,27 @@ pub record FileNames : Type 0 where
 abbrev pub names_of : Option Command → FileNames
 names_of None = record { script = None; files = [] }
 names_of (Some (Runs run)) = record { script = Some run.script; files = run.files }
+names_of (Some (Checks check)) = record { script = Some check.script; files = [] }
+names_of (Some (Makes make)) = record { script = None; files = [] }
+
+-- The names by which a line speaks of a command's files: the same, and that of the log that is made.
+abbrev pub shown_names : Option Command → FileNames
+shown_names None = record { script = None; files = [] }
+shown_names (Some (Runs run)) = record { script = Some run.script; files = run.files }
+shown_names (Some (Checks check)) = record { script = Some check.script; files = [] }
+shown_names (Some (Makes make)) = record { script = None; files = own.MADE_NAME.now ∷ [] }
 
 -- The name of the file at this place.
 abbrev pub name_at : FileNames → Place → Option (List ℕ)
 name_at names place.Script = names.script
 name_at names (place.File number) = slice_get names.files number
 
--- The same, empty where there is no such file.
+-- The same, empty if there is no such file.
 abbrev pub file_name : FileNames → Place → List ℕ
 file_name names at = unwrap_or (name_at names at) []
 
--- How a run reads its files of records.
-abbrev pub file_rules : Run → FileRules
-file_rules run = plain_rules run.options.max_bytes
+-- How a command reads its files of records.
+abbrev pub file_rules : Command → FileRules
+file_rules (Runs run) = plain_rules run.options.max_bytes
+file_rules (Checks check) = plain_rules limit.FILE_MAX_DEFAULT
+file_rules (Makes make) = plain_rules make.options.max_bytes

@@ -5,23 +5,24 @@ use Rattle.sym_engine.specs.declared.error.PassErr.{PassErr}
 use Rattle.sym_engine.specs.FirstProblems.{records_in}
 use Rattle.sym_top.specs.declared.refusal.Refusal.{Refusal}
 use Rattle.sym_top.specs.declared.refusal.Refusal.TheVariants as refusal
-use Rattle.sym_top.specs.Commands.{Asked, Command, Run, Runs, command_of, file_rules}
-use Rattle.sym_top.specs.Ends.{End, Refused, Held, report_of}
+use Rattle.sym_top.specs.Commands.{Asked, Command, command_of, file_rules}
+use Rattle.sym_top.specs.Ends.{End, Refused, Held, script_of, files_of, whole_end}
 use Rattle.sym_top.specs.Programs.{Program, program_in}
 use Rattle.sym_top.specs.Refusals.{pass_refusal}
 
-abbrev pub files_end : Program → Result (List Record) PassErr → End
-files_end program (Ok records) = report_of program records
-files_end program (Err why) = Refused (pass_refusal why)
+abbrev pub files_end : Asked → Command → Program → Result (List Record) PassErr → End
+files_end asked command program (Ok records) = whole_end asked command program records
+files_end asked command program (Err why) = Refused (pass_refusal why)
 
-abbrev pub program_end : Run → Result Program Refusal → List (List ℕ) → End
-program_end run (Ok program) files =
-    files_end program (records_in program.plan (file_rules run) 0 1 files)
-program_end run (Err why) files = Refused why
+abbrev pub program_end : Asked → Command → Result Program Refusal → List (List ℕ) → End
+program_end asked command (Ok program) files =
+    files_end asked command program (records_in program.plan (file_rules command) 0 1 files)
+program_end asked command (Err why) files = Refused why
 
-abbrev pub command_end : Option Command → Held → End
-command_end None held = Refused refusal.Usage
-command_end (Some (Runs run)) held = program_end run (program_in held.script) held.files
+abbrev pub command_end : Asked → Option Command → Held → End
+command_end asked None held = Refused refusal.Usage
+command_end asked (Some command) held =
+    program_end asked command (program_in (script_of command held)) (files_of command held)
 
 abbrev pub end_of : Asked → Held → End
-end_of asked held = command_end (command_of asked) held
+end_of asked held = command_end asked (command_of asked) held

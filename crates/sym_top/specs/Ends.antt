@@ -1,7 +1,7 @@
 -- The end of a call, as a relation between what it is asked and the bytes of the files that it
 -- reads. The rows are those of one sequential pass, by the SYMPLE paper (SOSP 2015). Causes, statuses,
 -- limits and their order are this project's profile.
-use Rattle.std.specs.Prelude.{◌≡◌, ℕ, if◌then◌else◌, List, [], map, None, Some}
+use Rattle.std.specs.Prelude.{◌≡◌, ℕ, Bool, true, false, if◌then◌else◌, List, [], ◌∷◌, map, None, Some}
 use Rattle.sym_base.specs.declared.values.record.Record.{Record}
 use Rattle.sym_check.specs.Meaning.Groups.{pass}
 use Rattle.sym_engine.specs.declared.error.PassErr.{PassErr}
@@ -9,64 +9,111 @@ use Rattle.sym_engine.specs.FirstProblems.{AllFine, FirstProblem}
 use Rattle.sym_report.specs.declared.rows.Heads.{Heads}
 use Rattle.sym_report.specs.declared.rows.Row.{Row}
 use Rattle.sym_report.specs.ReportRows.{heads_of, row_of, some_faulty}
-use Rattle.sym_report.specs.Tables.{FormTexts, report_text, table_form}
+use Rattle.sym_report.specs.Forms.{FormTexts, report_text}
+use Rattle.sym_parse.specs.Printed.{script_text}
 use Rattle.sym_top.specs.declared.refusal.Refusal.{Refusal}
 use Rattle.sym_top.specs.declared.refusal.Refusal.TheVariants as refusal
 use Rattle.sym_top.specs.declared.status.Status.{Status}
 use Rattle.sym_top.specs.declared.status.Status.TheVariants as status
-use Rattle.sym_top.specs.Commands.{Asked, Run, Runs, command_of, file_rules}
+use Rattle.sym_top.specs.Commands.{Asked, Command, Runs, Checks, Makes, command_of, file_rules, texts_of}
+use Rattle.sym_top.specs.CheckLines.{check_line}
+use Rattle.sym_top.specs.Making.{made_file, made_script}
 use Rattle.sym_top.specs.Programs.{Program, IsProgram, IsNoProgram}
+use Rattle.sym_top.specs.Summaries.{summary_text}
 use Rattle.sym_top.specs.Refusals.{pass_refusal, status_of_refusal}
 
--- How a call ends: refused for a cause, or with a report, which is shown in this form and has these
--- names and rows.
+-- How a call ends: refused for a cause; with a report, which is shown in this form and has these
+-- names and rows; with a text of a script; or with the summary of so many records, which have these
+-- report rows.
 pub data End : Type 0 where
   Refused : Refusal → End
   Reported : FormTexts → Heads → List Row → End
+  Said : List ℕ → End
+  Summed : ℕ → List Row → End
 
 -- An end with a text: no refusal.
 abbrev pub IsWhole : End → Type 0
 IsWhole (Refused why) = ⊥
 IsWhole (Reported form heads rows) = Unit {0}
+IsWhole (Said text) = Unit {0}
+IsWhole (Summed records rows) = Unit {0}
 
--- The status of an end: a report is Faulted where one of its rows is faulty.
+-- The status of rows: Faulted if one of them is faulty.
+abbrev pub rows_status : List Row → Status
+rows_status rows = if some_faulty rows then status.Faulted else status.Done
+
+-- The status of an end.
 abbrev pub status_of : End → Status
 status_of (Refused why) = status_of_refusal why
-status_of (Reported form heads rows) = if some_faulty rows then status.Faulted else status.Done
+status_of (Reported form heads rows) = rows_status rows
+status_of (Said text) = status.Done
+status_of (Summed records rows) = rows_status rows
 
--- The text of an end: nothing where the call is refused, else the report in its form.
+-- The text of an end: nothing if the call is refused, else the report in its form, what is said of
+-- the script, or the summary.
 pub data IsTextOf : End → List ℕ → Type 0 where
   nothing : (why : Refusal) → IsTextOf (Refused why) []
   report_in : (form : FormTexts) (heads : Heads) (rows : List Row)
       → IsTextOf (Reported form heads rows) (report_text form heads rows)
+  said : (text : List ℕ) → IsTextOf (Said text) text
+  summed : (records : ℕ) (rows : List Row)
+      → IsTextOf (Summed records rows) (summary_text records rows)
 
--- The bytes of the files that a command reads: the script, and the files in order, as many as are
--- named (`MayHold` says so of a call's store).
+-- The bytes of the files of the store that a command reads: the script, and the files in order, as
+-- many as are named (`MayHold` says so of a call's store).
 pub record Held : Type 0 where
   pub script : List ℕ
   pub files : List (List ℕ)
 
+-- The text of a command's script.
+abbrev pub script_of : Command → Held → List ℕ
+script_of (Runs run) held = held.script
+script_of (Checks check) held = held.script
+script_of (Makes make) held = made_script
+
+-- The bytes of a command's files of records.
+abbrev pub files_of : Command → Held → List (List ℕ)
+files_of (Runs run) held = held.files
+files_of (Checks check) held = []
+files_of (Makes make) held = made_file make.records make.seed ∷ []
+
+-- The report rows of one sequential pass over records.
+abbrev pub rows_of : Program → List Record → List Row
+rows_of program records =
+    map (row_of program.tree program.plan) (pass program.plan records)
+
 -- The report of one sequential pass over records.
-abbrev pub report_of : Program → List Record → End
-report_of program records =
-    Reported table_form (heads_of program.tree program.plan)
-    (map (row_of program.tree program.plan) (pass program.plan records))
+abbrev pub report_of : FormTexts → Program → List Record → End
+report_of form program records =
+    Reported form (heads_of program.tree program.plan) (rows_of program records)
+
+-- What `check` says of a script: its line, or the script as it is printed.
+abbrev pub said_of : Bool → Program → List ℕ
+said_of true program = script_text program.tree
+said_of false program = check_line program.plan
+
+-- The end of a command whose script is accepted, and whose files are fine.
+abbrev pub whole_end : Asked → Command → Program → List Record → End
+whole_end asked (Runs run) program records =
+    report_of (texts_of asked.forms run.form) program records
+whole_end asked (Checks check) program records = Said (said_of check.print program)
+whole_end asked (Makes make) program records = Summed make.records (rows_of program records)
 
 -- The end of a call. The stages stand in the order in which they are tried.
 pub data IsEnd (asked : Asked) (held : Held) : End → Type 0 where
   usage : command_of asked ≡ None
       → IsEnd asked held (Refused refusal.Usage)
-  no_program : (run : Run) (why : Refusal)
-      → command_of asked ≡ Some (Runs run)
-      → IsNoProgram held.script why
+  no_program : (command : Command) (why : Refusal)
+      → command_of asked ≡ Some command
+      → IsNoProgram (script_of command held) why
       → IsEnd asked held (Refused why)
-  problem : (run : Run) (program : Program) (why : PassErr)
-      → command_of asked ≡ Some (Runs run)
-      → IsProgram held.script program
-      → FirstProblem program.plan (file_rules run) 0 1 held.files why
+  problem : (command : Command) (program : Program) (why : PassErr)
+      → command_of asked ≡ Some command
+      → IsProgram (script_of command held) program
+      → FirstProblem program.plan (file_rules command) 0 1 (files_of command held) why
       → IsEnd asked held (Refused (pass_refusal why))
-  report : (run : Run) (program : Program) (records : List Record)
-      → command_of asked ≡ Some (Runs run)
-      → IsProgram held.script program
-      → AllFine program.plan (file_rules run) 1 held.files records
-      → IsEnd asked held (report_of program records)
+  finished : (command : Command) (program : Program) (records : List Record)
+      → command_of asked ≡ Some command
+      → IsProgram (script_of command held) program
+      → AllFine program.plan (file_rules command) 1 (files_of command held) records
+      → IsEnd asked held (whole_end asked command program records)

@@ -3,23 +3,27 @@ use Rattle.std.specs.Prelude.{◌≡◌, ℕ, ◌⊎◌, List, [], ◌∷◌, Op
 use Rattle.std.specs.Option.{option_map}
 use Rattle.sym_base.specs.Counts.{Rose}
 use Rattle.sym_base.specs.declared.values.record.Record.{Record}
+use Rattle.sym_base.specs.declared.values.state.Outcome.{Outcome}
+use Rattle.sym_base.specs.declared.values.value.Key.{Key}
+use Rattle.sym_check.specs.Meaning.Groups.{pass}
 use Rattle.sym_check.specs.Checking.CheckedScripts.{checked_plan}
 use Rattle.sym_check.specs.declared.checking.accepted.Checked.{Checked}
 use Rattle.sym_engine.specs.declared.error.PassErr.{PassErr}
 use Rattle.sym_engine.specs.FileRecords.{FileRules}
-use Rattle.sym_engine.specs.FirstProblems.{AllFine}
+use Rattle.sym_engine.specs.FirstProblems.{AllFine, FirstProblem}
 use Rattle.sym_engine.specs.Passing.{Holds, Counts, May, MayAll, StopsPass}
+use Rattle.sym_report.specs.Forms.{FormTexts}
 use Rattle.sym_top.specs.declared.refusal.Place.TheVariants as place
 use Rattle.sym_top.specs.declared.refusal.Refusal.{Refusal}
 use Rattle.sym_top.specs.declared.refusal.Refusal.TheVariants as refusal
-use Rattle.sym_top.specs.declared.report.Report.{Report}
+use Rattle.sym_top.specs.declared.status.Status.{Status}
 use Rattle.sym_top.specs.declared.commands.Command.{Command as CommandRead}
 use Rattle.sym_top.specs.declared.load.Failure.{Failure}
-use Rattle.sym_top.specs.Commands.{FileNames, names_of}
+use Rattle.sym_top.specs.Commands.{FileNames, shown_names}
 use Rattle.sym_top.specs.Ends.{Held, IsTextOf, report_of, status_of}
 use Rattle.sym_top.specs.Messages.{headers_of, line_of}
-use Rattle.sym_top.specs.Programs.{Program, IsProgram, IsNoProgram, headers_in}
-use Rattle.sym_top.specs.Promises.{Call, MayHold, IsStop, HasReport, call_names}
+use Rattle.sym_top.specs.Programs.{Program, IsProgram, IsNoProgram}
+use Rattle.sym_top.specs.Promises.{Call, MayHold, IsStop, HasReport, call_line}
 use Rattle.sym_top.specs.Refusals.{pass_refusal}
 use Rattle.sym_top.specs.Words.{command_seen}
 
@@ -48,15 +52,31 @@ abbrev pub listed : {A : Type 0} → Option A → List A
 listed None = []
 listed (Some x) = x ∷ []
 
--- The report is that of the records of files which the names may hold.
-pub record Reports (program : Program) (rules : FileRules) (holds : Holds)
-    (names : List (List ℕ)) (report : Report) : Type 0 where
+-- The groups are those of one sequential pass over the records of these files.
+pub record Passed (program : Program) (rules : FileRules) (files : List (List ℕ))
+    (groups : List (Key × Outcome)) : Type 0 where
+  pub records : List Record
+  pub fine : AllFine program.plan rules 1 files records
+  pub stands : groups ≡ pass program.plan records
+
+-- Why there are no groups: the first problem of these files, or memory ran out.
+pub data StopsRecords (program : Program) (rules : FileRules) (files : List (List ℕ)) :
+    Refusal → Type 0 where
+  first : (why : PassErr)
+      → FirstProblem program.plan rules 0 1 files why
+      → StopsRecords program rules files (pass_refusal why)
+  no_more : StopsRecords program rules files refusal.NoMemory
+
+-- This status and this text are those of the report, in this form, of the records of files which
+-- the names may hold.
+pub record Reports (form : FormTexts) (program : Program) (rules : FileRules) (holds : Holds)
+    (names : List (List ℕ)) (status : Status) (text : List ℕ) : Type 0 where
   pub files : List (List ℕ)
   pub may : MayAll holds names files
   pub records : List Record
   pub fine : AllFine program.plan rules 1 files records
-  pub status_is : report.status ≡ status_of (report_of program records)
-  pub text_is : IsTextOf (report_of program records) report.text.items
+  pub status_is : status ≡ status_of (report_of form program records)
+  pub text_is : IsTextOf (report_of form program records) text
 
 -- Why there is no report: the pass over the files was stopped, or memory ran out.
 pub data StopsFiles (program : Program) (rules : FileRules) (holds : Holds)
@@ -65,19 +85,19 @@ pub data StopsFiles (program : Program) (rules : FileRules) (holds : Holds)
       → StopsPass program.plan rules holds names before after why
       → StopsFiles program rules holds names before after (pass_refusal why)
 
--- A run that is ready to write its report.
-pub record Ready (call : Call) (report : Report) : Type 0 where
+-- A call that is ready to write this text, and then to end with this status.
+pub record Ready (call : Call) (status : Status) (text : List ℕ) : Type 0 where
   pub held : Held
   pub may : MayHold call held
-  pub has : HasReport call.asked held report.status report.text.items
+  pub has : HasReport call.asked held status text
 
 abbrev pub known_headers : Option Checked → List (List ℕ)
 known_headers None = []
 known_headers (Some checked) = headers_of (checked_plan checked).fields
 
--- The names of the files of a command that was read.
+-- The names by which a line speaks of the files of a command that was read.
 abbrev pub known_names : Option CommandRead → FileNames
-known_names command = names_of (option_map command_seen command)
+known_names command = shown_names (option_map command_seen command)
 
 -- The line of a failure, by the command and the script that it carries.
 abbrev pub failure_line : Failure → List ℕ
@@ -89,5 +109,4 @@ pub record Stops (call : Call) (failure : Failure) : Type 0 where
   pub held : Held
   pub may : MayHold call held
   pub stop : IsStop call held failure.why
-  pub line : failure_line failure
-      ≡ line_of (call_names call) (headers_in held.script) failure.why
+  pub line : failure_line failure ≡ call_line call held failure.why

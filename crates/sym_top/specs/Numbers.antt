@@ -6,6 +6,7 @@ use Rattle.std.specs.List.{list_all}
 use Rattle.std.specs.Str.Parse.{digits_value}
 use Rattle.sym_top.specs.declared.numbers.TheConstants as own
 use Rattle.sym_top.specs.declared.numbers.NumberRange.{NumberRange}
+use Rattle.sym_top.specs.declared.numbers.NumberOption.{NumberOption}
 
 -- One to ten decimal digits, and nothing else.
 abbrev pub is_numeral : List ℕ → Bool
@@ -25,7 +26,7 @@ ranged range number =
 abbrev pub number_in : NumberRange → List ℕ → Option ℕ
 number_in range text = option_and_then (ranged range) (number_of text)
 
--- The number of an option: by its value, or the range's own where it isn't given.
-abbrev pub option_number : NumberRange → Option (List ℕ) → Option ℕ
-option_number range None = Some range.default
-option_number range (Some text) = number_in range text
+-- The number of an option: by its value, or the default if it isn't given.
+abbrev pub option_number : NumberOption → Option (List ℕ) → Option ℕ
+option_number option None = Some option.default
+option_number option (Some text) = number_in option.range text

@@ -1,6 +1,6 @@
 -- What the top call promises of each status, over any store and sinks. A store may tell what a file
 -- holds or not: there are bytes that the files may hold, and the answer is what follows from them.
-use Rattle.std.specs.Prelude.{◌≡◌, ℕ, List, [], take, map, Option, None, Some}
+use Rattle.std.specs.Prelude.{◌≡◌, ◌⊎◌, ℕ, List, [], take, map, Option, None, Some}
 use Rattle.sym_base.specs.Counts.{Rose}
 use Rattle.sym_base.specs.declared.values.record.Record.{Record}
 use Rattle.sym_engine.specs.FirstProblems.{AllFine}
@@ -11,8 +11,8 @@ use Rattle.sym_top.specs.declared.refusal.Refusal.{Refusal}
 use Rattle.sym_top.specs.declared.refusal.Refusal.TheVariants as refusal
 use Rattle.sym_top.specs.declared.status.Status.{Status}
 use Rattle.sym_top.specs.declared.status.Status.TheVariants as status
-use Rattle.sym_top.specs.Commands.{Asked, Run, Runs, FileNames, command_of, file_rules, name_at, names_of}
-use Rattle.sym_top.specs.Ends.{End, Refused, Held, IsEnd, IsTextOf, IsWhole, status_of}
+use Rattle.sym_top.specs.Commands.{Asked, Command, FileNames, command_of, file_rules, name_at, names_of, shown_names}
+use Rattle.sym_top.specs.Ends.{End, Refused, Held, IsEnd, IsTextOf, IsWhole, script_of, status_of}
 use Rattle.sym_top.specs.Messages.{line_of}
 use Rattle.sym_top.specs.Programs.{Program, IsProgram, headers_in}
 use Rattle.sym_top.specs.Refusals.{status_of_refusal}
@@ -27,9 +27,9 @@ pub record Call : Type 0 where
   pub after : Counts
 
 -- The same of a store of any type, by what the type says of its values.
-abbrev pub called : {S : Type 0} → (S → Holds) → (S → Counts) → List (List ℕ) → S → S → Call
-called holds faults words before after = record {
-  asked = record { words = words };
+abbrev pub call_of : {S : Type 0} → (S → Holds) → (S → Counts) → Asked → S → S → Call
+call_of holds faults asked before after = record {
+  asked = asked;
   holds = holds before;
   before = faults before;
   after = faults after;
@@ -66,6 +66,17 @@ Told call held =
     TellsScript call.holds (call_names call).script held.script
     × (map call.holds (call_names call).files ≡ map Some held.files)
 
+-- The text of the script that the call uses; none without a command.
+abbrev pub call_script : Option Command → Held → List ℕ
+call_script None held = []
+call_script (Some command) held = script_of command held
+
+-- The line of a refusal of the call, by the names of its files and of its script's fields.
+abbrev pub call_line : Call → Held → Refusal → List ℕ
+call_line call held why =
+    let command = command_of call.asked in
+    line_of (shown_names command) (headers_in (call_script command held)) why
+
 -- A read of the file at this place failed.
 pub record ReadFailed (call : Call) (at : Place) : Type 0 where
   pub name : List ℕ
@@ -80,10 +91,10 @@ pub data IsStop (call : Call) (held : Held) : Refusal → Type 0 where
       → IsStop call held why
   script_unread : ReadFailed call place.Script
       → IsStop call held (refusal.Read place.Script)
-  file_unread : (run : Run) (program : Program) (records : List Record) (number : ℕ)
-      → command_of call.asked ≡ Some (Runs run)
-      → IsProgram held.script program
-      → AllFine program.plan (file_rules run) 1 (take number held.files) records
+  file_unread : (command : Command) (program : Program) (records : List Record) (number : ℕ)
+      → command_of call.asked ≡ Some command
+      → IsProgram (script_of command held) program
+      → AllFine program.plan (file_rules command) 1 (take number held.files) records
       → ReadFailed call (place.File number)
       → IsStop call held (refusal.Read (place.File number))
   no_memory : IsStop call held refusal.NoMemory
@@ -127,7 +138,7 @@ pub record Refuses (call : Call) (out err : Sunk) (status : Status) : Type 0 whe
   pub why : Refusal
   pub status_is : status ≡ status_of_refusal why
   pub cause : IsCause call held out why
-  pub line : Tells err (line_of (call_names call) (headers_in held.script) why)
+  pub line : Tells err (call_line call held why)
 
 -- A call that wrote its text: there are bytes that the files may hold, and the text of the end that
 -- they lead to is what was written.
@@ -143,7 +154,7 @@ pub record Wrote (call : Call) (out : Sunk) (status : Status) : Type 0 where
 pub data LeavesSinks (call : Call) (held : Held) (out err : Sunk) : End → Type 0 where
   line_told : (why : Refusal)
       → IsUntouched out
-      → Tells err (line_of (call_names call) (headers_in held.script) why)
+      → Tells err (call_line call held why)
       → LeavesSinks call held out err (Refused why)
   text_written : (end : End) (text : List ℕ)
       → IsWhole end
@@ -212,3 +223,18 @@ pub record MustReport (call : Call) (out : Sunk) : Type 0 where
   pub whole : IsWhole end
   pub read : NoneFailed call
   pub written : Failed out → ⊥
+
+-- What is said of each status: with a text written, and without.
+pub record Says (call : Call) (out err : Sunk) (result : Status) : Type 0 where
+  pub reported : IsReported result → Wrote call out result
+  pub refused : IsRefused result → Refuses call out err result
+  pub quiet : IsReported result → IsUntouched err
+
+-- What a call leaves as it was, whatever is visible of it: the store if there is no command, the
+-- output if nothing is written, and the sink for errors if nothing is told.
+pub record Leaves {F O E : Type 0} (call : Call) (sunk_out : Sunk) (files files_after : F)
+    (out out_after : O) (err err_after : E) (result : Status) : Type 0 where
+  pub unread : IsUsage call → files_after ≡ files
+  pub unwritten : IsUnwritten result → out_after ≡ out
+  pub memory : result ≡ status.NoMemory → (out_after ≡ out) ⊎ Short sunk_out
+  pub quiet : IsReported result → err_after ≡ err

@@ -1,14 +1,19 @@
 -- What a contract sees of the arguments that were read.
-use Rattle.std.specs.Prelude.{◌≤◌, map, length}
+use Rattle.std.specs.Prelude.{◌≤◌, List, [], ◌∷◌, ℕ, map, length}
 use Rattle.std.specs.Option.{option_map}
 use Rattle.std.specs.String.{string_bytes}
 use Rattle.sym_base.specs.declared.limits.TheConstants as limit
 use Rattle.sym_engine.specs.Options.{InRange}
+use Rattle.sym_top.specs.declared.arguments.TheConstants as own
 use Rattle.sym_top.specs.declared.commands.Run.{Run as RunRead}
+use Rattle.sym_top.specs.declared.commands.Check.{Check as CheckRead}
+use Rattle.sym_top.specs.declared.commands.Make.{Make as MakeRead}
 use Rattle.sym_top.specs.declared.commands.Command.{Command as CommandRead}
 use Rattle.sym_top.specs.declared.commands.Command.TheVariants as read
+use Rattle.sym_top.specs.declared.commands.NamedFiles.{NamedFiles}
+use Rattle.sym_top.specs.declared.commands.NamedFiles.TheVariants as named
 use Rattle.sym_top.specs.declared.commands.FileNames.{FileNames as NamesRead}
-use Rattle.sym_top.specs.Commands.{Run, Command, Runs, FileNames}
+use Rattle.sym_top.specs.Commands.{Run, Check, Make, Command, Runs, Checks, Makes, FileNames}
 
 abbrev pub run_seen : RunRead → Run
 run_seen run = record {
@@ -18,13 +23,26 @@ run_seen run = record {
   files = map string_bytes run.files.items;
 }
 
+abbrev pub check_seen : CheckRead → Check
+check_seen check = record { script = check.script.now; print = check.print }
+
+abbrev pub make_seen : MakeRead → Make
+make_seen make = record { options = make.options; records = make.records; seed = make.seed }
+
 abbrev pub command_seen : CommandRead → Command
 command_seen (read.Run run) = Runs (run_seen run)
+command_seen (read.Check check) = Checks (check_seen check)
+command_seen (read.Make make) = Makes (make_seen make)
+
+abbrev pub files_seen : NamedFiles → List (List ℕ)
+files_seen named.None = []
+files_seen (named.Given files) = map string_bytes files.now
+files_seen named.Made = own.MADE_NAME.now ∷ []
 
 abbrev pub names_seen : NamesRead → FileNames
 names_seen names = record {
   script = option_map (λ script. script.now) names.script;
-  files = map string_bytes names.files.now;
+  files = files_seen names.files;
 }
 
 -- The options are in their ranges, and the files aren't too many.
@@ -34,3 +52,5 @@ pub record IsRun (run : RunRead) : Type 0 where
 
 abbrev pub IsInRange : CommandRead → Type 0
 IsInRange (read.Run run) = IsRun run
+IsInRange (read.Check check) = Unit {0}
+IsInRange (read.Make make) = InRange make.options

@@ -1,11 +1,11 @@
 //! The command lines, as `clap` reads them.
 ghost use Rattle.std.specs.Prelude.{◌≡◌, IfOk};
 ghost use Rattle.clap.specs.Words.{app_of, with_rule};
-ghost use Rattle.sym_top.specs.CommandLines.{option_rule, word_rule, words_rule, bare_app, with_pass_options, run_app};
+ghost use Rattle.sym_top.specs.CommandLines.{option_rule, flag_rule, word_rule, words_rule, bare_app, with_pass_options, run_app, check_app, make_app};
 
 use crate::arguments::{
-    CHUNK_NAME, FILES_NAME, FORM_NAME, LIMIT_NAME, MAX_BYTES_NAME, RUN_NAME, SCRIPT_NAME,
-    WORKERS_NAME,
+    CHECK_NAME, CHUNK_NAME, FILES_NAME, FORM_NAME, LIMIT_NAME, MAKE_NAME, MAX_BYTES_NAME,
+    PRINT_NAME, RECORDS_NAME, RUN_NAME, SCRIPT_NAME, SEED_NAME, WORKERS_NAME,
 };
 use clap::{Arg, ArgAction, Command};
 use std::alloc::{AllocError, Global};
@@ -20,6 +20,18 @@ fn with_option<'a>(
         app_of c ≡ with_rule (app_of command.entry) (option_rule name.entry.now)) }
 {
     command.arg(Arg::new(alloc, name).long(name).action(ArgAction::Set))
+}
+
+// Adds `--NAME`.
+fn with_flag<'a>(
+    alloc: Global,
+    command: Command<'a>,
+    name: &'a str,
+) -> Result<Command<'a>, AllocError>
+    ensures { IfOk result (λ c.
+        app_of c ≡ with_rule (app_of command.entry) (flag_rule name.entry.now)) }
+{
+    command.arg(Arg::new(alloc, name).long(name).action(ArgAction::SetTrue))
 }
 
 // Adds one word.
@@ -77,4 +89,21 @@ pub fn run_command<'a>(alloc: Global) -> Result<Command<'a>, AllocError>
     let sized = with_option(alloc, optional, MAX_BYTES_NAME)?;
     let scripted = with_word(alloc, sized, SCRIPT_NAME)?;
     with_words(alloc, scripted, FILES_NAME)
+}
+
+/// `check [--print] SCRIPT`
+pub fn check_command<'a>(alloc: Global) -> Result<Command<'a>, AllocError>
+    ensures { IfOk result (λ c. app_of c ≡ check_app) }
+{
+    let printed = with_flag(alloc, bare_command(alloc, CHECK_NAME), PRINT_NAME)?;
+    with_word(alloc, printed, SCRIPT_NAME)
+}
+
+/// `make [--chunk N] [--limit N] [--workers N] N SEED`
+pub fn make_command<'a>(alloc: Global) -> Result<Command<'a>, AllocError>
+    ensures { IfOk result (λ c. app_of c ≡ make_app) }
+{
+    let optional = with_pass_options(alloc, bare_command(alloc, MAKE_NAME))?;
+    let counted = with_word(alloc, optional, RECORDS_NAME)?;
+    with_word(alloc, counted, SEED_NAME)
 }

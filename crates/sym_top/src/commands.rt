@@ -1,9 +1,10 @@
 //! Commands, and the files that they name.
-ghost use Rattle.std.specs.Prelude.{◌≡◌};
-ghost use Rattle.std.specs.Option.{option_map};
-ghost use Rattle.sym_top.specs.Commands.{file_name as file_name_in, names_of as names_of_command};
-ghost use Rattle.sym_top.specs.Words.{command_seen, names_seen};
+ghost use Rattle.std.specs.Prelude.{◌≡◌, [], slice_get};
+ghost use Rattle.std.specs.Option.{option_map, unwrap_or};
+ghost use Rattle.sym_top.specs.Commands.{file_name as file_name_in, shown_names as shown_names_of};
+ghost use Rattle.sym_top.specs.Words.{command_seen, files_seen, names_seen};
 
+use crate::arguments::MADE_NAME;
 use crate::refusal::Place;
 use sym_engine::Options;
 
@@ -17,36 +18,83 @@ pub struct Run<'a> {
     pub files: Vec<String>,
 }
 
+/// `check`: the name of the script, and whether it is printed.
+#[derive(Clone, Copy)]
+pub struct Check<'a> {
+    pub script: &'a str,
+    pub print: bool,
+}
+
+/// `make`: how the log is cut and worked on, how many records it has, and what it is drawn from.
+#[derive(Clone, Copy)]
+pub struct Make {
+    pub options: Options,
+    pub records: u32,
+    pub seed: u32,
+}
+
 /// What is asked for.
 #[derive(Drop)]
 pub enum Command<'a> {
     Run(Run<'a>),
+    Check(Check<'a>),
+    Make(Make),
 }
 
-/// The names of the files that a command reads.
+/// The files of records of a command: none, those that the arguments name, or the log that is made.
+#[derive(Clone, Copy)]
+pub enum NamedFiles<'a> {
+    None,
+    Given(&'a [String]),
+    Made,
+}
+
+/// The names by which a line speaks of the files of a command.
 #[derive(Clone, Copy)]
 pub struct FileNames<'a> {
     pub script: Option<&'a str>,
-    pub files: &'a [String],
+    pub files: NamedFiles<'a>,
 }
 
-/// The names of the files that the command reads; none where there is no command.
-pub fn names_of<'m>(command: &'m Option<Command<'_>>) -> FileNames<'m>
-    ensures { names_seen result ≡ names_of_command (option_map command_seen command.now) }
+/// The names by which a line speaks of the files of a command; none if there is no command.
+pub fn shown_names<'m>(command: &'m Option<Command<'_>>) -> FileNames<'m>
+    ensures { names_seen result ≡ shown_names_of (option_map command_seen command.now) }
 {
     match command {
         Some(Command::Run(run)) => FileNames {
             script: Some(run.script),
-            files: run.files.as_slice(),
+            files: NamedFiles::Given(run.files.as_slice()),
+        },
+        Some(Command::Check(check)) => FileNames {
+            script: Some(check.script),
+            files: NamedFiles::None,
+        },
+        Some(Command::Make(_)) => FileNames {
+            script: None,
+            files: NamedFiles::Made,
         },
         None => FileNames {
             script: None,
-            files: &[],
+            files: NamedFiles::None,
         },
     }
 }
 
-/// The name of the file at this place, empty where there is none.
+// The name of the file of records of this number, empty if there is none.
+fn record_name<'a>(files: NamedFiles<'a>, number: u64) -> &'a str
+    ensures { result.now ≡ unwrap_or (slice_get (files_seen files.entry) number) [] }
+{
+    match files {
+        NamedFiles::None => "",
+        NamedFiles::Given(names) => match names.get(number as usize) {
+            Some(name) => name.as_str(),
+            None => "",
+        },
+        NamedFiles::Made => { if number == 0 { MADE_NAME } else { "" } }
+    }
+}
+
+/// The name of the file at this place, empty if there is none.
 pub fn file_name<'a>(names: &FileNames<'a>, place: Place) -> &'a str
     ensures { result.now ≡ file_name_in (names_seen names.now) place }
 {
@@ -55,9 +103,6 @@ pub fn file_name<'a>(names: &FileNames<'a>, place: Place) -> &'a str
             Some(name) => name,
             None => "",
         },
-        Place::File(number) => match names.files.get(number as usize) {
-            Some(name) => name.as_str(),
-            None => "",
-        },
+        Place::File(number) => record_name(names.files, number),
     }
 }

@@ -5,18 +5,19 @@ ghost use Rattle.std.specs.String.{string_bytes};
 ghost use Rattle.clap.specs.Words.{found_of, rows_of, first_of, all_of};
 ghost use Rattle.sym_base.specs.declared.limits.TheConstants as limit;
 ghost use Rattle.sym_engine.specs.Options.{InRange};
-ghost use Rattle.sym_top.specs.Commands.{number_found, options_found, run_options as run_options_of, form_found, files_found, run_found};
-ghost use Rattle.sym_top.specs.Words.{run_seen};
+ghost use Rattle.sym_top.specs.Commands.{number_found, word_number, flag_found, options_found, run_options as run_options_of, form_found, files_found, run_found, check_found, make_found};
+ghost use Rattle.sym_top.specs.Words.{run_seen, check_seen, make_seen, IsRun};
 
 use crate::arguments::{
-    CHUNK_NAME, CHUNKS, FILES_NAME, FORM_DEFAULT, FORM_NAME, LIMIT_NAME, LIMITS, MAX_BYTES,
-    MAX_BYTES_NAME, SCRIPT_NAME, WORKERS, WORKERS_NAME,
+    CHUNK_NAME, CHUNKS, FILES_NAME, FORM_DEFAULT, FORM_NAME, GIVEN, LIMIT_NAME, LIMITS, MAX_BYTES,
+    MAX_BYTES_NAME, PRINT_NAME, RECORDS, RECORDS_NAME, SCRIPT_NAME, SEED_NAME, SEEDS, WORKERS,
+    WORKERS_NAME,
 };
-use crate::commands::Run;
-use crate::numbers::{NumberRange, number_or_default};
+use crate::commands::{Check, Make, Run};
+use crate::numbers::{NumberOption, NumberRange, number_or_default, number_within};
 use clap::ArgMatches;
 use std::alloc::Global;
-use sym_base::{FILES_MAX, NoMemory};
+use sym_base::{FILE_MAX_DEFAULT, FILES_MAX, NoMemory};
 use sym_engine::Options;
 
 // The first text that was found for an argument.
@@ -36,14 +37,33 @@ fn texts_of<'m>(matches: &'m ArgMatches<'_>, name: &str) -> Option<&'m [&'m str]
 }
 
 // The number of an option.
-fn read_option(matches: &ArgMatches<'_>, name: &str, range: NumberRange) -> Option<u64>
-    requires least { range.least ≤ range.default }
-    requires most { range.default ≤ range.most }
-    ensures read { result ≡ number_found range name.now (rows_of (found_of matches.now)) }
-    ensures least { IfSome result (λ number. range.least ≤ number) }
+fn read_option(matches: &ArgMatches<'_>, name: &str, option: NumberOption) -> Option<u64>
+    requires least { option.range.least ≤ option.default }
+    requires most { option.default ≤ option.range.most }
+    ensures read { result ≡ number_found option name.now (rows_of (found_of matches.now)) }
+    ensures least { IfSome result (λ number. option.range.least ≤ number) }
+    ensures most { IfSome result (λ number. number ≤ option.range.most) }
+{
+    number_or_default(text_of(matches, name), option)
+}
+
+// The number of a word.
+fn read_word(matches: &ArgMatches<'_>, name: &str, range: NumberRange) -> Option<u64>
+    ensures read { result ≡ word_number range name.now (rows_of (found_of matches.now)) }
     ensures most { IfSome result (λ number. number ≤ range.most) }
 {
-    number_or_default(text_of(matches, name), range)
+    let text = text_of(matches, name)?;
+    number_within(text, range)
+}
+
+// Whether a flag is given.
+fn read_flag(matches: &ArgMatches<'_>, name: &str) -> bool
+    ensures { result ≡ flag_found name.now (rows_of (found_of matches.now)) }
+{
+    match text_of(matches, name) {
+        Some(text) => text == GIVEN,
+        None => false,
+    }
 }
 
 // How files are cut and worked on, each with at most `max_bytes` bytes.
@@ -74,18 +94,12 @@ fn read_run_options(matches: &ArgMatches<'_>) -> Option<Options>
 }
 
 // The form of the report.
-#[tactic(auto, unfolding(crate::specs::Commands::form_found))]
-fn read_form<'a>(matches: &ArgMatches<'a>) -> Option<&'a str>
-    ensures { option_map (λ form. form.now) result ≡ form_found (rows_of (found_of matches.now)) }
+fn read_form<'a>(matches: &ArgMatches<'a>) -> &'a str
+    ensures { result.now ≡ form_found (rows_of (found_of matches.now)) }
 {
-    let form = match text_of(matches, FORM_NAME) {
+    match text_of(matches, FORM_NAME) {
         Some(form) => form,
         None => FORM_DEFAULT,
-    };
-    if form == FORM_DEFAULT {
-        Some(form)
-    } else {
-        None
     }
 }
 
@@ -120,13 +134,9 @@ fn copy_names(alloc: Global, names: &[&str]) -> Result<Vec<String>, NoMemory>
 pub fn read_run<'a>(alloc: Global, matches: &ArgMatches<'a>) -> Result<Option<Run<'a>>, NoMemory>
     ensures read { IfOk result (λ run.
         option_map run_seen run ≡ run_found (rows_of (found_of matches.now))) }
-    ensures range { IfOk result (λ run. IfSome run (λ run. InRange run.options)) }
-    ensures few { IfOk result (λ run. IfSome run (λ run. length run.files.items ≤ limit.FILES_MAX)) }
+    ensures range { IfOk result (λ run. IfSome run IsRun) }
 {
     let Some(options) = read_run_options(matches) else {
-        return Ok(None);
-    };
-    let Some(form) = read_form(matches) else {
         return Ok(None);
     };
     let Some(script) = text_of(matches, SCRIPT_NAME) else {
@@ -136,9 +146,37 @@ pub fn read_run<'a>(alloc: Global, matches: &ArgMatches<'a>) -> Result<Option<Ru
         return Ok(None);
     };
     Ok(Some(Run {
-        form,
+        form: read_form(matches),
         options,
         script,
         files: copy_names(alloc, names)?,
     }))
+}
+
+/// The check that was found.
+#[tactic(auto, unfolding(crate::specs::Commands::check_found))]
+pub fn read_check<'a>(matches: &ArgMatches<'a>) -> Option<Check<'a>>
+    ensures { option_map check_seen result ≡ check_found (rows_of (found_of matches.now)) }
+{
+    let script = text_of(matches, SCRIPT_NAME)?;
+    Some(Check {
+        script,
+        print: read_flag(matches, PRINT_NAME),
+    })
+}
+
+/// The making that was found.
+#[tactic(auto, unfolding(crate::specs::Commands::make_found))]
+pub fn read_make(matches: &ArgMatches<'_>) -> Option<Make>
+    ensures read { option_map make_seen result ≡ make_found (rows_of (found_of matches.now)) }
+    ensures range { IfSome result (λ make. InRange make.options) }
+{
+    let options = read_options(matches, FILE_MAX_DEFAULT)?;
+    let records = read_word(matches, RECORDS_NAME, RECORDS)?;
+    let seed = read_word(matches, SEED_NAME, SEEDS)?;
+    Some(Make {
+        options,
+        records: records as u32,
+        seed: seed as u32,
+    })
 }

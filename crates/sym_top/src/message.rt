@@ -1,13 +1,13 @@
 //! The line of a refusal, on the sink for errors.
 ghost use Rattle.std.specs.Prelude.{◌≡◌, ◌++◌, List, [], None, codes, decimal, slice_index_or};
 ghost use Rattle.std.specs.List.{flat_map};
-ghost use Rattle.sym_top.specs.Commands.{names_of as names_of_command, file_name as file_name_in};
+ghost use Rattle.sym_top.specs.Commands.{shown_names as shown_names_of, file_name as file_name_in};
 ghost use Rattle.sym_top.specs.Messages.{headers_of, header_text as header_text_of, fault_text as fault_text_of, limit_text as limit_text_of, head_fault_text, cause_text, line_of};
 ghost use Rattle.sym_top.specs.Refusals.{start_refusal as refusal_of_start, status_of_refusal};
 ghost use Rattle.sym_top.specs.Telling.{Later, Tells, sunk};
 ghost use Rattle.sym_top.specs.Words.{names_seen};
 
-use crate::commands::{FileNames, file_name, names_of};
+use crate::commands::{FileNames, file_name, shown_names};
 use crate::refusal::{Place, Refusal, ScriptFault, StartErr, start_refusal};
 use crate::status::Status;
 use itoa::Buffer;
@@ -81,7 +81,7 @@ fn fault_text(fault: ScriptFault) -> &'static str
 // The line of a script that isn't accepted, its paths aside.
 fn tell_script<E: Sink>(err: &mut E, fault: ScriptFault, at: u32)
     ensures told { Tells (sunk E.written E.faults E.short err.old err.new)
-        (line_of (names_of_command None) [] (Refusal.Script fault at)) }
+        (line_of (shown_names_of None) [] (Refusal.Script fault at)) }
     ensures later { Later (sunk E.written E.faults E.short err.old err.new) }
 {
     let mut buffer = Buffer::new();
@@ -101,7 +101,7 @@ fn tell_script<E: Sink>(err: &mut E, fault: ScriptFault, at: u32)
 // The line of a script that has too many paths.
 fn tell_paths<E: Sink>(err: &mut E, paths: u32)
     ensures told { Tells (sunk E.written E.faults E.short err.old err.new)
-        (line_of (names_of_command None) [] (Refusal.Branchy paths)) }
+        (line_of (shown_names_of None) [] (Refusal.Branchy paths)) }
     ensures later { Later (sunk E.written E.faults E.short err.old err.new) }
 {
     let mut buffer = Buffer::new();
@@ -254,10 +254,10 @@ pub fn tell<E: Sink>(err: &mut E, names: &FileNames<'_>, fields: &[FieldPlan], w
 pub fn refuse_start<E: Sink>(err: &mut E, why: StartErr) -> Status
     ensures status { result ≡ status_of_refusal (refusal_of_start why) }
     ensures told { Tells (sunk E.written E.faults E.short err.old err.new)
-        (line_of (names_of_command None) [] (refusal_of_start why)) }
+        (line_of (shown_names_of None) [] (refusal_of_start why)) }
     ensures later { Later (sunk E.written E.faults E.short err.old err.new) }
 {
     let refusal = start_refusal(why);
-    tell(err, &names_of(&None), &[], refusal);
+    tell(err, &shown_names(&None), &[], refusal);
     refusal.status()
 }

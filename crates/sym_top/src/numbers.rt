@@ -7,13 +7,19 @@ ghost use Rattle.sym_top.specs.Numbers.{is_numeral as is_numeral_of, number_of, 
 /// The most digits of a number.
 pub const DIGITS_MAX: usize = 10;
 
-/// The numbers that an option or a word takes: from the least to the most, and `default` where an
-/// option isn't given.
+/// The numbers that a word may say, from the least to the most.
 #[derive(Clone, Copy)]
 pub struct NumberRange {
-    pub default: u64,
     pub least: u64,
     pub most: u64,
+}
+
+/// An option that takes a number: the numbers that it may say, and the one that stands if it isn't
+/// given.
+#[derive(Clone, Copy)]
+pub struct NumberOption {
+    pub default: u64,
+    pub range: NumberRange,
 }
 
 fn are_digits(text: &str) -> bool
@@ -54,16 +60,16 @@ pub fn number_within(text: &str, range: NumberRange) -> Option<u64>
     }
 }
 
-/// The number of an option with this value, or its default where it isn't given.
-pub fn number_or_default(text: Option<&str>, range: NumberRange) -> Option<u64>
-    requires least { range.least ≤ range.default }
-    requires most { range.default ≤ range.most }
-    ensures read { result ≡ option_number range (option_map (λ text. text.now) text.entry) }
-    ensures least { IfSome result (λ number. range.least ≤ number) }
-    ensures most { IfSome result (λ number. number ≤ range.most) }
+/// The number of an option with this value, or its default if it isn't given.
+pub fn number_or_default(text: Option<&str>, option: NumberOption) -> Option<u64>
+    requires least { option.range.least ≤ option.default }
+    requires most { option.default ≤ option.range.most }
+    ensures read { result ≡ option_number option (option_map (λ text. text.now) text.entry) }
+    ensures least { IfSome result (λ number. option.range.least ≤ number) }
+    ensures most { IfSome result (λ number. number ≤ option.range.most) }
 {
     match text {
-        Some(text) => number_within(text, range),
-        None => Some(range.default),
+        Some(text) => number_within(text, option.range),
+        None => Some(option.default),
     }
 }

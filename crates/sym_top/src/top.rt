@@ -1,21 +1,29 @@
 //! The top call.
-ghost use Rattle.std.specs.Prelude.{◌≡◌, ◌≤◌, ◌⊎◌, ℕ, List, map, OnOk, IfErr};
+ghost use Rattle.std.specs.Prelude.{◌≡◌, ◌≤◌, ◌⊎◌, ℕ, List, [], Some, map, MatchResult, IfOk, OnOk, IfErr};
+ghost use Rattle.std.specs.List.{All};
 ghost use Rattle.std.specs.String.{string_bytes};
+ghost use Rattle.sym_engine.specs.Options.{InRange};
+ghost use Rattle.sym_top.specs.Commands.{Asked, Runs, Checks, Makes, asks, command_in, command_of, forms_of};
 ghost use Rattle.sym_top.specs.Ends.{End, Held, IsEnd};
-ghost use Rattle.sym_top.specs.Loading.{failure_line, known_headers};
+ghost use Rattle.sym_top.specs.Loading.{Ready, Stops, failure_line, known_headers};
 ghost use Rattle.sym_top.specs.Messages.{headers_of};
-ghost use Rattle.sym_top.specs.Promises.{called, IsUsage, Told, Answers, MustReport, Refuses, Unless, Wrote, WriteFails, IsRefused, IsReported, IsUnwritten};
+ghost use Rattle.sym_top.specs.Promises.{Call, call_of, IsUsage, Told, Answers, MustReport, Refuses, Says, Leaves, Unless, Wrote, WriteFails, IsRefused, IsReported, IsUnwritten};
 ghost use Rattle.sym_top.specs.Refusals.{status_of_refusal};
 ghost use Rattle.sym_top.specs.Telling.{Has, Later, Short, Tells, sunk};
+ghost use Rattle.sym_top.specs.Words.{run_seen, check_seen, make_seen, IsRun};
 
-use crate::commands::names_of;
-use crate::load::{Failure, prepare};
+use crate::commands::{Check, Command, Make, Run, shown_names};
+use crate::load::{Failure, no_command};
+use crate::made::prepare_make;
 use crate::message::tell;
+use crate::prepare::{prepare_check, prepare_run};
 use crate::refusal::{Refusal, write_refusal};
 use crate::status::Status;
+use crate::words::read_words;
 use std::alloc::Global;
 use sym_base::{Sink, Store, write_all};
 use sym_check::{Checked, FieldPlan};
+use sym_report::{ReportForm, choose, report_bytes};
 
 // Writes a report's text.
 fn write_report<O: Sink>(out: &mut O, text: &[u8]) -> Result<(), Refusal>
@@ -40,58 +48,166 @@ fn known_fields(checked: &Option<Checked>) -> &[FieldPlan]
     }
 }
 
-// Tells why a run stopped before it wrote, and gives its status.
+// Tells why a call stopped before it wrote, and gives its status.
 fn refuse<E: Sink>(err: &mut E, failure: &Failure<'_>) -> Status
     ensures status { result ≡ status_of_refusal failure.now.why }
     ensures told { let err = sunk E.written E.faults E.short err.old err.new in
         Tells err (failure_line failure.now) }
     ensures later { Later (sunk E.written E.faults E.short err.old err.new) }
 {
-    let names = names_of(&failure.command);
+    let names = shown_names(&failure.command);
     tell(err, &names, known_fields(&failure.checked), failure.why);
     failure.why.status()
 }
 
-// All that the top call does. Its other promises follow from these.
+// Writes a text that is ready, or tells why there is none.
+fn finish<O: Sink, E: Sink>(
+    out: &mut O,
+    err: &mut E,
+    made: Result<Status, Failure<'_>>,
+    text: &[u8],
+) -> Status
+    requires { IfOk made IsReported }
+    ensures says { (call : Call) →
+        MatchResult made.entry (λ status. Ready call status text.now) (Stops call) →
+        let out = sunk O.written O.faults O.short out.old out.new in
+        let err = sunk E.written E.faults E.short err.old err.new in
+        Says call out err result }
+    ensures unwritten { IsUnwritten result → out.new ≡ out.old }
+    ensures memory { result ≡ Status.NoMemory →
+        (out.new ≡ out.old) ⊎ Short (sunk O.written O.faults O.short out.old out.new) }
+    ensures quiet { IsReported result → err.new ≡ err.old }
+    ensures later_out { Later (sunk O.written O.faults O.short out.old out.new) }
+    ensures later_err { Later (sunk E.written E.faults E.short err.old err.new) }
+{
+    let status = match made {
+        Ok(status) => status,
+        Err(failure) => return refuse(err, &failure),
+    };
+    match write_report(out, text) {
+        Ok(()) => status,
+        Err(why) => {
+            tell(err, &shown_names(&None), &[], why);
+            why.status()
+        }
+    }
+}
+
+// Runs a script over files, and writes the report through the form that the run names.
+fn run_files<F: Store, O: Sink, E: Sink>(
+    alloc: Global,
+    run: Run<'_>,
+    forms: Vec<Box<dyn ReportForm>>,
+    files: &mut F,
+    out: &mut O,
+    err: &mut E,
+) -> Status
+    requires run { IsRun run }
+    requires empty { All (λ f. gathered f ≡ []) forms.items }
+    ensures says { (words : List (List ℕ)) → command_in words ≡ Some (Runs (run_seen run.entry)) →
+        let asked = asks words (forms_of (λ f. called f) (λ f. texts f) forms.items) in
+        let call = call_of F.holds F.faults asked files.old files.new in
+        let out = sunk O.written O.faults O.short out.old out.new in
+        let err = sunk E.written E.faults E.short err.old err.new in
+        Says call out err result }
+    ensures leaves { (words : List (List ℕ)) → command_in words ≡ Some (Runs (run_seen run.entry)) →
+        let asked = asks words (forms_of (λ f. called f) (λ f. texts f) forms.items) in
+        let call = call_of F.holds F.faults asked files.old files.new in
+        let sunk_out = sunk O.written O.faults O.short out.old out.new in
+        Leaves call sunk_out files.old files.new out.old out.new err.old err.new result }
+    ensures files { F.holds files.new ≡ F.holds files.old }
+    ensures later { (name : List ℕ) → F.faults files.old name ≤ F.faults files.new name }
+    ensures later_out { Later (sunk O.written O.faults O.short out.old out.new) }
+    ensures later_err { Later (sunk E.written E.faults E.short err.old err.new) }
+{
+    let mut form = match choose(forms, run.form) {
+        Some(form) => form,
+        None => return refuse(err, &no_command(Refusal::Usage)),
+    };
+    let made = prepare_run(alloc, run, files, &mut form);
+    finish(out, err, made, report_bytes(&form))
+}
+
+// Checks a script, and writes what is said of it.
+fn run_check<F: Store, O: Sink, E: Sink>(
+    alloc: Global,
+    check: Check<'_>,
+    files: &mut F,
+    out: &mut O,
+    err: &mut E,
+) -> Status
+    ensures says { (asked : Asked) → command_of asked ≡ Some (Checks (check_seen check.entry)) →
+        let call = call_of F.holds F.faults asked files.old files.new in
+        let out = sunk O.written O.faults O.short out.old out.new in
+        let err = sunk E.written E.faults E.short err.old err.new in
+        Says call out err result }
+    ensures leaves { (asked : Asked) → command_of asked ≡ Some (Checks (check_seen check.entry)) →
+        let call = call_of F.holds F.faults asked files.old files.new in
+        let sunk_out = sunk O.written O.faults O.short out.old out.new in
+        Leaves call sunk_out files.old files.new out.old out.new err.old err.new result }
+    ensures files { F.holds files.new ≡ F.holds files.old }
+    ensures later { (name : List ℕ) → F.faults files.old name ≤ F.faults files.new name }
+    ensures later_out { Later (sunk O.written O.faults O.short out.old out.new) }
+    ensures later_err { Later (sunk E.written E.faults E.short err.old err.new) }
+{
+    match prepare_check(alloc, check, files) {
+        Ok(text) => finish(out, err, Ok(Status::Done), text.as_slice()),
+        Err(failure) => finish(out, err, Err(failure), &[]),
+    }
+}
+
+// Runs a script over a log that is made, and writes the summary.
+fn run_make<O: Sink, E: Sink>(alloc: Global, make: Make, out: &mut O, err: &mut E) -> Status
+    requires { InRange make.options }
+    ensures says { (call : Call) → command_of call.asked ≡ Some (Makes (make_seen make)) →
+        let out = sunk O.written O.faults O.short out.old out.new in
+        let err = sunk E.written E.faults E.short err.old err.new in
+        Says call out err result }
+    ensures unwritten { IsUnwritten result → out.new ≡ out.old }
+    ensures memory { result ≡ Status.NoMemory →
+        (out.new ≡ out.old) ⊎ Short (sunk O.written O.faults O.short out.old out.new) }
+    ensures quiet { IsReported result → err.new ≡ err.old }
+    ensures later_out { Later (sunk O.written O.faults O.short out.old out.new) }
+    ensures later_err { Later (sunk E.written E.faults E.short err.old err.new) }
+{
+    match prepare_make(alloc, make) {
+        Ok(report) => finish(out, err, Ok(report.status), report.text.as_slice()),
+        Err(failure) => finish(out, err, Err(failure), &[]),
+    }
+}
+
+// Carries out the command that the arguments ask for.
 fn run<F: Store, O: Sink, E: Sink>(
     alloc: Global,
     words: &Vec<String>,
     files: &mut F,
     out: &mut O,
     err: &mut E,
+    forms: Vec<Box<dyn ReportForm>>,
 ) -> Status
-    ensures reported { let words = map string_bytes words.now.items in
-        let call = called F.holds F.faults words files.old files.new in
-        let out = sunk O.written O.faults O.short out.old out.new in
-        IsReported result → Wrote call out result }
-    ensures refused { let words = map string_bytes words.now.items in
-        let call = called F.holds F.faults words files.old files.new in
+    requires { All (λ f. gathered f ≡ []) forms.items }
+    ensures says { let words = map string_bytes words.now.items in
+        let asked = asks words (forms_of (λ f. called f) (λ f. texts f) forms.items) in
+        let call = call_of F.holds F.faults asked files.old files.new in
         let out = sunk O.written O.faults O.short out.old out.new in
         let err = sunk E.written E.faults E.short err.old err.new in
-        IsRefused result → Refuses call out err result }
-    ensures unread { let words = map string_bytes words.now.items in
-        let call = called F.holds F.faults words files.old files.new in
-        IsUsage call → files.new ≡ files.old }
-    ensures unwritten { IsUnwritten result → out.new ≡ out.old }
-    ensures memory { result ≡ Status.NoMemory →
-        (out.new ≡ out.old) ⊎ Short (sunk O.written O.faults O.short out.old out.new) }
-    ensures quiet { IsReported result → err.new ≡ err.old }
+        Says call out err result }
+    ensures leaves { let words = map string_bytes words.now.items in
+        let asked = asks words (forms_of (λ f. called f) (λ f. texts f) forms.items) in
+        let call = call_of F.holds F.faults asked files.old files.new in
+        let sunk_out = sunk O.written O.faults O.short out.old out.new in
+        Leaves call sunk_out files.old files.new out.old out.new err.old err.new result }
     ensures files { F.holds files.new ≡ F.holds files.old }
     ensures later { (name : List ℕ) → F.faults files.old name ≤ F.faults files.new name }
     ensures later_out { Later (sunk O.written O.faults O.short out.old out.new) }
     ensures later_err { Later (sunk E.written E.faults E.short err.old err.new) }
 {
-    let arguments = words.as_slice();
-    let report = match prepare(alloc, arguments, files) {
-        Ok(report) => report,
-        Err(failure) => return refuse(err, &failure),
-    };
-    match write_report(out, report.text.as_slice()) {
-        Ok(()) => report.status,
-        Err(why) => {
-            tell(err, &names_of(&None), &[], why);
-            why.status()
-        }
+    match read_words(alloc, words) {
+        Ok(Some(Command::Run(run))) => run_files(alloc, run, forms, files, out, err),
+        Ok(Some(Command::Check(check))) => run_check(alloc, check, files, out, err),
+        Ok(Some(Command::Make(make))) => run_make(alloc, make, out, err),
+        Ok(None) => refuse(err, &no_command(Refusal::Usage)),
+        Err(_) => refuse(err, &no_command(Refusal::NoMemory)),
     }
 }
 
@@ -121,34 +237,43 @@ pub fn symple<F: Store, O: Sink, E: Sink>(
     files: &mut F,
     out: &mut O,
     err: &mut E,
+    forms: Vec<Box<dyn ReportForm>>,
 ) -> Status
+    requires { All (λ f. gathered f ≡ []) forms.items }
     ensures reported { let words = map string_bytes words.now.items in
-        let call = called F.holds F.faults words files.old files.new in
+        let asked = asks words (forms_of (λ f. called f) (λ f. texts f) forms.items) in
+        let call = call_of F.holds F.faults asked files.old files.new in
         let out = sunk O.written O.faults O.short out.old out.new in
         IsReported result → Wrote call out result }
     ensures refused { let words = map string_bytes words.now.items in
-        let call = called F.holds F.faults words files.old files.new in
+        let asked = asks words (forms_of (λ f. called f) (λ f. texts f) forms.items) in
+        let call = call_of F.holds F.faults asked files.old files.new in
         let out = sunk O.written O.faults O.short out.old out.new in
         let err = sunk E.written E.faults E.short err.old err.new in
         IsRefused result → Refuses call out err result }
     ensures expected { let words = map string_bytes words.now.items in
-        let call = called F.holds F.faults words files.old files.new in
+        let asked = asks words (forms_of (λ f. called f) (λ f. texts f) forms.items) in
+        let call = call_of F.holds F.faults asked files.old files.new in
         let out = sunk O.written O.faults O.short out.old out.new in
         let err = sunk E.written E.faults E.short err.old err.new in
         (held : Held) (end : End) → Told call held → IsEnd call.asked held end →
         Unless result (Answers call held end out err result) }
     ensures complete { let words = map string_bytes words.now.items in
-        let call = called F.holds F.faults words files.old files.new in
+        let asked = asks words (forms_of (λ f. called f) (λ f. texts f) forms.items) in
+        let call = call_of F.holds F.faults asked files.old files.new in
         let out = sunk O.written O.faults O.short out.old out.new in
         MustReport call out → IsRefused result → result ≡ Status.NoMemory }
     ensures usage { let words = map string_bytes words.now.items in
-        let call = called F.holds F.faults words files.old files.new in
+        let asked = asks words (forms_of (λ f. called f) (λ f. texts f) forms.items) in
+        let call = call_of F.holds F.faults asked files.old files.new in
         result ≡ Status.Usage → IsUsage call }
     ensures no_command { let words = map string_bytes words.now.items in
-        let call = called F.holds F.faults words files.old files.new in
+        let asked = asks words (forms_of (λ f. called f) (λ f. texts f) forms.items) in
+        let call = call_of F.holds F.faults asked files.old files.new in
         IsUsage call → (result ≡ Status.Usage) ⊎ (result ≡ Status.NoMemory) }
     ensures unread { let words = map string_bytes words.now.items in
-        let call = called F.holds F.faults words files.old files.new in
+        let asked = asks words (forms_of (λ f. called f) (λ f. texts f) forms.items) in
+        let call = call_of F.holds F.faults asked files.old files.new in
         IsUsage call → files.new ≡ files.old }
     ensures unwritten { IsUnwritten result → out.new ≡ out.old }
     ensures memory { result ≡ Status.NoMemory →
@@ -159,5 +284,5 @@ pub fn symple<F: Store, O: Sink, E: Sink>(
     ensures later_out { Later (sunk O.written O.faults O.short out.old out.new) }
     ensures later_err { Later (sunk E.written E.faults E.short err.old err.new) }
 {
-    run(alloc, words, files, out, err)
+    run(alloc, words, files, out, err, forms)
 }

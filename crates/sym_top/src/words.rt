@@ -1,30 +1,34 @@
 //! The arguments after the program's name.
-ghost use Rattle.std.specs.Prelude.{◌≡◌, ◌≤◌, map, length, IfOk, IfSome};
+ghost use Rattle.std.specs.Prelude.{◌≡◌, ◌≤◌, true, map, length, IfOk, IfSome};
 ghost use Rattle.std.specs.Option.{option_map};
 ghost use Rattle.std.specs.String.{string_bytes};
-ghost use Rattle.sym_base.specs.declared.limits.TheConstants as limit;
+ghost use Rattle.clap.specs.Words.{app_of, found_of, rows_of};
+ghost use Rattle.clap.specs.Faults.{is_simple_and_free};
 ghost use Rattle.sym_engine.specs.Options.{InRange};
-ghost use Rattle.sym_top.specs.Commands.{run_of, command_in};
-ghost use Rattle.sym_top.specs.Words.{run_seen, command_seen, IsInRange};
+ghost use Rattle.sym_top.specs.CommandLines.{matched};
+ghost use Rattle.sym_top.specs.Commands.{run_of, check_of, make_of, command_by, command_in};
+ghost use Rattle.sym_top.specs.Words.{run_seen, check_seen, make_seen, command_seen, IsRun, IsInRange};
 
-use crate::arguments::RUN_NAME;
-use crate::command_lines::run_command;
-use crate::commands::{Command, Run};
-use crate::matches::read_run;
+use crate::arguments::{CHECK_NAME, MAKE_NAME, RUN_NAME};
+use crate::command_lines::{check_command, make_command, run_command};
+use crate::commands::{Check, Command, Make, Run};
+use crate::matches::{read_check, read_make, read_run};
+use clap::ArgMatches;
 use clap::error::ErrorKind;
 use std::alloc::Global;
 use sym_base::NoMemory;
 
-// The run that words ask for, the first of which is `run`.
-#[tactic(auto, unfolding(crate::specs::Commands::run_of))]
-fn read_run_words<'a>(alloc: Global, words: &'a [String]) -> Result<Option<Run<'a>>, NoMemory>
-    ensures read { IfOk result (λ run. option_map run_seen run ≡ run_of (map string_bytes words.now)) }
-    ensures range { IfOk result (λ run. IfSome run (λ run. InRange run.options)) }
-    ensures few { IfOk result (λ run. IfSome run (λ run. length run.files.items ≤ limit.FILES_MAX)) }
+// What `clap` finds for each argument of a command line; `None` if it refuses the words.
+fn find_matches<'a>(
+    command: clap::Command<'a>,
+    words: &'a [String],
+) -> Result<Option<ArgMatches<'a>>, NoMemory>
+    requires { is_simple_and_free (app_of command) ≡ true }
+    ensures { IfOk result (λ found. option_map (λ m. rows_of (found_of m)) found
+        ≡ matched (app_of command.entry) (map string_bytes words.now)) }
 {
-    let command = run_command(alloc)?;
     match command.try_get_matches_from(words) {
-        Ok(matches) => read_run(alloc, &matches),
+        Ok(matches) => Ok(Some(matches)),
         Err(error) => match error.kind() {
             ErrorKind::OutOfMemory => Err(NoMemory),
             _ => Ok(None),
@@ -32,22 +36,90 @@ fn read_run_words<'a>(alloc: Global, words: &'a [String]) -> Result<Option<Run<'
     }
 }
 
-/// The command that the arguments ask for; `None` where they are those of none.
-pub fn read_words<'a>(alloc: Global, words: &'a [String]) -> Result<Option<Command<'a>>, NoMemory>
+// The run that words ask for, the first of which is `run`.
+#[tactic(auto, unfolding(crate::specs::Commands::run_of))]
+fn read_run_words<'a>(alloc: Global, words: &'a [String]) -> Result<Option<Run<'a>>, NoMemory>
+    ensures read { IfOk result (λ run.
+        option_map run_seen run ≡ run_of (map string_bytes words.now)) }
+    ensures range { IfOk result (λ run. IfSome run IsRun) }
+{
+    let command = run_command(alloc)?;
+    match find_matches(command, words)? {
+        Some(matches) => read_run(alloc, &matches),
+        None => Ok(None),
+    }
+}
+
+// The check that words ask for, the first of which is `check`.
+#[tactic(auto, unfolding(crate::specs::Commands::check_of))]
+fn read_check_words<'a>(alloc: Global, words: &'a [String]) -> Result<Option<Check<'a>>, NoMemory>
+    ensures { IfOk result (λ check.
+        option_map check_seen check ≡ check_of (map string_bytes words.now)) }
+{
+    let command = check_command(alloc)?;
+    match find_matches(command, words)? {
+        Some(matches) => Ok(read_check(&matches)),
+        None => Ok(None),
+    }
+}
+
+// The making that words ask for, the first of which is `make`.
+#[tactic(auto, unfolding(crate::specs::Commands::make_of))]
+fn read_make_words(alloc: Global, words: &[String]) -> Result<Option<Make>, NoMemory>
+    ensures read { IfOk result (λ make.
+        option_map make_seen make ≡ make_of (map string_bytes words.now)) }
+    ensures range { IfOk result (λ make. IfSome make (λ make. InRange make.options)) }
+{
+    let command = make_command(alloc)?;
+    match find_matches(command, words)? {
+        Some(matches) => Ok(read_make(&matches)),
+        None => Ok(None),
+    }
+}
+
+// The command of this name that words ask for.
+fn read_command<'a>(
+    alloc: Global,
+    name: &str,
+    words: &'a [String],
+) -> Result<Option<Command<'a>>, NoMemory>
     ensures read { IfOk result (λ command.
-        option_map command_seen command ≡ command_in (map string_bytes words.now)) }
+        option_map command_seen command ≡ command_by name.now (map string_bytes words.now)) }
     ensures range { IfOk result (λ command. IfSome command IsInRange) }
 {
-    match words {
+    if name == RUN_NAME {
+        return match read_run_words(alloc, words)? {
+            Some(run) => Ok(Some(Command::Run(run))),
+            None => Ok(None),
+        };
+    }
+    if name == CHECK_NAME {
+        return match read_check_words(alloc, words)? {
+            Some(check) => Ok(Some(Command::Check(check))),
+            None => Ok(None),
+        };
+    }
+    if name == MAKE_NAME {
+        return match read_make_words(alloc, words)? {
+            Some(make) => Ok(Some(Command::Make(make))),
+            None => Ok(None),
+        };
+    }
+    Ok(None)
+}
+
+/// The command that the arguments ask for; `None` if they are those of none.
+pub fn read_words<'a>(
+    alloc: Global,
+    words: &'a Vec<String>,
+) -> Result<Option<Command<'a>>, NoMemory>
+    ensures read { IfOk result (λ command.
+        option_map command_seen command ≡ command_in (map string_bytes words.now.items)) }
+    ensures range { IfOk result (λ command. IfSome command IsInRange) }
+{
+    let arguments = words.as_slice();
+    match arguments {
         [] => Ok(None),
-        [name, ..] => {
-            if name.as_str() == RUN_NAME {
-                return match read_run_words(alloc, words)? {
-                    Some(run) => Ok(Some(Command::Run(run))),
-                    None => Ok(None),
-                };
-            }
-            Ok(None)
-        }
+        [name, ..] => read_command(alloc, name.as_str(), arguments),
     }
 }

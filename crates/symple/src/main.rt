@@ -6,10 +6,13 @@ mod stream;
 
 use crate::disk::DiskStore;
 use crate::stream::StreamSink;
+use std::alloc::Global;
 use std::env;
 use std::io::{ErrorKind, Write};
 use std::process::ExitCode;
 use std::rt::{Env, Files};
+use sym_base::{NoMemory, Sink, Store};
+use sym_report::{CsvForm, PairsForm, ReportForm, TableForm};
 use sym_top::{StartErr, Status, refuse_start, symple};
 
 fn main(rt: HostRuntime) -> ExitCode {
@@ -32,7 +35,25 @@ where
         return refuse_start(&mut err, StartErr::NoMemory);
     };
     let mut out = StreamSink::new(out);
-    symple(rt.alloc(), &words, &mut files, &mut out, &mut err)
+    match carry_out(rt.alloc(), &words, &mut files, &mut out, &mut err) {
+        Ok(status) => status,
+        Err(_) => refuse_start(&mut err, StartErr::NoMemory),
+    }
+}
+
+// Carries out the command of these arguments, with the forms `table`, `csv` and `pairs`.
+fn carry_out<F: Store, O: Sink, E: Sink>(
+    alloc: Global,
+    words: &Vec<String>,
+    files: &mut F,
+    out: &mut O,
+    err: &mut E,
+) -> Result<Status, NoMemory> {
+    let mut forms: Vec<Box<dyn ReportForm>> = Vec::new(alloc);
+    forms.push(Box::new(alloc, TableForm::new(alloc))?)?;
+    forms.push(Box::new(alloc, CsvForm::new(alloc))?)?;
+    forms.push(Box::new(alloc, PairsForm::new(alloc))?)?;
+    Ok(symple(alloc, words, files, out, err, forms))
 }
 
 // The arguments after the program's name. Where one of them isn't UTF-8 there is no such command.

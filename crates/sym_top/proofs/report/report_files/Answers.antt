@@ -1,21 +1,37 @@
 use Rattle.std.proofs.Common.{sym, subst, map}
 use Rattle.std.specs.String.{string_bytes}
+use Rattle.sym_check.specs.Checking.CheckedScripts.{checked_plan}
+use Rattle.sym_check.specs.Plan.WellFormed.{IsWellFormed}
 use Rattle.sym_engine.specs.declared.error.PassErr.TheVariants as pass_error
 use Rattle.sym_engine.specs.FileRecords.{plain_rules}
 use Rattle.sym_top.specs.Loading.{StopsFiles, stops}
 use Rattle.sym_top.specs.Programs.{checked_program}
+use Rattle.sym_top.specs.Promises.{IsReported}
+use Rattle.sym_top.proofs.Consequences.{faulty-reported}
+use Rattle.sym_top.proofs.PassKeys.{groups-keyed}
 use Rattle.sym_top.proofs.Preparing.{reports-by}
 use Rattle.sym_top.proofs.report.report_files.Goals as goal
+
+pub write_report-requires : goal.write_report-requires
+write_report-requires g c =
+    let well = subst IsWellFormed c.plan-plan.ensures.same c.plan-plan.ensures.well_formed in
+    let passed = c.in-Ok.ensures.passed in
+    groups-keyed (checked_plan c.args.checked.now) (plain_rules c.args.options.now.max_bytes) 1 passed.files passed.records
+    c.in-Ok.groups well passed.fine passed.stands
+
+pub returns-in-Ok-write_report-clause-reported : goal.returns-in-Ok-write_report-clause-reported
+returns-in-Ok-write_report-clause-reported g c =
+    subst IsReported (sym c.report_status.ensures) (faulty-reported c.in-Ok-write_report.faulty)
 
 pub returns-in-Err-clause-stopped : goal.returns-in-Err-clause-stopped
 returns-in-Err-clause-stopped g c =
     subst (StopsFiles _ _ _ _ _ _) (sym c.pass_refusal.ensures) (stops c.in-Err.error c.in-Err.ensures.stopped)
 
-pub returns-in-Ok-report_groups-clause-ready : goal.returns-in-Ok-report_groups-clause-ready
-returns-in-Ok-report_groups-clause-ready g c =
-    reports-by (checked_program c.args.checked.now) (plain_rules c.args.options.now.max_bytes) (g.F.Store.holds c.args.files.now)
-    (map string_bytes c.args.names.now) c.in-Ok.groups c.in-Ok-report_groups.report c.in-Ok.ensures.passed
-    c.in-Ok-report_groups.ensures.text c.in-Ok-report_groups.ensures.status
+pub returns-in-Ok-write_report-clause-ready : goal.returns-in-Ok-write_report-clause-ready
+returns-in-Ok-write_report-clause-ready g c =
+    reports-by _ (checked_program c.args.checked.now) (plain_rules c.args.options.now.max_bytes) (g.F.Store.holds c.args.files.now)
+    (map string_bytes c.args.names.now) c.in-Ok.groups c.in-Ok-write_report.faulty c.report_status.result _ c.in-Ok.ensures.passed
+    (rw c.requires.empty at c.in-Ok-write_report.ensures.text) c.in-Ok-write_report.ensures.faulty c.report_status.ensures
 
 pub returns-clause-stopped : goal.returns-clause-stopped
 returns-clause-stopped g c = stops pass_error.NoMemory tt

@@ -1,51 +1,14 @@
-use Rattle.std.proofs.Common.{ap}
 use Rattle.sym_top.proofs.Consequences.{expected-by, complete-by, usage-by, no-command-by}
 use Rattle.sym_top.proofs.top.symple.Goals as goal
 
 pub returns-clause-expected : goal.returns-clause-expected
-returns-clause-expected g c held end told is =
-    expected-by _ _ _ c.run.result (record {
-      reported = c.run.ensures.reported;
-      refused = c.run.ensures.refused;
-      quiet = λ done. record {
-        written = ap g.E.Sink.written (c.run.ensures.quiet done);
-        faults = ap g.E.Sink.faults (c.run.ensures.quiet done);
-        short = ap g.E.Sink.short (c.run.ensures.quiet done);
-      };
-    }) held end told is
+returns-clause-expected g c held end told is = expected-by _ _ _ c.run.result c.run.ensures.says held end told is
 
 pub returns-clause-complete : goal.returns-clause-complete
-returns-clause-complete g c must undone =
-    complete-by _ _ _ c.run.result (record {
-      reported = c.run.ensures.reported;
-      refused = c.run.ensures.refused;
-      quiet = λ done. record {
-        written = ap g.E.Sink.written (c.run.ensures.quiet done);
-        faults = ap g.E.Sink.faults (c.run.ensures.quiet done);
-        short = ap g.E.Sink.short (c.run.ensures.quiet done);
-      };
-    }) must undone
+returns-clause-complete g c must undone = complete-by _ _ _ c.run.result c.run.ensures.says must undone
 
 pub returns-clause-usage : goal.returns-clause-usage
-returns-clause-usage g c =
-    usage-by _ _ _ c.run.result (record {
-      reported = c.run.ensures.reported;
-      refused = c.run.ensures.refused;
-      quiet = λ done. record {
-        written = ap g.E.Sink.written (c.run.ensures.quiet done);
-        faults = ap g.E.Sink.faults (c.run.ensures.quiet done);
-        short = ap g.E.Sink.short (c.run.ensures.quiet done);
-      };
-    })
+returns-clause-usage g c = usage-by _ _ _ c.run.result c.run.ensures.says
 
 pub returns-clause-no_command : goal.returns-clause-no_command
-returns-clause-no_command g c =
-    no-command-by _ _ _ c.run.result (record {
-      reported = c.run.ensures.reported;
-      refused = c.run.ensures.refused;
-      quiet = λ done. record {
-        written = ap g.E.Sink.written (c.run.ensures.quiet done);
-        faults = ap g.E.Sink.faults (c.run.ensures.quiet done);
-        short = ap g.E.Sink.short (c.run.ensures.quiet done);
-      };
-    })
+returns-clause-no_command g c = no-command-by _ _ _ c.run.result c.run.ensures.says

@@ -1,0 +1,110 @@
+//! The pass over the log that is made.
+ghost use Rattle.std.specs.Prelude.{◌≡◌, [], ◌∷◌, Some, map, IfOk, IfErr};
+ghost use Rattle.std.specs.String.{string_bytes};
+ghost use Rattle.sym_base.specs.InMemory.{visible_bytes};
+ghost use Rattle.sym_engine.specs.FileRecords.{plain_rules};
+ghost use Rattle.sym_engine.specs.Options.{InRange};
+ghost use Rattle.sym_top.specs.Commands.{Makes, command_of};
+ghost use Rattle.sym_top.specs.Loading.{Passed, StopsRecords, Ready, Stops};
+ghost use Rattle.sym_top.specs.Making.{made_file as made_file_of};
+ghost use Rattle.sym_top.specs.Programs.{checked_program};
+ghost use Rattle.sym_top.specs.Promises.{Call, IsReported};
+ghost use Rattle.sym_top.specs.Words.{make_seen};
+
+use crate::arguments::MADE_NAME;
+use crate::commands::{Command, Make};
+use crate::load::{Failure, accept};
+use crate::making::{made_file, made_script};
+use crate::refusal::{Refusal, pass_refusal};
+use crate::report::Report;
+use crate::summary::summary;
+use std::alloc::Global;
+use sym_base::{NoMemory, SureStore};
+use sym_check::Checked;
+use sym_engine::pass;
+use sym_plain::Groups;
+
+// A store with the log.
+fn made_store(alloc: Global, make: Make) -> Result<SureStore, NoMemory>
+    ensures { let log = made_file_of make.records make.seed in
+        IfOk result (λ store. visible_bytes store MADE_NAME.now ≡ Some log) }
+{
+    let log = made_file(alloc, make.records, make.seed)?;
+    let mut store = SureStore::new(alloc);
+    store.add(alloc, MADE_NAME, log.as_slice())?;
+    Ok(store)
+}
+
+// The name of the log, as the one file of records.
+fn made_names(alloc: Global) -> Result<Vec<String>, NoMemory>
+    ensures { IfOk result (λ names. map string_bytes names.items ≡ MADE_NAME.now ∷ []) }
+{
+    let mut names = Vec::new(alloc);
+    names.push(String::from_str(alloc, MADE_NAME)?)?;
+    Ok(names)
+}
+
+// The groups of a pass over the log.
+fn pass_made(alloc: Global, checked: &Checked, make: Make) -> Result<Groups, Refusal>
+    requires { InRange make.options }
+    ensures passed { let program = checked_program checked.now in
+        let rules = plain_rules make.options.max_bytes in
+        let log = made_file_of make.records make.seed in
+        IfOk result (Passed program rules (log ∷ [])) }
+    ensures stopped { let program = checked_program checked.now in
+        let rules = plain_rules make.options.max_bytes in
+        let log = made_file_of make.records make.seed in
+        IfErr result (StopsRecords program rules (log ∷ [])) }
+{
+    let mut store = match made_store(alloc, make) {
+        Ok(store) => store,
+        Err(_) => return Err(Refusal::NoMemory),
+    };
+    let names = match made_names(alloc) {
+        Ok(names) => names,
+        Err(_) => return Err(Refusal::NoMemory),
+    };
+    match pass(alloc, checked, &mut store, names.as_slice(), &make.options) {
+        Ok(groups) => Ok(groups),
+        Err(error) => Err(pass_refusal(error)),
+    }
+}
+
+/// The summary of a pass over the log of a making.
+pub fn prepare_make<'a>(alloc: Global, make: Make) -> Result<Report, Failure<'a>>
+    requires { InRange make.options }
+    ensures ready { (call : Call) → command_of call.asked ≡ Some (Makes (make_seen make)) →
+        IfOk result (λ report. Ready call report.status report.text.items) }
+    ensures reported { IfOk result (λ report. IsReported report.status) }
+    ensures stopped { (call : Call) → command_of call.asked ≡ Some (Makes (make_seen make)) →
+        IfErr result (Stops call) }
+{
+    let checked = match accept(alloc, made_script()) {
+        Ok(checked) => checked,
+        Err(why) => {
+            return Err(Failure {
+                why,
+                command: Some(Command::Make(make)),
+                checked: None,
+            });
+        }
+    };
+    let groups = match pass_made(alloc, &checked, make) {
+        Ok(groups) => groups,
+        Err(why) => {
+            return Err(Failure {
+                why,
+                command: Some(Command::Make(make)),
+                checked: Some(checked),
+            });
+        }
+    };
+    match summary(alloc, &checked, &groups, make.records) {
+        Ok(report) => Ok(report),
+        Err(_) => Err(Failure {
+            why: Refusal::NoMemory,
+            command: Some(Command::Make(make)),
+            checked: Some(checked),
+        }),
+    }
+}

@@ -1,0 +1,113 @@
+//! Everything of a command but the writing.
+ghost use Rattle.std.specs.Prelude.{◌≡◌, ◌≤◌, ℕ, List, [], Some, IfOk, IfErr};
+ghost use Rattle.sym_top.specs.Commands.{Asked, Runs, Checks, command_of, texts_of};
+ghost use Rattle.sym_top.specs.Ends.{said_of};
+ghost use Rattle.sym_top.specs.Loading.{Ready, Stops};
+ghost use Rattle.sym_top.specs.Programs.{checked_program};
+ghost use Rattle.sym_top.specs.Promises.{call_of, IsReported};
+ghost use Rattle.sym_top.specs.Words.{run_seen, check_seen, IsRun};
+
+use crate::check_line::check_line;
+use crate::commands::{Check, Command, Run};
+use crate::load::{Failure, load_script};
+use crate::refusal::Refusal;
+use crate::report::report_files;
+use crate::status::Status;
+use std::alloc::Global;
+use sym_base::{NoMemory, Store};
+use sym_check::Checked;
+use sym_parse::print;
+use sym_report::ReportForm;
+
+/// Gathers the report of a run in a form without bytes, and gives its status.
+pub fn prepare_run<'a, F: Store>(
+    alloc: Global,
+    run: Run<'a>,
+    files: &mut F,
+    form: &mut Box<dyn ReportForm>,
+) -> Result<Status, Failure<'a>>
+    requires run { IsRun run }
+    requires empty { gathered form.old ≡ [] }
+    ensures ready { (asked : Asked) → command_of asked ≡ Some (Runs (run_seen run.entry)) →
+        texts_of asked.forms run.entry.form.now ≡ texts form.old →
+        let call = call_of F.holds F.faults asked files.old files.new in
+        IfOk result (λ status. Ready call status (gathered form.new)) }
+    ensures reported { IfOk result IsReported }
+    ensures stopped { (asked : Asked) → command_of asked ≡ Some (Runs (run_seen run.entry)) →
+        let call = call_of F.holds F.faults asked files.old files.new in
+        IfErr result (Stops call) }
+    ensures same { F.holds files.new ≡ F.holds files.old }
+    ensures later { (other : List ℕ) → F.faults files.old other ≤ F.faults files.new other }
+{
+    let checked = match load_script(alloc, files, run.script) {
+        Ok(checked) => checked,
+        Err(why) => {
+            return Err(Failure {
+                why,
+                command: Some(Command::Run(run)),
+                checked: None,
+            });
+        }
+    };
+    match report_files(
+        alloc,
+        &checked,
+        files,
+        run.files.as_slice(),
+        &run.options,
+        form,
+    ) {
+        Ok(status) => Ok(status),
+        Err(why) => Err(Failure {
+            why,
+            command: Some(Command::Run(run)),
+            checked: Some(checked),
+        }),
+    }
+}
+
+// What is said of a script: its line, or the script as it is printed.
+fn say(alloc: Global, checked: &Checked, print_it: bool) -> Result<Vec<u8>, NoMemory>
+    ensures { IfOk result (λ text. text.items ≡ said_of print_it (checked_program checked.now)) }
+{
+    if print_it {
+        print(alloc, checked.script())
+    } else {
+        check_line(alloc, checked)
+    }
+}
+
+/// What is said of the script of a check.
+pub fn prepare_check<'a, F: Store>(
+    alloc: Global,
+    check: Check<'a>,
+    files: &mut F,
+) -> Result<Vec<u8>, Failure<'a>>
+    ensures ready { (asked : Asked) → command_of asked ≡ Some (Checks (check_seen check.entry)) →
+        let call = call_of F.holds F.faults asked files.old files.new in
+        IfOk result (λ text. Ready call Status.Done text.items) }
+    ensures stopped { (asked : Asked) → command_of asked ≡ Some (Checks (check_seen check.entry)) →
+        let call = call_of F.holds F.faults asked files.old files.new in
+        IfErr result (Stops call) }
+    ensures same { F.holds files.new ≡ F.holds files.old }
+    ensures later { (other : List ℕ) → F.faults files.old other ≤ F.faults files.new other }
+{
+    let checked = match load_script(alloc, files, check.script) {
+        Ok(checked) => checked,
+        Err(why) => {
+            return Err(Failure {
+                why,
+                command: Some(Command::Check(check)),
+                checked: None,
+            });
+        }
+    };
+    match say(alloc, &checked, check.print) {
+        Ok(text) => Ok(text),
+        Err(_) => Err(Failure {
+            why: Refusal::NoMemory,
+            command: Some(Command::Check(check)),
+            checked: Some(checked),
+        }),
+    }
+}
