@@ -5,11 +5,15 @@
 #[cfg(test)]
 mod agreement;
 #[cfg(test)]
+mod commands;
+#[cfg(test)]
 mod copies;
 #[cfg(test)]
 mod drawn;
 #[cfg(test)]
 mod files;
+#[cfg(test)]
+mod marks;
 #[cfg(test)]
 mod passes;
 #[cfg(test)]

@@ -3,6 +3,7 @@ use crate::scripts::all_hold;
 use std::alloc::Global;
 use std::test::Fail;
 use sym_base::{MemSink, MemStore, NoMemory};
+use sym_report::{CsvForm, PairsForm, ReportForm, TableForm};
 use sym_top::{StartErr, Status, refuse_start, symple};
 
 // Counts records up to three.
@@ -111,7 +112,7 @@ pub(crate) const TWO_HUNDRED: &str = "x\n\
 // The names of at most three files.
 const NAMES: [&str; 3] = ["log.csv", "second.csv", "third.csv"];
 
-const ONE_FILE: &[&str] = &["run", "count.symple", "log.csv"];
+pub(crate) const ONE_FILE: &[&str] = &["run", "count.symple", "log.csv"];
 
 const TWO_FILES: &[&str] = &["run", "count.symple", "log.csv", "second.csv"];
 
@@ -119,28 +120,28 @@ const THREE_FILES: &[&str] = &["run", "count.symple", "log.csv", "second.csv", "
 
 /// A run over a store of a script and of files, and what it comes to.
 #[derive(Clone, Copy)]
-struct Run {
-    words: &'static [&'static str],
+pub(crate) struct Run {
+    pub(crate) words: &'static [&'static str],
     /// How many more times the arguments name the first file.
-    more: usize,
-    script: &'static str,
-    files: &'static [&'static str],
+    pub(crate) more: usize,
+    pub(crate) script: &'static str,
+    pub(crate) files: &'static [&'static str],
     /// The read that fails, counted from 1; 0 for none.
-    read: u64,
+    pub(crate) read: u64,
     /// The write to `out` that fails. Each takes at most four bytes.
-    write: u64,
+    pub(crate) write: u64,
     /// The write to `err` that fails.
-    tell: u64,
+    pub(crate) tell: u64,
     /// Whether a write to `err` takes all it is given, and not at most seven bytes.
-    tells_whole: bool,
-    status: Status,
-    out: &'static str,
-    err: &'static str,
+    pub(crate) tells_whole: bool,
+    pub(crate) status: Status,
+    pub(crate) out: &'static str,
+    pub(crate) err: &'static str,
     /// Whether the next read is the script's of a later run, and fails.
-    stops: bool,
+    pub(crate) stops: bool,
 }
 
-const DONE: Run = Run {
+pub(crate) const DONE: Run = Run {
     words: ONE_FILE,
     more: 0,
     script: BY_USER,
@@ -212,15 +213,20 @@ fn sinks_of(alloc: Global, run: &Run) -> Result<(MemSink, MemSink), NoMemory> {
     Ok((out, err))
 }
 
-/// The top call. No other function makes it, since proofs beside its long contract are slow.
+/// The top call, with the forms of the program. No other function makes it, since proofs beside its
+/// long contract are slow.
 pub(crate) fn call(
     alloc: Global,
     words: &Vec<String>,
     store: &mut MemStore,
     out: &mut MemSink,
     err: &mut MemSink,
-) -> Status {
-    symple(alloc, words, store, out, err)
+) -> Result<Status, NoMemory> {
+    let mut forms: Vec<Box<dyn ReportForm>> = Vec::new(alloc);
+    forms.push(Box::new(alloc, TableForm::new(alloc))?)?;
+    forms.push(Box::new(alloc, CsvForm::new(alloc))?)?;
+    forms.push(Box::new(alloc, PairsForm::new(alloc))?)?;
+    Ok(symple(alloc, words, store, out, err, forms))
 }
 
 fn is_end(run: &Run, status: Status, out: &MemSink, err: &MemSink) -> bool {
@@ -235,7 +241,7 @@ fn ends_by(
     run: &Run,
 ) -> Result<bool, NoMemory> {
     let (mut out, mut err) = sinks_of(alloc, run)?;
-    let status = call(alloc, words, store, &mut out, &mut err);
+    let status = call(alloc, words, store, &mut out, &mut err)?;
     Ok(is_end(run, status, &out, &err))
 }
 
@@ -252,7 +258,7 @@ fn holds(alloc: Global, run: &Run) -> Result<bool, NoMemory> {
 }
 
 // The place of the first run that comes to something else, counted from 0.
-fn wrong_run(alloc: Global, runs: &[Run]) -> Result<Option<usize>, NoMemory> {
+pub(crate) fn wrong_run(alloc: Global, runs: &[Run]) -> Result<Option<usize>, NoMemory> {
     'runs: for (place, run) in runs.iter().enumerate() {
         if !holds(alloc, run)? {
             return Ok(Some(place));
@@ -624,7 +630,7 @@ fn a_report_is_whole_where_a_later_write_would_fail(rt: HostRuntime) -> Result<(
 }
 
 /// What a faulty command line writes, where the first read would fail.
-const USAGE: Run = Run {
+pub(crate) const USAGE: Run = Run {
     read: 1,
     status: Status::Usage,
     err: "symple: usage\n",

@@ -64,16 +64,25 @@ fn words_of(alloc: Global, given: &[&'static str]) -> Result<Vec<String>, NoMemo
     Ok(words)
 }
 
-fn ends(alloc: Global, words: &Vec<String>, store: &mut MemStore, end: End) -> bool {
+fn is_end(end: End, status: Status, out: &MemSink, err: &MemSink) -> bool {
+    status == end.status && out.bytes() == end.out.as_bytes() && err.bytes() == end.err.as_bytes()
+}
+
+fn ends(
+    alloc: Global,
+    words: &Vec<String>,
+    store: &mut MemStore,
+    end: End,
+) -> Result<bool, NoMemory> {
     let mut out = MemSink::new(alloc, 100);
     let mut err = MemSink::new(alloc, 100);
-    let status = call(alloc, words, store, &mut out, &mut err);
-    status == end.status && out.bytes() == end.out.as_bytes() && err.bytes() == end.err.as_bytes()
+    let status = call(alloc, words, store, &mut out, &mut err)?;
+    Ok(is_end(end, status, &out, &err))
 }
 
 fn ends_over(alloc: Global, words: &Vec<String>, end: End) -> Result<bool, NoMemory> {
     let mut store = store_of(alloc)?;
-    Ok(ends(alloc, words, &mut store, end))
+    ends(alloc, words, &mut store, end)
 }
 
 fn comes_to(alloc: Global, given: &[&'static str], end: End) -> Result<bool, NoMemory> {
@@ -172,7 +181,7 @@ fn a_file_has_no_more_bytes_than_asked(rt: HostRuntime) -> Result<(), Fail> {
     all_hold(&rt, wrong_list(rt.alloc(), &TOO_SMALL, LARGE))
 }
 
-const NONE: [&[&str]; 80] = [
+const NONE: [&[&str]; 105] = [
     &[],
     &[""],
     &["run"],
@@ -186,6 +195,31 @@ const NONE: [&[&str]; 80] = [
     &["--", "run", "s", "f"],
     &["--chunk", "5", "run", "s", "f"],
     &["s", "f"],
+    &["check"],
+    &["check", "--print"],
+    &["check", "s", "f"],
+    &["check", "--print", "--print", "s"],
+    &["check", "--print=yes", "s"],
+    &["check", "--print=", "s"],
+    &["check", "-p", "s"],
+    &["check", "--form", "table", "s"],
+    &["check", "--help"],
+    &["make"],
+    &["make", "5"],
+    &["make", "5", "1", "1"],
+    &["make", "0", "1"],
+    &["make", "1000001", "1"],
+    &["make", "5", "1000000000"],
+    &["make", "5", "-1"],
+    &["make", "5", "+1"],
+    &["make", "", "1"],
+    &["make", "5", "x"],
+    &["make", "00000000005", "1"],
+    &["make", "--chunk", "0", "5", "1"],
+    &["make", "--chunk", "5", "1"],
+    &["make", "--form", "table", "5", "1"],
+    &["make", "--max-bytes", "7", "5", "1"],
+    &["make", "--print", "5", "1"],
     &["map", "s", "f"],
     &["reduce", "s", "f"],
     &["trace", "s", "f"],
@@ -277,7 +311,18 @@ fn wrong_name(alloc: Global, rows: &[Missing]) -> Result<Option<usize>, NoMemory
     Ok(None)
 }
 
-const MISSING: [Missing; 13] = [
+const MISSING: [Missing; 18] = [
+    (&["check", "absent"], "symple: absent: read fault\n"),
+    (
+        &["check", "--print", "absent"],
+        "symple: absent: read fault\n",
+    ),
+    (
+        &["check", "absent", "--print"],
+        "symple: absent: read fault\n",
+    ),
+    (&["check", "--", "--print"], "symple: --print: read fault\n"),
+    (&["check", "-"], "symple: -: read fault\n"),
     (&["run", "-", "f"], "symple: -: read fault\n"),
     (&["run", "s", "-"], "symple: -: read fault\n"),
     (&["run", "", "f"], "symple: : read fault\n"),
@@ -305,4 +350,44 @@ const MISSING: [Missing; 13] = [
 #[test]
 fn a_file_has_the_name_of_its_word(rt: HostRuntime) -> Result<(), Fail> {
     all_hold(&rt, wrong_name(rt.alloc(), &MISSING))
+}
+
+/// The cells, the tests and the path bound of `s`.
+const COUNTS: End = End {
+    status: Status::Done,
+    out: "cells 1 tests 0 paths 3\n",
+    err: "",
+};
+
+const CHECKS: [&[&str]; 3] = [
+    &["check", "s"],
+    &["check", "--", "s"],
+    &["check", "s", "--"],
+];
+
+#[test]
+fn a_check_names_one_script(rt: HostRuntime) -> Result<(), Fail> {
+    all_hold(&rt, wrong_list(rt.alloc(), &CHECKS, COUNTS))
+}
+
+/// The summary of five records.
+const FIVE: End = End {
+    status: Status::Done,
+    out: "records 5\ngroups 3\nfaults 0\nsessions 0\n",
+    err: "",
+};
+
+const MAKES: [&[&str]; 7] = [
+    &["make", "5", "1"],
+    &["make", "0000000005", "01"],
+    &["make", "--chunk", "1", "--limit", "1", "5", "1"],
+    &["make", "5", "--workers=64", "1"],
+    &["make", "5", "1", "--chunk=7"],
+    &["make", "--", "5", "1"],
+    &["make", "5", "--", "1"],
+];
+
+#[test]
+fn a_making_has_two_numbers(rt: HostRuntime) -> Result<(), Fail> {
+    all_hold(&rt, wrong_list(rt.alloc(), &MAKES, FIVE))
 }
