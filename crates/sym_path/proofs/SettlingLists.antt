@@ -1,5 +1,6 @@
 -- What paths give of which two are joined.
 use Rattle.std.proofs.Common.{get_or, ◌≡◌, ◌<◌, ◌≤◌, ◌+◌, ◌-◌, ℕ, zero, suc, Bool, true, false, List, [], ◌∷◌, ◌++◌, Some, ◌⊎◌, inl, inr, length, take, drop, refl, sym, ap, ◌∙◌, subst, arith, append_assoc, append-nil, length-append, below_more}
+use Rattle.std.proofs.lemmas.Bool.{cases_lt}
 use Rattle.std.proofs.lemmas.List.Edits.{length-insert, length-remove, remove-append_left}
 use Rattle.std.proofs.lemmas.List.{take_all}
 use Rattle.std.proofs.lemmas.List.Elements.{All-append, All-take}
@@ -11,13 +12,16 @@ use Rattle.sym_base.specs.declared.values.state.State.{State}
 use Rattle.sym_base.specs.declared.values.state.Outcome.{Outcome}
 use Rattle.sym_base.specs.Tests.{Truth}
 use Rattle.sym_path.specs.declared.path.Path.{Path}
+use Rattle.sym_path.specs.declared.part.Part.{Part}
 use Rattle.sym_path.specs.declared.path.PathEnd.{PathEnd}
+use Rattle.sym_path.specs.declared.path.PathEnd.TheVariants.{Next, Ended}
 use Rattle.sym_path.specs.Admitting.{admits}
 use Rattle.sym_path.specs.Fitting.{PathFits}
 use Rattle.sym_path.specs.Giving.{end_at, given, outcomes}
 use Rattle.sym_path.specs.Joining.{Joinable, IsSettled}
 use Rattle.sym_path.specs.Joins.{IsJoin}
-use Rattle.sym_path.specs.Settling.{CannotJoin, IsPairJoined, GivesSame, IsReduced, IsSettling}
+use Rattle.sym_path.specs.Changing.{GoesOn}
+use Rattle.sym_path.specs.Settling.{AreEndedInTurn, CannotJoin, EndsBefore, IsPairJoined, GivesSame, IsReduced, IsSettling}
 use Rattle.sym_path.proofs.Decided.{admits_decided}
 use Rattle.sym_path.proofs.Lists.{all_from, all_at, take_get, get_within}
 
@@ -211,6 +215,93 @@ module _ (old new : List Path) (f n : ℕ) (earlier : f < n) (within : n < lengt
         | inr e ↦ subst (λ (z : PathEnd). Any (λ (x : Path). x.end ≡ z) start) (sym e) b
       ]
 
+  -- The paths before the first one of the two stay in their places.
+  stay_before : (i : ℕ) → i < f → slice_get new i ≡ slice_get old i
+  stay_before i h =
+      let a = length-remove old n within in
+      let b = length-remove without_one f (omega (arith, a)) in
+      let long : length (take (n - 1) without_both) ≡ n - 1 = length_front without_both (n - 1) (omega (arith, a, b)) in
+      ap (λ ps. slice_get ps i) new_is
+      ∙ get_front (take (n - 1) without_both) (j.joined ∷ drop (n - 1) without_both) i (omega arith)
+      ∙ get_taken without_both (n - 1) i (omega arith)
+      ∙ get_before without_one f i h (omega (arith, a))
+      ∙ get_before old n i (omega arith) within
+
+  pub in_turn_after : (k m : ℕ) → m ≤ f → m ≤ k → AreEndedInTurn old k → AreEndedInTurn new m
+  in_turn_after k m first fewer h = record {
+    ended = λ i p l e. h.ended i p (omega arith) (sym (stay_before i (omega arith)) ∙ e);
+    in_turn = λ i d p q l g e r. h.in_turn i d p q l (omega arith) (sym (stay_before i (omega arith)) ∙ e) (sym (stay_before d (omega arith)) ∙ r);
+  }
+
+-- ---- paths that have ended in turn
+
+turn_apart : (v w : List Part) (a b : PathEnd) → EndsBefore (record { when = v; end = a }) (record { when = w; end = b }) → Joinable (record { when = v; end = a }) (record { when = w; end = b }) → ⊥
+turn_apart v w (Next f) (Next g) h j = h
+turn_apart v w (Next f) (Ended b) h j = h
+turn_apart v w (Ended a) (Next g) h j = h
+turn_apart v w (Ended a) (Ended b) h j = let same : a ≡ b = j.ends in absurd (omega (arith, ap (λ x. x.no) same))
+
+turn_follows : (v w x : List Part) (a b c : PathEnd) → EndsBefore (record { when = v; end = a }) (record { when = w; end = b }) → EndsBefore (record { when = w; end = b }) (record { when = x; end = c }) → EndsBefore (record { when = v; end = a }) (record { when = x; end = c })
+turn_follows v w x (Ended a) (Ended b) (Ended c) h j = omega arith
+turn_follows v w x (Ended a) (Ended b) (Next g) h j = absurd j
+turn_follows v w x (Ended a) (Next g) c h j = absurd h
+turn_follows v w x (Next f) (Next g) c h j = absurd h
+turn_follows v w x (Next f) (Ended b) c h j = absurd h
+
+later_ended : (v w : List Part) (a b : PathEnd) → EndsBefore (record { when = v; end = a }) (record { when = w; end = b }) → GoesOn b → ⊥
+later_ended v w (Ended a) (Ended b) h g = g
+later_ended v w (Ended a) (Next fs) h g = h
+later_ended v w (Next fs) (Next gs) h g = h
+later_ended v w (Next fs) (Ended b) h g = h
+
+pub in_turn_settled : (paths : List Path) (n : ℕ) → n ≤ length paths → AreEndedInTurn paths n → IsSettled (take n paths)
+in_turn_settled paths n within h i j d before last =
+    let long : length (take n paths) ≡ n = length_front paths n within in
+    let p : Path = get_or (take n paths) i d in
+    let q : Path = get_or (take n paths) j d in
+    let at_i : slice_get paths i ≡ Some p = sym (get_taken paths n i (omega arith)) ∙ slice_get-get_or (take n paths) i d (omega arith) in
+    let at_j : slice_get paths j ≡ Some q = sym (get_taken paths n j (omega arith)) ∙ slice_get-get_or (take n paths) j d last in
+    turn_apart p.when q.when p.end q.end (h.in_turn i j p q before (omega arith) at_i at_j)
+
+-- The first path alone, which has ended.
+pub one_in_turn : (paths : List Path) (p : Path) → slice_get paths 0 ≡ Some p → (GoesOn p.end → ⊥) → AreEndedInTurn paths 1
+one_in_turn paths p at apart = record {
+  ended = λ i q l e.
+      let first : i ≡ 0 = omega arith in
+      let there : slice_get paths 0 ≡ Some q = ap (λ (k : ℕ). slice_get paths k) (sym first) ∙ e in
+      let same : p ≡ q = cc in
+      let P : Path → Type 0 = λ x. GoesOn x.end → ⊥ in subst P same apart;
+  in_turn = λ i k q r l g e f. absurd (omega arith);
+}
+
+-- One more, which has ended at a later record than the last one.
+pub one_more_in_turn : (paths : List Path) (n : ℕ) (p q : Path) → 1 ≤ n → slice_get paths (n - 1) ≡ Some p → slice_get paths n ≡ Some q → EndsBefore p q → AreEndedInTurn paths n → AreEndedInTurn paths (n + 1)
+one_more_in_turn paths n p q some at_p at_q later h = record {
+  ended = λ i x l e. elim (cases_lt i n) [
+    | inl below ↦ h.ended i x below e
+    | inr past ↦
+        let last : i ≡ n = omega arith in
+        let same : q ≡ x = let there : slice_get paths n ≡ Some x = ap (λ (k : ℕ). slice_get paths k) (sym last) ∙ e in cc in
+        let P : Path → Type 0 = λ z. GoesOn z.end → ⊥ in subst P same (later_ended p.when q.when p.end q.end later)
+  ];
+  in_turn = λ i k x y l g e f. elim (cases_lt k n) [
+    | inl below ↦ h.in_turn i k x y l below e f
+    | inr past ↦
+        let last : k ≡ n = omega arith in
+        let same : q ≡ y = let there : slice_get paths n ≡ Some y = ap (λ (d : ℕ). slice_get paths d) (sym last) ∙ f in cc in
+        let P : Path → Type 0 = λ z. EndsBefore x z in subst P same (before_last i x (omega arith) e)
+  ];
+}
+  where
+    before_last : (i : ℕ) (x : Path) → i < n → slice_get paths i ≡ Some x → EndsBefore x q
+    before_last i x l e = elim (cases_lt i (n - 1)) [
+      | inl below ↦ turn_follows x.when p.when q.when x.end p.end q.end (h.in_turn i (n - 1) x p below (omega arith) e at_p) later
+      | inr past ↦
+          let last : i ≡ n - 1 = omega arith in
+          let same : p ≡ x = let there : slice_get paths (n - 1) ≡ Some x = ap (λ (d : ℕ). slice_get paths d) (sym last) ∙ e in cc in
+          let P : Path → Type 0 = λ z. EndsBefore z q in subst P same later
+    ]
+
 -- ---- the loops
 
 -- Whether two paths can be joined decides it at their indices.
@@ -249,3 +340,7 @@ settling_of start paths result n is past h reduced = subst (λ (ps : List Path).
   settled = subst (λ (ps : List Path). IsSettled ps) (take_all n paths past) h;
   reduced = reduced;
 })
+
+-- What the code reads at an index that is within the list.
+pub read_at : (paths : List Path) (i : ℕ) (p : Path) → p ≡ get_or paths i p → i < length paths → slice_get paths i ≡ Some p
+read_at paths i p e h = slice_get-get_or paths i p h ∙ ap (λ (x : Path). Some x) (sym e)

@@ -1,5 +1,5 @@
 -- Lists of paths that are settled.
-use Rattle.std.specs.Prelude.{◌≡◌, ◌≤◌, ℕ, List, Some, length, slice_get, ◌-◌}
+use Rattle.std.specs.Prelude.{◌≡◌, ◌≤◌, ◌<◌, ℕ, List, Some, length, slice_get, ◌-◌}
 use Rattle.std.specs.List.{All, Any, insert, remove}
 use Rattle.sym_base.specs.declared.values.record.Record.{Record}
 use Rattle.sym_base.specs.declared.values.state.State.{State}
@@ -10,6 +10,9 @@ use Rattle.sym_check.specs.Plan.ScriptPlans.{ScriptPlan}
 use Rattle.sym_check.specs.Meaning.Updates.{after}
 use Rattle.sym_check.specs.Meaning.Validity.{IsValid}
 use Rattle.sym_path.specs.declared.path.Path.{Path}
+use Rattle.sym_path.specs.declared.path.PathEnd.{PathEnd}
+use Rattle.sym_path.specs.declared.path.PathEnd.TheVariants.{Next, Ended}
+use Rattle.sym_path.specs.Changing.{GoesOn}
 use Rattle.sym_path.specs.Fitting.{SegmentFits}
 use Rattle.sym_path.specs.Admitting.{Admits}
 use Rattle.sym_path.specs.Giving.{end_at, outcomes}
@@ -25,6 +28,22 @@ CanJoin paths i k =
 abbrev pub CannotJoin : List Path → ℕ → ℕ → Type 0
 CannotJoin paths i k =
     (p q : Path) → slice_get paths i ≡ Some p → slice_get paths k ≡ Some q → Joinable p q → ⊥
+
+-- Both paths have ended, and the second one at a later record.
+abbrev pub EndsBefore : Path → Path → Type 0
+EndsBefore p q = EndBefore p.end q.end
+  where
+    EndBefore : PathEnd → PathEnd → Type 0
+    EndBefore (Next fs) (Next gs) = ⊥
+    EndBefore (Next fs) (Ended b) = ⊥
+    EndBefore (Ended a) (Next gs) = ⊥
+    EndBefore (Ended a) (Ended b) = a.no < b.no
+
+-- This many first paths have ended, each at a later record than those before it.
+pub record AreEndedInTurn (paths : List Path) (n : ℕ) : Type 0 where
+  pub ended : (i : ℕ) (p : Path) → i < n → slice_get paths i ≡ Some p → GoesOn p.end → ⊥
+  pub in_turn : (i k : ℕ) (p q : Path) → i < k → k < n →
+      slice_get paths i ≡ Some p → slice_get paths k ≡ Some q → EndsBefore p q
 
 -- Two paths are taken out, and what they become is put in before the place of the second one.
 pub record IsPairJoined (old : List Path) (first second : ℕ) (new : List Path) : Type 0 where
