@@ -240,7 +240,7 @@ module _ (p : ScriptPlan) (k : Environment) (n : ℕ) (at : Place) (t : TermPlan
       go (place.Cell c) h = set_cell p k c t h
       go (place.End c) h = push_cell p k c t h
 
-  store_fails : (x : Arith) → ready_of k t ≡ Err x → (s : State) → do_step p k (store_do at t) s ≡ Err cause.Arith
+  pub store_fails : (x : Arith) → ready_of k t ≡ Err x → (s : State) → do_step p k (store_do at t) s ≡ Err cause.Arith
   store_fails x e s = go at
     where
       go : (at : Place) → do_step p k (store_do at t) s ≡ Err cause.Arith

@@ -18,7 +18,6 @@ pub mod InPlace
 pub mod JudgedBranches
 pub mod KeptNumbers
 pub mod KnownParts
-pub mod KnownPaths
 pub mod LabelsHeld
 pub mod Limited
 pub mod PartedConnected
@@ -32,6 +31,8 @@ pub mod RunCounts
 pub mod RunLists
 pub mod Sizes
 pub mod StoredPaths
+pub mod SurePaths
+pub mod SureSteps
 pub mod TermForms
 pub mod TermRanges
 pub mod TestsHeld

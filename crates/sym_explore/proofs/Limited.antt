@@ -6,11 +6,10 @@ use Rattle.std.proofs.lemmas.List.Elements.{All-append, All-filter, All-head, Al
 use Rattle.std.proofs.lemmas.List.Filters.{length-filter_both}
 use Rattle.std.proofs.lemmas.List.Sorted.{IsPermutation-filter_both, sum_by-IsPermutation}
 use Rattle.std.proofs.lemmas.List.Sums.{sum_by-append, sum_by-cons}
-use Rattle.std.specs.List.{All, filter, sum_by}
+use Rattle.std.specs.List.{All}
 use Rattle.std.specs.Prelude.{slice_get}
 use Rattle.sym_base.specs.declared.limits.TheConstants as limit
 use Rattle.sym_base.specs.declared.values.record.Record.{Record}
-use Rattle.sym_base.specs.declared.values.state.State.{State}
 use Rattle.sym_base.specs.declared.values.state.Outcome.{Outcome}
 use Rattle.sym_base.specs.declared.values.state.Outcome.TheVariants.{Going}
 use Rattle.sym_base.specs.declared.values.state.Outcome.TheVariants as outcome
@@ -29,7 +28,6 @@ use Rattle.sym_explore.specs.declared.limiting.Extension.{Extension}
 use Rattle.sym_explore.specs.declared.limiting.Extension.TheVariants.{Fits, Over}
 use Rattle.sym_explore.specs.Counting.{dos_ended, dos_going, made_paths, most_grown, most_paths}
 use Rattle.sym_explore.specs.Ending.{AreMoved}
-use Rattle.sym_explore.specs.Faulting.{EndAmong}
 use Rattle.sym_explore.specs.Growing.{GivesAfter}
 use Rattle.sym_explore.specs.Limiting.{chosen, is_chosen, IsExtended, IsExtendedBy, IsLonger}
 use Rattle.sym_explore.specs.Parting.{AllGoOn, AreFewRun, at_state, those_ended, those_going}

@@ -29,7 +29,6 @@ use Rattle.sym_int.specs.declared.form.IntForm.TheVariants as form
 use Rattle.sym_int.specs.declared.span.Span.{Span}
 use Rattle.sym_int.specs.declared.wide.Wide.{Wide}
 use Rattle.sym_path.proofs.Changed.{faults_give}
-use Rattle.sym_path.proofs.Decided.{point_decided}
 use Rattle.sym_path.specs.Admitting.{admits}
 use Rattle.sym_path.specs.Changing.{GoesOn, changed, end_by, ended_by, with_fault}
 use Rattle.sym_path.specs.Fitting.{NumberFits, PathFits, SegmentFits, StaysWithin}
@@ -42,7 +41,7 @@ use Rattle.sym_path.specs.declared.part.Part.TheVariants as part
 use Rattle.sym_path.specs.declared.path.Path.{Path}
 use Rattle.sym_path.specs.declared.path.PathEnd.{PathEnd}
 use Rattle.sym_path.specs.declared.path.PathEnd.TheVariants.{Next, Ended}
-use Rattle.sym_explore.proofs.PathNumbers.{number_is_held, given_none, given_in, given_out, no_point, wide_at}
+use Rattle.sym_explore.proofs.PathNumbers.{number_is_held, given_none, given_in, given_out, wide_at}
 use Rattle.sym_explore.specs.Faulting.{EndAmong, FaultsCameAt, HasNumber}
 use Rattle.sym_explore.specs.Parting.{those_going}
 use Rattle.sym_explore.specs.Ranging.{IsPartPushed, IsPartedAt, IsWholeOn, NumberFitsOn, form_stored, kept_stored, ranged}

@@ -1,8 +1,7 @@
 -- A path on which the number of a term is stored at a target.
-use Rattle.std.proofs.Common.{◌≡◌, ℤ, true, List, [], ◌∷◌, Option, Some, None, map, refl, sym, ap, ◌∙◌, subst}
+use Rattle.std.proofs.Common.{◌≡◌, ℤ, List, [], ◌∷◌, Option, Some, None, map, refl, sym, ap, ◌∙◌, subst}
 use Rattle.std.specs.Option.{option_and_then, ok_or}
 use Rattle.std.specs.Prelude.{IfOk, IfSome, Result, Ok, Err}
-use Rattle.sym_base.specs.declared.values.state.Fault.{Fault}
 use Rattle.sym_base.specs.declared.values.state.FaultKind.{FaultKind}
 use Rattle.sym_base.specs.declared.values.state.FaultKind.TheVariants as cause
 use Rattle.sym_base.specs.declared.values.state.State.{State}
@@ -32,7 +31,7 @@ use Rattle.sym_explore.proofs.PathRanges.{kept_makes, map_same, none_makes, noth
 use Rattle.sym_explore.specs.Placing.{AllAreStored, IsConstantIn, TargetFits, TargetRanges, place_cell, put_at, target_stored}
 use Rattle.sym_explore.specs.Ranging.{KnownRanges, NumberFitsOn, form_stored, kept_stored, ranged}
 use Rattle.sym_explore.specs.Storing.{ReadyStores, after_store}
-use Rattle.sym_explore.specs.Terms.{IsReadyOver, ready_number}
+use Rattle.sym_explore.specs.Terms.{IsReadyOver}
 use Rattle.sym_explore.specs.declared.placing.Target.{Target}
 use Rattle.sym_explore.specs.declared.terms.Ready.{Ready}
 

@@ -2,7 +2,6 @@ pub mod Assigning
 pub mod Branches
 pub mod Calling
 pub mod Comparing
-pub mod Constants
 pub mod Counting
 pub mod Ending
 pub mod Evaluating
@@ -17,4 +16,5 @@ pub mod Ranging
 pub mod Running
 pub mod Stepping
 pub mod Storing
+pub mod Sure
 pub mod Terms

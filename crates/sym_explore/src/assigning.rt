@@ -21,6 +21,7 @@ ghost use Rattle.sym_explore.specs.Faulting.{EndAmong, EndsSo, HasNumber};
 ghost use Rattle.sym_explore.specs.Knowing.{DoIsKnown};
 ghost use Rattle.sym_explore.specs.Parting.{AllGoOn, AreFewRun, AreRun};
 ghost use Rattle.sym_explore.specs.Stepping.{Becomes, after_do};
+ghost use Rattle.sym_explore.specs.Sure.{IsSureEnd};
 
 use crate::ending::fail_all;
 use crate::forms::{add_word, put_label};
@@ -52,6 +53,7 @@ fn push_word(
         (changed (λ s. with_word s cell word.now)) path.old path.new) }
     ensures fits { OnOk result (PathFits (script_plan _plan.now) path.new) }
     ensures same { OnOk result (EndsSo path.old.end path.new.end) }
+    ensures sure { IsSureEnd path.old.end → OnOk result (IsSureEnd path.new.end) }
 {
     add_word(alloc, path, cell, Text::from_str(alloc, word)?)?;
     Ok(())
@@ -65,6 +67,7 @@ fn set_label(_plan: &Plan, cell: u16, label: u8, path: &mut Path)
         (changed (λ s. with_cell s cell (one.Enum label))) path.old path.new }
     ensures fits { PathFits (script_plan _plan.now) path.new }
     ensures same { EndsSo path.old.end path.new.end }
+    ensures sure { IsSureEnd path.old.end → IsSureEnd path.new.end }
 {
     put_label(path, cell, EnumForm::Const(label));
 }
@@ -77,6 +80,7 @@ fn copy_label(_plan: &Plan, cell: u16, from: u16, path: &mut Path)
         (changed (λ s. with_cell s cell (one.Enum (label_at s from)))) path.old path.new }
     ensures fits { PathFits (script_plan _plan.now) path.new }
     ensures same { EndsSo path.old.end path.new.end }
+    ensures sure { IsSureEnd path.old.end → IsSureEnd path.new.end }
 {
     if let Some(form) = label_form(path, from) {
         put_label(path, cell, form);
@@ -84,7 +88,7 @@ fn copy_label(_plan: &Plan, cell: u16, from: u16, path: &mut Path)
 }
 
 /// The known parts of a form, and no parts of any other.
-fn known_parts(alloc: Global, form: Option<Form>) -> Values {
+pub(crate) fn known_parts(alloc: Global, form: Option<Form>) -> Values {
     match form {
         Some(Form::Hold(HoldForm::Const(parts))) => parts,
         _ => Values::new(alloc),
@@ -115,6 +119,7 @@ fn keep_from(
         (changed (λ s. with_cell s cell (one.Hold (parts_at s from)))) path.old path.new) }
     ensures fits { OnOk result (PathFits (script_plan _plan.now) path.new) }
     ensures same { OnOk result (EndsSo path.old.end path.new.end) }
+    ensures sure { IsSureEnd path.old.end → OnOk result (IsSureEnd path.new.end) }
 {
     if let Some(form) = parts_form(path, from) {
         let form = form.copy(alloc)?;
@@ -124,7 +129,7 @@ fn keep_from(
 }
 
 /// Runs a statement after which the path goes on: a label, parts or a word are stored.
-fn change(
+pub(crate) fn change(
     alloc: Global,
     plan: &Plan,
     known: &Known,
@@ -137,9 +142,10 @@ fn change(
         (do_plan statement.now) }
     requires goes_on { GoesOn path.old.end }
     requires fits { PathFits (script_plan plan.now) path.old }
-    ensures { (n : ℕ) → OnOk result (IsChanged (script_plan plan.now)
+    ensures exact { (n : ℕ) → OnOk result (IsChanged (script_plan plan.now)
         (after_do (script_plan plan.now) (known_values known.now) n (do_plan statement.now))
         path.old path.new) }
+    ensures sure { IsSureEnd path.old.end → OnOk result (IsSureEnd path.new.end) }
 {
     match statement {
         Do::SetEnum(cell, label) => set_label(plan, *cell, known.label(label), path),

@@ -73,7 +73,7 @@ fn split_test(
 }
 
 /// What a test on a hold cell comes to on a path.
-enum Tested {
+pub(crate) enum Tested {
     /// The test's answer for known parts.
     Known(bool),
     /// The parts are those that the cell with this number held before the path.
@@ -83,7 +83,7 @@ enum Tested {
 }
 
 /// What a test comes to on a path.
-fn test_on(plan: &Plan, test: u16, cell: u16, args: &Values, path: &Path) -> Tested
+pub(crate) fn test_on(plan: &Plan, test: u16, cell: u16, args: &Values, path: &Path) -> Tested
     requires known { IsWellFormed (script_plan plan.now) }
     ensures { IsTested (script_plan plan.now) test args.now (form_of path.now.end cell) result }
 {

@@ -80,7 +80,7 @@ fn called(
 }
 
 /// Evaluates the expressions of a condition that isn't connected.
-fn evaluate(
+pub(crate) fn evaluate(
     alloc: Global,
     plan: &Plan,
     known: &Known,

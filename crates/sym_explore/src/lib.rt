@@ -10,7 +10,6 @@ mod conditions;
 mod ending;
 mod extending;
 mod forms;
-mod knowing;
 mod labels;
 pub mod laws;
 mod limiting;
@@ -19,7 +18,9 @@ mod parting;
 mod placing;
 mod ranging;
 mod statements;
+mod stepping;
 mod storing;
+mod sure;
 mod terms;
 
 pub use extending::{Grown, extend, fresh, fresh_with, grow, grow_with};

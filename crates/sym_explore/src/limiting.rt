@@ -1,18 +1,21 @@
 //! Segments that are taken a record further where a limit of paths allows it.
+ghost use Rattle.std.specs.List.{All};
 ghost use Rattle.std.specs.Prelude.{◌≡◌, ◌≤◌, true, false, IfOk, IsTrue, length};
 ghost use Rattle.sym_check.specs.Checking.CheckedScripts.{checked_plan};
 ghost use Rattle.sym_check.specs.Meaning.Validity.{IsRecord};
+ghost use Rattle.sym_path.specs.declared.path.Path.{Path as OnePath};
 ghost use Rattle.sym_path.specs.Fitting.{SegmentFits};
-ghost use Rattle.sym_explore.specs.Constants.{IsKnownAfter};
 ghost use Rattle.sym_explore.specs.Counting.{most_grown, most_paths};
-ghost use Rattle.sym_explore.specs.Limiting.{IsExtended, IsExtendedBy, chosen, is_chosen};
+ghost use Rattle.sym_explore.specs.Limiting.{IsExtended, IsExtendedBy, IsLonger, chosen, is_chosen};
+ghost use Rattle.sym_explore.specs.Sure.{IsSureEnd};
 
 use crate::extending::explore_each;
-use crate::knowing::known_after;
+use crate::stepping::step_each;
+use crate::sure::all_end_sure;
 use std::alloc::Global;
 use sym_base::{NoMemory, Record};
 use sym_check::Checked;
-use sym_path::{Composition, Path, Segment, compose_within, settle};
+use sym_path::{Path, Segment, settle};
 use sym_plain::Buffers;
 
 /// A segment that was taken a record further, if the limit of paths allows it.
@@ -149,36 +152,37 @@ fn extend_copied(
     extend_by(alloc, segment, grown, limit)
 }
 
-/// The same of a segment after which the cells are known: what the record makes of them is
-/// explored, and then comes after the segment's paths, which are moved.
-fn extend_known(
+/// The segment taken a record further, where each path has ended or its cells are known: each makes
+/// the step of a group where it stands, and stays one path.
+fn extend_sure(
     alloc: Global,
     checked: &Checked,
     segment: Segment,
-    known: Path,
     rec: &Record,
-    limit: u32,
     buffers: &mut Buffers,
-) -> Result<Extension, NoMemory>
+) -> Result<Segment, NoMemory>
     requires fits { SegmentFits (checked_plan checked.now) segment }
-    requires known { IsKnownAfter (checked_plan checked.now) segment known }
+    requires sure { All (λ (path : OnePath). IsSureEnd path.end) segment }
     requires rec { IsRecord (checked_plan checked.now) rec.now }
-    ensures { IfOk result (IsExtended (checked_plan checked.now) rec.now segment limit) }
+    ensures longer { IfOk result (IsLonger (checked_plan checked.now) rec.now segment) }
+    ensures few { IfOk result (λ longer. length longer ≤ length segment) }
 {
-    let mut paths = Vec::new(alloc);
-    paths.push(known)?;
-    let step = explore_each(alloc, checked.plan(), rec, buffers, paths)?;
-    match compose_within(alloc, checked, segment, Segment::of(step), limit)? {
-        Composition::One(longer) => Ok(Extension::Fits(longer)),
-        Composition::Apart(segment, _step) => {
-            extend_copied(alloc, checked, segment, rec, limit, buffers)
-        }
-    }
+    let mut paths = segment.into_vec();
+    step_each(alloc, checked.plan(), rec, buffers, &mut paths)?;
+    settle(alloc, paths)
+}
+
+/// Whether there are no more paths than the limit says, each of which has ended or has known cells.
+fn stays_within(paths: &[Path], limit: u32) -> bool
+    ensures few { IsTrue result → length paths.now ≤ limit }
+    ensures sure { IsTrue result → All (λ (path : OnePath). IsSureEnd path.end) paths.now }
+{
+    paths.len() <= limit as usize && all_end_sure(paths)
 }
 
 /// `grow_with` if the longer segment is within the limit; else the segment is given back as it was.
-/// The paths are changed where they lie if the path bound keeps them within the limit. Else those
-/// that go on are copied before, unless their cells are known. After an `Err` the segment is
+/// The paths are changed where they lie if their cells are known, or the path bound keeps them
+/// within the limit. Else those that go on are copied before. After an `Err` the segment is
 /// dropped.
 pub fn extend_within(
     alloc: Global,
@@ -192,13 +196,14 @@ pub fn extend_within(
     requires rec { IsRecord (checked_plan checked.now) rec.now }
     ensures { IfOk result (IsExtended (checked_plan checked.now) rec.now segment limit) }
 {
+    if stays_within(segment.paths(), limit) {
+        let longer = extend_sure(alloc, checked, segment, rec, buffers)?;
+        return Ok(Extension::Fits(longer));
+    }
     let plan = checked.plan();
     if surely_fit(segment.paths(), checked.path_bound(), limit) {
         let grown = explore_each(alloc, plan, rec, buffers, segment.into_vec())?;
         return Ok(Extension::Fits(settle(alloc, grown)?));
     }
-    match known_after(alloc, checked, segment.paths())? {
-        Some(known) => extend_known(alloc, checked, segment, known, rec, limit, buffers),
-        None => extend_copied(alloc, checked, segment, rec, limit, buffers),
-    }
+    extend_copied(alloc, checked, segment, rec, limit, buffers)
 }

@@ -1,10 +1,12 @@
 //! Numbers that are put into the cells of paths.
-ghost use Rattle.std.specs.Prelude.{◌≡◌, OnOk};
+ghost use Rattle.std.specs.Prelude.{◌≡◌, None, OnOk};
+ghost use Rattle.sym_int.specs.Lines.{form_cell};
 ghost use Rattle.sym_check.specs.Plan.ScriptPlans.{script_plan};
 ghost use Rattle.sym_path.specs.Changing.{GoesOn};
 ghost use Rattle.sym_path.specs.Fitting.{PathFits};
 ghost use Rattle.sym_explore.specs.Placing.{IsPut, PlaceFits, place_cell};
 ghost use Rattle.sym_explore.specs.Ranging.{NumberFitsCell};
+ghost use Rattle.sym_explore.specs.Sure.{IsSureEnd};
 
 use crate::forms::{add_number, put_number};
 use std::alloc::Global;
@@ -59,6 +61,8 @@ pub(crate) fn put(
     ensures gives { OnOk result (IsPut (script_plan _plan.now) place form path.old path.new) }
     ensures fits { OnOk result (PathFits (script_plan _plan.now) path.new) }
     ensures next { OnOk result (GoesOn path.new.end) }
+    ensures sure { form_cell form ≡ None → IsSureEnd path.old.end →
+        OnOk result (IsSureEnd path.new.end) }
 {
     match place {
         Place::Cell(cell) => {

@@ -28,7 +28,7 @@ use sym_path::Path;
 
 /// A path on which the number is known goes on with what the target's range keeps of it; where that
 /// is nothing, it ends.
-fn range_known(target: &Target, number: &WideNumber, path: &mut Path) -> Option<IntForm>
+pub(crate) fn range_known(target: &Target, number: &WideNumber, path: &mut Path) -> Option<IntForm>
     requires { GoesOn path.old.end }
     ensures { KnownRanges (kept (ranged target.now.clamps target.now.ends) number.now.value)
         target.now.fault path.old path.new result }

@@ -44,7 +44,7 @@ fn span_of_range(range: &Range) -> Span
 }
 
 /// The place with the range of its cell.
-fn target_of(plan: &Plan, no: u64, place: Place) -> Target
+pub(crate) fn target_of(plan: &Plan, no: u64, place: Place) -> Target
     requires known { IsWellFormed (script_plan plan.now) }
     requires place { PlaceFits (script_plan plan.now) place }
     ensures fits { TargetFits (script_plan plan.now) result }

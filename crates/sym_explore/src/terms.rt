@@ -29,7 +29,7 @@ pub(crate) fn ready_of(known: &Known, term: &Term) -> Result<Ready, Arith>
 }
 
 /// The form of the integer cell with this number; `None` where there is none, as after a fault.
-fn number_form(path: &Path, cell: u16) -> Option<IntForm>
+pub(crate) fn number_form(path: &Path, cell: u16) -> Option<IntForm>
     ensures { result ≡ number_form path.now cell }
 {
     match path.form(cell) {

@@ -26,7 +26,7 @@ pub paths-preserved : goal.paths-preserved
 paths-preserved c = λ n.
     let R : Path → Path → Type 0 = IsChanged (script_plan c.args.plan.now) (after_do (script_plan c.args.plan.now) (known_values c.args.known.now) n (do_plan c.args.statement.now)) in
     let below : c.paths.path-index < length c.paths.paths = omega (arith, Changed-length R _ _ c.paths.path-index (c.paths.invariant n)) in
-    Changed-next R _ _ c.paths.path-index c.path-item.result c.change.new.path below (c.in_ok-change.ensures n) (c.paths.invariant n)
+    Changed-next R _ _ c.paths.path-index c.path-item.result c.change.new.path below (c.in_ok-change.ensures.exact n) (c.paths.invariant n)
 
 pub returns : goal.returns
 returns c = λ n.

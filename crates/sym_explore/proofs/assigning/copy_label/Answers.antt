@@ -11,6 +11,8 @@ use Rattle.sym_path.specs.Giving.{given}
 use Rattle.sym_explore.proofs.AssignedForms.{label_copied, label_form_is}
 use Rattle.sym_explore.proofs.AssignedFits.{label_copy_fits}
 use Rattle.sym_explore.proofs.AssignedNowhere.{ended_stays, no_label}
+use Rattle.sym_explore.proofs.SureSteps.{form_sure}
+use Rattle.sym_explore.specs.Sure.{IsSureEnd}
 use Rattle.sym_explore.proofs.assigning.copy_label.Goals as goal
 
 pub returns-in-Some-clause-exact : goal.returns-in-Some-clause-exact
@@ -33,3 +35,9 @@ returns-in_default-clause-exact c =
     let p = script_plan c.args._plan.now in
     let path : Path = c.args.path.now in
     ended_stays p (changed (λ t. with_cell t c.args.cell (one.Enum (label_at t c.args.from)))) path (λ fault. refl) (no_label p path c.args.cell c.args.from c.requires.fits c.requires.cells (sym c.label_form.ensures ∙ c.in_default.is))
+
+pub returns-in-Some-clause-sure : goal.returns-in-Some-clause-sure
+returns-in-Some-clause-sure c = λ sure.
+    let path : Path = c.args.path.now in
+    let at : form_of path.end c.args.from ≡ Some (form.Enum c.in-Some.form) = label_form_is path c.args.from c.in-Some.form (sym c.in-Some.ensures) in
+    subst (λ (q : Path). IsSureEnd q.end) (sym c.put_label.ensures) (form_sure c.args.cell (form.Enum c.in-Some.form) path.end (sure c.args.from (form.Enum c.in-Some.form) at) sure)

@@ -13,6 +13,8 @@ use Rattle.sym_explore.specs.Assigning.{parts_form}
 use Rattle.sym_explore.proofs.AssignedForms.{parts_copied, parts_form_is}
 use Rattle.sym_explore.proofs.AssignedFits.{parts_copy_fits}
 use Rattle.sym_explore.proofs.AssignedNowhere.{ended_stays, no_parts}
+use Rattle.sym_explore.proofs.SureSteps.{form_sure}
+use Rattle.sym_explore.specs.Sure.{IsSureEnd}
 use Rattle.sym_explore.proofs.assigning.keep_from.Goals as goal
 
 pub returns-in_ok-form-clause-exact : goal.returns-in_ok-form-clause-exact
@@ -40,3 +42,11 @@ returns-in_default-clause-exact c =
     let path : Path = c.args.path.now in
     let none : parts_form path c.args.from ≡ None = sym c.in_default.ensures in
     ended_stays p (changed (λ t. with_cell t c.args.cell (one.Hold (parts_at t c.args.from)))) path (λ fault. refl) (no_parts p path c.args.cell c.args.from c.requires.fits c.requires.cells none)
+
+pub returns-in_ok-form-clause-sure : goal.returns-in_ok-form-clause-sure
+returns-in_ok-form-clause-sure c = λ sure.
+    let path : Path = c.args.path.now in
+    let f : HoldForm = c.in-Some.form.now in
+    let at : form_of path.end c.args.from ≡ Some (form.Hold f) = parts_form_is path c.args.from f (sym c.in-Some.ensures) in
+    let new : c.set_form.new.self ≡ with_form path c.args.cell (form.Hold f) = c.set_form.ensures.new ∙ ap (λ (g : HoldForm). with_form path c.args.cell (form.Hold g)) c.in_ok-form.ensures in
+    subst (λ (q : Path). IsSureEnd q.end) (sym new) (form_sure c.args.cell (form.Hold f) path.end (sure c.args.from (form.Hold f) at) sure)

@@ -8,6 +8,8 @@ use Rattle.sym_path.specs.Giving.{given}
 use Rattle.sym_explore.specs.Assigning.{added_words, one_word_more}
 use Rattle.sym_explore.proofs.AssignedForms.{word_pushed}
 use Rattle.sym_explore.proofs.AssignedFits.{words_fit}
+use Rattle.sym_explore.proofs.SureSteps.{form_sure}
+use Rattle.sym_explore.specs.Sure.{IsSureEnd}
 use Rattle.sym_explore.proofs.assigning.push_word.Goals as goal
 
 pub returns-clause-exact : goal.returns-clause-exact
@@ -28,3 +30,8 @@ returns-clause-fits c =
     let k : ℕ = c.args.cell in
     let more : List (List ℕ) = added_words (form_of path.end k) ++ c.in_ok-from_str.field-0 ∷ [] in
     subst (λ (q : Path). PathFits p q) (sym c.in_ok-add_word.ensures) (words_fit p path k more c.requires.fits c.requires.cell)
+
+pub returns-clause-sure : goal.returns-clause-sure
+returns-clause-sure c = λ sure.
+    let path : Path = c.args.path.now in
+    subst (λ (q : Path). IsSureEnd q.end) (sym c.in_ok-add_word.ensures) (form_sure c.args.cell (one_word_more (form_of path.end c.args.cell) c.in_ok-from_str.field-0) path.end tt sure)

@@ -1,7 +1,6 @@
-use Rattle.std.proofs.Common.{◌≡◌, None, Some}
+use Rattle.std.proofs.Common.{◌≡◌, Some}
 use Rattle.std.specs.Prelude.{slice_get}
 use Rattle.sym_check.specs.Plan.ScriptPlans.{ScriptPlan, script_plan}
-use Rattle.sym_int.specs.declared.form.IntForm.{IntForm}
 use Rattle.sym_path.specs.Changing.{GoesOn}
 use Rattle.sym_path.specs.Fitting.{PathFits}
 use Rattle.sym_path.specs.Standing.{EndsAmong}

@@ -1,13 +1,12 @@
-use Rattle.std.proofs.Common.{◌≡◌, ◌≤◌, ◌∙◌, false, List, length, sym, ap, subst}
+use Rattle.std.proofs.Common.{◌≡◌, ◌∙◌, false, List, sym, ap, subst}
 use Rattle.std.proofs.lemmas.List.Elements.{All-filter}
 use Rattle.sym_check.specs.Checking.CheckedScripts.{checked_plan}
 use Rattle.sym_check.specs.Plan.ScriptPlans.{ScriptPlan, script_plan}
 use Rattle.sym_path.specs.declared.path.Path.{Path}
 use Rattle.sym_path.specs.Fitting.{PathFits, SegmentFits}
-use Rattle.sym_explore.specs.Counting.{made_paths, most_grown}
 use Rattle.sym_explore.specs.Limiting.{chosen, is_chosen}
 use Rattle.sym_explore.proofs.Extended.{explored_of, record_of, small_of, when_answered}
-use Rattle.sym_explore.proofs.Limited.{explored_apart, extended_from, is_longer, settled_within}
+use Rattle.sym_explore.proofs.Limited.{explored_apart, extended_from}
 use Rattle.sym_explore.proofs.limiting.extend_copied.Goals as goal
 
 pub explore_each-requires-clause-rec : goal.explore_each-requires-clause-rec

@@ -1,13 +1,10 @@
-use Rattle.std.proofs.Common.{◌≡◌, ◌≤◌, ◌∙◌, false, List, length, sym, ap, subst}
-use Rattle.std.proofs.lemmas.List.Elements.{All-filter}
+use Rattle.std.proofs.Common.{◌≡◌, ◌≤◌, List, length, subst}
 use Rattle.sym_check.specs.Checking.CheckedScripts.{checked_plan}
 use Rattle.sym_check.specs.Plan.ScriptPlans.{ScriptPlan, script_plan}
 use Rattle.sym_path.specs.declared.path.Path.{Path}
-use Rattle.sym_path.specs.Fitting.{PathFits, SegmentFits}
 use Rattle.sym_explore.specs.Counting.{made_paths, most_grown}
-use Rattle.sym_explore.specs.Limiting.{chosen, is_chosen}
-use Rattle.sym_explore.proofs.Extended.{explored_of, record_of, small_of, when_answered}
-use Rattle.sym_explore.proofs.Limited.{explored_apart, extended_from, is_longer, settled_within}
+use Rattle.sym_explore.proofs.Extended.{explored_of, record_of, small_of}
+use Rattle.sym_explore.proofs.Limited.{is_longer, settled_within}
 use Rattle.sym_explore.proofs.limiting.extend_within.Goals as goal
 
 pub explore_each-requires-clause-rec : goal.explore_each-requires-clause-rec
@@ -30,7 +27,7 @@ returns-then-surely_fit c =
     subst (λ (ps : List Path). length grown ≤ most_grown (made_paths p) ps) c.into_vec.ensures
     (subst (λ (plan : ScriptPlan). length grown ≤ most_grown (made_paths plan) c.into_vec.result.items) same c.in_ok-grown.ensures.each_few) in
     let within : most_grown c.path_bound.result old ≤ c.args.limit =
-    subst (λ (ps : List Path). most_grown c.path_bound.result ps ≤ c.args.limit) c.paths.ensures (c.surely_fit.ensures c.if-surely_fit.true) in (
+    subst (λ (ps : List Path). most_grown c.path_bound.result ps ≤ c.args.limit) c.paths-2.ensures (c.surely_fit.ensures c.if-surely_fit.true) in (
       is_longer p c.args.rec.now old grown new small explored c.in_ok-settle.ensures,
       settled_within p old grown new c.path_bound.result c.args.limit small c.path_bound.ensures.bound few c.in_ok-settle.ensures within,
     )

@@ -1,5 +1,4 @@
 use Rattle.std.proofs.Common.{◌≡◌, true, sym}
-use Rattle.sym_path.specs.Changing.{GoesOn}
 use Rattle.sym_explore.proofs.Limited.{ended_most, going_most}
 use Rattle.sym_explore.proofs.limiting.most_of.Goals as goal
 

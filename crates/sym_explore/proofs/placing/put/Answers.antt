@@ -14,6 +14,8 @@ use Rattle.sym_explore.proofs.AssignedFits.{number_fits, numbers_fit}
 use Rattle.sym_explore.proofs.AssignedLists.{on_ok}
 use Rattle.sym_explore.proofs.AssignedPaths.{form_goes}
 use Rattle.sym_explore.proofs.StoredPaths.{cell_put, end_put}
+use Rattle.sym_explore.proofs.SureSteps.{form_sure}
+use Rattle.sym_explore.specs.Sure.{IsSureEnd}
 use Rattle.sym_explore.proofs.placing.put.Goals as goal
 
 pub returns-in-Cell-clause-gives : goal.returns-in-Cell-clause-gives
@@ -58,4 +60,15 @@ returns-in-End-clause-next c =
     let old : Path = c.args.path.now in
     on_ok c.add_number.result
     (λ is. subst (λ (q : Path). GoesOn q.end) (sym is) (form_goes c.in-End.cell (one_number_more (form_of old.end c.in-End.cell) c.args.form) old.end c.requires.number.on.goes_on))
+    c.add_number.ensures
+
+pub returns-in-Cell-clause-sure : goal.returns-in-Cell-clause-sure
+returns-in-Cell-clause-sure c = λ constant sure.
+    subst (λ (q : Path). IsSureEnd q.end) (sym c.put_number.ensures) (form_sure c.in-Cell.cell (form.Int c.args.form) c.args.path.now.end constant sure)
+
+pub returns-in-End-clause-sure : goal.returns-in-End-clause-sure
+returns-in-End-clause-sure c = λ constant sure.
+    let old : Path = c.args.path.now in
+    on_ok c.add_number.result
+    (λ is. subst (λ (q : Path). IsSureEnd q.end) (sym is) (form_sure c.in-End.cell (one_number_more (form_of old.end c.in-End.cell) c.args.form) old.end tt sure))
     c.add_number.ensures

@@ -4,7 +4,6 @@ use Rattle.sym_base.specs.declared.values.state.Outcome.{Outcome}
 use Rattle.sym_check.specs.Plan.ScriptPlans.{ScriptPlan, script_plan}
 use Rattle.sym_vector.proofs.ListsLemmas.{written_back}
 use Rattle.sym_path.specs.Changing.{GoesOn}
-use Rattle.sym_path.specs.Fitting.{PathFits, SegmentFits}
 use Rattle.sym_path.specs.declared.path.Path.{Path}
 use Rattle.sym_explore.specs.Ending.{AreParted}
 use Rattle.sym_explore.specs.Parting.{AllGoOn}

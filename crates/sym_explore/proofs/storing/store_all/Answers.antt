@@ -1,5 +1,4 @@
 use Rattle.std.proofs.Common.{true, false, ◌∙◌, sym, subst}
-use Rattle.std.specs.Prelude.{Ok}
 use Rattle.sym_check.specs.Meaning.Fitting.{FitsFault}
 use Rattle.sym_check.specs.Meaning.FixedValues.{Environment}
 use Rattle.sym_check.specs.Checking.KnownValues.{known_values}
