@@ -1,5 +1,5 @@
 //! Runs through forms of the tests' own.
-ghost use Rattle.std.specs.Prelude.{[], ◌∷◌, codes};
+ghost use Rattle.std.specs.Prelude.{◌≡◌, [], ◌∷◌, codes};
 
 use crate::runs::BY_USER;
 use std::alloc::Global;
