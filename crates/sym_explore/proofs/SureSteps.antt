@@ -4,6 +4,7 @@ use Rattle.std.proofs.Math.Nat.{mul-le-mul_left}
 use Rattle.std.proofs.lemmas.Simd.{map-map}
 use Rattle.std.proofs.lemmas.List.Elements.{All-cons, All-head, All-nil, All-tail}
 use Rattle.std.proofs.lemmas.List.{map-append}
+use Rattle.std.proofs.lemmas.List.Sums.{sum_by-cons}
 use Rattle.std.specs.List.{All, AllZip}
 use Rattle.std.specs.Prelude.{slice_get, slice_set, if◌then◌else◌, Result, Ok, Err}
 use Rattle.sym_base.specs.Tests.{Truth}
@@ -56,7 +57,7 @@ use Rattle.sym_explore.proofs.PathRanges.{map_same}
 use Rattle.sym_explore.proofs.RunLists.{after_then, after_update}
 use Rattle.sym_explore.proofs.StoredPaths.{store_is}
 use Rattle.sym_explore.proofs.TermRanges.{known_ranges, ready_ranges}
-use Rattle.sym_explore.specs.Counting.{made_paths}
+use Rattle.sym_explore.specs.Counting.{made_paths, most_grown, most_paths}
 use Rattle.sym_explore.specs.Ending.{IsChanged}
 use Rattle.sym_explore.specs.Faulting.{EndAmong, EndsSo, HasNumber}
 use Rattle.sym_explore.specs.Knowing.{DoIsKnown}
@@ -320,3 +321,21 @@ sure_explored p rec old new h = record {
       omega (arith, same, more);
   faults = λ records has ends. all_came p rec records has old new h ends;
 }
+
+-- There are no more than any bound on what each becomes allows.
+pub sure_each_few : (p : ScriptPlan) (rec : Record) (old new : List Path) → AllZip (IsSteppedOn p rec) old new → length new ≤ most_grown (made_paths p) old
+sure_each_few p rec old new h =
+    let same = zip_length (IsSteppedOn p rec) old new h in
+    omega (arith, same, at_least (made_paths p) (omega (arith, updates_go_on p.cells p.update)) old)
+  where
+    one_of : (most : ℕ) → 1 ≤ most → (end : PathEnd) → 1 ≤ most_paths end most
+    one_of most some (Next forms) = some
+    one_of most some (Ended fault) = omega arith
+
+    at_least : (most : ℕ) → 1 ≤ most → (xs : List Path) → length xs ≤ most_grown most xs
+    at_least most some [] = omega arith
+    at_least most some (x ∷ xs) =
+        let first = one_of most some x.end in
+        let rest = at_least most some xs in
+        let sum = sum_by-cons (λ (path : Path). most_paths path.end most) x xs in
+        omega (arith, first, rest, sum)

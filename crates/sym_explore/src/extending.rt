@@ -16,6 +16,8 @@ ghost use Rattle.sym_explore.specs.Growing.{GivesAfter, grown_paths, IsToldBy};
 use crate::ending::take_going;
 use crate::moving::move_all;
 use crate::statements::run_block;
+use crate::stepping::step_each;
+use crate::sure::all_end_sure;
 use std::alloc::Global;
 use sym_base::{NoMemory, Record};
 use sym_check::{Checked, Plan};
@@ -43,7 +45,8 @@ impl Grown {
     }
 }
 
-/// Takes paths through the update of a record. Those that have ended stay as they are.
+/// Takes paths through the update of a record. Those that have ended stay as they are. Where the
+/// cells of all others are known, each makes the step of a group where it lies.
 pub(crate) fn explore_each(
     alloc: Global,
     plan: &Plan,
@@ -65,6 +68,10 @@ pub(crate) fn explore_each(
         EndAmong records paths.items → IfOk result (λ new. EndAmong records new.items) }
 {
     let mut ended = paths;
+    if all_end_sure(&ended) {
+        step_each(alloc, plan, rec, buffers, &mut ended)?;
+        return Ok(ended);
+    }
     let mut going = take_going(alloc, &mut ended)?;
     shorten(alloc, &mut buffers.locals, 0);
     run_block(
