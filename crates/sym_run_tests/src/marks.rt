@@ -91,9 +91,9 @@ fn call_with(
     is_full: bool,
 ) -> Result<Status, NoMemory> {
     let mut err = MemSink::new(alloc, 100);
-    let mut forms: Vec<Box<dyn ReportForm>> = Vec::new(alloc);
-    forms.push(Box::new(alloc, Marks::new(alloc, b'.', is_full))?)?;
-    forms.push(Box::new(alloc, Marks::new(alloc, b'!', false))?)?;
+    let first: Box<dyn ReportForm> = Box::new(alloc, Marks::new(alloc, b'.', is_full))?;
+    let second: Box<dyn ReportForm> = Box::new(alloc, Marks::new(alloc, b'!', false))?;
+    let forms = Vec::from_array(alloc, [first, second])?;
     Ok(symple(alloc, words, store, out, &mut err, forms))
 }
 

@@ -222,10 +222,10 @@ pub(crate) fn call(
     out: &mut MemSink,
     err: &mut MemSink,
 ) -> Result<Status, NoMemory> {
-    let mut forms: Vec<Box<dyn ReportForm>> = Vec::new(alloc);
-    forms.push(Box::new(alloc, TableForm::new(alloc))?)?;
-    forms.push(Box::new(alloc, CsvForm::new(alloc))?)?;
-    forms.push(Box::new(alloc, PairsForm::new(alloc))?)?;
+    let table: Box<dyn ReportForm> = Box::new(alloc, TableForm::new(alloc))?;
+    let csv: Box<dyn ReportForm> = Box::new(alloc, CsvForm::new(alloc))?;
+    let pairs: Box<dyn ReportForm> = Box::new(alloc, PairsForm::new(alloc))?;
+    let forms = Vec::from_array(alloc, [table, csv, pairs])?;
     Ok(symple(alloc, words, store, out, err, forms))
 }
 
