@@ -1,6 +1,5 @@
 -- The run of a round, and the groups that it is applied to.
-use Rattle.std.proofs.Common.{◌≡◌, ◌∙◌, refl, sym, ap, subst, ℕ, ◌<◌, List, ◌++◌, length, get_or, Some, Result, Ok, Err, slice_get}
-use Rattle.std.proofs.lemmas.Option.{slice_get_read}
+use Rattle.std.proofs.Common.{◌≡◌, ◌∙◌, refl, sym, ap, subst, ℕ, List, ◌++◌, length, Result, Ok, Err, IfOk}
 use Rattle.sym_base.specs.declared.values.record.Record.{Record}
 use Rattle.sym_base.specs.declared.values.value.Key.{Key}
 use Rattle.sym_base.specs.declared.values.state.Outcome.{Outcome}
@@ -14,7 +13,7 @@ use Rattle.sym_run.specs.declared.runs.Applied.{Applied}
 use Rattle.sym_run.specs.declared.runs.Applied.TheVariants as applied
 use Rattle.sym_run.specs.declared.runs.Run.{Run}
 use Rattle.sym_run.specs.Applying.{AreValid, IfDone, applied_to, bad_of}
-use Rattle.sym_run.specs.Runs.{GroupsStandFor}
+use Rattle.sym_run.specs.Runs.{GroupsStandFor, IsFromTo, StandsForChunks}
 use Rattle.sym_run.proofs.AppliedRuns.{applied_all}
 use Rattle.sym_engine.specs.Rounds.{StandsForAll, round_records}
 use Rattle.sym_engine.specs.Taking.{ArePassedBy}
@@ -23,11 +22,12 @@ use Rattle.sym_engine.proofs.Folds.{plain_chunks}
 abbrev Pairs : Type 0
 Pairs = List (Key × Outcome)
 
--- The chunk at a place, by the list that the code goes over.
-pub chunk_at : (cuts items : List Chunk) (k : ℕ) (cut : Chunk) → items ≡ cuts → k < length items → cut ≡ get_or items k cut → slice_get cuts k ≡ Some cut
-chunk_at cuts items k cut same h e =
-    let P : List Chunk → Type 0 = λ xs. slice_get xs k ≡ Some cut in
-    subst P same (slice_get_read items (length items) k cut refl h e)
+-- The run of all chunks, by the list that the code goes over.
+pub round_run : {E : Type 0} (p : ScriptPlan) (limit : ℕ) (cuts items : List Chunk) (r : Result Run E) → items ≡ cuts
+    → IfOk r (IsFromTo 0 (length items)) → IfOk r (StandsForChunks p limit items) → IfOk r (StandsForAll p limit cuts)
+round_run p limit cuts items (Ok made) same ends stands =
+    let P : List Chunk → Type 0 = λ xs. StandsForAll p limit xs made in subst P same (record { ends = ends; stands = stands })
+round_run p limit cuts items (Err e) same ends stands = tt
 
 -- ---- the groups after a run
 -- What the groups come to where all rows of the round are records.
