@@ -1,0 +1,2 @@
+" Scripts of symple.
+autocmd BufRead,BufNewFile *.symple setfiletype symple
