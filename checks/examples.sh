@@ -111,7 +111,7 @@ run_command() {
 # Builds the program where it has to be built, so that no command shows what a build says.
 ./symple run examples/counter.symple examples/counter.csv >/dev/null || exit 1
 
-for document in README.md docs/LANGUAGE.md; do
+for document in README.md docs/LANGUAGE.md docs/FORMS.md docs/TOOLS.md; do
     if [ -e "$document" ]; then
         run_document "$document"
     fi

@@ -1,0 +1,374 @@
+#!/bin/sh
+# Whether what stands beside the program speaks of this program: the manual page, the completions
+# and the highlighting of share, and install.sh.
+# - The commands, options, forms and ranges that they name are those that the program takes.
+# - The keywords, the functions of a report, the statuses and the messages are those of the sources.
+# - Each file is read by its own tool: mandoc, bash, zsh, fish, vim. What isn't installed is named,
+#   and what it would try is left out.
+# The last line counts what passed and failed.
+set -u
+
+here=$(CDPATH='' cd -P "$(dirname "$0")" && pwd)
+root=$(dirname "$here")
+cd "$root" || exit 1
+
+work=$(mktemp -d) || exit 1
+trap 'rm -rf "$work"' EXIT
+trap 'exit 1' HUP INT TERM
+
+manual=share/man/symple.1
+bash_words=share/completions/symple.bash
+zsh_words=share/completions/_symple
+fish_words=share/completions/symple.fish
+vim_words=share/vim/syntax/symple.vim
+grammar=share/textmate/symple.tmLanguage.json
+script=examples/counter.symple
+log=examples/counter.csv
+
+passed=0
+failed=0
+
+note() {
+    if [ "$1" -eq 0 ]; then
+        passed=$((passed + 1))
+    else
+        failed=$((failed + 1))
+        echo "checks/share.sh: $2" >&2
+    fi
+}
+
+# Whether a tool is there; one that isn't is told.
+has() {
+    command -v "$1" >/dev/null && return
+    echo "checks/share.sh: no $1: $2 isn't tried" >&2
+    return 1
+}
+
+# same NAME WANTED FOUND: two files with the same lines, in any order.
+same() {
+    sort -u "$2" >"$work/wanted"
+    sort -u "$3" >"$work/found"
+    if ! diff "$work/wanted" "$work/found" >"$work/difference"; then
+        cat "$work/difference" >&2
+        note 1 "$1"
+    else
+        note 0
+    fi
+}
+
+# The program's status for these arguments.
+status_of() {
+    ./symple "$@" >/dev/null 2>&1 </dev/null
+    echo $?
+}
+
+# The commands, options and forms of each file, one a line: `run`, `run --chunk`, `--form csv`.
+
+manual_words() {
+    awk '
+        /^\.Sh / { heading = $2 }
+        heading == "SYNOPSIS" && /^\.Cm / { command = $2; print command }
+        heading == "SYNOPSIS" && /^\.Op Fl -/ { print command " -" $3 }
+        heading == "DESCRIPTION" && /^\.It Fl -form/ { inside = 1; next }
+        /^\.It / { inside = 0 }
+        inside && /^\.Cm / { print "--form " $2 }
+    ' "$manual"
+}
+
+fish_file_words() {
+    awk '
+        /-n __symple_command -a/ {
+            for (i = 1; i <= NF; i++)
+                if ($i == "-a")
+                    print $(i + 1)
+        }
+        /-n \$is_[a-z]+ -l / {
+            match($0, /is_[a-z]+ -l [a-z-]+/)
+            count = split(substr($0, RSTART + 3, RLENGTH - 3), words, " ")
+            print words[1] " --" words[count]
+        }
+        /-l form / {
+            match($0, /-a \047[a-z ]*\047/)
+            count = split(substr($0, RSTART + 4, RLENGTH - 5), forms, " ")
+            for (i = 1; i <= count; i++)
+                print "--form " forms[i]
+        }
+    ' "$fish_words"
+}
+
+bash_file_words() {
+    awk '
+        /^ +[a-z]+\) echo --/ {
+            command = $1
+            sub(/\)/, "", command)
+            for (i = 3; i < NF; i++)
+                print command " " $i
+        }
+        match($0, /compgen -W "[a-z ]+"/) {
+            count = split(substr($0, RSTART + 12, RLENGTH - 13), words, " ")
+            for (i = 1; i <= count; i++)
+                print (/"\$current"/ && words[1] == "run" ? "" : "--form ") words[i]
+        }
+    ' "$bash_words"
+}
+
+zsh_file_words() {
+    awk '
+        /^ +\047[a-z]+:/ { match($0, /[a-z]+:/); print substr($0, RSTART, RLENGTH - 1) }
+        /^    path_options=/ { shared = 1 }
+        shared && match($0, /--[a-z-]+/) { options[++many] = substr($0, RSTART, RLENGTH); next }
+        /^    \)/ { shared = 0 }
+        /^ +[a-z]+\)$/ { command = $1; sub(/\)/, "", command) }
+        /_arguments -S \$path_options/ {
+            for (i = 1; i <= many; i++)
+                print command " " options[i]
+        }
+        match($0, /\047--[a-z-]+/) { print command " " substr($0, RSTART + 1, RLENGTH - 1) }
+        match($0, /:form:\([a-z ]+\)/) {
+            count = split(substr($0, RSTART + 7, RLENGTH - 8), forms, " ")
+            for (i = 1; i <= count; i++)
+                print "--form " forms[i]
+        }
+    ' "$zsh_words"
+}
+
+# Whether a command takes an option; the arguments beside it are right.
+takes() {
+    case $1 in
+        run) set -- run "$2" "${3-}" "$script" "$log" ;;
+        check) set -- check "$2" "${3-}" "$script" ;;
+        make) set -- make "$2" "${3-}" 1 1 ;;
+    esac
+    if [ -z "$3" ]; then
+        command=$1
+        option=$2
+        shift 3
+        set -- "$command" "$option" "$@"
+    fi
+    [ "$(status_of "$@")" != 2 ]
+}
+
+# Each documented word is one of the program, and each name of an argument that is an option of a
+# command is documented.
+try_words() {
+    manual_words >"$work/manual"
+    bash_file_words >"$work/bash"
+    zsh_file_words >"$work/zsh"
+    fish_file_words >"$work/fish"
+    [ -s "$work/manual" ]
+    note $? "$manual: no command"
+    same "$bash_words: other words than the manual page" "$work/manual" "$work/bash"
+    same "$zsh_words: other words than the manual page" "$work/manual" "$work/zsh"
+    same "$fish_words: other words than the manual page" "$work/manual" "$work/fish"
+
+    for command in run check make; do
+        grep -qx "$command" "$work/manual"
+        note $? "$manual: no $command"
+    done
+    [ "$(status_of other "$script" "$log")" = 2 ]
+    note $? "the program takes a command that isn't one"
+    sed -n 's/^--form //p' "$work/manual" | sort -u >"$work/forms"
+    while read -r form; do
+        takes run --form "$form"
+        note $? "the program has no form $form"
+    done <"$work/forms"
+    grep -o '[A-Z][a-z]*Form::new' crates/symple/src/main.rt | sort -u >"$work/made"
+    [ "$(wc -l <"$work/forms")" -eq "$(wc -l <"$work/made")" ]
+    note $? "the program has other forms than $manual"
+
+    sed -n 's/.*_NAME: &str = "\(.*\)";/\1/p' crates/sym_top/src/arguments.rt >"$work/names"
+    [ -s "$work/names" ]
+    note $? "crates/sym_top/src/arguments.rt: no name of an argument"
+    for command in run check make; do
+        : >"$work/taken"
+        { sed -n 's/^[a-z]* --//p' "$work/manual"; cat "$work/names"; } | sort -u >"$work/tried"
+        while read -r name; do
+            case $name in
+                form) value=table ;;
+                print) value='' ;;
+                *) value=1 ;;
+            esac
+            ! takes "$command" "--$name" "$value" || echo "$command --$name" >>"$work/taken"
+        done <"$work/tried"
+        grep "^$command --" "$work/manual" >"$work/said"
+        same "$manual: other options of $command than the program" "$work/taken" "$work/said"
+    done
+}
+
+# The number of a constant of the sources.
+number_of() {
+    sed -n "s/^pub const $1: [a-z0-9]* = \([0-9_]*\);\$/\1/p" crates/sym_base/src/limits.rt \
+        crates/sym_engine/src/*.rt | tr -d _
+}
+
+# The range of a number, as the manual page has it, is just what the program takes, and the default
+# is that of the sources.
+try_ranges() {
+    awk '
+        /^\.It Fl -/ { option = "-" $3 }
+        option != "" && /^From [0-9]+ to [0-9]+; the default is [0-9]+\.$/ {
+            print option, $2, $4 + 0, $NF + 0
+        }
+    ' "$manual" >"$work/ranges"
+    [ "$(wc -l <"$work/ranges")" -eq 4 ]
+    note $? "$manual: not four ranges"
+    while read -r option least most default; do
+        for number in "$least" "$most"; do
+            takes run "$option" "$number"
+            note $? "run $option $number: refused, but in the range of $manual"
+        done
+        for number in $((least - 1)) $((most + 1)); do
+            ! takes run "$option" "$number"
+            note $? "run $option $number: taken, but outside of the range of $manual"
+        done
+        for words in "$zsh_words" "$fish_words"; do
+            grep -qF -- "$least to $most" "$words"
+            note $? "$words: no range $least to $most"
+        done
+        case $option in
+            --chunk) name=CHUNK_DEFAULT ;;
+            --limit) name=LIMIT_DEFAULT ;;
+            --workers) name=WORKERS_DEFAULT ;;
+            --max-bytes) name=FILE_MAX_DEFAULT ;;
+        esac
+        [ "$(number_of "$name")" = "$default" ]
+        note $? "$manual: another default of $option than $name"
+    done <"$work/ranges"
+}
+
+# The keywords and the functions of the sources are those that are highlighted.
+try_highlighting() {
+    sed -n 's/^ *Keyword::[A-Za-z]* => "\([a-z]*\)",$/\1/p' crates/sym_lex/src/keyword.rt \
+        >"$work/keywords"
+    sed -n 's/^ *"\([a-z]*\)" => Some(ShowFn::.*/\1/p; s/^ *name == "\(part\)"$/\1/p' \
+        crates/sym_check/src/elaborate/shown.rt >"$work/functions"
+    [ -s "$work/keywords" ] && [ "$(wc -l <"$work/functions")" -eq 7 ]
+    note $? "no keywords, or not seven functions, in the sources"
+
+    {
+        sed -n '/sympleTodo/d; s/^syntax keyword [A-Za-z]* //p' "$vim_words" | tr ' ' '\n'
+        sed -n 's/.*start=.\\<\([a-z]*\)\\>.*/\1/p' "$vim_words"
+    } >"$work/vim"
+    sed -n 's/^syntax match sympleFunction .*%(\(.*\)\\).*/\1/p' "$vim_words" |
+        sed 's/\\|/\n/g' >"$work/vim_functions"
+    same "$vim_words: other keywords" "$work/keywords" "$work/vim"
+    same "$vim_words: other functions" "$work/functions" "$work/vim_functions"
+
+    {
+        grep -o '"match": "\\\\b(?:[a-z|]*)\\\\b"' "$grammar" | grep -o '[a-z|]*)' |
+            tr -d ')' | tr '|' '\n'
+        sed -n 's/.*"begin": "\\\\b\([a-z]*\)\\\\b".*/\1/p' "$grammar"
+    } >"$work/grammar"
+    grep -o '\\\\b(?:[a-z|]*)\\\\b(?=' "$grammar" | grep -o '[a-z|]*)' | tr -d ')' |
+        tr '|' '\n' >"$work/grammar_functions"
+    same "$grammar: other keywords" "$work/keywords" "$work/grammar"
+    same "$grammar: other functions" "$work/functions" "$work/grammar_functions"
+}
+
+# The statuses with their numbers, and the messages on a script.
+try_manual() {
+    sed -n 's/^ *Status::\([A-Za-z]*\) => \([0-9]*\),$/\2 \1/p' crates/sym_top/src/status.rt \
+        >"$work/statuses"
+    awk '/^\.It [0-9]+$/ { number = $2; getline; sub(/:.*/, ""); print number, $0 }' "$manual" \
+        >"$work/said"
+    [ -s "$work/statuses" ]
+    note $? "no status in the sources"
+    same "$manual: other statuses" "$work/statuses" "$work/said"
+
+    sed -n 's/^ *ScriptFault::[A-Za-z]* => "\([a-z ]*\)",$/\1/p' crates/sym_top/src/message.rt \
+        >"$work/faults"
+    [ -s "$work/faults" ]
+    note $? "no message in the sources"
+    awk '/^\.Ql / { sub(/^\.Ql /, ""); sub(/ [,.]$/, ""); print }' "$manual" >"$work/said"
+    while read -r fault; do
+        grep -qxF "$fault" "$work/said"
+        note $? "$manual: no message: $fault"
+    done <"$work/faults"
+}
+
+# The groups that vim highlights a script in, one a line.
+groups_of() {
+    cat >"$work/groups.vim" <<'end'
+let groups = {}
+for line in range(1, line('$'))
+    for column in range(1, len(getline(line)))
+        let groups[synIDattr(synID(line, column, 1), 'name')] = 1
+    endfor
+endfor
+call writefile(keys(groups), $GROUPS)
+qall!
+end
+    rm -f "$work/groups"
+    GROUPS=$work/groups vim -Nu NONE -es --cmd 'set runtimepath^=share/vim | filetype on | syntax on' \
+        -S "$work/groups.vim" "$1" </dev/null >/dev/null 2>&1
+    [ -e "$work/groups" ] || : >"$work/groups"
+}
+
+# Each file by its own tool.
+try_tools() {
+    if has mandoc "$manual"; then
+        mandoc -Tlint "$manual" >&2
+        note $? "$manual: mandoc finds a fault"
+    fi
+    if has bash "$bash_words"; then
+        # shellcheck disable=SC2016 # bash expands it
+        bash -c 'source "$1"; COMP_WORDS=(symple run --); COMP_CWORD=2; _symple
+            printf "%s\n" "${COMPREPLY[@]}"' bash "$bash_words" >"$work/completed"
+        grep '^run --' "$work/manual" | sed 's/^run //' >"$work/options"
+        same "$bash_words: run -- isn't completed to the options" "$work/options" "$work/completed"
+    fi
+    if has zsh "$zsh_words"; then
+        zsh -n "$zsh_words"
+        note $? "$zsh_words: zsh finds a fault"
+    fi
+    if has fish "$fish_words"; then
+        fish --no-config -c "source $fish_words; complete -C 'symple run --'" |
+            cut -f 1 >"$work/completed"
+        grep '^run --' "$work/manual" | sed 's/^run //' >"$work/options"
+        same "$fish_words: run -- isn't completed to the options" "$work/options" "$work/completed"
+    fi
+    if has vim "$vim_words" && vim --version | grep -q '+syntax'; then
+        for file in examples/*.symple; do
+            groups_of "$file"
+            grep -qx sympleDeclaration "$work/groups" && ! grep -q Error "$work/groups"
+            note $? "$vim_words: $file isn't highlighted, or as if it had an error"
+        done
+    fi
+    if has python3 "$grammar"; then
+        python3 -m json.tool "$grammar" >/dev/null
+        note $? "$grammar: not JSON"
+    fi
+}
+
+# The program runs from where it was installed, and each file is there.
+try_install() {
+    ./install.sh "$work/a prefix" >"$work/installed"
+    note $? "install.sh ended with another status than 0"
+    while read -r file; do
+        [ -s "$file" ]
+        note $? "install.sh wrote no $file"
+    done <"$work/installed"
+    [ "$(wc -l <"$work/installed")" -eq 5 ]
+    note $? "install.sh wrote other files than the program, the page and three completions"
+    "$work/a prefix/bin/symple" run "$script" "$log" >"$work/report"
+    note $? "the installed program doesn't run"
+    ./symple run "$script" "$log" >"$work/wanted.report"
+    cmp -s "$work/wanted.report" "$work/report"
+    note $? "the installed program writes another report"
+    ./install.sh >/dev/null 2>&1
+    [ $? -eq 2 ]
+    note $? "install.sh without a directory doesn't end with 2"
+}
+
+# Builds the program where it has to be built, so that it isn't built within a trial.
+./symple run "$script" "$log" >/dev/null || exit 1
+
+try_words
+try_ranges
+try_highlighting
+try_manual
+try_tools
+try_install
+
+echo "checks/share.sh: $passed passed, $failed failed"
+[ "$failed" -eq 0 ]
