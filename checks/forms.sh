@@ -19,9 +19,9 @@ trap 'rm -rf "$work"' EXIT
 trap 'exit 1' HUP INT TERM
 
 cat >"$work/script" <<'end'
-field word: word;
+field text: word;
 field n: num;
-group word;
+group text;
 state latest: hold(num = 0);
 state least: int [0..99] = 0;
 state seen: words;
@@ -30,7 +30,7 @@ state nothing: nums [0..9];
 update {
   keep latest(n);
   least = n;
-  push seen word;
+  push seen text;
   push pushed n;
   push pushed -1;
 }
@@ -82,19 +82,19 @@ def report(form):
 
 with open(work + "/log", "w", newline="", encoding="utf-8") as log:
     rows = csv.writer(log)
-    rows.writerow(["word", "n"])
+    rows.writerow(["text", "n"])
     for place, word in enumerate(WORDS):
         rows.writerow([word, 100 if word in FAULTY else place])
 
-NAMES = ["word", "number", "last", "numbers", "nothing", "zero"]
+NAMES = ["text", "number", "last", "numbers", "nothing", "zero"]
 wanted = []
 for place, word in enumerate(WORDS):
     if word in FAULTY:
-        wanted.append({"word": word, "fault": "least overflows at record %d" % (place + 1)})
+        wanted.append({"text": word, "fault": "least overflows at record %d" % (place + 1)})
     else:
         wanted.append(
             {
-                "word": word,
+                "text": word,
                 "number": str(place),
                 "last": word,
                 "numbers": "[%d -1]" % place,
