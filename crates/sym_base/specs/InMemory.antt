@@ -1,6 +1,6 @@
 -- Stores and sinks in memory, as tests make them: what they hold, which of their calls fail, and
 -- how many calls came and failed so far.
-use Rattle.std.specs.Prelude.{◌≡◌, ℕ, List, [], ◌++◌, Option, Some, None, option_map, find, Contains, ◌⊎◌, map}
+use Rattle.std.specs.Prelude.{◌≡◌, ℕ, List, [], ◌++◌, Option, Some, None, option_map, find, min, Contains, ◌⊎◌, map}
 use Rattle.std.specs.Option.{unwrap_or}
 use Rattle.std.specs.Str.{bytes_eq}
 use Rattle.std.specs.String.{string_bytes}
@@ -30,10 +30,17 @@ files_of entries = map (λ entry. record { name = string_bytes entry.0; bytes = 
 
 pub record StoreInMemory : Type 0 where
   pub files : List File
+  -- the most bytes that one read gives, where there is such a number
+  pub piece : Option ℕ
   -- the numbers of the reads that are to fail, counted from 1
   pub failing : List ℕ
   pub reads : ℕ
   pub faults : ℕ
+
+-- How many bytes a read may give where there is room for so many.
+abbrev pub at_most : Option ℕ → ℕ → ℕ
+at_most None room = room
+at_most (Some piece) room = min piece room
 
 -- The next read of this name fails: its number was set to fail, or there is no such file.
 abbrev pub FailsNext : StoreInMemory → List ℕ → Type 0

@@ -2,7 +2,8 @@
 use std::alloc::{AllocError, Global};
 use std::test::Fail;
 use sym_base::{
-    FILE_MAX, MemSink, MemStore, ReadErr, Sink, SinkErr, SureSink, SureStore, read_all, write_all,
+    FILE_MAX, MemSink, MemStore, ReadErr, Sink, SinkErr, Store, SureSink, SureStore, read_all,
+    write_all,
 };
 
 // This many bytes, each unlike its neighbours.
@@ -42,6 +43,23 @@ fn a_failed_read_is_not_the_end_of_the_file(rt: HostRuntime) -> Result<(), Fail>
         assert_eq!(rt; read.err(), Some(ReadErr::Failed), "read {call}");
         let read = read_all(rt.alloc(), &mut store, "records", 100_000)?;
         assert!(rt; read == bytes, "after read {call}");
+    }
+    Ok(())
+}
+
+#[test]
+fn a_file_is_read_whole_by_pieces(rt: HostRuntime) -> Result<(), Fail> {
+    for piece in [1, 7, 1_000] {
+        let bytes = sample(rt.alloc(), 1_000)?;
+        let mut store = MemStore::new(rt.alloc());
+        store.add(rt.alloc(), "records", bytes.as_slice())?;
+        let mut whole = [0; 2_000];
+        assert_eq!(rt; store.read_at("records", 0, &mut whole).ok(), Some(1_000));
+        assert!(rt; piece >= 1);
+        store.set_piece(piece);
+        assert_eq!(rt; store.read_at("records", 0, &mut whole).ok(), Some(piece));
+        let read = read_all(rt.alloc(), &mut store, "records", 1_000)?;
+        assert!(rt; read == bytes, "pieces of {piece}");
     }
     Ok(())
 }

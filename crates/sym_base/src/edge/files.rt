@@ -39,15 +39,17 @@ pub(crate) fn find<'a>(files: &'a Files, name: &str) -> Option<&'a [u8]>
     Some(bytes.as_slice())
 }
 
-// Copies the bytes from a place on to the start of a buffer, as many as it has room for.
-pub(crate) fn copy_from(bytes: &[u8], at: u64, into: &mut [u8]) -> usize
-    requires { at ≤ FILE_MAX }
-    ensures most { result ≡ min (length into.old) (length bytes.now - at) }
+// Copies the bytes from a place on to the start of a buffer, at most so many of them.
+pub(crate) fn copy_from(bytes: &[u8], at: u64, into: &mut [u8], most: usize) -> usize
+    requires at { at ≤ FILE_MAX }
+    requires room { most ≤ length into.old }
+    requires some { most ≡ 0 → length into.old ≡ 0 }
+    ensures most { result ≡ min most (length bytes.now - at) }
     ensures reads { ReadsAt bytes.now at result into.old into.new }
 {
     let start = (at as usize).min(bytes.len());
     let rest = &bytes[start..];
-    let count = rest.len().min(into.len());
+    let count = rest.len().min(most);
     into[..count].copy_from_slice(&rest[..count]);
     count
 }

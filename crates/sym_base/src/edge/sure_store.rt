@@ -70,9 +70,10 @@ impl Store for SureStore {
             k ≡ min (length into.old) (length (bytes_of self.old name.now) - at)) }
         ensures kept { self.new ≡ self.old }
     {
+        let room = into.len();
         match find(&self.files, name) {
-            Some(bytes) => Ok(copy_from(bytes, at, into)),
-            None => Ok(copy_from(&[], at, into)),
+            Some(bytes) => Ok(copy_from(bytes, at, into, room)),
+            None => Ok(copy_from(&[], at, into, room)),
         }
     }
 }
