@@ -1,7 +1,8 @@
 //! What is known of the tests on one hold cell.
-ghost use Rattle.std.specs.Prelude.{◌≡◌, ◌==◌, ◌<◌, ◌↔◌, ◌++◌, ◌⊎◌, Any, Bool, not, List, IfOk, OnOk, IfSome, IfNone, IsSome, IsNone, IsTrue, MatchOption, None, OnErr, length, slice_get, slice_index_or, option_copied};
+ghost use Rattle.std.specs.Prelude.{◌≡◌, ◌==◌, ◌<◌, ◌≤◌, ◌↔◌, ◌++◌, ◌⊎◌, Any, Bool, not, List, IfOk, OnOk, IfSome, IfNone, IsSome, IsNone, IsTrue, MatchOption, None, OnErr, length, slice_get, slice_index_or, option_copied};
 ghost use Rattle.sym_pred.specs.declared.literal.Literal.{Literal as OneLiteral};
 ghost use Rattle.sym_pred.specs.Facts.{Atom};
+ghost use Rattle.std.specs.List.{insert as insert_at};
 ghost use Rattle.std.specs.FinMap.{empty, get, insert, remove, len as count_of};
 ghost use Rattle.sym_pred.specs.Literals.{literals, atom_of};
 ghost use Rattle.sym_base.specs.Tests.{Truth};
@@ -289,7 +290,7 @@ impl Facts {
         ensures { IfOk result (λ facts. facts ≡ insert self (atom_of literal) literal.outcome) }
     {
         let mut items = self.literals.into_vec();
-        items.insert(index, literal)?;
+        put_in(&mut items, index, literal)?;
         Ok(Facts {
             literals: Sequence::of(items),
         })
@@ -450,6 +451,19 @@ impl Facts {
             literals: self.literals.copy(alloc)?,
         })
     }
+}
+
+/// Puts the literal in at this place. The first one takes memory for one alone: most facts that a
+/// path has are of one literal, and there are many paths.
+fn put_in(items: &mut Vec<Literal>, index: usize, literal: Literal) -> Result<(), NoMemory>
+    requires { index ≤ length items.old.items }
+    ensures { OnOk result (items.new.items ≡ insert_at items.old.items index literal) }
+{
+    if items.is_empty() {
+        items.reserve_exact(1)?;
+    }
+    items.insert(index, literal)?;
+    Ok(())
 }
 
 /// Whether the literals are in order, no two with the same test and arguments.
