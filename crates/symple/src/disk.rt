@@ -3,6 +3,7 @@ ghost use Rattle.std.specs.Prelude.{◌≡◌, ℕ, ◌≤◌, List, None, lengt
 ghost use Rattle.sym_base.specs.Counts.{Rose, counted};
 ghost use Rattle.sym_base.specs.Transfers.{ReadsAt};
 
+use crate::interrupts::TRIES;
 use std::alloc::Global;
 use std::io::{ErrorKind, Read, Seek, SeekFrom};
 use std::marker::Model;
@@ -12,9 +13,6 @@ use sym_base::{FILE_MAX, Failed, NoMemory, READ_PIECE, Store};
 
 // The most bytes of a file's name. Linux opens no file whose path is longer.
 const FILE_NAME_MAX: usize = 4_096;
-
-// How often a read that a signal interrupts is tried.
-const TRIES: u32 = 1_000;
 
 /// The files of the disk, under their paths. It doesn't tell what they hold. It has one count of
 /// faults, for every name, which a contract sees.

@@ -2,6 +2,7 @@
 #![tactic(auto)]
 
 mod disk;
+mod interrupts;
 mod stream;
 
 use crate::disk::DiskStore;

@@ -2,12 +2,10 @@
 ghost use Rattle.std.specs.Prelude.{◌≡◌, ◌≤◌, None, length, IfSome, IfOk, IfErr, OnOk, OnErr};
 ghost use Rattle.sym_base.specs.Counts.{counted};
 
+use crate::interrupts::TRIES;
 use std::io::{ErrorKind, Write};
 use std::marker::Model;
 use sym_base::{Sink, SinkErr};
-
-// How often a write that a signal interrupts is tried.
-const TRIES: u32 = 1_000;
 
 /// A stream that is written to, as standard output. It doesn't tell what was written. It keeps no
 /// bytes back: what a write took is in the stream. A contract sees its count of faults.
