@@ -36,8 +36,9 @@ fn ended_in_turn(paths: &[Path]) -> usize
     paths.len()
 }
 
-/// How many of the first paths can't be joined with this one, since they have ended at other
-/// records than it, if it has. It looks at the last of those that ended in turn.
+/// A number of first paths that can't be joined with the one at this index, since they ended in
+/// turn, and it goes on or ended at a later record. Of those that ended in turn it looks at the
+/// last one alone.
 fn passed_over(paths: &[Path], index: usize, ended: usize) -> usize
     requires index { index < length paths.now }
     requires before { ended ≤ index }
