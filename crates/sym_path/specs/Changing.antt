@@ -1,5 +1,5 @@
 -- Paths of which the end is changed: one form of a path that goes on, or a fault in its place.
-use Rattle.std.specs.Prelude.{◌≡◌, ℕ, List, [], Bool, Option, Some, None, map, slice_get, slice_set, if◌then◌else◌}
+use Rattle.std.specs.Prelude.{◌≡◌, ℕ, List, [], Option, Some, None, slice_get, slice_set, if◌then◌else◌}
 use Rattle.sym_base.specs.declared.values.state.Cell.{Cell}
 use Rattle.sym_base.specs.declared.values.state.Cell.TheVariants as cell
 use Rattle.sym_base.specs.declared.values.state.Fault.{Fault}
@@ -13,7 +13,7 @@ use Rattle.sym_check.specs.declared.plan.script.CellPlan.{CellPlan}
 use Rattle.sym_check.specs.declared.plan.script.KindPlan.{KindPlan}
 use Rattle.sym_check.specs.Plan.CellKinds.{IsHoldCell}
 use Rattle.sym_check.specs.Plan.ScriptPlans.{ScriptPlan}
-use Rattle.sym_pred.specs.Facts.{Atom, FactMap}
+use Rattle.sym_pred.specs.Facts.{Atom}
 use Rattle.sym_pred.specs.declared.literal.Literal.{Literal}
 use Rattle.std.specs.FinMap.{get}
 use Rattle.sym_path.specs.declared.part.Part.{Part}

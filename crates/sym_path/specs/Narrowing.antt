@@ -1,5 +1,5 @@
 -- A path's constraint narrowed in one cell.
-use Rattle.std.specs.Prelude.{◌≡◌, ℕ, ℤ, ◌≤ℤ◌, ◌<ℤ◌, ◌==◌, map, slice_set, Bool, false, IsTrue, List, [], Option, Some, None, slice_get, ◌⊎◌, if◌then◌else◌}
+use Rattle.std.specs.Prelude.{◌≡◌, ℕ, ℤ, ◌≤ℤ◌, ◌<ℤ◌, ◌==◌, map, slice_set, Bool, false, IsTrue, [], Option, Some, None, slice_get, ◌⊎◌, if◌then◌else◌}
 use Rattle.std.specs.List.{All, AllZip}
 use Rattle.sym_base.specs.declared.values.state.Cell.{Cell}
 use Rattle.sym_base.specs.declared.values.state.State.{State}

@@ -1,6 +1,6 @@
 -- The first broken rule in declarations, with its place. The faults of a declaration come in the
 -- order of its text.
-use Rattle.std.specs.Prelude.{◌≡◌, ℕ, ℤ, ◌≤ℤ◌, Bool, List, [], ◌∷◌, ◌++◌, Option, Some, None}
+use Rattle.std.specs.Prelude.{◌≡◌, ℕ, ℤ, ◌≤ℤ◌, Bool, List, [], ◌∷◌, ◌++◌, Some}
 use Rattle.std.specs.List.{Contains}
 use Rattle.sym_base.specs.declared.tree.name.Name.{Name}
 use Rattle.sym_base.specs.declared.tree.declaration.EnumDecl.{EnumDecl}
@@ -15,7 +15,7 @@ use Rattle.sym_base.specs.declared.tree.declaration.CellDecl.TheVariants as cell
 use Rattle.sym_base.specs.declared.tree.declaration.StateDecl.{StateDecl}
 use Rattle.sym_base.specs.declared.tree.declaration.Param.{Param}
 use Rattle.sym_base.specs.declared.values.value.Value.{Value}
-use Rattle.sym_base.specs.Trees.{ExprTree, TestTree}
+use Rattle.sym_base.specs.Trees.{TestTree}
 use Rattle.sym_check.specs.declared.plan.script.KindPlan.{KindPlan}
 use Rattle.sym_check.specs.declared.plan.script.KindPlan.TheVariants as kind
 use Rattle.sym_check.specs.Plan.CondPlans.{CondPlan}

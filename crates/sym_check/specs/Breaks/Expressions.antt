@@ -1,6 +1,6 @@
 -- The first broken rule in an expression, with its place: what stands before has its meaning, and
 -- this has none.
-use Rattle.std.specs.Prelude.{◌≡◌, ◌≢◌, ℕ, ◌+◌, ◌-◌, List, [], ◌∷◌, ◌++◌, length, take, Option, Some, None, IsSome, ◌⊎◌}
+use Rattle.std.specs.Prelude.{◌≡◌, ◌≢◌, ℕ, ◌+◌, ◌-◌, List, [], ◌∷◌, ◌++◌, length, take, IsSome, ◌⊎◌}
 use Rattle.sym_base.specs.declared.tree.name.Name.{Name}
 use Rattle.sym_base.specs.declared.tree.expression.BinOp.{BinOp}
 use Rattle.sym_base.specs.declared.tree.expression.BinOp.TheVariants as op
@@ -13,7 +13,7 @@ use Rattle.sym_check.specs.declared.elaborate.error.CheckErr.TheVariants as brok
 use Rattle.sym_check.specs.declared.elaborate.scope.Meaning.{Meaning}
 use Rattle.sym_check.specs.Rules.Scopes.{Scope, Stands, IsFree}
 use Rattle.sym_check.specs.declared.elaborate.scope.Meaning.TheVariants as meaning
-use Rattle.sym_check.specs.Rules.Typing.{arith_of, compare_of, Typed, Number, Word, Label, EnumCell, HoldCell, Truth, Means, HasMeaning, IsTerm, IsValue, AreValues}
+use Rattle.sym_check.specs.Rules.Typing.{arith_of, compare_of, Typed, Number, Word, Label, EnumCell, HoldCell, Truth, Means, HasMeaning, IsTerm, IsValue}
 
 -- The place of an expression: that of a leaf, of an operator, or of a call's name.
 abbrev pub place : ExprTree → ℕ

@@ -1,8 +1,8 @@
 -- The first broken rule in columns, with its place.
-use Rattle.std.specs.Prelude.{◌≡◌, ℕ, ℤ, pos, ◌<◌, true, List, [], ◌∷◌, length, Option, Some, None, ◌⊎◌}
+use Rattle.std.specs.Prelude.{◌≡◌, ℕ, pos, ◌<◌, true, List, [], ◌∷◌, length, Some, ◌⊎◌}
 use Rattle.sym_base.specs.declared.tree.name.Name.{Name}
 use Rattle.sym_base.specs.declared.tree.expression.BinOp.{BinOp}
-use Rattle.sym_base.specs.Trees.{ColumnTree, ExprTree, Num, Words, Named, Call, Neg, Not, Bin, ExprsTree, End, More}
+use Rattle.sym_base.specs.Trees.{ColumnTree, ExprTree, Num, Named, Call, Neg, Not, Bin, ExprsTree, End, More}
 use Rattle.sym_check.specs.declared.plan.script.KindPlan.{KindPlan}
 use Rattle.sym_check.specs.declared.plan.show.ShowFn.{ShowFn}
 use Rattle.sym_check.specs.Meaning.Columns.{ShownAs}
@@ -12,7 +12,6 @@ use Rattle.sym_check.specs.declared.elaborate.error.CheckErr.TheVariants as brok
 use Rattle.sym_check.specs.declared.elaborate.scope.Meaning.{Meaning}
 use Rattle.sym_check.specs.Rules.Scopes.{Scope, Stands, IsFree}
 use Rattle.sym_check.specs.declared.elaborate.scope.Meaning.TheVariants as meaning
-use Rattle.sym_check.specs.Breaks.Expressions.{place}
 use Rattle.sym_check.specs.Rules.Reports.{list_function, is_part, IsShown}
 
 -- The expression gives something.

@@ -2,7 +2,7 @@
 -- operands, and then the rule on the whole.
 use Rattle.std.specs.Prelude.{◌≡◌, ◌≢◌, ℕ, List, [], ◌∷◌, length}
 use Rattle.sym_base.specs.declared.tree.name.Name.{Name}
-use Rattle.sym_base.specs.Trees.{ExprTree, ExprsTree, StmtTree, Let, Set, Push, Keep, KeepFrom, If, StmtsTree, Done, Then}
+use Rattle.sym_base.specs.Trees.{ExprTree, ExprsTree, StmtTree, Let, Set, Push, Keep, KeepFrom, If, StmtsTree, Then}
 use Rattle.sym_check.specs.declared.plan.script.KindPlan.{KindPlan}
 use Rattle.sym_check.specs.Plan.FixedPlans.{FixedPlan}
 use Rattle.sym_check.specs.Plan.CondPlans.{CondPlan}
@@ -12,8 +12,8 @@ use Rattle.sym_check.specs.declared.elaborate.error.CheckErr.TheVariants as brok
 use Rattle.sym_check.specs.declared.elaborate.scope.Meaning.{Meaning}
 use Rattle.sym_check.specs.Rules.Scopes.{Scope, Stands, IsFree}
 use Rattle.sym_check.specs.declared.elaborate.scope.Meaning.TheVariants as meaning
-use Rattle.sym_check.specs.Rules.Typing.{Typed, EnumCell, Means, IsValue, IsCondition}
-use Rattle.sym_check.specs.Breaks.Expressions.{place, IsOperand, AreOperands, WrongValue, Breaks, BreaksOperands}
+use Rattle.sym_check.specs.Rules.Typing.{Typed, Means, IsValue, IsCondition}
+use Rattle.sym_check.specs.Breaks.Expressions.{place, AreOperands, WrongValue, Breaks, BreaksOperands}
 use Rattle.sym_check.specs.Rules.Statements.{IsStmt, IsBlock}
 
 -- Cells that are assigned to.

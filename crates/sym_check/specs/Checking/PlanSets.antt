@@ -1,6 +1,6 @@
 -- Two plans are equal in at most one way, so that a checked script may keep an equation of plans.
 -- A copy of each type has this by its form, and the type has it by its copy.
-use Rattle.std.specs.Prelude.{◌≡◌, ℕ, ℤ, List, [], ◌∷◌, Option, Some, None, Result, Ok, Err, refl}
+use Rattle.std.specs.Prelude.{◌≡◌, ℕ, ℤ, List, [], ◌∷◌, Result, Ok, Err, refl}
 use Rattle.std.proofs.Common.{sym, ap, ◌∙◌}
 use Rattle.std.specs.Coded.{Coded-set}
 use mathlib.Core.HLevel.{collapsible→set}

@@ -1,6 +1,6 @@
 -- What a contract sees of the values that elaborating goes over: plans without their boxes, and the
 -- outcome of a call as that of its definition.
-use Rattle.std.specs.Prelude.{◌≡◌, ◌≢◌, List, map, Result, Ok, Err}
+use Rattle.std.specs.Prelude.{◌≡◌, ◌≢◌, map, Result, Ok, Err}
 use Rattle.sym_check.specs.declared.elaborate.error.CheckErr.{CheckErr}
 use Rattle.sym_check.specs.declared.elaborate.error.CheckErr.TheVariants as broken
 use Rattle.sym_check.specs.declared.elaborate.typed.Typed.{Typed as TypedTree}

@@ -1,5 +1,5 @@
 -- The plan of declarations, or the first broken rule in them, by trying the rules in order.
-use Rattle.std.specs.Prelude.{ℕ, ℤ, int_le, ◌+◌, ◌==◌, ◌&&◌, if◌then◌else◌, List, [], ◌∷◌, ◌++◌, Option, Some, None, Result, Ok, Err}
+use Rattle.std.specs.Prelude.{ℕ, int_le, ◌+◌, ◌==◌, ◌&&◌, if◌then◌else◌, List, [], ◌∷◌, ◌++◌, Option, Some, None, Result, Ok, Err}
 use Rattle.std.specs.List.{list_any}
 use Rattle.std.specs.Option.{unwrap_or}
 use Rattle.sym_base.specs.declared.tree.name.Name.{Name}

@@ -1,7 +1,6 @@
 -- The plan of an expression, or the first broken rule in it, by trying the rules in order.
-use Rattle.std.specs.Prelude.{ℕ, ◌-◌, ◌==◌, ◌&&◌, Bool, true, false, if◌then◌else◌, List, [], ◌∷◌, length, take, drop, Option, Some, None, Result, Ok, Err}
+use Rattle.std.specs.Prelude.{ℕ, ◌-◌, ◌==◌, ◌&&◌, Bool, if◌then◌else◌, List, [], ◌∷◌, length, take, drop, Option, Some, None, Result, Ok, Err}
 use Rattle.std.specs.Cmp.Lexicographic.{pointwise}
-use Rattle.sym_base.specs.declared.tree.name.Name.{Name}
 use Rattle.sym_base.specs.declared.tree.compare.Compare.{Compare}
 use Rattle.sym_base.specs.declared.tree.compare.Compare.TheVariants as compare
 use Rattle.sym_base.specs.declared.tree.expression.BinOp.{BinOp}
@@ -15,9 +14,9 @@ use Rattle.sym_check.specs.declared.plan.script.KindPlan.{KindPlan}
 use Rattle.sym_check.specs.declared.plan.script.KindPlan.TheVariants as kind
 use Rattle.sym_check.specs.contracts.plan.script.KindPlanPartialEq.TheImpl as kinds
 use Rattle.sym_check.specs.Meaning.Arithmetic.{◌>>=◌, and_then}
-use Rattle.sym_check.specs.Plan.FixedPlans.{NumPlan, FixedPlan}
+use Rattle.sym_check.specs.Plan.FixedPlans.{FixedPlan}
 use Rattle.sym_check.specs.Plan.FixedPlans as fixed
-use Rattle.sym_check.specs.Plan.LinePlans.{LinePlan, TermPlan}
+use Rattle.sym_check.specs.Plan.LinePlans.{TermPlan}
 use Rattle.sym_check.specs.Plan.LinePlans as line
 use Rattle.sym_check.specs.Plan.CondPlans.{CondPlan}
 use Rattle.sym_check.specs.Plan.CondPlans as cond

@@ -1,8 +1,7 @@
 -- The plan of statements, or the first broken rule in them, by trying the rules in order.
 use Rattle.std.specs.Prelude.{ℕ, ◌+◌, ◌==◌, ◌&&◌, not, if◌then◌else◌, List, [], ◌∷◌, ◌++◌, length, Option, Some, None, Result, Ok, Err}
 use Rattle.std.specs.Cmp.Lexicographic.{pointwise}
-use Rattle.sym_base.specs.declared.tree.name.Name.{Name}
-use Rattle.sym_base.specs.Trees.{ExprTree, ExprsTree, StmtTree, Let, Set, Push, Keep, KeepFrom, If, StmtsTree, Done, Then}
+use Rattle.sym_base.specs.Trees.{StmtTree, Let, Set, Push, Keep, KeepFrom, If, StmtsTree, Done, Then}
 use Rattle.sym_check.specs.declared.plan.script.KindPlan.{KindPlan}
 use Rattle.sym_check.specs.declared.plan.script.KindPlan.TheVariants as kind
 use Rattle.sym_check.specs.Meaning.Arithmetic.{◌>>=◌, and_then}

@@ -1,5 +1,5 @@
 -- Lists of declarations, each in the scope of those before it.
-use Rattle.std.specs.Prelude.{ℕ, ◌+◌, List, [], ◌∷◌, Result, Ok, Err}
+use Rattle.std.specs.Prelude.{ℕ, ◌+◌, List, [], ◌∷◌, Result, Ok}
 use Rattle.sym_check.specs.Meaning.Arithmetic.{◌>>=◌, and_then}
 use Rattle.sym_check.specs.declared.elaborate.error.CheckErr.{CheckErr}
 use Rattle.sym_check.specs.Rules.Scopes.{Scope}

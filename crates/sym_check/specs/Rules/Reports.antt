@@ -1,5 +1,5 @@
 -- Columns of the report, and their plan: one case for each rule.
-use Rattle.std.specs.Prelude.{◌≡◌, ℕ, ℤ, pos, ◌-◌, ◌≤◌, codes, Bool, true, if◌then◌else◌, List, [], ◌∷◌, ◌++◌, length, Option, Some, None, slice_get}
+use Rattle.std.specs.Prelude.{◌≡◌, ℕ, ℤ, pos, ◌-◌, ◌≤◌, codes, Bool, true, if◌then◌else◌, List, [], ◌∷◌, ◌++◌, Option, Some, None, slice_get}
 use Rattle.sym_base.specs.declared.tree.name.Name.{Name}
 use Rattle.sym_base.specs.declared.tree.expression.BinOp.{BinOp}
 use Rattle.sym_base.specs.Trees.{ColumnTree, ExprTree, Num, Words, Named, Call, Neg, Bin, End, More}

@@ -10,8 +10,7 @@ use Rattle.sym_base.specs.declared.tree.declaration.StateDecl.{StateDecl}
 use Rattle.sym_base.specs.Trees.{ScriptTree, TestTree}
 use Rattle.sym_check.specs.Meaning.Arithmetic.{◌>>=◌, and_then}
 use Rattle.sym_check.specs.Meaning.PathBounds.{path_bound}
-use Rattle.sym_check.specs.Plan.ScriptPlans.{ScriptPlan, ColumnOf}
-use Rattle.sym_check.specs.Plan.DoPlans.{DosPlan}
+use Rattle.sym_check.specs.Plan.ScriptPlans.{ScriptPlan}
 use Rattle.sym_check.specs.declared.elaborate.error.CheckErr.{CheckErr}
 use Rattle.sym_check.specs.declared.elaborate.error.CheckErr.TheVariants as broken
 use Rattle.sym_check.specs.Rules.Scopes.{Scope, hidden, in_update, in_report}
