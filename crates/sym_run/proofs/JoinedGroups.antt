@@ -12,6 +12,7 @@ use Rattle.sym_check.proofs.GroupLaws.{keys_append, none_of, records_of_append}
 use Rattle.sym_check.proofs.Keys.{equal_keys, keys_equiv, same_key}
 use Rattle.sym_path.specs.declared.path.Path.{Path}
 use Rattle.sym_plain.specs.Pairs.{put}
+use Rattle.sym_plain.proofs.Puts.{lookup-put, lookup-put-same}
 use Rattle.sym_run.specs.Chains.{ChainFits, ChainStandsFor, IsTight}
 use Rattle.sym_run.specs.Growing.{AreJoined, FoundStandsFor, Grows}
 use Rattle.sym_run.specs.Runs.{AreTight, GroupsFit, GroupsStandFor}
@@ -62,29 +63,30 @@ among_last j k done e =
     of true = refl
     of false = refl
 
+-- The keys of groups that take on those of one more, after the keys `ks`.
+pub grown_keys : (ks done : List Key) (k : Key) (old : Chains) (chain : List (List Path)) → is_among k done ≡ false
+    → keys_of old ≡ ks ++ not_among ks done
+    → keys_of (put old k chain) ≡ ks ++ not_among ks (done ++ k ∷ [])
+grown_keys ks done k old chain apart e =
+    keys-put k chain old
+    ∙ ap (λ (now : List Key). if is_among k now then now else now ++ k ∷ []) e
+    ∙ ap (λ (b : Bool). if b then ks ++ not_among ks done else (ks ++ not_among ks done) ++ k ∷ [])
+    (among-append k ks (not_among ks done)
+    ∙ ap (λ (b : Bool). is_among k ks || b) (filter-none (λ key. not (is_among key ks)) k done apart)
+    ∙ or_false (is_among k ks))
+    ∙ of (is_among k ks)
+    ∙ ap (λ (now : List Key). ks ++ now) (sym (one_more k ks done))
+  where
+    of : (b : Bool) → (if b then ks ++ not_among ks done else (ks ++ not_among ks done) ++ k ∷ [])
+        ≡ ks ++ (not_among ks done ++ (if b then [] else k ∷ []))
+    of true = ap (λ (now : List Key). ks ++ now) (sym (append-nil (not_among ks done)))
+    of false = append_assoc ks (not_among ks done) (k ∷ [])
+
 -- ---- the records of a key, of which those of some keys are taken on
 abbrev taken : ScriptPlan → List Record → List Record → List Key → Key → List Record
 taken p first rest done k = records_of p k first ++ (if is_among k done then records_of p k rest else [])
 
 module _ (p : ScriptPlan) (limit : ℕ) (first rest : List Record) where
-  joined_keys : (done : List Key) (k : Key) (old : Chains) (chain : List (List Path)) → is_among k done ≡ false
-      → keys_of old ≡ keys p first ++ not_among (keys p first) done
-      → keys_of (put old k chain) ≡ keys p first ++ not_among (keys p first) (done ++ k ∷ [])
-  joined_keys done k old chain apart e =
-      keys-put k chain old
-      ∙ ap (λ (ks : List Key). if is_among k ks then ks else ks ++ k ∷ []) e
-      ∙ ap (λ (b : Bool). if b then keys p first ++ not_among (keys p first) done else (keys p first ++ not_among (keys p first) done) ++ k ∷ [])
-      (among-append k (keys p first) (not_among (keys p first) done)
-      ∙ ap (λ (b : Bool). is_among k (keys p first) || b) (filter-none (λ key. not (is_among key (keys p first))) k done apart)
-      ∙ or_false (is_among k (keys p first)))
-      ∙ of (is_among k (keys p first))
-      ∙ ap (λ (ks : List Key). keys p first ++ ks) (sym (one_more k (keys p first) done))
-    where
-      of : (b : Bool) → (if b then keys p first ++ not_among (keys p first) done else (keys p first ++ not_among (keys p first) done) ++ k ∷ [])
-          ≡ keys p first ++ (not_among (keys p first) done ++ (if b then [] else k ∷ []))
-      of true = ap (λ (ks : List Key). keys p first ++ ks) (sym (append-nil (not_among (keys p first) done)))
-      of false = append_assoc (keys p first) (not_among (keys p first) done) (k ∷ [])
-
   -- What was found for a key stands for its records among the first ones.
   found_stands : (done : List Key) (k : Key) (old : Chains) → is_among k done ≡ false → AreJoined p first rest done old
       → FoundStandsFor p (records_of p k first) (lookup (is_key k) old)
@@ -107,7 +109,7 @@ module _ (p : ScriptPlan) (limit : ℕ) (first rest : List Record) where
   pub joined_on : (done : List Key) (k : Key) (Adds : List Record → Type 0) (old new : Chains) → is_among k done ≡ false → Grows p limit k Adds old new → Adds (records_of p k rest)
       → AreJoined p first rest done old → AreJoined p first rest (done ++ k ∷ []) new
   joined_on done k Adds old new apart g adds h = record {
-    keys_are = ap keys_of g.is ∙ joined_keys done k old g.chain apart h.keys_are;
+    keys_are = ap keys_of g.is ∙ grown_keys (keys p first) done k old g.chain apart h.keys_are;
     each = subst (λ (groups : Chains). All (λ (group : Key × List (List Path)). ChainStandsFor p (taken p first rest (done ++ k ∷ []) group.0) group.1) groups) (sym g.is)
         (all_put (λ j u. ChainStandsFor p (taken p first rest done j) u) (λ j u. ChainStandsFor p (taken p first rest (done ++ k ∷ []) j) u) k g.chain
         (λ j u e s. subst (λ (b : Bool). ChainStandsFor p (records_of p j first ++ (if b then records_of p j rest else [])) u) (sym (among_other j k done e)) s)
@@ -140,6 +142,66 @@ module _ (p : ScriptPlan) (limit : ℕ) (first rest : List Record) where
         (λ (group : Key × List (List Path)). ChainStandsFor p (records_of p group.0 (first ++ rest)) group.1)
         (λ group s. subst (λ (rs : List Record). ChainStandsFor p rs group.1) (taken_all group.0) s) groups h.each;
   }
+
+-- ---- whatever records the chains of a key stand for
+-- What was found, or else the other.
+abbrev of_more : Option (List (List Path)) → Option (List (List Path)) → Option (List (List Path))
+of_more None other = other
+of_more (Some u) other = Some u
+
+more_none : (o : Option (List (List Path))) → of_more o None ≡ o
+more_none None = refl
+more_none (Some u) = refl
+
+lookup-last : (j k : Key) (u : List (List Path)) (xs : Chains) → lookup (is_key j) (xs ++ (k, u) ∷ []) ≡ of_more (lookup (is_key j) xs) (cond (is_key j k) (Some u) None)
+lookup-last j k u [] = refl
+lookup-last j k u (x ∷ xs) = of (is_key j x.0) (lookup-last j k u xs)
+  where
+    of : (b : Bool) → lookup (is_key j) (xs ++ (k, u) ∷ []) ≡ of_more (lookup (is_key j) xs) (cond (is_key j k) (Some u) None)
+        → cond b (Some x.1) (lookup (is_key j) (xs ++ (k, u) ∷ [])) ≡ of_more (cond b (Some x.1) (lookup (is_key j) xs)) (cond (is_key j k) (Some u) None)
+    of true later = refl
+    of false later = later
+
+among_none : (k : Key) (xs : Chains) → is_among k (keys_of xs) ≡ false → lookup (is_key k) xs ≡ None
+among_none k [] h = refl
+among_none k (x ∷ xs) h = of (is_key k x.0) h (among_none k xs)
+  where
+    of : (b : Bool) → (b || is_among k (keys_of xs)) ≡ false → (is_among k (keys_of xs) ≡ false → lookup (is_key k) xs ≡ None) → cond b (Some x.1) (lookup (is_key k) xs) ≡ None
+    of true g later = cc
+    of false g later = later g
+
+-- The groups have taken on these others.
+abbrev pub TakeOn : ScriptPlan → Chains → Chains → Chains → Type 0
+TakeOn p left done groups = (key : Key) (first rest : List Record) → FoundStandsFor p first (lookup (is_key key) left)
+    → FoundStandsFor p rest (lookup (is_key key) done) → FoundStandsFor p (first ++ rest) (lookup (is_key key) groups)
+
+pub take_none : (p : ScriptPlan) (left : Chains) → TakeOn p left [] left
+take_none p left key first rest h none =
+    subst (λ (rs : List Record). FoundStandsFor p rs (lookup (is_key key) left)) (sym (ap (λ (rs : List Record). first ++ rs) none ∙ append-nil first)) h
+
+pub take_more : (p : ScriptPlan) (limit : ℕ) (left done old new : Chains) (k : Key) (chain : List (List Path)) → is_among k (keys_of done) ≡ false
+    → Grows p limit k (λ rest. ChainStandsFor p rest chain) old new → TakeOn p left done old → TakeOn p left (done ++ (k, chain) ∷ []) new
+take_more p limit left done old new k chain apart g h key first rest a b = of (is_key key k) refl
+  where
+    of : (t : Bool) → is_key key k ≡ t → FoundStandsFor p (first ++ rest) (lookup (is_key key) new)
+    of true e =
+        let same : key ≡ k = equal_keys key k e in
+        let none : lookup (is_key key) done ≡ None = rw same (among_none k done apart) in
+        let found : lookup (is_key key) (done ++ (k, chain) ∷ []) ≡ Some chain =
+        lookup-last key k chain done ∙ ap (λ (o : Option (List (List Path))). of_more o (cond (is_key key k) (Some chain) None)) none
+        ∙ ap (λ (t : Bool). cond t (Some chain) None) e in
+        let adds : ChainStandsFor p rest chain = subst (FoundStandsFor p rest) found b in
+        let before : FoundStandsFor p first (lookup (is_key key) old) =
+        subst (λ (rs : List Record). FoundStandsFor p rs (lookup (is_key key) old)) (append-nil first)
+        (h key first [] a (subst (FoundStandsFor p []) (sym none) refl)) in
+        let now : lookup (is_key key) new ≡ Some g.chain = rw (same, g.is) (lookup-put-same k g.chain old) in
+        subst (FoundStandsFor p (first ++ rest)) (sym now)
+        (g.stands first rest (subst (λ (i : Key). FoundStandsFor p first (lookup (is_key i) old)) same before) adds)
+    of false e =
+        let found : lookup (is_key key) (done ++ (k, chain) ∷ []) ≡ lookup (is_key key) done =
+        lookup-last key k chain done ∙ ap (λ (t : Bool). of_more (lookup (is_key key) done) (cond t (Some chain) None)) e ∙ more_none (lookup (is_key key) done) in
+        let now : lookup (is_key key) new ≡ lookup (is_key key) old = ap (lookup (is_key key)) g.is ∙ lookup-put key k g.chain old e in
+        subst (FoundStandsFor p (first ++ rest)) (sym now) (h key first rest a (subst (FoundStandsFor p rest) found b))
 
 -- The groups of one record more.
 pub one_record : (p : ScriptPlan) (limit : ℕ) (records : List Record) (rec : Record) (old new : Chains) → Grows p limit (key_of p rec) (λ rest. rest ≡ rec ∷ []) old new → GroupsStandFor p records old

@@ -1,22 +1,22 @@
 -- Groups that are joined and applied, and rows that are taken, one after the other.
-use Rattle.std.proofs.Common.{◌≡◌, ◌∙◌, ap, sym, refl, subst, ℕ, List, [], ◌∷◌, ◌++◌}
+use Rattle.std.proofs.Common.{◌≡◌, ◌∙◌, ap, sym, refl, subst, ℕ, false, Bool, List, [], ◌∷◌, ◌++◌}
 use Rattle.std.proofs.lemmas.List.{append_assoc, append-nil}
 use Rattle.std.specs.List.{All}
-use Rattle.std.specs.Map.{keys_of}
+use Rattle.std.specs.Map.{keys_of, lookup}
 use Rattle.sym_base.specs.declared.values.value.Key.{Key}
 use Rattle.sym_base.specs.declared.values.record.Record.{Record}
 use Rattle.sym_base.specs.declared.values.state.Outcome.{Outcome}
-use Rattle.sym_check.specs.Meaning.Groups.{records_of}
+use Rattle.sym_check.specs.Meaning.Groups.{is_among, is_key, not_among, records_of}
 use Rattle.sym_check.specs.Plan.ScriptPlans.{ScriptPlan}
 use Rattle.sym_path.specs.declared.path.Path.{Path}
 use Rattle.sym_plain.specs.Pairs.{HaveDistinctKeys, after_keys, after_records}
 use Rattle.sym_plain.proofs.Apart.{groups_apart}
 use Rattle.sym_run.specs.Applying.{AreValid, led_on}
 use Rattle.sym_run.specs.Chains.{ChainFits, ChainStandsFor, IsTight}
-use Rattle.sym_run.specs.Growing.{AreJoined, Grows}
+use Rattle.sym_run.specs.Growing.{AreBoth, AreJoined, FoundStandsFor, Grows}
 use Rattle.sym_run.specs.Runs.{AreTight, GroupsFit, GroupsStandFor}
 use Rattle.sym_run.proofs.GroupPuts.{all_split, new_key}
-use Rattle.sym_run.proofs.JoinedGroups.{Chains, grown_fit, grown_tight, joined_all, joined_none, joined_on}
+use Rattle.sym_run.proofs.JoinedGroups.{Chains, TakeOn, grown_fit, grown_keys, grown_tight, joined_all, joined_none, joined_on, take_more, take_none}
 
 keys-both : (xs ys : Chains) → keys_of (xs ++ ys) ≡ keys_of xs ++ keys_of ys
 keys-both [] ys = refl
@@ -30,6 +30,8 @@ pub record IsJoining (p : ScriptPlan) (limit : ℕ) (left right others groups : 
   pub fits : GroupsFit p groups
   pub tight : AreTight p limit groups
   pub stand : (first rest : List Record) → GroupsStandFor p first left → GroupsStandFor p rest right → AreJoined p first rest (keys_of done) groups
+  pub keys_are : keys_of groups ≡ keys_of left ++ not_among (keys_of left) (keys_of done)
+  pub take : TakeOn p left done groups
 
 pub joining_none : (p : ScriptPlan) (limit : ℕ) (left right : Chains) → GroupsFit p left → AreTight p limit left → IsJoining p limit left right right left
 joining_none p limit left right fits tight = record {
@@ -38,6 +40,8 @@ joining_none p limit left right fits tight = record {
   fits = fits;
   tight = tight;
   stand = λ first rest h k. joined_none p limit first rest left h;
+  keys_are = sym (append-nil (keys_of left));
+  take = take_none p left;
 }
 
 -- The next group that is left fits and is tight.
@@ -53,6 +57,7 @@ pub joining_on : (p : ScriptPlan) (limit : ℕ) (left right others old new : Cha
     → Grows p limit q.0 (λ rest. ChainStandsFor p rest q.1) old new → IsJoining p limit left right others new
 joining_on p limit left right others old new q h distinct g =
     let all : (h.done ++ q ∷ []) ++ others ≡ right = append_assoc h.done (q ∷ []) others ∙ h.all in
+    let apart : is_among q.0 (keys_of h.done) ≡ false = new_key h.done q others (subst HaveDistinctKeys (sym h.all) distinct) in
     record {
       done = h.done ++ q ∷ [];
       all = all;
@@ -61,10 +66,15 @@ joining_on p limit left right others old new q h distinct g =
       stand = λ first rest a b.
           subst (λ (ks : List Key). AreJoined p first rest ks new) (sym (keys-both h.done (q ∷ [])))
           (joined_on p limit first rest (keys_of h.done) q.0 (λ rest. ChainStandsFor p rest q.1) old new
-          (new_key h.done q others (subst HaveDistinctKeys (sym h.all) distinct)) g
+          apart g
           (all_split (λ (group : Key × List (List Path)). ChainStandsFor p (records_of p group.0 rest) group.1) h.done q others
           (subst (All (λ (group : Key × List (List Path)). ChainStandsFor p (records_of p group.0 rest) group.1)) (sym h.all) b.each))
           (h.stand first rest a b));
+      keys_are =
+          ap keys_of g.is
+          ∙ grown_keys (keys_of left) (keys_of h.done) q.0 old g.chain apart h.keys_are
+          ∙ ap (λ (ks : List Key). keys_of left ++ not_among (keys_of left) ks) (sym (keys-both h.done (q ∷ [])));
+      take = take_more p limit left h.done old new q.0 q.1 apart g h.take;
     }
 
 pub joining_all : (p : ScriptPlan) (limit : ℕ) (left right groups : Chains) → IsJoining p limit left right [] groups → (first rest : List Record) → GroupsStandFor p first left → GroupsStandFor p rest right
@@ -73,6 +83,14 @@ joining_all p limit left right groups h first rest a b =
     let done : h.done ≡ right = sym (append-nil h.done) ∙ h.all in
     joined_all p limit first rest groups
     (subst (λ (ks : List Key). AreJoined p first rest ks groups) (ap keys_of done ∙ b.keys_are) (h.stand first rest a b))
+
+pub joining_both : (p : ScriptPlan) (limit : ℕ) (left right groups : Chains) → IsJoining p limit left right [] groups → AreBoth p left right groups
+joining_both p limit left right groups h =
+    let done : h.done ≡ right = sym (append-nil h.done) ∙ h.all in
+    record {
+      keys_are = h.keys_are ∙ ap (λ (xs : Chains). keys_of left ++ not_among (keys_of left) (keys_of xs)) done;
+      each = λ key first rest a b. h.take key first rest a (subst (λ (xs : Chains). FoundStandsFor p rest (lookup (is_key key) xs)) (sym done) b);
+    }
 
 -- ---- applying
 -- The groups have been led on by the first chains; the others are left.

@@ -63,3 +63,14 @@ pub record AreJoined (p : ScriptPlan) (first rest : List Record) (ks : List Key)
   pub keys_are : keys_of groups ≡ keys p first ++ not_among (keys p first) ks
   pub each : All (λ group. ChainStandsFor p (records_of p group.0 first
       ++ (if is_among group.0 ks then records_of p group.0 rest else [])) group.1) groups
+
+-- Groups in one: the left ones' keys and then the right ones' new ones. The chain of each key
+-- stands for the records for which the left one stood and then those of the right one, whatever
+-- these are.
+pub record AreBoth (p : ScriptPlan)
+    (left right groups : List (Key × List (List Path))) : Type 0 where
+  pub keys_are : keys_of groups ≡ keys_of left ++ not_among (keys_of left) (keys_of right)
+  pub each : (key : Key) (first rest : List Record) →
+      FoundStandsFor p first (lookup (is_key key) left) →
+      FoundStandsFor p rest (lookup (is_key key) right) →
+      FoundStandsFor p (first ++ rest) (lookup (is_key key) groups)

@@ -4,3 +4,4 @@ pub mod Chains
 pub mod Growing
 pub mod Holding
 pub mod Runs
+pub mod SavedRuns

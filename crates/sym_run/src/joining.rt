@@ -4,7 +4,7 @@ ghost use Rattle.sym_base.specs.declared.values.record.Record.{Record as OneReco
 ghost use Rattle.sym_check.specs.Checking.CheckedScripts.{checked_plan};
 ghost use Rattle.sym_plain.specs.Pairs.{HaveDistinctKeys};
 ghost use Rattle.sym_run.specs.Chains.{ChainFits, ChainStandsFor, IsTight};
-ghost use Rattle.sym_run.specs.Growing.{Grows, JoinsUnless};
+ghost use Rattle.sym_run.specs.Growing.{AreBoth, Grows, JoinsUnless};
 ghost use Rattle.sym_run.specs.Runs.{AreTight, GroupsFit, GroupsStandFor};
 
 use crate::chains::{Chain, Held};
@@ -121,7 +121,7 @@ fn join_group(
 
 /// The groups of the left ones' records and then the right ones': the left's keys and then the
 /// right's new ones. Keys and chains are moved.
-pub(crate) fn join_groups(
+pub fn join_groups(
     alloc: Global,
     checked: &Checked,
     left: RunGroups,
@@ -134,6 +134,7 @@ pub(crate) fn join_groups(
     requires tight_right { AreTight (checked_plan checked.now) limit right }
     ensures fits { IfOk result (GroupsFit (checked_plan checked.now)) }
     ensures tight { IfOk result (AreTight (checked_plan checked.now) limit) }
+    ensures both { IfOk result (AreBoth (checked_plan checked.now) left right) }
     ensures stands { (first rest : List OneRecord) →
         GroupsStandFor (checked_plan checked.now) first left →
         GroupsStandFor (checked_plan checked.now) rest right →

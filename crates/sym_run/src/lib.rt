@@ -12,10 +12,13 @@ mod joining;
 mod pushing;
 mod run_groups;
 mod runs;
+mod saved;
 
 pub use bracketing::{JoinTree, apply_joined, join_all};
 pub use chains::Chain;
 pub use chunks::{of_chunk, of_chunks};
+pub use joining::join_groups;
 pub use pushing::push;
 pub use run_groups::RunGroups;
 pub use runs::{Applied, Run};
+pub use saved::Saved;

@@ -3,9 +3,10 @@ use Rattle.sym_base.specs.declared.values.value.Key.{Key}
 use Rattle.sym_check.specs.Checking.CheckedScripts.{checked_plan}
 use Rattle.sym_path.specs.declared.path.Path.{Path}
 use Rattle.sym_plain.specs.Pairs.{HaveDistinctKeys}
+use Rattle.sym_run.specs.Growing.{AreBoth}
 use Rattle.sym_run.specs.Runs.{AreTight, GroupsStandFor}
 use Rattle.sym_run.proofs.JoinedGroups.{Chains}
-use Rattle.sym_run.proofs.Stepping.{IsJoining, joining_all, joining_none, joining_on, next_fits, next_tight}
+use Rattle.sym_run.proofs.Stepping.{IsJoining, joining_all, joining_both, joining_none, joining_on, next_fits, next_tight}
 use Rattle.sym_run.proofs.joining.join_groups.Goals as goal
 
 pub groups-init : goal.groups-init
@@ -59,3 +60,10 @@ returns-clause-stands c = λ first rest a b.
     (joining_all p c.args.limit c.args.left c.args.right c.groups.map.entries
     (subst (λ (others : Chains). IsJoining p c.args.limit c.args.left c.args.right others c.groups.map.entries) c.in-None.ensures.steps.0 c.groups.invariant.joining)
     first rest a b)
+
+pub returns-clause-both : goal.returns-clause-both
+returns-clause-both c =
+    let p = checked_plan c.args.checked.now in
+    subst (AreBoth p c.args.left c.args.right) (sym c.of_map.ensures)
+    (joining_both p c.args.limit c.args.left c.args.right c.groups.map.entries
+    (subst (λ (others : Chains). IsJoining p c.args.limit c.args.left c.args.right others c.groups.map.entries) c.in-None.ensures.steps.0 c.groups.invariant.joining))

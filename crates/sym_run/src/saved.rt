@@ -1,0 +1,40 @@
+//! Runs that are kept: what records of consecutive numbers do to each group.
+ghost use Rattle.std.specs.Prelude.{◌≡◌, IfOk};
+
+use crate::run_groups::RunGroups;
+use std::alloc::Global;
+use sym_base::NoMemory;
+
+/// What consecutive records do to each group. It has no meaning apart from its script.
+pub struct Saved {
+    /// The number of the first record, counted from 1.
+    pub first: u64,
+    /// The number of the record after the last.
+    pub next: u64,
+    /// The chains by group.
+    pub groups: RunGroups,
+}
+
+// Written here so that the crates above don't prove it for each type inside.
+impl Drop for Saved {
+    fn drop(self) {
+        let Saved {
+            first: _first,
+            next: _next,
+            groups: _groups,
+        } = self;
+    }
+}
+
+impl Saved {
+    /// An equal saved run of its own.
+    pub fn copy(&self, alloc: Global) -> Result<Saved, NoMemory>
+        ensures { IfOk result (λ saved. saved ≡ self.now) }
+    {
+        Ok(Saved {
+            first: self.first,
+            next: self.next,
+            groups: self.groups.copy(alloc)?,
+        })
+    }
+}
