@@ -5,6 +5,7 @@ pub mod ChainLeads
 pub mod FoundRecords
 pub mod GroupPuts
 pub mod JoinedGroups
+pub mod LawfulGroups
 pub mod LedGroups
 pub mod Stepping
 pub mod Taking

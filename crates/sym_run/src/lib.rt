@@ -9,6 +9,7 @@ mod chains;
 mod chunks;
 mod grouping;
 mod joining;
+mod lawful;
 mod pushing;
 mod run_groups;
 mod runs;
