@@ -4,3 +4,4 @@ pub mod Options
 pub mod Rounds
 pub mod Passing
 pub mod Taking
+pub mod Pieces

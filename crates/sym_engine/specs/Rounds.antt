@@ -45,9 +45,13 @@ pub record StandsForAll (p : ScriptPlan) (limit : ℕ) (chunks : List Chunk) (ru
 abbrev pub shown_chunk : (Row → Row) → Chunk → Chunk
 shown_chunk shown cut = record cut { rows = map shown cut.rows }
 
+-- Chunks with each row as it is shown.
+abbrev pub shown_chunks : (Row → Row) → List Chunk → List Chunk
+shown_chunks shown chunks = map (shown_chunk shown) chunks
+
 -- The records of a round's rows as they are shown, or the first row of them that is none.
 abbrev pub round_records : ScriptPlan → (Row → Row) → List Chunk → Result (List Record) Bad
-round_records p shown chunks = all_records p (map (shown_chunk shown) chunks)
+round_records p shown chunks = all_records p (shown_chunks shown chunks)
 
 -- For which records a value stands, by a script and a path limit.
 abbrev pub stands_by : {S : Type 0} → (S → ScriptPlan → ℕ → List Record → Type 0) → ScriptPlan → ℕ

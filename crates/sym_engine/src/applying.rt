@@ -2,41 +2,52 @@
 ghost use Rattle.std.specs.Prelude.{◌≡◌, []};
 ghost use Rattle.sym_engine.specs.Taking.{ArePassedBy};
 
+use crate::gates::Gate;
 use crate::rounds::{Rounds, Took, Work};
-use crate::working::round;
 use std::alloc::Global;
 use std::mem;
+use std::sync::Wait;
+use std::thread::Threads;
 use sym_base::NoMemory;
 use sym_plain::Groups;
 use sym_run::Applied;
 
-/// The groups of the rounds so far, and how many workers make the run of a round.
+/// The groups of the rounds so far, the gate that has the run of each round made, and how many
+/// workers make it.
 #[derive(Drop)]
-pub(crate) struct PassRounds {
+pub(crate) struct PassRounds<'a, G> {
+    gate: &'a G,
     pub(crate) groups: Groups,
     workers: u32,
 }
 
-impl PassRounds {
+impl<'a, G> PassRounds<'a, G> {
     /// No groups. It takes no memory.
-    pub(crate) fn new(alloc: Global, workers: u32) -> PassRounds
+    pub(crate) fn new(alloc: Global, workers: u32, gate: &'a G) -> PassRounds<'a, G>
         ensures groups { result.groups ≡ [] }
         ensures workers { result.workers ≡ workers }
+        ensures gate { result.gate.now ≡ gate.now }
     {
         PassRounds {
+            gate,
             groups: Groups::new(alloc),
             workers,
         }
     }
 }
 
-impl Rounds for PassRounds {
-    ghost shown = { λ _ row. row };
+impl<'a, G: Gate + Sync> Rounds for PassRounds<'a, G> {
+    ghost shown = { λ rounds. G.shown rounds.gate.now };
 
     ghost stands = { λ rounds p _ records. ArePassedBy p rounds.groups rounds.workers records };
 
-    fn take(&mut self, alloc: Global, work: &Work) -> Result<Took, NoMemory> {
-        let run = round(alloc, work, self.workers)?;
+    fn take<T: Threads + Wait + Sync>(
+        &mut self,
+        rt: &T,
+        alloc: Global,
+        work: &Work,
+    ) -> Result<Took, NoMemory> {
+        let run = self.gate.work_round(rt, alloc, work, self.workers)?;
         let groups = mem::replace(&mut self.groups, Groups::new(alloc));
         match run.apply(alloc, &work.checked, groups)? {
             Applied::Done(groups) => {

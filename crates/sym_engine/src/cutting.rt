@@ -14,7 +14,8 @@ ghost use Rattle.sym_engine.specs.Rounds.{IsLimit, stands_by};
 ghost use Rattle.sym_engine.specs.Taking.{AreCut, OpensFile, TakesFile, TakesRows, rows_left};
 
 use crate::error::PassErr;
-use crate::rounds::{Rounds, Took, Work};
+use crate::rounds::{Took, Work};
+use crate::ways::Way;
 use std::alloc::Global;
 use std::mem;
 use sym_base::{CHUNKS_MAX, NoMemory};
@@ -82,7 +83,8 @@ fn next_round(alloc: Global, cutter: &mut Cutter<'_>, spare: &mut Spare) -> Resu
 }
 
 // Takes the rows that are left, round by round. The script and the path limit of the work stay.
-fn take_rounds<R: Rounds>(
+fn take_rounds<R, W: Way<R>>(
+    way: &W,
     alloc: Global,
     work: &mut Work,
     cutter: &mut Cutter<'_>,
@@ -93,14 +95,14 @@ fn take_rounds<R: Rounds>(
     requires fits { FitsHeader (checked_plan work.old.checked).fields cutter.old.header }
     requires limit { IsLimit work.old.limit }
     requires stands { let p = checked_plan work.old.checked in
-        (records : List OneRecord) × R.stands rounds.old p work.old.limit records }
+        (records : List OneRecord) × W.stands rounds.old p work.old.limit records }
     ensures takes { let p = checked_plan work.old.checked in
         let first = cutter.old.next_no in
-        let rows = map (R.shown rounds.old) (rows_left cutter.old) in
+        let rows = map (W.shown rounds.old) (rows_left cutter.old) in
         let read = records_or_bad p cutter.old.header first rows in
-        let stood = stands_by R.stands p work.old.limit in
+        let stood = stands_by W.stands p work.old.limit in
         IfOk result (TakesRows stood read first cutter.new.next_no rounds.old rounds.new) }
-    ensures shown { R.shown rounds.new ≡ R.shown rounds.old }
+    ensures shown { W.shown rounds.new ≡ W.shown rounds.old }
     ensures checked { checked_plan work.new.checked ≡ checked_plan work.old.checked }
     ensures same { work.new.limit ≡ work.old.limit }
 {
@@ -111,7 +113,7 @@ fn take_rounds<R: Rounds>(
         if work.chunks.is_empty() {
             return Ok(Took::Done);
         }
-        match rounds.take(alloc, work)? {
+        match way.take(alloc, rounds, work)? {
             Took::Done => {}
             Took::Bad(bad) => return Ok(Took::Bad(bad)),
         }
@@ -120,7 +122,8 @@ fn take_rounds<R: Rounds>(
 
 /// Takes the records of the file with the number `file`. Its first one has the number that the
 /// course gives, which becomes that of the first record after the file.
-pub(crate) fn take_file<R: Rounds>(
+pub(crate) fn take_file<R, W: Way<R>>(
+    way: &W,
     alloc: Global,
     work: &mut Work,
     bytes: &[u8],
@@ -134,14 +137,14 @@ pub(crate) fn take_file<R: Rounds>(
     requires most { course.old.chunk ≤ limit.CHUNK_MAX }
     requires limit { IsLimit work.old.limit }
     requires stands { let p = checked_plan work.old.checked in
-        (records : List OneRecord) × R.stands rounds.old p work.old.limit records }
+        (records : List OneRecord) × W.stands rounds.old p work.old.limit records }
     ensures takes { let p = checked_plan work.old.checked in
         let first = course.old.next_no in
-        let rows = shown_rows (R.shown rounds.old) (file_rows bytes.now) in
+        let rows = shown_rows (W.shown rounds.old) (file_rows bytes.now) in
         let read = row_records p file first rows in
-        let stood = stands_by R.stands p work.old.limit in
+        let stood = stands_by W.stands p work.old.limit in
         TakesFile stood read first course.new.next_no rounds.old rounds.new result }
-    ensures shown { R.shown rounds.new ≡ R.shown rounds.old }
+    ensures shown { W.shown rounds.new ≡ W.shown rounds.old }
     ensures checked { checked_plan work.new.checked ≡ checked_plan work.old.checked }
     ensures same { work.new.limit ≡ work.old.limit }
     ensures chunk { course.new.chunk ≡ course.old.chunk }
@@ -154,7 +157,7 @@ pub(crate) fn take_file<R: Rounds>(
         course.next_no,
         course.chunk,
     )?;
-    match take_rounds(alloc, work, &mut cutter, &mut course.spare, rounds)? {
+    match take_rounds(way, alloc, work, &mut cutter, &mut course.spare, rounds)? {
         Took::Done => {
             course.next_no = cutter.next_no();
             Ok(())

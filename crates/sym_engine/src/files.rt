@@ -14,7 +14,10 @@ use crate::cutting::{Course, take_file};
 use crate::error::PassErr;
 use crate::options::Options;
 use crate::rounds::{Rounds, Work};
+use crate::ways::{Threaded, Way};
 use std::alloc::Global;
+use std::sync::Wait;
+use std::thread::Threads;
 use sym_base::{ReadErr, Store, read_all};
 use sym_check::Checked;
 use sym_table::{Chunks, Spare};
@@ -44,6 +47,56 @@ fn read_file<F: Store>(
     }
 }
 
+/// What `each_round` does, in whatever way rounds are taken.
+pub(crate) fn take_files<F: Store, R, W: Way<R>>(
+    way: &W,
+    alloc: Global,
+    checked: &Checked,
+    files: &mut F,
+    names: &[String],
+    options: &Options,
+    first: u64,
+    rounds: &mut R,
+) -> Result<u64, PassErr>
+    requires options { InRange options.now }
+    requires few { length names.now ≤ limit.FILES_MAX }
+    requires first { first ≤ 2 ^ 61 }
+    requires stands { let p = checked_plan checked.now in
+        (records : List OneRecord) × W.stands rounds.old p options.now.limit records }
+    ensures taken { let p = checked_plan checked.now in
+        let names = map string_bytes names.now in
+        let rules = rules_of options.now.max_bytes (W.shown rounds.old) in
+        let stood = stands_by W.stands p options.now.limit in
+        IfOk result (TakenAll stood p rules (F.holds files.old) names first rounds.old rounds.new) }
+    ensures stopped { let p = checked_plan checked.now in
+        let names = map string_bytes names.now in
+        let rules = rules_of options.now.max_bytes (W.shown rounds.old) in
+        let before = F.faults files.old in
+        let after = F.faults files.new in
+        IfErr result (StopsFrom first p rules (F.holds files.old) names before after) }
+    ensures shown { W.shown rounds.new ≡ W.shown rounds.old }
+    ensures same { F.holds files.new ≡ F.holds files.old }
+    ensures later { (other : List ℕ) → F.faults files.old other ≤ F.faults files.new other }
+{
+    let mut work = Work {
+        checked: checked.copy(alloc)?,
+        chunks: Chunks::new(alloc),
+        limit: options.limit,
+    };
+    let mut course = Course {
+        next_no: first,
+        chunk: options.chunk,
+        spare: Spare::new(alloc),
+    };
+    'files: for (file, name) in names.iter().enumerate() {
+        let number = file as u64;
+        let bytes = read_file(alloc, files, name.as_str(), number, options.max_bytes)?;
+        let bytes = bytes.as_slice();
+        take_file(way, alloc, &mut work, bytes, number, &mut course, rounds)?;
+    }
+    Ok(course.next_no)
+}
+
 /// Takes the records of the files of these names, in order, round by round. The first row of each
 /// file is its header; records are numbered from `first` on, over all files, and the number after
 /// the last one is returned. A round has up to `CHUNKS_MAX` chunks of one file, each of
@@ -62,7 +115,8 @@ fn read_file<F: Store>(
 ///
 /// `NoMemory` where an allocation failed. After an error nothing is known of what `rounds` stands
 /// for.
-pub fn each_round<F: Store, R: Rounds>(
+pub fn each_round<T: Threads + Wait + Sync, F: Store, R: Rounds>(
+    rt: &T,
     alloc: Global,
     checked: &Checked,
     files: &mut F,
@@ -91,21 +145,6 @@ pub fn each_round<F: Store, R: Rounds>(
     ensures same { F.holds files.new ≡ F.holds files.old }
     ensures later { (other : List ℕ) → F.faults files.old other ≤ F.faults files.new other }
 {
-    let mut work = Work {
-        checked: checked.copy(alloc)?,
-        chunks: Chunks::new(alloc),
-        limit: options.limit,
-    };
-    let mut course = Course {
-        next_no: first,
-        chunk: options.chunk,
-        spare: Spare::new(alloc),
-    };
-    'files: for (file, name) in names.iter().enumerate() {
-        let number = file as u64;
-        let bytes = read_file(alloc, files, name.as_str(), number, options.max_bytes)?;
-        let bytes = bytes.as_slice();
-        take_file(alloc, &mut work, bytes, number, &mut course, rounds)?;
-    }
-    Ok(course.next_no)
+    let way = Threaded { rt };
+    take_files(&way, alloc, checked, files, names, options, first, rounds)
 }

@@ -7,7 +7,8 @@ ghost use Rattle.sym_table.specs.Rows.{FitsChunk};
 ghost use Rattle.sym_engine.specs.Rounds.{Takes};
 ghost use Rattle.sym_engine.specs.Taking.{ArePassed};
 
-use crate::rounds::{Rounds, Took, Work};
+use crate::rounds::{Took, Work};
+use crate::ways::Way;
 use std::alloc::Global;
 use sym_base::{NoMemory, Record, Values};
 use sym_check::Checked;
@@ -80,12 +81,15 @@ fn fold_chunks(
     Ok(Took::Done)
 }
 
-impl Rounds for Folded {
+/// On this thread alone.
+pub(crate) struct Alone;
+
+impl Way<Folded> for Alone {
     ghost shown = { λ _ row. row };
 
     ghost stands = { λ folded p _ records. ArePassed p folded.groups records };
 
-    fn take(&mut self, alloc: Global, work: &Work) -> Result<Took, NoMemory> {
-        fold_chunks(alloc, &work.checked, work.chunks.as_slice(), self)
+    fn take(&self, alloc: Global, folded: &mut Folded, work: &Work) -> Result<Took, NoMemory> {
+        fold_chunks(alloc, &work.checked, work.chunks.as_slice(), folded)
     }
 }

@@ -4,20 +4,28 @@
 
 mod applying;
 mod cutting;
+mod entering;
 mod error;
 mod files;
 mod folding;
+mod gates;
 pub mod laws;
 mod options;
 mod passing;
+mod piece;
 mod rounds;
 mod sequential;
+mod ways;
+mod workers;
 mod working;
 
+pub use entering::{Enter, Free};
 pub use error::PassErr;
 pub use files::each_round;
+pub use gates::{Gate, Hold, OpenGate};
 pub use options::{CHUNK_DEFAULT, LIMIT_DEFAULT, LIMIT_MAX, Options, WORKERS_DEFAULT};
 pub use passing::pass;
 pub use rounds::{Rounds, Took, Work};
 pub use sequential::sequential_pass;
+pub use workers::worked;
 pub use working::round;

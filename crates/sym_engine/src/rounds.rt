@@ -1,5 +1,6 @@
 //! Rounds of chunks, and what takes them.
 ghost use Rattle.std.specs.Prelude.{◌≡◌, ℕ, List, IfOk};
+ghost use Rattle.std.specs.Thread.{IsSync};
 ghost use Rattle.sym_base.specs.declared.values.record.Record.{Record as OneRecord};
 ghost use Rattle.sym_check.specs.Checking.CheckedScripts.{checked_plan, checked_tree};
 ghost use Rattle.sym_check.specs.Plan.ScriptPlans.{ScriptPlan};
@@ -7,6 +8,8 @@ ghost use Rattle.sym_table.specs.Reading.{Row as OneRow};
 ghost use Rattle.sym_engine.specs.Rounds.{IsLimit, IsRound, Takes, round_records, stands_by};
 
 use std::alloc::Global;
+use std::sync::Wait;
+use std::thread::Threads;
 use sym_base::NoMemory;
 use sym_check::Checked;
 use sym_table::{Bad, Chunks};
@@ -66,7 +69,13 @@ pub trait Rounds {
     /// Takes the records of a round's rows, each row as it is shown, after those for which the
     /// value stands; or `Bad` exactly where one of the rows is no record: the first such row.
     /// After `Bad` and after an `Err` nothing is known of the value but what it shows, which stays.
-    fn take(&mut self, alloc: Global, work: &Work) -> Result<Took, NoMemory>
+    fn take<T: Threads + Wait + Sync>(
+        &mut self,
+        rt: &T,
+        alloc: Global,
+        work: &Work,
+    ) -> Result<Took, NoMemory>
+        requires sync { IsSync T.row }
         requires round { IsRound (checked_plan work.now.checked).fields work.now.chunks }
         requires limit { IsLimit work.now.limit }
         requires stands { let p = checked_plan work.now.checked in

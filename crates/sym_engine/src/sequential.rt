@@ -8,8 +8,8 @@ ghost use Rattle.sym_engine.specs.Options.{InRange};
 ghost use Rattle.sym_engine.specs.Passing.{PassedAll, StopsPass};
 
 use crate::error::PassErr;
-use crate::files::each_round;
-use crate::folding::Folded;
+use crate::files::take_files;
+use crate::folding::{Alone, Folded};
 use crate::options::Options;
 use std::alloc::Global;
 use sym_base::Store;
@@ -42,6 +42,15 @@ pub fn sequential_pass<F: Store>(
     ensures later { (other : List ℕ) → F.faults files.old other ≤ F.faults files.new other }
 {
     let mut folded = Folded::new(alloc);
-    each_round(alloc, checked, files, names, options, 1, &mut folded)?;
+    take_files(
+        &Alone,
+        alloc,
+        checked,
+        files,
+        names,
+        options,
+        1,
+        &mut folded,
+    )?;
     Ok(folded.groups)
 }

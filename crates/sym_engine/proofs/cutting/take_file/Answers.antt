@@ -13,9 +13,9 @@ use Rattle.sym_engine.proofs.cutting.take_file.Goals as goal
 pub returns-in_err-cutter-clause-takes : goal.returns-in_err-cutter-clause-takes
 returns-in_err-cutter-clause-takes g c =
     let p = checked_plan c.args.work.now.checked in
-    let stood = stands_by g.R.Rounds.stands p c.args.work.now.limit in
+    let stood = stands_by g.W.Way.stands p c.args.work.now.limit in
     let first = c.args.course.now.next_no in
-    let shown = g.R.Rounds.shown c.args.rounds.now in
+    let shown = g.W.Way.shown c.args.rounds.now in
     let rows = file_rows c.args.bytes.now in
     let why = c.in_err-cutter.field-0.0 in
     let now = c.args.rounds.now in
@@ -25,16 +25,16 @@ returns-in_err-cutter-clause-takes g c =
 
 pub take_rounds-requires-clause-left : goal.take_rounds-requires-clause-left
 take_rounds-requires-clause-left g c =
-    let is = c.in_ok-cutter.ensures (g.R.Rounds.shown c.args.rounds.now) in is_some c.in_ok-cutter.cutter.left is.left is.has
+    let is = c.in_ok-cutter.ensures (g.W.Way.shown c.args.rounds.now) in is_some c.in_ok-cutter.cutter.left is.left is.has
 
 pub take_rounds-requires-clause-fits : goal.take_rounds-requires-clause-fits
-take_rounds-requires-clause-fits g c = (c.in_ok-cutter.ensures (g.R.Rounds.shown c.args.rounds.now)).fits
+take_rounds-requires-clause-fits g c = (c.in_ok-cutter.ensures (g.W.Way.shown c.args.rounds.now)).fits
 
 pub returns-in-Done-clause-takes : goal.returns-in-Done-clause-takes
 returns-in-Done-clause-takes g c =
     let p = checked_plan c.args.work.now.checked in
-    let stood = stands_by g.R.Rounds.stands p c.args.work.now.limit in
-    let shown = g.R.Rounds.shown c.args.rounds.now in
+    let stood = stands_by g.W.Way.stands p c.args.work.now.limit in
+    let shown = g.W.Way.shown c.args.rounds.now in
     let cut = c.in_ok-cutter.cutter in
     let is = c.in_ok-cutter.ensures shown in
     file_taken stood p shown c.args.file c.args.course.now.next_no c.take_rounds.new.cutter.next_no c.next_no-course.result (file_rows c.args.bytes.now) c.in_ok-cutter.cutter
@@ -45,8 +45,8 @@ returns-in-Done-clause-takes g c =
 pub returns-clause-takes : goal.returns-clause-takes
 returns-clause-takes g c =
     let p = checked_plan c.args.work.now.checked in
-    let stood = stands_by g.R.Rounds.stands p c.args.work.now.limit in
-    let shown = g.R.Rounds.shown c.args.rounds.now in
+    let stood = stands_by g.W.Way.stands p c.args.work.now.limit in
+    let shown = g.W.Way.shown c.args.rounds.now in
     let cut = c.in_ok-cutter.cutter in
     let is = c.in_ok-cutter.ensures shown in
     file_bad p shown c.args.file c.args.course.now.next_no (file_rows c.args.bytes.now) c.in_ok-cutter.cutter c.in-Bad.bad is

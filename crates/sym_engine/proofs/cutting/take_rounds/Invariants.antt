@@ -13,9 +13,9 @@ invariant-rounds g l =
     record {
       checked : checked_plan l.work.checked ≡ p;
       limit : l.work.limit ≡ l.fn.work.limit;
-      shown : g.R.Rounds.shown l.rounds ≡ g.R.Rounds.shown l.fn.rounds;
+      shown : g.W.Way.shown l.rounds ≡ g.W.Way.shown l.fn.rounds;
       header : l.cutter.header ≡ old.header;
-      taking : IsTaking (stands_by g.R.Rounds.stands p l.fn.work.limit) p old.header (g.R.Rounds.shown l.fn.rounds) old.next_no (rows_left old) l.fn.rounds l.rounds l.cutter;
+      taking : IsTaking (stands_by g.W.Way.stands p l.fn.work.limit) p old.header (g.W.Way.shown l.fn.rounds) old.next_no (rows_left old) l.fn.rounds l.rounds l.cutter;
     }
 
 abbrev pub decreases-rounds : goal.decreases-rounds

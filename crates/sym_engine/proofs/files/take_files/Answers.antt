@@ -10,14 +10,14 @@ use Rattle.sym_engine.proofs.Walks.{fails_as}
 use Rattle.sym_engine.proofs.Opened.{file_as}
 use Rattle.sym_table.specs.FileRows.{file_rows}
 use Rattle.sym_engine.proofs.FileByFile.{pass_begins, pass_on, number_few, unread_stops, untaken_stops, name_at, may_as, unread_as}
-use Rattle.sym_engine.proofs.files.each_round.Goals as goal
+use Rattle.sym_engine.proofs.files.take_files.Goals as goal
 
 pub files-init : goal.files-init
 files-init g c =
     let p = checked_plan c.args.checked.now in
     record {
       passing =
-          pass_begins (stands_by g.R.Rounds.stands p c.args.options.now.limit) p (rules_of c.args.options.now.max_bytes (g.R.Rounds.shown c.args.rounds.now))
+          pass_begins (stands_by g.W.Way.stands p c.args.options.now.limit) p (rules_of c.args.options.now.max_bytes (g.W.Way.shown c.args.rounds.now))
           (g.F.Store.holds c.args.files.now) (map string_bytes c.args.names.now) c.args.first c.args.rounds.now;
       few = omega arith;
       chunk = refl;
@@ -32,8 +32,8 @@ pub files-preserved : goal.files-preserved
 files-preserved g c =
     let p = checked_plan c.args.checked.now in
     let limit = c.args.options.now.limit in
-    let stood = stands_by g.R.Rounds.stands p limit in
-    let shown = g.R.Rounds.shown c.args.rounds.now in
+    let stood = stands_by g.W.Way.stands p limit in
+    let shown = g.W.Way.shown c.args.rounds.now in
     let rules = rules_of c.args.options.now.max_bytes shown in
     let holds = g.F.Store.holds c.args.files.now in
     let names = map string_bytes c.args.names.now in
@@ -47,7 +47,7 @@ files-preserved g c =
     let may = may_as (g.F.Store.holds c.files.files) holds name c.in_ok-bytes.bytes.items bytes is.same c.as_slice-bytes.ensures.value c.in_ok-bytes.ensures.read in
     let size : length bytes ≤ c.args.options.now.max_bytes = rw c.as_slice-bytes.ensures.value c.in_ok-bytes.ensures.fits in
     let takes =
-    file_as {A = Unit {0}} g.R.Rounds.stands (checked_plan c.files.work.checked) p c.files.work.limit limit (g.R.Rounds.shown c.files.rounds) shown k first next (file_rows bytes)
+    file_as {A = Unit {0}} g.W.Way.stands (checked_plan c.files.work.checked) p c.files.work.limit limit (g.W.Way.shown c.files.rounds) shown k first next (file_rows bytes)
     c.files.rounds c.take_file.new.rounds (Ok tt) is.checked is.limit is.shown c.in_ok-take_file.ensures.takes in
     let few = number_few stood p rules k first next c.files.rounds c.take_file.new.rounds bytes size takes in
     record {
@@ -64,8 +64,8 @@ files-preserved g c =
 pub returns-in_err-bytes-clause-stopped : goal.returns-in_err-bytes-clause-stopped
 returns-in_err-bytes-clause-stopped g c =
     let p = checked_plan c.args.checked.now in
-    let stood = stands_by g.R.Rounds.stands p c.args.options.now.limit in
-    let rules = rules_of c.args.options.now.max_bytes (g.R.Rounds.shown c.args.rounds.now) in
+    let stood = stands_by g.W.Way.stands p c.args.options.now.limit in
+    let rules = rules_of c.args.options.now.max_bytes (g.W.Way.shown c.args.rounds.now) in
     let holds = g.F.Store.holds c.args.files.now in
     let names = map string_bytes c.args.names.now in
     let before = g.F.Store.faults c.args.files.now in
@@ -84,8 +84,8 @@ pub returns-in_err-take_file-clause-stopped : goal.returns-in_err-take_file-clau
 returns-in_err-take_file-clause-stopped g c =
     let p = checked_plan c.args.checked.now in
     let limit = c.args.options.now.limit in
-    let stood = stands_by g.R.Rounds.stands p limit in
-    let shown = g.R.Rounds.shown c.args.rounds.now in
+    let stood = stands_by g.W.Way.stands p limit in
+    let shown = g.W.Way.shown c.args.rounds.now in
     let rules = rules_of c.args.options.now.max_bytes shown in
     let holds = g.F.Store.holds c.args.files.now in
     let names = map string_bytes c.args.names.now in
@@ -102,7 +102,7 @@ returns-in_err-take_file-clause-stopped g c =
     let may = may_as (g.F.Store.holds c.files.files) holds name c.in_ok-bytes.bytes.items bytes is.same c.as_slice-bytes.ensures.value c.in_ok-bytes.ensures.read in
     let size : length bytes ≤ c.args.options.now.max_bytes = rw c.as_slice-bytes.ensures.value c.in_ok-bytes.ensures.fits in
     let takes =
-    file_as {A = Unit {0}} g.R.Rounds.stands (checked_plan c.files.work.checked) p c.files.work.limit limit (g.R.Rounds.shown c.files.rounds) shown k first next (file_rows bytes)
+    file_as {A = Unit {0}} g.W.Way.stands (checked_plan c.files.work.checked) p c.files.work.limit limit (g.W.Way.shown c.files.rounds) shown k first next (file_rows bytes)
     c.files.rounds c.take_file.new.rounds (Err why) is.checked is.limit is.shown c.in_err-take_file.ensures.takes in
     let P : Result ℕ PassErr → Type 0 = λ r. IfErr r (StopsFrom c.args.first p rules holds names before after) in
     fails_as c.from_residual-in_err-take_file.result why P c.from_residual-in_err-take_file.ensures.1

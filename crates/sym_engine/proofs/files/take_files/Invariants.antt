@@ -5,19 +5,19 @@ use Rattle.sym_check.specs.Checking.CheckedScripts.{checked_plan}
 use Rattle.sym_engine.specs.FileRecords.{rules_of}
 use Rattle.sym_engine.specs.Rounds.{stands_by}
 use Rattle.sym_engine.proofs.FileByFile.{IsPassing}
-use Rattle.sym_engine.proofs.files.each_round.Given as goal
+use Rattle.sym_engine.proofs.files.take_files.Given as goal
 
 abbrev pub invariant-files : goal.invariant-files
 invariant-files g l =
     let p = checked_plan l.checked in
     record {
-      passing : IsPassing (stands_by g.R.Rounds.stands p l.options.limit) p (rules_of l.options.max_bytes (g.R.Rounds.shown l.fn.rounds)) (g.F.Store.holds l.fn.files)
+      passing : IsPassing (stands_by g.W.Way.stands p l.options.limit) p (rules_of l.options.max_bytes (g.W.Way.shown l.fn.rounds)) (g.F.Store.holds l.fn.files)
           (map string_bytes l.names) l.first l.file l.course.next_no l.fn.rounds l.rounds;
       few : l.course.next_no ≤ l.first + l.file * 268435456;
       chunk : l.course.chunk ≡ l.options.chunk;
       checked : checked_plan l.work.checked ≡ p;
       limit : l.work.limit ≡ l.options.limit;
-      shown : g.R.Rounds.shown l.rounds ≡ g.R.Rounds.shown l.fn.rounds;
+      shown : g.W.Way.shown l.rounds ≡ g.W.Way.shown l.fn.rounds;
       same : g.F.Store.holds l.files ≡ g.F.Store.holds l.fn.files;
       later : (other : List ℕ) → g.F.Store.faults l.fn.files other ≤ g.F.Store.faults l.files other;
     }
