@@ -1,5 +1,5 @@
--- The run of a round, and the groups that it is applied to.
-use Rattle.std.proofs.Common.{◌≡◌, ◌∙◌, refl, sym, ap, subst, ℕ, List, ◌++◌, length, Result, Ok, Err, IfOk}
+-- The groups that the run of a round is applied to.
+use Rattle.std.proofs.Common.{◌≡◌, ◌∙◌, refl, sym, ap, subst, ℕ, List, ◌++◌, Result, Ok, Err}
 use Rattle.sym_base.specs.declared.values.record.Record.{Record}
 use Rattle.sym_base.specs.declared.values.value.Key.{Key}
 use Rattle.sym_base.specs.declared.values.state.Outcome.{Outcome}
@@ -13,21 +13,13 @@ use Rattle.sym_run.specs.declared.runs.Applied.{Applied}
 use Rattle.sym_run.specs.declared.runs.Applied.TheVariants as applied
 use Rattle.sym_run.specs.declared.runs.Run.{Run}
 use Rattle.sym_run.specs.Applying.{AreValid, IfDone, applied_to, bad_of}
-use Rattle.sym_run.specs.Runs.{GroupsStandFor, IsFromTo, StandsForChunks}
+use Rattle.sym_run.specs.Runs.{GroupsStandFor}
 use Rattle.sym_run.proofs.AppliedRuns.{applied_all}
-use Rattle.sym_engine.specs.Rounds.{StandsForAll, round_records}
+use Rattle.sym_engine.specs.Rounds.{StandsForAll}
 use Rattle.sym_engine.specs.Taking.{ArePassedBy}
-use Rattle.sym_engine.proofs.Folds.{plain_chunks}
 
 abbrev Pairs : Type 0
 Pairs = List (Key × Outcome)
-
--- The run of all chunks, by the list that the code goes over.
-pub round_run : {E : Type 0} (p : ScriptPlan) (limit : ℕ) (cuts items : List Chunk) (r : Result Run E) → items ≡ cuts
-    → IfOk r (IsFromTo 0 (length items)) → IfOk r (StandsForChunks p limit items) → IfOk r (StandsForAll p limit cuts)
-round_run p limit cuts items (Ok made) same ends stands =
-    let P : List Chunk → Type 0 = λ xs. StandsForAll p limit xs made in subst P same (record { ends = ends; stands = stands })
-round_run p limit cuts items (Err e) same ends stands = tt
 
 -- ---- the groups after a run
 -- What the groups come to where all rows of the round are records.
@@ -51,16 +43,15 @@ pub record IsApplied (p : ScriptPlan) (run : Run) (groups : Pairs) (found : Appl
   pub groups_are : (records : List Record) → GroupsStandFor p records run.groups → IfDone found (λ g. g ≡ after_records p records groups)
 
 applied_round : (p : ScriptPlan) (limit : ℕ) (cuts : List Chunk) (run : Run) (groups : Pairs) (found : Applied)
-    → StandsForAll p limit cuts run → IsApplied p run groups found → found ≡ applied_to p (round_records p (λ row. row) cuts) groups
+    → StandsForAll p limit cuts run → IsApplied p run groups found → found ≡ applied_to p (all_records p cuts) groups
 applied_round p limit cuts run groups found h is =
     applied_all p limit cuts run groups found h.stands h.ends is.bad is.groups_are
-    ∙ ap (λ (some : List Chunk). applied_to p (all_records p some) groups) (sym (plain_chunks cuts))
 
 pub groups_led : (p : ScriptPlan) (limit workers : ℕ) (cuts : List Chunk) (run : Run) (old given new : Pairs) (found : Applied)
     → StandsForAll p limit cuts run → IsApplied p run given found → given ≡ old → found ≡ applied.Done new
-    → (records : List Record) × (round_records p (λ row. row) cuts ≡ Ok records) × ((before : List Record) → ArePassedBy p old workers before → ArePassedBy p new workers (before ++ records))
+    → (records : List Record) × (all_records p cuts ≡ Ok records) × ((before : List Record) → ArePassedBy p old workers before → ArePassedBy p new workers (before ++ records))
 groups_led p limit workers cuts run old given new found h is same done =
-    let led = led_by p (round_records p (λ row. row) cuts) given new (sym done ∙ applied_round p limit cuts run given found h is) in
+    let led = led_by p (all_records p cuts) given new (sym done ∙ applied_round p limit cuts run given found h is) in
     let V : Applied → Type 0 = λ x. IfDone x (AreValid p) in (
       led.records,
       led.are,
@@ -72,6 +63,6 @@ groups_led p limit workers cuts run old given new found h is same done =
     )
 
 pub round_bad : (p : ScriptPlan) (limit : ℕ) (cuts : List Chunk) (run : Run) (groups : Pairs) (found : Applied) (bad : BadRow)
-    → StandsForAll p limit cuts run → IsApplied p run groups found → found ≡ applied.Bad bad → round_records p (λ row. row) cuts ≡ Err bad
+    → StandsForAll p limit cuts run → IsApplied p run groups found → found ≡ applied.Bad bad → all_records p cuts ≡ Err bad
 round_bad p limit cuts run groups found bad h is broken =
-    bad_by p (round_records p (λ row. row) cuts) groups bad (sym broken ∙ applied_round p limit cuts run groups found h is)
+    bad_by p (all_records p cuts) groups bad (sym broken ∙ applied_round p limit cuts run groups found h is)

@@ -3,7 +3,7 @@ use Rattle.sym_engine.proofs.sequential.sequential_pass.Goals as goal
 
 pub returns-clause-passed : goal.returns-clause-passed
 returns-clause-passed g c =
-    let all = c.in_ok-each_round.ensures.taken in
+    let all = c.in_ok-take_files.ensures.taken in
     record {
       files = all.files;
       may = all.may;
