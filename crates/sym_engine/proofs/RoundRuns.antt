@@ -1,5 +1,6 @@
 -- The groups that the run of a round is applied to.
-use Rattle.std.proofs.Common.{◌≡◌, ◌∙◌, refl, sym, ap, subst, ℕ, List, ◌++◌, Result, Ok, Err}
+use Rattle.std.proofs.Common.{◌≡◌, ◌∙◌, refl, sym, ap, subst, ℕ, ◌<◌, List, ◌++◌, length, get_or, Some, Result, Ok, Err, slice_get}
+use Rattle.std.proofs.lemmas.Option.{slice_get_read}
 use Rattle.sym_base.specs.declared.values.record.Record.{Record}
 use Rattle.sym_base.specs.declared.values.value.Key.{Key}
 use Rattle.sym_base.specs.declared.values.state.Outcome.{Outcome}
@@ -20,6 +21,12 @@ use Rattle.sym_engine.specs.Taking.{ArePassedBy}
 
 abbrev Pairs : Type 0
 Pairs = List (Key × Outcome)
+
+-- The chunk at a place, by the list that the code goes over.
+pub chunk_at : (cuts items : List Chunk) (k : ℕ) (cut : Chunk) → items ≡ cuts → k < length items → cut ≡ get_or items k cut → slice_get cuts k ≡ Some cut
+chunk_at cuts items k cut same h e =
+    let P : List Chunk → Type 0 = λ xs. slice_get xs k ≡ Some cut in
+    subst P same (slice_get_read items (length items) k cut refl h e)
 
 -- ---- the groups after a run
 -- What the groups come to where all rows of the round are records.
