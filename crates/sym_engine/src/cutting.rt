@@ -91,6 +91,7 @@ fn take_rounds<R, W: Way<R>>(
     spare: &mut Spare,
     rounds: &mut R,
 ) -> Result<Took, NoMemory>
+    requires ready { W.ready }
     requires left { IsSome cutter.old.left }
     requires fits { FitsHeader (checked_plan work.old.checked).fields cutter.old.header }
     requires limit { IsLimit work.old.limit }
@@ -131,6 +132,7 @@ pub(crate) fn take_file<R, W: Way<R>>(
     course: &mut Course,
     rounds: &mut R,
 ) -> Result<(), PassErr>
+    requires ready { W.ready }
     requires size { length bytes.now ≤ limit.FILE_MAX }
     requires first { course.old.next_no ≤ 2 ^ 62 }
     requires some { 1 ≤ course.old.chunk }

@@ -58,6 +58,7 @@ pub(crate) fn take_files<F: Store, R, W: Way<R>>(
     first: u64,
     rounds: &mut R,
 ) -> Result<u64, PassErr>
+    requires ready { W.ready }
     requires options { InRange options.now }
     requires few { length names.now ≤ limit.FILES_MAX }
     requires first { first ≤ 2 ^ 61 }

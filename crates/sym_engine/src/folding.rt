@@ -89,6 +89,8 @@ impl Way<Folded> for Alone {
 
     ghost stands = { λ folded p _ records. ArePassed p folded.groups records };
 
+    ghost ready = { Unit {0} };
+
     fn take(&self, alloc: Global, folded: &mut Folded, work: &Work) -> Result<Took, NoMemory> {
         fold_chunks(alloc, &work.checked, work.chunks.as_slice(), folded)
     }

@@ -1,5 +1,6 @@
 //! How rounds are taken: with the threads of a runtime, or on one thread.
 ghost use Rattle.std.specs.Prelude.{◌≡◌, ℕ, List, IfOk};
+ghost use Rattle.std.specs.Thread.{IsSync};
 ghost use Rattle.sym_base.specs.declared.values.record.Record.{Record as OneRecord};
 ghost use Rattle.sym_check.specs.Checking.CheckedScripts.{checked_plan};
 ghost use Rattle.sym_check.specs.Plan.ScriptPlans.{ScriptPlan};
@@ -20,8 +21,12 @@ pub(crate) trait Way<R> {
     // Whether a value stands for these records, by a script and a path limit.
     ghost stands: { R → ScriptPlan → ℕ → List OneRecord → Type 0 };
 
+    // What a caller knows of the way's own types.
+    ghost ready: { Type 0 };
+
     /// Takes the records of a round's rows, as `Rounds::take` does.
     fn take(&self, alloc: Global, rounds: &mut R, work: &Work) -> Result<Took, NoMemory>
+        requires ready { ready }
         requires round { IsRound (checked_plan work.now.checked).fields work.now.chunks }
         requires limit { IsLimit work.now.limit }
         requires stands { let p = checked_plan work.now.checked in
@@ -43,6 +48,8 @@ impl<'a, T: Threads + Wait + Sync, R: Rounds> Way<R> for Threaded<'a, T> {
     ghost shown = { R.shown };
 
     ghost stands = { R.stands };
+
+    ghost ready = { IsSync T.row };
 
     fn take(&self, alloc: Global, rounds: &mut R, work: &Work) -> Result<Took, NoMemory> {
         rounds.take(self.rt, alloc, work)

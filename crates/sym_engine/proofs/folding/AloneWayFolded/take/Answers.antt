@@ -1,6 +1,6 @@
 use Rattle.sym_check.specs.Checking.CheckedScripts.{checked_plan}
 use Rattle.sym_engine.proofs.Folds.{round_folded}
-use Rattle.sym_engine.proofs.folding.AloneWay.take.Goals as goal
+use Rattle.sym_engine.proofs.folding.AloneWayFolded.take.Goals as goal
 
 pub returns-clause-takes : goal.returns-clause-takes
 returns-clause-takes c =
