@@ -17,6 +17,7 @@ pub mod FollowingTaken
 pub mod FollowingWhole
 pub mod Given
 pub mod JoiningConstraints
+mod JoiningCounts
 pub mod JoiningEqual
 pub mod JoiningFits
 pub mod JoiningGives

@@ -12,6 +12,8 @@ use Rattle.sym_int.specs.declared.span.Span.{Span}
 use Rattle.sym_pred.specs.Facts.{Atom, FactMap}
 use Rattle.sym_pred.specs.Meaning.{Stands}
 use Rattle.sym_pred.specs.Meaning as facts
+use Rattle.sym_path.specs.declared.form.Form.{Form}
+use Rattle.sym_path.specs.declared.form.Form.TheVariants as form
 use Rattle.sym_path.specs.declared.part.Part.{Part}
 use Rattle.sym_path.specs.declared.part.Part.TheVariants as part
 use Rattle.sym_path.specs.declared.path.PathEnd.{PathEnd}
@@ -77,6 +79,20 @@ abbrev pub AddedIsTaken : List Part → List IntForm → List IntForm → ℕ �
 AddedIsTaken when fs gs index =
     (f g : IntForm) → slice_get fs index ≡ Some f → slice_get gs index ≡ Some g →
     NumberIsTakenTo when f g
+
+-- How many elements a list form adds; none where it isn't one.
+abbrev pub added_count : Form → ℕ
+added_count (form.Enum f) = 0
+added_count (form.Int f) = 0
+added_count (form.Hold f) = 0
+added_count (form.Nums added) = length added
+added_count (form.Words added) = length added
+
+-- The forms add as many elements to each list as the others.
+pub record AddAsMany (fs gs : List Form) : Type 0 where
+  pub lengths : length fs ≡ length gs
+  pub counts : (i : ℕ) (f g : Form) → slice_get fs i ≡ Some f → slice_get gs i ≡ Some g →
+      added_count f ≡ added_count g
 
 -- The second end is the first one on the constraint: the same fault, or its forms.
 abbrev pub EndIsTakenTo : List Part → PathEnd → PathEnd → Type 0

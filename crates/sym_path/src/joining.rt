@@ -5,7 +5,7 @@ ghost use Rattle.sym_int.specs.Points.{IsUnion};
 ghost use Rattle.sym_int.specs.declared.span.Span.{Span as OneSpan};
 ghost use Rattle.sym_pred.specs.Meaning.{Unite};
 ghost use Rattle.sym_path.specs.Joining.{PartsUnite, ConstraintsUnite, EndsAgree, Joinable};
-ghost use Rattle.sym_path.specs.Joins.{AddedIsTaken, AreUnited, AreUnitedFacts, EndIsTakenTo, IsDifference, IsJoin, IsJoinedEnd, IsUnitedPart};
+ghost use Rattle.sym_path.specs.Joins.{AddAsMany, AddedIsTaken, AreUnited, AreUnitedFacts, EndIsTakenTo, IsDifference, IsJoin, IsJoinedEnd, IsUnitedPart, added_count};
 ghost use Rattle.sym_path.specs.Taking.{HasOneLabel, HasOneNumber, LabelIsTakenTo, NumberIsTakenTo, IsTakenTo, AreTakenTo};
 
 use crate::form::Form;
@@ -237,12 +237,41 @@ fn constraints_unite(v: &[Part], w: &[Part]) -> bool
     parts_unite(&v[cell], &w[cell])
 }
 
-/// Whether the ends are the same fault, or both go on.
+/// How many elements a list form adds; none where it isn't one.
+fn added_count(form: &Form) -> usize
+    ensures { result ≡ added_count form.now }
+{
+    match form {
+        Form::Nums(added) => added.len(),
+        Form::Words(added) => added.len(),
+        Form::Enum(_) | Form::Int(_) | Form::Hold(_) => 0,
+    }
+}
+
+/// Whether the forms add as many elements to each list as the others.
+fn add_as_many(forms: &[Form], others: &[Form]) -> bool
+    ensures { AddAsMany forms.now others.now → IsTrue result }
+{
+    if forms.len() != others.len() {
+        return false;
+    }
+    'cells: for index in 0..forms.len() {
+        if added_count(&forms[index]) != added_count(&others[index]) {
+            return false;
+        }
+    }
+    true
+}
+
+/// Whether the ends are the same fault, or both go on with lists of one length. Ends that agree are
+/// so, and most that don't aren't.
 fn ends_are_alike(p: &Path, q: &Path) -> bool
     ensures { EndsAgree p.now q.now → IsTrue result }
 {
     match (&p.end, &q.end) {
-        (PathEnd::Next(_), PathEnd::Next(_)) => true,
+        (PathEnd::Next(forms), PathEnd::Next(others)) => {
+            add_as_many(forms.as_slice(), others.as_slice())
+        }
         (PathEnd::Ended(fault), PathEnd::Ended(other)) => same_fault(fault, other),
         _ => false,
     }
