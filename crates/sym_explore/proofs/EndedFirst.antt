@@ -1,6 +1,6 @@
 -- Paths of which those that have ended are put first.
-use Rattle.std.proofs.Common.{◌≡◌, ◌≤◌, ◌<◌, ◌+◌, ℕ, List, [], ◌∷◌, ◌++◌, length, get_or, set, take, drop, sym, ap, ◌∙◌, subst}
-use Rattle.std.proofs.lemmas.List.{take-append-drop}
+use Rattle.std.proofs.Common.{◌≡◌, ◌≤◌, ◌<◌, ◌+◌, ℕ, List, [], ◌∷◌, ◌++◌, length, get_or, set, take, drop, sym, ap, ◌∙◌, subst, arith}
+use Rattle.std.proofs.lemmas.List.{length-take-le, take-append-drop}
 use Rattle.std.proofs.lemmas.List.Elements.{All-nil, All-push}
 use Rattle.std.proofs.lemmas.List.Sorted.{All-permutation, IsPermutation-append_comm, IsPermutation-refl, IsPermutation-trans}
 use Rattle.std.specs.List.{All}
@@ -9,7 +9,7 @@ use Rattle.sym_path.specs.declared.path.Path.{Path}
 use Rattle.sym_path.specs.Changing.{GoesOn}
 use Rattle.sym_explore.specs.Ending.{AreMoved}
 use Rattle.sym_explore.specs.Parting.{AllGoOn}
-use Rattle.sym_explore.proofs.InOrder.{AreInParts, count_within, first_is, none_in_parts, second_is, set_same, to_first, to_second, turned, turned_same}
+use Rattle.sym_explore.proofs.InOrder.{AreInParts, count_within, first_is, second_is, set_same, to_first, to_second, turned, turned_same}
 
 -- Of the paths before the index, those that have ended come first, and then those that go on.
 pub record AreEndedTo (old : List Path) (index count : ℕ) (paths : List Path) : Type 0 where
@@ -20,13 +20,19 @@ pub record AreEndedTo (old : List Path) (index count : ℕ) (paths : List Path) 
   pub all_over : All (λ (path : Path). ¬ (GoesOn path.end)) over
   pub all_going : AllGoOn going
 
-pub none_ended : (old : List Path) → AreEndedTo old 0 0 old
-none_ended old = record {
-  over = [];
+-- Those that are first already.
+pub some_ended : (old : List Path) (count : ℕ) → count ≤ length old → All (λ (path : Path). ¬ (GoesOn path.end)) (take count old) → AreEndedTo old count count old
+some_ended old count within ended = record {
+  over = take count old;
   going = [];
-  parts = none_in_parts old;
+  parts = record {
+    is = sym (take-append-drop count old);
+    counted = length-take-le count old within;
+    both = omega (arith, length-take-le count old within);
+    within = within;
+  };
   same = IsPermutation-refl old;
-  all_over = All-nil (λ (path : Path). ¬ (GoesOn path.end));
+  all_over = ended;
   all_going = All-nil (λ (path : Path). GoesOn path.end);
 }
 

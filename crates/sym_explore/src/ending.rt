@@ -51,15 +51,31 @@ pub(crate) fn move_ended(paths: &mut Vec<Path>, ended: &mut Vec<Path>) -> Result
     Ok(())
 }
 
-/// Puts those of the paths that have ended first. The answer is their number.
+/// The number of paths at the beginning that have ended.
+fn first_ended(paths: &[Path]) -> usize
+    ensures within { result ≤ length paths.now }
+    ensures ended { All (λ (path : OnePath). ¬ (GoesOn path.end)) (take result paths.now) }
+{
+    let mut count = 0;
+    'paths: for path in paths {
+        if path.goes_on() {
+            return count;
+        }
+        count += 1;
+    }
+    count
+}
+
+/// Puts those of the paths that have ended first. The answer is their number. Those that are first
+/// already stay where they are.
 fn put_ended_first(paths: &mut Vec<Path>) -> usize
     ensures within { result ≤ length paths.new.items }
     ensures same { IsPermutation paths.old.items paths.new.items }
     ensures ended { All (λ (path : OnePath). ¬ (GoesOn path.end)) (take result paths.new.items) }
     ensures going { AllGoOn (drop result paths.new.items) }
 {
-    let mut count = 0;
-    let mut index = 0;
+    let mut count = first_ended(paths);
+    let mut index = count;
     'paths: while index < paths.len() {
         if !paths[index].goes_on() {
             paths.swap(count, index);

@@ -1,13 +1,19 @@
-use Rattle.std.proofs.Common.{◌≡◌, ◌<◌, ◌+◌, ℕ, true, false, List, length, sym, ap, subst, arith}
+use Rattle.std.proofs.Common.{◌≡◌, ◌<◌, ◌≤◌, ◌+◌, ℕ, true, false, All, List, length, take, sym, ap, subst, arith}
 use Rattle.std.proofs.lemmas.List.Sorted.{IsPermutation-swap}
 use Rattle.sym_path.specs.Changing.{GoesOn}
 use Rattle.sym_path.specs.declared.path.Path.{Path}
-use Rattle.sym_explore.proofs.EndedFirst.{AreEndedTo, ended_more, ended_within, first_over, going_more, none_ended, others_go}
+use Rattle.sym_explore.proofs.EndedFirst.{AreEndedTo, ended_more, ended_within, first_over, going_more, some_ended, others_go}
 use Rattle.sym_explore.proofs.ending.put_ended_first.Goals as goal
 use Rattle.sym_explore.proofs.ending.put_ended_first.Goals.{then-not-goes_on, else-not-goes_on}
 
 pub paths-init : goal.paths-init
-paths-init c = none_ended c.args.paths.now.items
+paths-init c =
+    let old : List Path = c.args.paths.now.items in
+    let count : ℕ = c.first_ended-count.result in
+    let Ended : List Path → Type 0 = λ paths. All (λ (path : Path). ¬ (GoesOn path.end)) (take count paths) in
+    some_ended old count
+    (subst (λ (paths : List Path). count ≤ length paths) c.deref.ensures.value c.first_ended-count.ensures.within)
+    (subst Ended c.deref.ensures.value c.first_ended-count.ensures.ended)
 
 pub paths-preserved : goal.paths-preserved
 paths-preserved c =
