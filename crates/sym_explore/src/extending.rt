@@ -45,9 +45,9 @@ impl Grown {
     }
 }
 
-/// Takes paths through the update of a record. Those that have ended stay as they are. Where the
-/// cells of all others are known, each makes the step of a group where it lies.
-pub(crate) fn explore_each(
+/// Takes the paths that go on through the update of a record. Those that have ended stay as they
+/// are.
+pub(crate) fn explore_going(
     alloc: Global,
     plan: &Plan,
     rec: &Record,
@@ -68,10 +68,6 @@ pub(crate) fn explore_each(
         EndAmong records paths.items → IfOk result (λ new. EndAmong records new.items) }
 {
     let mut ended = paths;
-    if all_end_sure(&ended) {
-        step_each(alloc, plan, rec, buffers, &mut ended)?;
-        return Ok(ended);
-    }
     let mut going = take_going(alloc, &mut ended)?;
     shorten(alloc, &mut buffers.locals, 0);
     run_block(
@@ -85,6 +81,35 @@ pub(crate) fn explore_each(
     )?;
     move_all(&mut going, &mut ended)?;
     Ok(ended)
+}
+
+/// The same, where the cells of all of these paths are known, by a step of each where it lies.
+pub(crate) fn explore_each(
+    alloc: Global,
+    plan: &Plan,
+    rec: &Record,
+    buffers: &mut Buffers,
+    paths: Vec<Path>,
+) -> Result<Vec<Path>, NoMemory>
+    requires known { IsWellFormed (script_plan plan.now) }
+    requires rec { IsRecord (script_plan plan.now) rec.now }
+    requires fits { SegmentFits (script_plan plan.now) paths.items }
+    ensures exact { IfOk result (λ new.
+        GivesAfter (script_plan plan.now) rec.now paths.items new.items) }
+    ensures fits { IfOk result (λ new. SegmentFits (script_plan plan.now) new.items) }
+    ensures few { let most = made_paths (script_plan plan.now) in
+        IfOk result (λ new. length new.items ≤ length paths.items * most) }
+    ensures each_few { let most = made_paths (script_plan plan.now) in
+        IfOk result (λ new. length new.items ≤ most_grown most paths.items) }
+    ensures faults { (records : List OneRecord) → HasNumber rec.now.no records →
+        EndAmong records paths.items → IfOk result (λ new. EndAmong records new.items) }
+{
+    if all_end_sure(&paths) {
+        let mut paths = paths;
+        step_each(alloc, plan, rec, buffers, &mut paths)?;
+        return Ok(paths);
+    }
+    explore_going(alloc, plan, rec, buffers, paths)
 }
 
 /// Whether a segment is within the limit.

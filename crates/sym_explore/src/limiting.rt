@@ -9,7 +9,7 @@ ghost use Rattle.sym_explore.specs.Counting.{most_grown, most_paths};
 ghost use Rattle.sym_explore.specs.Limiting.{IsExtended, IsExtendedBy, IsLonger, chosen, is_chosen};
 ghost use Rattle.sym_explore.specs.Sure.{IsSureEnd};
 
-use crate::extending::explore_each;
+use crate::extending::explore_going;
 use crate::stepping::step_each;
 use crate::sure::all_end_sure;
 use std::alloc::Global;
@@ -148,7 +148,7 @@ fn extend_copied(
 {
     let plan = checked.plan();
     let going = copies_of(alloc, segment.paths(), false)?;
-    let grown = explore_each(alloc, plan, rec, buffers, going)?;
+    let grown = explore_going(alloc, plan, rec, buffers, going)?;
     extend_by(alloc, segment, grown, limit)
 }
 
@@ -202,7 +202,7 @@ pub fn extend_within(
     }
     let plan = checked.plan();
     if surely_fit(segment.paths(), checked.path_bound(), limit) {
-        let grown = explore_each(alloc, plan, rec, buffers, segment.into_vec())?;
+        let grown = explore_going(alloc, plan, rec, buffers, segment.into_vec())?;
         return Ok(Extension::Fits(settle(alloc, grown)?));
     }
     extend_copied(alloc, checked, segment, rec, limit, buffers)

@@ -9,12 +9,12 @@ use Rattle.sym_explore.proofs.Extended.{explored_of, record_of, small_of, when_a
 use Rattle.sym_explore.proofs.Limited.{explored_apart, extended_from}
 use Rattle.sym_explore.proofs.limiting.extend_copied.Goals as goal
 
-pub explore_each-requires-clause-rec : goal.explore_each-requires-clause-rec
-explore_each-requires-clause-rec c =
+pub explore_going-requires-clause-rec : goal.explore_going-requires-clause-rec
+explore_going-requires-clause-rec c =
     record_of (script_plan c.plan-plan.result.now) (checked_plan c.args.checked.now) c.args.rec.now c.plan-plan.ensures.same c.requires.rec
 
-pub explore_each-requires-clause-fits : goal.explore_each-requires-clause-fits
-explore_each-requires-clause-fits c =
+pub explore_going-requires-clause-fits : goal.explore_going-requires-clause-fits
+explore_going-requires-clause-fits c =
     let p : ScriptPlan = checked_plan c.args.checked.now in
     let is : c.in_ok-going.going.items ≡ chosen false c.args.segment = c.in_ok-going.ensures ∙ ap (chosen false) c.paths.ensures in
     subst (λ (plan : ScriptPlan). SegmentFits plan c.in_ok-going.going.items) (sym c.plan-plan.ensures.same)

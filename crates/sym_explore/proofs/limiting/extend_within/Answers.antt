@@ -7,8 +7,8 @@ use Rattle.sym_explore.proofs.Extended.{explored_of, record_of, small_of}
 use Rattle.sym_explore.proofs.Limited.{is_longer, settled_within}
 use Rattle.sym_explore.proofs.limiting.extend_within.Goals as goal
 
-pub explore_each-requires-clause-rec : goal.explore_each-requires-clause-rec
-explore_each-requires-clause-rec c =
+pub explore_going-requires-clause-rec : goal.explore_going-requires-clause-rec
+explore_going-requires-clause-rec c =
     record_of (script_plan c.plan-plan.result.now) (checked_plan c.args.checked.now) c.args.rec.now c.plan-plan.ensures.same c.requires.rec
 
 -- Where the paths can't be too many, the longer segment is within the limit.
