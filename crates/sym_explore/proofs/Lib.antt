@@ -15,6 +15,7 @@ pub mod EvaluatedConditions
 pub mod Extended
 pub mod InOrder
 pub mod InPlace
+pub mod InTurn
 pub mod JudgedBranches
 pub mod KeptNumbers
 pub mod KnownParts

@@ -1,10 +1,12 @@
 -- Segments that are taken a record further where a limit of paths allows it.
 use Rattle.std.specs.Prelude.{◌≡◌, ◌≤◌, ◌<◌, ◌++◌, ◌∷◌, [], ℕ, ◌*◌, Bool, true, false, not, List, length}
-use Rattle.std.specs.List.{filter}
+use Rattle.std.specs.List.{All, filter}
 use Rattle.sym_base.specs.declared.values.record.Record.{Record}
 use Rattle.sym_check.specs.Meaning.PathBounds.{path_bound}
 use Rattle.sym_check.specs.Plan.ScriptPlans.{ScriptPlan}
 use Rattle.sym_path.specs.declared.path.Path.{Path}
+use Rattle.sym_path.specs.declared.path.PathEnd.{PathEnd}
+use Rattle.sym_path.specs.declared.path.PathEnd.TheVariants.{Next, Ended}
 use Rattle.sym_path.specs.Fitting.{SegmentFits}
 use Rattle.sym_path.specs.Joining.{IsSettled}
 use Rattle.sym_path.specs.Pairs.{has_ended}
@@ -12,6 +14,7 @@ use Rattle.sym_path.specs.Settling.{IsSettling}
 use Rattle.sym_path.specs.Standing.{StandsFor}
 use Rattle.sym_explore.specs.Growing.{GivesAfter}
 use Rattle.sym_explore.specs.declared.limiting.Extension.{Extension}
+use Rattle.sym_explore.specs.declared.limiting.Turn.{Turn}
 use Rattle.sym_explore.specs.declared.limiting.Extension.TheVariants.{Fits, Over}
 
 -- The paths that have ended, or those that go on, in order.
@@ -21,6 +24,20 @@ is_chosen false path = not (has_ended path)
 
 abbrev pub chosen : Bool → List Path → List Path
 chosen ended paths = filter (is_chosen ended) paths
+
+-- A path has ended at no later record than the turn's, or goes on where one does.
+abbrev pub EndsBy : Turn → Path → Type 0
+EndsBy turn path = EndBy path.end
+  where
+    EndBy : PathEnd → Type 0
+    EndBy (Next forms) = turn.going ≡ true
+    EndBy (Ended fault) = fault.no ≤ turn.last
+
+-- Paths end in turn: each at a later record than those before it, and at most one goes on. So no two
+-- of them can be joined.
+pub record AreInTurn (turn : Turn) (paths : List Path) : Type 0 where
+  pub settled : IsSettled paths
+  pub by : All (EndsBy turn) paths
 
 -- A segment that was taken through the update of one more record.
 pub record IsLonger (p : ScriptPlan) (rec : Record) (old new : List Path) : Type 0 where

@@ -1,12 +1,13 @@
 //! Segments that are taken a record further where a limit of paths allows it.
 ghost use Rattle.std.specs.List.{All};
-ghost use Rattle.std.specs.Prelude.{◌≡◌, ◌≤◌, true, false, IfOk, IsTrue, length};
+ghost use Rattle.std.specs.Prelude.{◌≡◌, ◌≤◌, ◌++◌, ◌∷◌, [], true, false, List, IfOk, IfSome, IsTrue, length};
 ghost use Rattle.sym_check.specs.Checking.CheckedScripts.{checked_plan};
 ghost use Rattle.sym_check.specs.Meaning.Validity.{IsRecord};
 ghost use Rattle.sym_path.specs.declared.path.Path.{Path as OnePath};
 ghost use Rattle.sym_path.specs.Fitting.{SegmentFits};
+ghost use Rattle.sym_path.specs.Joining.{IsSettled};
 ghost use Rattle.sym_explore.specs.Counting.{most_grown, most_paths};
-ghost use Rattle.sym_explore.specs.Limiting.{IsExtended, IsExtendedBy, IsLonger, chosen, is_chosen};
+ghost use Rattle.sym_explore.specs.Limiting.{AreInTurn, IsExtended, IsExtendedBy, IsLonger, chosen, is_chosen};
 ghost use Rattle.sym_explore.specs.Sure.{IsSureEnd};
 
 use crate::extending::explore_going;
@@ -15,7 +16,7 @@ use crate::sure::all_end_sure;
 use std::alloc::Global;
 use sym_base::{NoMemory, Record};
 use sym_check::Checked;
-use sym_path::{Path, Segment, settle};
+use sym_path::{Path, PathEnd, Segment, settle};
 use sym_plain::Buffers;
 
 /// A segment that was taken a record further, if the limit of paths allows it.
@@ -106,8 +107,76 @@ fn keep_ended(paths: &mut Vec<Path>)
     paths.retain(|path| is_chosen(path, true));
 }
 
+/// How far paths are that end in turn: the number of the record at which the last one ended, or 0,
+/// and whether one of them goes on.
+#[derive(Clone, Copy)]
+pub struct Turn {
+    pub last: u64,
+    pub going: bool,
+}
+
+/// How far paths are with this one after them; `None` where it ended at no later record, or is the
+/// second one that goes on.
+fn next_in_turn(path: &Path, turn: Turn) -> Option<Turn>
+    ensures { (before : List OnePath) → AreInTurn turn before →
+        IfSome result (λ next. AreInTurn next (before ++ path.now ∷ [])) }
+{
+    let Turn { last, going } = turn;
+    match &path.end {
+        PathEnd::Ended(fault) if last < fault.no => {
+            let last = fault.no;
+            Some(Turn { last, going })
+        }
+        PathEnd::Next(_) if !going => {
+            let going = true;
+            Some(Turn { last, going })
+        }
+        _ => None,
+    }
+}
+
+/// How far the paths are that have ended, where they did so in turn.
+fn turn_of_ended(paths: &[Path]) -> Option<Turn>
+    ensures { IfSome result (λ turn. AreInTurn turn (chosen true paths.now)) }
+{
+    let mut turn = Turn {
+        last: 0,
+        going: false,
+    };
+    'paths: for path in paths {
+        if is_chosen(path, true) {
+            turn = next_in_turn(path, turn)?;
+        }
+    }
+    Some(turn)
+}
+
+/// How far paths are with these after them, where they end in turn.
+fn turn_after(paths: &[Path], turn: Turn) -> Option<Turn>
+    ensures { (before : List OnePath) → AreInTurn turn before →
+        IfSome result (λ next. AreInTurn next (before ++ paths.now)) }
+{
+    let mut turn = turn;
+    'paths: for path in paths {
+        turn = next_in_turn(path, turn)?;
+    }
+    Some(turn)
+}
+
+/// Whether the paths that have ended, and others after them, end in turn, so that no two of them
+/// can be joined.
+fn end_in_turn(paths: &[Path], others: &[Path]) -> bool
+    ensures { IsTrue result → IsSettled (chosen true paths.now ++ others.now) }
+{
+    match turn_of_ended(paths) {
+        Some(turn) => turn_after(others, turn).is_some(),
+        None => false,
+    }
+}
+
 /// Settles the segment's paths that have ended with what those that go on became. They are moved
-/// where the limit can't be passed, and else copied.
+/// where the limit can't be passed, and copied where it may be. Where no two can be joined, the
+/// limit is passed without either.
 fn extend_by(
     alloc: Global,
     segment: Segment,
@@ -122,6 +191,9 @@ fn extend_by(
         keep_ended(&mut paths);
         paths.append(&mut grown)?;
         return Ok(Extension::Fits(settle(alloc, paths)?));
+    }
+    if end_in_turn(segment.paths(), &grown) {
+        return Ok(Extension::Over(segment));
     }
     let mut paths = copies_of(alloc, segment.paths(), true)?;
     paths.append(&mut grown)?;
