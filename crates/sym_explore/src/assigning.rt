@@ -24,12 +24,11 @@ ghost use Rattle.sym_explore.specs.Stepping.{Becomes, after_do};
 ghost use Rattle.sym_explore.specs.Sure.{IsSureEnd};
 
 use crate::ending::fail_all;
-use crate::forms::{add_word, put_label};
+use crate::forms::{add_word, put_label, put_parts};
 use crate::labels::label_form;
 use crate::placing::Place;
 use crate::storing::store_all;
 use std::alloc::Global;
-use std::mem;
 use sym_base::{Fault, NoMemory, Text, Values};
 use sym_check::{Do, FixedList, Known, Plan};
 use sym_enum::EnumForm;
@@ -84,14 +83,6 @@ fn copy_label(_plan: &Plan, cell: u16, from: u16, path: &mut Path)
 {
     if let Some(form) = label_form(path, from) {
         put_label(path, cell, form);
-    }
-}
-
-/// The known parts of a form, and no parts of any other.
-pub(crate) fn known_parts(alloc: Global, form: Option<Form>) -> Values {
-    match form {
-        Some(Form::Hold(HoldForm::Const(parts))) => parts,
-        _ => Values::new(alloc),
     }
 }
 
@@ -216,9 +207,7 @@ fn keep_all(
         return Ok(());
     };
     keep_each(alloc, cell, values, paths)?;
-    let parts = mem::replace(values, Values::new(alloc));
-    let old = last.replace_form(cell, Form::Hold(HoldForm::Const(parts)));
-    *values = known_parts(alloc, old);
+    put_parts(alloc, &mut last, cell, values);
     paths.push(last)?;
     Ok(())
 }

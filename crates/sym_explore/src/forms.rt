@@ -1,14 +1,15 @@
 //! The forms of a path's cells, changed where they lie.
 ghost use Rattle.std.specs.Prelude.{◌≡◌, ◌++◌, ◌∷◌, [], OnOk, Some, slice_get, slice_set};
 ghost use Rattle.sym_path.specs.Changing.{form_of, with_form};
-ghost use Rattle.sym_explore.specs.Assigning.{one_number_more, one_word_more};
+ghost use Rattle.sym_explore.specs.Assigning.{one_number_more, one_word_more, with_parts};
 
 use std::alloc::Global;
 use std::mem;
-use sym_base::{Element, NoMemory, Text};
+use sym_base::{Element, NoMemory, Text, Values};
 use sym_enum::EnumForm;
 use sym_int::IntForm;
 use sym_path::{Form, Forms, Path, PathEnd};
+use sym_pred::HoldForm;
 use sym_vector::ListForm;
 
 /// Makes it the form of an integer cell. One that it was before has no memory to give up.
@@ -33,6 +34,24 @@ fn write_label(old: &mut Form, form: EnumForm)
         Form::Enum(held) => *held = form,
         Form::Int(_) | Form::Hold(_) | Form::Nums(_) | Form::Words(_) => {
             *old = Form::Enum(form);
+        }
+    }
+}
+
+/// Makes it the form of a hold cell with these parts. Known parts that it had are given for them.
+#[inline(always)]
+fn write_parts(alloc: Global, old: &mut Form, parts: &mut Values)
+    ensures { old.new ≡ Form.Hold (HoldForm.Const parts.old) }
+{
+    match old {
+        Form::Hold(HoldForm::Const(held)) => mem::swap(held, parts),
+        Form::Hold(HoldForm::Copy(_))
+        | Form::Enum(_)
+        | Form::Int(_)
+        | Form::Nums(_)
+        | Form::Words(_) => {
+            let parts = mem::replace(parts, Values::new(alloc));
+            *old = Form::Hold(HoldForm::Const(parts));
         }
     }
 }
@@ -93,6 +112,15 @@ fn put_label_at(forms: &mut Forms, cell: u16, form: EnumForm)
 }
 
 #[inline(always)]
+fn put_parts_at(alloc: Global, forms: &mut Forms, cell: u16, parts: &mut Values)
+    ensures { forms.new ≡ slice_set forms.old cell (Form.Hold (HoldForm.Const parts.old)) }
+{
+    if let Some(old) = forms.get_mut(usize::from(cell)) {
+        write_parts(alloc, old, parts);
+    }
+}
+
+#[inline(always)]
 fn add_number_at(
     alloc: Global,
     forms: &mut Forms,
@@ -137,6 +165,18 @@ pub(crate) fn put_label(path: &mut Path, cell: u16, form: EnumForm)
 {
     match &mut path.end {
         PathEnd::Next(forms) => put_label_at(forms, cell, form),
+        PathEnd::Ended(_) => {}
+    }
+}
+
+/// The same of the known parts of a hold cell. The values get the memory of parts that were known
+/// before.
+#[inline(always)]
+pub(crate) fn put_parts(alloc: Global, path: &mut Path, cell: u16, parts: &mut Values)
+    ensures { path.new ≡ with_parts path.old cell parts.old }
+{
+    match &mut path.end {
+        PathEnd::Next(forms) => put_parts_at(alloc, forms, cell, parts),
         PathEnd::Ended(_) => {}
     }
 }

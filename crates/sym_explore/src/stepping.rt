@@ -22,21 +22,20 @@ ghost use Rattle.sym_explore.specs.Storing.{ReadyStores, after_store, store_do};
 ghost use Rattle.sym_explore.specs.Sure.{EndsAt, IsNamedOn, IsStepped, IsSteppedOn, IsSureEnd, IsSurePath};
 ghost use Rattle.sym_explore.specs.Terms.{ReadyFits};
 
-use crate::assigning::{change, known_parts};
+use crate::assigning::change;
 use crate::ending::arith;
+use crate::forms::put_parts;
 use crate::placing::{Place, Target, put};
 use crate::ranging::range_known;
 use crate::storing::target_of;
 use crate::sure::{term_on, truth_on};
 use crate::terms::{Ready, ready_of};
 use std::alloc::Global;
-use std::mem;
 use sym_base::{NoMemory, Record, Values};
 use sym_check::{Cond, Do, Dos, Fixed, FixedList, Known, Plan, Term, known_in};
 use sym_int::{IntForm, WideNumber};
-use sym_path::{Form, Path};
+use sym_path::Path;
 use sym_plain::{Buffers, Stop, fixed_value, name_local, set_values, shorten};
-use sym_pred::HoldForm;
 
 /// The number that is to be stored at the target for a ready term; where the target's range keeps
 /// none, the path ends.
@@ -126,9 +125,7 @@ fn keep_in(
 {
     match set_values(alloc, known, values, scratch) {
         Ok(()) => {
-            let parts = mem::replace(scratch, Values::new(alloc));
-            let old = path.replace_form(cell, Form::Hold(HoldForm::Const(parts)));
-            *scratch = known_parts(alloc, old);
+            put_parts(alloc, path, cell, scratch);
             Ok(())
         }
         Err(Stop::Fault(_)) => {

@@ -1,6 +1,5 @@
 use Rattle.std.proofs.Common.{◌≡◌, ◌∙◌, ◌++◌, ◌∷◌, [], List, length, map, ap, sym, arith}
 use Rattle.std.proofs.lemmas.List.{map-append}
-use Rattle.sym_base.specs.declared.values.value.Value.{Value}
 use Rattle.sym_vector.proofs.ListsLemmas.{written_back}
 use Rattle.sym_path.specs.declared.path.Path.{Path}
 use Rattle.sym_explore.specs.Assigning.{with_parts}
@@ -15,7 +14,7 @@ returns c =
     let these : c.deref_mut.result.now ≡ front = c.deref_mut.ensures.value in
     let back = written_back _ _ front (omega (arith, c.keep_each.auto.paths, ap length these)) (omega (arith, c.keep_each.auto.paths, c.deref_mut.ensures.len)) in
     let kept : c.keep_each.new.paths ≡ map f front = c.in_ok-keep_each.ensures ∙ ap (map f) these in
-    let own : c.replace_form-old.new.self ≡ f last = c.replace_form-old.ensures.new ∙ ap (λ (vs : List Value). with_parts last c.args.cell vs) c.replace-parts.ensures.value in
+    let own : c.put_parts.new.path ≡ f last = c.put_parts.ensures in
     c.in_ok-push.ensures.items
     ∙ (λ i. back i ++ own i ∷ [])
     ∙ ap (λ (ps : List Path). ps ++ f last ∷ []) kept

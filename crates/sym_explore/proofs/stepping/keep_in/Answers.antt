@@ -1,5 +1,4 @@
 use Rattle.std.proofs.Common.{◌≡◌, ◌∙◌, List, Result, Err, map, ap, subst}
-use Rattle.sym_base.specs.declared.values.value.Value.{Value}
 use Rattle.sym_check.specs.Checking.KnownValues.{known_values}
 use Rattle.sym_check.specs.Meaning.FixedValues.{Environment, fixed_values}
 use Rattle.sym_check.specs.Meaning.Updates.{or_fault}
@@ -8,7 +7,6 @@ use Rattle.sym_check.specs.Plan.ScriptPlans.{ScriptPlan, script_plan}
 use Rattle.sym_plain.specs.Running.{Makes}
 use Rattle.sym_plain.specs.declared.update.stop.Stop.{Stop}
 use Rattle.sym_plain.specs.declared.update.stop.Stop.TheVariants as stop
-use Rattle.sym_explore.specs.Assigning.{with_parts}
 use Rattle.sym_explore.proofs.SureSteps.{keep_failing, kept_stepped}
 use Rattle.sym_explore.proofs.stepping.keep_in.Goals as goal
 
@@ -17,8 +15,7 @@ returns-in-Ok c =
     let p : ScriptPlan = script_plan c.args._plan.now in
     let k : Environment = known_values c.args.known.now in
     let es : List FixedPlan = map fixed_plan c.args.values.now in
-    let new : c.replace_form-old.new.self ≡ with_parts c.args.path.now c.args.cell c.set_values.new.values = c.replace_form-old.ensures.new ∙ ap (λ (vs : List Value). with_parts c.args.path.now c.args.cell vs) c.replace-parts.ensures.value in
-    kept_stepped p k c.args.no c.args.path.now c.requires.sure c.args.cell es c.set_values.new.values c.replace_form-old.new.self c.requires.well c.in-Ok.ensures new
+    kept_stepped p k c.args.no c.args.path.now c.requires.sure c.args.cell es c.set_values.new.values c.put_parts.new.path c.requires.well c.in-Ok.ensures c.put_parts.ensures
 
 pub returns-in-Err-Fault : goal.returns-in-Err-Fault
 returns-in-Err-Fault c =
