@@ -83,7 +83,8 @@ pub(crate) fn explore_going(
     Ok(ended)
 }
 
-/// The same, where the cells of all of these paths are known, by a step of each where it lies.
+/// The same. Where the cells of all paths that go on are known, each makes the step of a group where
+/// it lies.
 pub(crate) fn explore_each(
     alloc: Global,
     plan: &Plan,
