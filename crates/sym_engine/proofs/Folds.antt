@@ -68,3 +68,12 @@ round_folded p cuts items old new (Ok took.Done) same takes =
 round_folded p cuts items old new (Ok (took.Bad bad)) same takes =
     ap (all_records p) (plain_chunks cuts ∙ sym same) ∙ takes
 round_folded p cuts items old new (Err e) same takes = takes
+
+-- The same of an answer that is passed on.
+pub round_folded_as : (p : ScriptPlan) (cuts items : List Chunk) (old new : Folded) (t : Took) (r : Result Took NoMemory) → items ≡ cuts
+    → Takes (ArePassed p) (all_records p items) old.groups new.groups t → IfOk r (λ u. u ≡ t)
+    → IfOk r (Takes (λ (x : Folded) (records : List Record). ArePassed p x.groups records) (round_records p (λ row. row) cuts) old new)
+round_folded_as p cuts items old new t (Ok u) same takes is =
+    let P : Took → Type 0 = Takes (λ (x : Folded) (records : List Record). ArePassed p x.groups records) (round_records p (λ row. row) cuts) old new in
+    subst P (sym is) (round_folded p cuts items old new (Ok t) same takes)
+round_folded_as p cuts items old new t (Err e) same takes is = tt

@@ -22,13 +22,13 @@ use Rattle.sym_table.specs.Decoding.{numbered}
 use Rattle.sym_table.specs.Reading.{Row}
 use Rattle.sym_table.specs.RowRecords.{record_or_bad, records_or_bad, in_turn}
 use Rattle.sym_check.specs.declared.plan.script.FieldPlan.{FieldPlan}
-use Rattle.sym_table.specs.Rows.{FitsChunk, read_row}
+use Rattle.sym_table.specs.Rows.{FitsChunk, FitsHeader, read_row}
 use Rattle.sym_table.proofs.RecordsAgree.{rows_append}
 use Rattle.sym_engine.specs.declared.rounds.Took.{Took}
 use Rattle.sym_engine.specs.declared.rounds.Took.TheVariants as took
-use Rattle.sym_engine.specs.Rounds.{Extends, Takes, shown_chunk, round_records, stands_by}
+use Rattle.sym_engine.specs.Rounds.{Extends, IsRound, Takes, shown_chunk, round_records, stands_by}
 use Rattle.sym_engine.specs.declared.error.PassErr.{PassErr}
-use Rattle.sym_engine.specs.Taking.{AreCut, AreTaken, TakesRows, rows_of}
+use Rattle.sym_engine.specs.Taking.{AreCut, AreTaken, CutsRound, IfTaken, TakesRows, rows_of}
 
 -- Of all records some are taken, and the others are left.
 pub record IsWalk {S : Type 0} (stands : S → List Record → Type 0) (all left : Result (List Record) Bad) (old now : S) : Type 0 where
@@ -241,15 +241,6 @@ taking_on stands p header shown first rows old now new c d cuts is same cut take
           (left_next stands p header shown first rows old now c d cuts is same cut) takes;
     }
 
-pub taking_fewer : {S : Type 0} (stands : S → List Record → Type 0) (p : ScriptPlan) (header : Header) (shown : Row → Row) (first : ℕ) (rows : List Row) (old now : S) (c d : Cutting) (cuts : List Chunk)
-    → IsTaking stands p header shown first rows old now c → AreCut c d cuts → 1 ≤ length cuts
-    → length (unwrap_or d.left []) < length (unwrap_or c.left [])
-taking_fewer stands p header shown first rows old now c d [] is cut many = absurd (omega arith)
-taking_fewer stands p header shown first rows old now c d (k ∷ cuts) is cut many =
-    let had : unwrap_or c.left [] ≡ (k.rows ++ rows_of cuts) ++ cut.rest = left_of c.left ((k.rows ++ rows_of cuts) ++ cut.rest) cut.had in
-    let has : unwrap_or d.left [] ≡ cut.rest = left_of d.left cut.rest cut.has in
-    omega (arith, ap length had, ap length has, All-head (λ (c : Chunk). 1 ≤ length c.rows) k cuts cut.filled, length-append (k.rows ++ rows_of cuts) cut.rest, length-append k.rows (rows_of cuts))
-
 pub taking_stops : {S : Type 0} (stands : S → List Record → Type 0) (p : ScriptPlan) (header : Header) (shown : Row → Row) (first : ℕ) (rows : List Row) (old now : S) (c d : Cutting) (cuts : List Chunk) (bad : Bad)
     → IsTaking stands p header shown first rows old now c → c.header ≡ header → AreCut c d cuts
     → round_records p shown cuts ≡ Err bad → records_or_bad p header first (map shown rows) ≡ Err bad
@@ -288,6 +279,84 @@ taking_ends stands p header shown first rows old now c d is none same =
       extends = ends.2;
     }
 
+-- ---- a round that is cut off and isn't taken yet
+-- It was cut off where the rounds before it are taken.
+pub record IsAhead {S : Type 0} (stands : S → List Record → Type 0) (p : ScriptPlan) (header : Header) (shown : Row → Row) (first : ℕ) (rows : List Row)
+    (old now : S) (c : Cutting) (cuts : List Chunk) : Type 0 where
+  pub from : Cutting
+  pub taking : IsTaking stands p header shown first rows old now from
+  pub header_is : from.header ≡ header
+  pub cut : CutsRound from c cuts
+
+taking_begins : {S : Type 0} (stands : S → List Record → Type 0) (p : ScriptPlan) (shown : Row → Row) (s : S) (c : Cutting)
+    → IsSome c.left → IsTaking stands p c.header shown c.next_no (unwrap_or c.left []) s s c
+taking_begins stands p shown s c some = record {
+  left = unwrap_or c.left [];
+  has = left_is c.left some;
+  numbers = refl;
+  walk = record {
+    done = [];
+    splits = none_first (records_or_bad p c.header c.next_no (map shown (unwrap_or c.left [])));
+    extends = λ before at.
+        let P : List Record → Type 0 = λ records. stands s records in subst P (sym (append-nil before)) at;
+  };
+}
+
+pub ahead_begins : {S : Type 0} (stands : S → List Record → Type 0) (p : ScriptPlan) (shown : Row → Row) (s : S) (c d : Cutting) (cuts : List Chunk)
+    → IsSome c.left → CutsRound c d cuts → IsAhead stands p c.header shown c.next_no (unwrap_or c.left []) s s d cuts
+ahead_begins stands p shown s c d cuts some cut = record {
+  from = c;
+  taking = taking_begins stands p shown s c some;
+  header_is = refl;
+  cut = cut;
+}
+
+pub ahead_on : {S : Type 0} (stands : S → List Record → Type 0) (p : ScriptPlan) (header : Header) (shown : Row → Row) (first : ℕ) (rows : List Row) (old now new : S) (c d : Cutting) (cuts more : List Chunk)
+    → IsAhead stands p header shown first rows old now c cuts → Takes stands (round_records p shown cuts) now new took.Done → CutsRound c d more
+    → IsAhead stands p header shown first rows old new d more
+ahead_on stands p header shown first rows old now new c d cuts more is takes cut = record {
+  from = c;
+  taking = taking_on stands p header shown first rows old now new is.from c cuts is.taking is.header_is is.cut.cut takes;
+  header_is = is.cut.header ∙ is.header_is;
+  cut = cut;
+}
+
+pub ahead_stops : {S : Type 0} (stands : S → List Record → Type 0) (p : ScriptPlan) (header : Header) (shown : Row → Row) (first : ℕ) (rows : List Row) (old now : S) (c : Cutting) (cuts : List Chunk) (bad : Bad)
+    → IsAhead stands p header shown first rows old now c cuts → round_records p shown cuts ≡ Err bad → records_or_bad p header first (map shown rows) ≡ Err bad
+ahead_stops stands p header shown first rows old now c cuts bad is broken =
+    taking_stops stands p header shown first rows old now is.from c cuts bad is.taking is.header_is is.cut.cut broken
+
+pub ahead_ends : {S : Type 0} (stands : S → List Record → Type 0) (p : ScriptPlan) (header : Header) (shown : Row → Row) (first : ℕ) (rows : List Row) (old now : S) (c : Cutting) (cuts : List Chunk)
+    → IsAhead stands p header shown first rows old now c cuts → cuts ≡ [] → AreTaken stands (records_or_bad p header first (map shown rows)) first c.next_no old now
+ahead_ends stands p header shown first rows old now c cuts is none =
+    taking_ends stands p header shown first rows old now is.from c is.taking (is.cut.ended none) (same_next is.from c cuts is.cut.cut none)
+
+some_rows_of : (cuts : List Chunk) → All (λ (cut : Chunk). 1 ≤ length cut.rows) cuts → 1 ≤ length cuts → 1 ≤ length (rows_of cuts)
+some_rows_of [] filled many = absurd (omega arith)
+some_rows_of (k ∷ cuts) filled many =
+    omega (arith, All-head (λ (c : Chunk). 1 ≤ length c.rows) k cuts filled, length-append k.rows (rows_of cuts))
+
+-- How many rows aren't taken yet: those of the round that is cut off, and those that are left.
+pub ahead_fewer : {S : Type 0} (stands : S → List Record → Type 0) (p : ScriptPlan) (header : Header) (shown : Row → Row) (first : ℕ) (rows : List Row) (old now : S) (c d : Cutting) (cuts more : List Chunk)
+    → IsAhead stands p header shown first rows old now c cuts → 1 ≤ length cuts → CutsRound c d more
+    → length (rows_of more) + length (unwrap_or d.left []) < length (rows_of cuts) + length (unwrap_or c.left [])
+ahead_fewer stands p header shown first rows old now c d cuts more is many cut =
+    let had : unwrap_or c.left [] ≡ rows_of more ++ cut.cut.rest = left_of c.left (rows_of more ++ cut.cut.rest) cut.cut.had in
+    let has : unwrap_or d.left [] ≡ cut.cut.rest = left_of d.left cut.cut.rest cut.cut.has in
+    omega (arith, ap length had, ap length has, some_rows_of cuts is.cut.cut.filled many, length-append (rows_of more) cut.cut.rest)
+
+pub ahead_round : {S : Type 0} (stands : S → List Record → Type 0) (p : ScriptPlan) (header : Header) (shown : Row → Row) (first : ℕ) (rows : List Row) (old now : S) (c : Cutting) (cuts : List Chunk)
+    → IsAhead stands p header shown first rows old now c cuts → FitsHeader p.fields header → 1 ≤ length cuts → IsRound p.fields cuts
+ahead_round stands p header shown first rows old now c cuts is fits many =
+    let P : Header → Type 0 = λ h. FitsHeader p.fields h in
+    record {
+      some = many;
+      most = is.cut.most;
+      fit = is.cut.fit p.fields (subst P (sym is.header_is) fits);
+      first = is.from.next_no;
+      numbers = is.cut.cut.numbers;
+    }
+
 -- What a round came to, by the script, the limit and what is shown as they were.
 pub took_as : {S : Type 0} (stands : S → ScriptPlan → ℕ → List Record → Type 0) (p q : ScriptPlan) (n m : ℕ) (f g : Row → Row) (cuts : List Chunk) (now new : S) (t u : Took)
     → p ≡ q → n ≡ m → f ≡ g → t ≡ u → Takes (stands_by stands p n) (round_records p f cuts) now new t → Takes (stands_by stands q m) (round_records q g cuts) now new u
@@ -297,6 +366,11 @@ took_as stands p q n m f g cuts now new t u plan limit shown same takes =
     let F : (Row → Row) → Type 0 = λ x. Takes (stands_by stands q m) (round_records q x cuts) now new t in
     let T : Took → Type 0 = λ x. Takes (stands_by stands q m) (round_records q g cuts) now new x in
     subst T same (subst F shown (subst N limit (subst P plan takes)))
+
+-- A fact of a round whose records were taken, where they were.
+pub taken_as : (t : Took) (fact : Type 0) → t ≡ took.Done → IfTaken t fact → fact
+taken_as took.Done fact done holds = holds
+taken_as (took.Bad bad) fact done holds = absurd (cc)
 
 -- What a file's rows came to, by the rows as they were left.
 pub rows_as : {S : Type 0} (stands : S → List Record → Type 0) (p : ScriptPlan) (header : Header) (n next : ℕ) (shown : Row → Row) (rows left : List Row) (old new : S) (t u : Took)

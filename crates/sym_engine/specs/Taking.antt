@@ -3,9 +3,11 @@ use Rattle.std.specs.Prelude.{◌≡◌, ◌≤◌, ◌<◌, ℕ, ◌+◌, List,
 use Rattle.std.specs.List.{All, flat_map}
 use Rattle.std.specs.Option.{unwrap_or}
 use Rattle.sym_base.specs.Counts.{Rose}
+use Rattle.sym_base.specs.declared.limits.TheConstants as limit
 use Rattle.sym_base.specs.declared.values.record.Record.{Record}
 use Rattle.sym_base.specs.declared.values.value.Key.{Key}
 use Rattle.sym_base.specs.declared.values.state.Outcome.{Outcome}
+use Rattle.sym_check.specs.declared.plan.script.FieldPlan.{FieldPlan}
 use Rattle.sym_check.specs.Meaning.Groups.{pass}
 use Rattle.sym_check.specs.Plan.ScriptPlans.{ScriptPlan}
 use Rattle.sym_table.specs.declared.bad.Bad.{Bad}
@@ -13,7 +15,7 @@ use Rattle.sym_table.specs.declared.chunk.Chunk.{Chunk}
 use Rattle.sym_table.specs.Cutting.{Cutting}
 use Rattle.sym_table.specs.ChunkRecords.{RunOn}
 use Rattle.sym_table.specs.Reading.{Row}
-use Rattle.sym_table.specs.Rows.{FitsHeader}
+use Rattle.sym_table.specs.Rows.{FitsChunk, FitsHeader}
 use Rattle.sym_table.specs.RowRecords.{records_or_bad}
 use Rattle.sym_run.specs.Applying.{AreValid}
 use Rattle.sym_engine.specs.declared.error.PassErr.{PassErr}
@@ -82,6 +84,21 @@ pub record AreCut (old new : Cutting) (cuts : List Chunk) : Type 0 where
   pub headers : All (λ (cut : Chunk). cut.header ≡ old.header) cuts
   pub numbers : RunOn old.next_no cuts
   pub next : new.next_no ≡ old.next_no + length (rows_of cuts)
+
+-- The next round of a file was cut off, which has no chunk only where no row was left. Its chunks fit
+-- each script that the header fits.
+pub record CutsRound (old new : Cutting) (cuts : List Chunk) : Type 0 where
+  pub cut : AreCut old new cuts
+  pub most : length cuts ≤ limit.CHUNKS_MAX
+  pub ended : cuts ≡ [] → old.left ≡ Some []
+  pub fit : (fields : List FieldPlan) → FitsHeader fields old.header
+      → All (FitsChunk fields) cuts
+  pub header : new.header ≡ old.header
+
+-- A fact of a round whose records were taken.
+abbrev pub IfTaken : Took → Type 0 → Type 0
+IfTaken took.Done fact = fact
+IfTaken (took.Bad bad) fact = Unit {0}
 
 -- The rows' records are taken, and the next number runs on.
 pub record AreTaken {S : Type 0} (stands : S → List Record → Type 0)

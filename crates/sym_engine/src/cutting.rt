@@ -1,69 +1,25 @@
-//! The rounds of one file.
-ghost use Rattle.std.specs.Prelude.{◌≡◌, ◌≤◌, ◌^◌, List, [], Some, IfOk, IsSome, length, map};
+//! The next round of a file.
+ghost use Rattle.std.specs.Prelude.{◌≡◌, ◌≤◌, List, [], Some, IfOk, IsSome, OnOk, length};
 ghost use Rattle.std.specs.List.{All};
 ghost use Rattle.sym_base.specs.declared.limits.TheConstants as limit;
-ghost use Rattle.sym_base.specs.declared.values.record.Record.{Record as OneRecord};
 ghost use Rattle.sym_check.specs.Checking.CheckedScripts.{checked_plan};
 ghost use Rattle.sym_check.specs.declared.plan.script.FieldPlan.{FieldPlan as OneField};
-ghost use Rattle.sym_table.specs.FileRows.{file_rows};
-ghost use Rattle.sym_table.specs.Reading.{Row as OneRow};
-ghost use Rattle.sym_table.specs.RowRecords.{records_or_bad};
 ghost use Rattle.sym_table.specs.Rows.{FitsChunk, FitsHeader};
-ghost use Rattle.sym_engine.specs.FileRecords.{row_records, shown_rows};
-ghost use Rattle.sym_engine.specs.Rounds.{IsLimit, stands_by};
-ghost use Rattle.sym_engine.specs.Taking.{AreCut, OpensFile, TakesFile, TakesRows, rows_left};
+ghost use Rattle.sym_engine.specs.Taking.{AreCut, CutsRound, IfTaken};
 
-use crate::error::PassErr;
 use crate::rounds::{Took, Work};
-use crate::ways::Way;
 use std::alloc::Global;
 use std::mem;
 use sym_base::{CHUNKS_MAX, NoMemory};
-use sym_check::Checked;
-use sym_table::{Chunks, Cutter, HeadErr, Spare};
+use sym_table::{Chunks, Cutter, Spare};
 
-/// Where the next file begins: the number of its first record, the rows of a full chunk, and the
-/// memory of earlier rows.
-#[derive(Drop)]
-pub(crate) struct Course {
-    pub(crate) next_no: u64,
-    pub(crate) chunk: u32,
-    pub(crate) spare: Spare,
-}
-
-// Opens the file with the number `file`.
-fn open_file<'a>(
+/// The chunks of the next round: as many as a round may have, or the fewer that are left. There are
+/// none exactly where no row is left.
+pub(crate) fn next_round(
     alloc: Global,
-    checked: &Checked,
-    bytes: &'a [u8],
-    file: u64,
-    first_no: u64,
-    chunk: u32,
-) -> Result<Cutter<'a>, PassErr>
-    requires size { length bytes.now ≤ limit.FILE_MAX }
-    requires first { first_no ≤ 2 ^ 62 }
-    requires some { 1 ≤ chunk }
-    requires most { chunk ≤ limit.CHUNK_MAX }
-    ensures { (shown : OneRow → OneRow) →
-        OpensFile (checked_plan checked.now) shown file first_no (file_rows bytes.now) result }
-{
-    match Cutter::open(alloc, checked, bytes, first_no, chunk) {
-        Ok(cutter) => Ok(cutter),
-        Err(HeadErr::Fault(fault)) => Err(PassErr::Head { file, fault }),
-        Err(HeadErr::NoMemory) => Err(PassErr::NoMemory),
-    }
-}
-
-// Keeps the rows of chunks that are done with.
-fn keep_rows(chunks: Chunks, spare: &mut Spare) {
-    'chunks: for chunk in chunks.into_vec() {
-        spare.keep(chunk);
-    }
-}
-
-// The chunks of the next round: as many as a round may have, or the fewer that are left. There are
-// none exactly where no row is left.
-fn next_round(alloc: Global, cutter: &mut Cutter<'_>, spare: &mut Spare) -> Result<Chunks, NoMemory>
+    cutter: &mut Cutter<'_>,
+    spare: &mut Spare,
+) -> Result<Chunks, NoMemory>
     requires { IsSome cutter.old.left }
     ensures cut { IfOk result (λ chunks. AreCut cutter.old cutter.new chunks) }
     ensures most { IfOk result (λ chunks. length chunks ≤ limit.CHUNKS_MAX) }
@@ -82,88 +38,54 @@ fn next_round(alloc: Global, cutter: &mut Cutter<'_>, spare: &mut Spare) -> Resu
     Ok(chunks)
 }
 
-// Takes the rows that are left, round by round. The script and the path limit of the work stay.
-fn take_rounds<R, W: Way<R>>(
-    way: &W,
+/// Gives a work other chunks, and keeps the rows of those that it had.
+pub(crate) fn replace_chunks(work: &mut Work, chunks: Chunks, spare: &mut Spare)
+    ensures chunks { work.new.chunks ≡ chunks }
+    ensures checked { checked_plan work.new.checked ≡ checked_plan work.old.checked }
+    ensures limit { work.new.limit ≡ work.old.limit }
+{
+    let done = mem::replace(&mut work.chunks, chunks);
+    'chunks: for chunk in done.into_vec() {
+        spare.keep(chunk);
+    }
+}
+
+/// Gives a work the next round of a file, over the rows of the one that it had.
+pub(crate) fn cut_round(
     alloc: Global,
     work: &mut Work,
     cutter: &mut Cutter<'_>,
     spare: &mut Spare,
-    rounds: &mut R,
-) -> Result<Took, NoMemory>
-    requires ready { W.ready }
-    requires left { IsSome cutter.old.left }
-    requires fits { FitsHeader (checked_plan work.old.checked).fields cutter.old.header }
-    requires limit { IsLimit work.old.limit }
-    requires stands { let p = checked_plan work.old.checked in
-        (records : List OneRecord) × W.stands rounds.old p work.old.limit records }
-    ensures takes { let p = checked_plan work.old.checked in
-        let first = cutter.old.next_no in
-        let rows = map (W.shown rounds.old) (rows_left cutter.old) in
-        let read = records_or_bad p cutter.old.header first rows in
-        let stood = stands_by W.stands p work.old.limit in
-        IfOk result (TakesRows stood read first cutter.new.next_no rounds.old rounds.new) }
-    ensures shown { W.shown rounds.new ≡ W.shown rounds.old }
+) -> Result<(), NoMemory>
+    requires { IsSome cutter.old.left }
+    ensures cut { OnOk result (CutsRound cutter.old cutter.new work.new.chunks) }
     ensures checked { checked_plan work.new.checked ≡ checked_plan work.old.checked }
-    ensures same { work.new.limit ≡ work.old.limit }
+    ensures limit { work.new.limit ≡ work.old.limit }
 {
-    'rounds: loop {
-        let done = mem::replace(&mut work.chunks, Chunks::new(alloc));
-        keep_rows(done, spare);
-        work.chunks = next_round(alloc, cutter, spare)?;
-        if work.chunks.is_empty() {
-            return Ok(Took::Done);
-        }
-        match way.take(alloc, rounds, work)? {
-            Took::Done => {}
-            Took::Bad(bad) => return Ok(Took::Bad(bad)),
-        }
-    }
+    replace_chunks(work, Chunks::new(alloc), spare);
+    let chunks = next_round(alloc, cutter, spare)?;
+    work.chunks = chunks;
+    Ok(())
 }
 
-/// Takes the records of the file with the number `file`. Its first one has the number that the
-/// course gives, which becomes that of the first record after the file.
-pub(crate) fn take_file<R, W: Way<R>>(
-    way: &W,
+/// What a round came to; and where its records were taken, the next round in its place.
+pub(crate) fn then_cut(
     alloc: Global,
+    took: Took,
     work: &mut Work,
-    bytes: &[u8],
-    file: u64,
-    course: &mut Course,
-    rounds: &mut R,
-) -> Result<(), PassErr>
-    requires ready { W.ready }
-    requires size { length bytes.now ≤ limit.FILE_MAX }
-    requires first { course.old.next_no ≤ 2 ^ 62 }
-    requires some { 1 ≤ course.old.chunk }
-    requires most { course.old.chunk ≤ limit.CHUNK_MAX }
-    requires limit { IsLimit work.old.limit }
-    requires stands { let p = checked_plan work.old.checked in
-        (records : List OneRecord) × W.stands rounds.old p work.old.limit records }
-    ensures takes { let p = checked_plan work.old.checked in
-        let first = course.old.next_no in
-        let rows = shown_rows (W.shown rounds.old) (file_rows bytes.now) in
-        let read = row_records p file first rows in
-        let stood = stands_by W.stands p work.old.limit in
-        TakesFile stood read first course.new.next_no rounds.old rounds.new result }
-    ensures shown { W.shown rounds.new ≡ W.shown rounds.old }
+    cutter: &mut Cutter<'_>,
+    spare: &mut Spare,
+) -> Result<Took, NoMemory>
+    requires { IsSome cutter.old.left }
+    ensures took { IfOk result (λ t. t ≡ took) }
+    ensures next { IfOk result (λ t.
+        IfTaken t (CutsRound cutter.old cutter.new work.new.chunks)) }
     ensures checked { checked_plan work.new.checked ≡ checked_plan work.old.checked }
-    ensures same { work.new.limit ≡ work.old.limit }
-    ensures chunk { course.new.chunk ≡ course.old.chunk }
+    ensures limit { work.new.limit ≡ work.old.limit }
 {
-    let mut cutter = open_file(
-        alloc,
-        &work.checked,
-        bytes,
-        file,
-        course.next_no,
-        course.chunk,
-    )?;
-    match take_rounds(way, alloc, work, &mut cutter, &mut course.spare, rounds)? {
-        Took::Done => {
-            course.next_no = cutter.next_no();
-            Ok(())
-        }
-        Took::Bad(bad) => Err(PassErr::Bad { file, bad }),
+    match took {
+        Took::Done => cut_round(alloc, work, cutter, spare)?,
+        Took::Bad(_) => {}
     }
+    Ok(took)
 }

@@ -10,10 +10,10 @@ ghost use Rattle.sym_engine.specs.Passing.{May, StopsFrom, TakenAll};
 ghost use Rattle.sym_engine.specs.Rounds.{stands_by};
 ghost use Rattle.sym_engine.specs.Taking.{IsUnread};
 
-use crate::cutting::{Course, take_file};
 use crate::error::PassErr;
 use crate::options::Options;
 use crate::rounds::{Rounds, Work};
+use crate::taking::{Course, take_file};
 use crate::ways::{Threaded, Way};
 use std::alloc::Global;
 use std::sync::Wait;
@@ -146,6 +146,9 @@ pub fn each_round<T: Threads + Wait + Sync, F: Store, R: Rounds>(
     ensures same { F.holds files.new ≡ F.holds files.old }
     ensures later { (other : List ℕ) → F.faults files.old other ≤ F.faults files.new other }
 {
-    let way = Threaded { rt };
+    let way = Threaded {
+        rt,
+        workers: options.workers,
+    };
     take_files(&way, alloc, checked, files, names, options, first, rounds)
 }

@@ -7,13 +7,14 @@ ghost use Rattle.sym_table.specs.Rows.{FitsChunk};
 ghost use Rattle.sym_engine.specs.Rounds.{Takes};
 ghost use Rattle.sym_engine.specs.Taking.{ArePassed};
 
+use crate::cutting::then_cut;
 use crate::rounds::{Took, Work};
 use crate::ways::Way;
 use std::alloc::Global;
 use sym_base::{NoMemory, Record, Values};
 use sym_check::Checked;
 use sym_plain::{Groups, fold_into};
-use sym_table::{Chunk, decode_into};
+use sym_table::{Chunk, Cutter, Spare, decode_into};
 
 /// The groups of the rounds so far, and the record that was read last, over whose memory the next
 /// one is made.
@@ -91,7 +92,15 @@ impl Way<Folded> for Alone {
 
     ghost ready = { Unit {0} };
 
-    fn take(&self, alloc: Global, folded: &mut Folded, work: &Work) -> Result<Took, NoMemory> {
-        fold_chunks(alloc, &work.checked, work.chunks.as_slice(), folded)
+    fn take_on(
+        &self,
+        alloc: Global,
+        folded: &mut Folded,
+        work: &mut Work,
+        cutter: &mut Cutter<'_>,
+        spare: &mut Spare,
+    ) -> Result<Took, NoMemory> {
+        let took = fold_chunks(alloc, &work.checked, work.chunks.as_slice(), folded)?;
+        then_cut(alloc, took, work, cutter, spare)
     }
 }

@@ -15,6 +15,7 @@ mod passing;
 mod piece;
 mod rounds;
 mod sequential;
+mod taking;
 mod ways;
 mod workers;
 mod working;

@@ -1,17 +1,24 @@
 //! How rounds are taken: with the threads of a runtime, or on one thread.
-ghost use Rattle.std.specs.Prelude.{◌≡◌, ℕ, List, IfOk};
+ghost use Rattle.std.specs.Prelude.{◌≡◌, ◌≤◌, ℕ, List, [], Some, IfOk, IsSome, length};
+ghost use Rattle.std.specs.List.{All};
 ghost use Rattle.std.specs.Thread.{IsSync};
+ghost use Rattle.sym_base.specs.declared.limits.TheConstants as limit;
 ghost use Rattle.sym_base.specs.declared.values.record.Record.{Record as OneRecord};
 ghost use Rattle.sym_check.specs.Checking.CheckedScripts.{checked_plan};
+ghost use Rattle.sym_check.specs.declared.plan.script.FieldPlan.{FieldPlan as OneField};
 ghost use Rattle.sym_check.specs.Plan.ScriptPlans.{ScriptPlan};
 ghost use Rattle.sym_table.specs.Reading.{Row as OneRow};
+ghost use Rattle.sym_table.specs.Rows.{FitsChunk, FitsHeader};
 ghost use Rattle.sym_engine.specs.Rounds.{IsLimit, IsRound, Takes, round_records, stands_by};
+ghost use Rattle.sym_engine.specs.Taking.{AreCut, CutsRound, IfTaken};
 
+use crate::cutting::{next_round, replace_chunks, then_cut};
 use crate::rounds::{Rounds, Took, Work};
 use std::alloc::Global;
 use std::sync::Wait;
-use std::thread::Threads;
-use sym_base::NoMemory;
+use std::thread::{Threads, join_mut};
+use sym_base::{CHUNKS_MAX, NoMemory};
+use sym_table::{Chunks, Cutter, Spare};
 
 /// A way to have rounds taken by a value of type `R`. Its meanings are those of `Rounds`.
 pub(crate) trait Way<R> {
@@ -24,24 +31,88 @@ pub(crate) trait Way<R> {
     // What a caller knows of the way's own types.
     ghost ready: { Type 0 };
 
-    /// Takes the records of a round's rows, as `Rounds::take` does.
-    fn take(&self, alloc: Global, rounds: &mut R, work: &Work) -> Result<Took, NoMemory>
+    /// Takes the records of a round's rows, as `Rounds::take` does, and then has the next round of
+    /// the file in its place. The script and the path limit of the work stay.
+    fn take_on(
+        &self,
+        alloc: Global,
+        rounds: &mut R,
+        work: &mut Work,
+        cutter: &mut Cutter<'_>,
+        spare: &mut Spare,
+    ) -> Result<Took, NoMemory>
         requires ready { ready }
-        requires round { IsRound (checked_plan work.now.checked).fields work.now.chunks }
-        requires limit { IsLimit work.now.limit }
-        requires stands { let p = checked_plan work.now.checked in
-            (records : List OneRecord) × stands rounds.old p work.now.limit records }
+        requires round { IsRound (checked_plan work.old.checked).fields work.old.chunks }
+        requires limit { IsLimit work.old.limit }
+        requires left { IsSome cutter.old.left }
+        requires stands { let p = checked_plan work.old.checked in
+            (records : List OneRecord) × stands rounds.old p work.old.limit records }
         ensures shown { shown rounds.new ≡ shown rounds.old }
-        ensures takes { let p = checked_plan work.now.checked in
-            let read = round_records p (shown rounds.old) work.now.chunks in
-            let stood = stands_by stands p work.now.limit in
-            IfOk result (Takes stood read rounds.old rounds.new) };
+        ensures takes { let p = checked_plan work.old.checked in
+            let read = round_records p (shown rounds.old) work.old.chunks in
+            let stood = stands_by stands p work.old.limit in
+            IfOk result (Takes stood read rounds.old rounds.new) }
+        ensures next { IfOk result (λ took.
+            IfTaken took (CutsRound cutter.old cutter.new work.new.chunks)) }
+        ensures checked { checked_plan work.new.checked ≡ checked_plan work.old.checked }
+        ensures same { work.new.limit ≡ work.old.limit };
 }
 
-/// With the threads of a runtime.
+/// With the threads of a runtime, so many workers in all.
 #[derive(Drop)]
 pub(crate) struct Threaded<'a, T> {
     pub(crate) rt: &'a T,
+    pub(crate) workers: u32,
+}
+
+// What a round came to, and the round after it, which was cut beside it.
+#[derive(Drop)]
+struct Beside {
+    took: Result<Took, NoMemory>,
+    next: Result<Chunks, NoMemory>,
+}
+
+// Has a round taken while another thread cuts the next one.
+fn take_beside<T: Threads + Wait + Sync, R: Rounds>(
+    rt: &T,
+    alloc: Global,
+    rounds: &mut R,
+    work: &Work,
+    cutter: &mut Cutter<'_>,
+    spare: &mut Spare,
+) -> Beside
+    requires round { IsRound (checked_plan work.now.checked).fields work.now.chunks }
+    requires limit { IsLimit work.now.limit }
+    requires left { IsSome cutter.old.left }
+    requires stands { let p = checked_plan work.now.checked in
+        (records : List OneRecord) × R.stands rounds.old p work.now.limit records }
+    ensures shown { R.shown rounds.new ≡ R.shown rounds.old }
+    ensures takes { let p = checked_plan work.now.checked in
+        let read = round_records p (R.shown rounds.old) work.now.chunks in
+        let stood = stands_by R.stands p work.now.limit in
+        IfOk result.took (Takes stood read rounds.old rounds.new) }
+    ensures cut { IfOk result.next (λ chunks. AreCut cutter.old cutter.new chunks) }
+    ensures most { IfOk result.next (λ chunks. length chunks ≤ limit.CHUNKS_MAX) }
+    ensures ended { IfOk result.next (λ chunks. chunks ≡ [] → cutter.old.left ≡ Some []) }
+    ensures fit { (fields : List OneField) → FitsHeader fields cutter.old.header →
+        IfOk result.next (λ chunks. All (FitsChunk fields) chunks) }
+    ensures header { cutter.new.header ≡ cutter.old.header }
+{
+    let (next, took) = join_mut(
+        rt,
+        &mut || next_round(alloc, cutter, spare),
+        &mut || -> Result<Took, NoMemory>
+            requires { let p = checked_plan work.now.checked in IsSync T.row
+                × IsRound p.fields work.now.chunks × IsLimit work.now.limit
+                × ((records : List OneRecord) × R.stands rounds.now p work.now.limit records) }
+            ensures shown { R.shown rounds.exit.now ≡ R.shown rounds.entry.now }
+            ensures takes { let p = checked_plan work.entry.now.checked in
+                let read = round_records p (R.shown rounds.entry.now) work.entry.now.chunks in
+                let stood = stands_by R.stands p work.entry.now.limit in
+                IfOk result (Takes stood read rounds.entry.now rounds.exit.now) }
+        { rounds.take(rt, alloc, work) },
+    );
+    Beside { took, next }
 }
 
 impl<'a, T: Threads + Wait + Sync, R: Rounds> Way<R> for Threaded<'a, T> {
@@ -51,7 +122,26 @@ impl<'a, T: Threads + Wait + Sync, R: Rounds> Way<R> for Threaded<'a, T> {
 
     ghost ready = { IsSync T.row };
 
-    fn take(&self, alloc: Global, rounds: &mut R, work: &Work) -> Result<Took, NoMemory> {
-        rounds.take(self.rt, alloc, work)
+    // With one worker, and where a round isn't full and so is the file's last, no thread is made.
+    fn take_on(
+        &self,
+        alloc: Global,
+        rounds: &mut R,
+        work: &mut Work,
+        cutter: &mut Cutter<'_>,
+        spare: &mut Spare,
+    ) -> Result<Took, NoMemory> {
+        if self.workers == 1 || work.chunks.len() < CHUNKS_MAX as usize {
+            let took = rounds.take(self.rt, alloc, work)?;
+            return then_cut(alloc, took, work, cutter, spare);
+        }
+        let Beside { took, next } = take_beside(self.rt, alloc, rounds, work, cutter, spare);
+        match took? {
+            Took::Done => {
+                replace_chunks(work, next?, spare);
+                Ok(Took::Done)
+            }
+            Took::Bad(bad) => Ok(Took::Bad(bad)),
+        }
     }
 }

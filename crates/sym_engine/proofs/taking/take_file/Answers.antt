@@ -8,7 +8,7 @@ use Rattle.sym_engine.specs.Rounds.{stands_by}
 use Rattle.sym_engine.specs.Taking.{TakesFile, rows_left}
 use Rattle.sym_engine.proofs.Walks.{fails_as, is_some, left_of, rows_as}
 use Rattle.sym_engine.proofs.Opened.{file_taken, file_bad, head_stops}
-use Rattle.sym_engine.proofs.cutting.take_file.Goals as goal
+use Rattle.sym_engine.proofs.taking.take_file.Goals as goal
 
 pub returns-in_err-cutter-clause-takes : goal.returns-in_err-cutter-clause-takes
 returns-in_err-cutter-clause-takes g c =

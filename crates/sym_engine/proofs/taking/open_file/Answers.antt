@@ -1,7 +1,7 @@
 use Rattle.sym_check.specs.Checking.CheckedScripts.{checked_plan}
 use Rattle.sym_table.specs.FileRows.{file_rows}
 use Rattle.sym_engine.proofs.Opened.{opened, unopened}
-use Rattle.sym_engine.proofs.cutting.open_file.Goals as goal
+use Rattle.sym_engine.proofs.taking.open_file.Goals as goal
 
 pub returns-in-Ok : goal.returns-in-Ok
 returns-in-Ok c =
