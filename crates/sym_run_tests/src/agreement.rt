@@ -3,10 +3,13 @@ ghost use Rattle.std.specs.Prelude.{◌≤◌};
 ghost use Rattle.sym_engine.specs.Options.{InRange};
 
 use std::alloc::Global;
+use std::sync::Wait;
+use std::thread::Threads;
 use sym_base::{FILE_MAX_DEFAULT, MemStore, NoMemory};
 use sym_check::Checked;
 use sym_engine::{
-    CHUNK_DEFAULT, LIMIT_MAX, Options, PassErr, WORKERS_DEFAULT, pass, sequential_pass,
+    CHUNK_DEFAULT, Free, LIMIT_MAX, OpenGate, Options, PassErr, WORKERS_DEFAULT, pass,
+    sequential_pass,
 };
 use sym_plain::Groups;
 
@@ -62,7 +65,8 @@ fn options(chunk: u32, limit: u32) -> Options
 }
 
 // The pass over at most three files; `None` where the options aren't in their ranges.
-fn passed(
+fn passed<T: Threads + Wait + Sync>(
+    rt: &T,
     alloc: Global,
     checked: &Checked,
     files: &mut MemStore,
@@ -75,7 +79,9 @@ fn passed(
     match way {
         Way::Runs(chunk, limit)
             if chunk >= 1 && chunk <= CHUNK_DEFAULT && limit >= 1 && limit <= LIMIT_MAX => {
-            Some(pass(alloc, checked, files, names, &options(chunk, limit)))
+            let options = options(chunk, limit);
+            let gate = OpenGate { hold: Free };
+            Some(pass(rt, alloc, checked, files, names, &options, &gate))
         }
         Way::Runs(_, _) => None,
         Way::InSequence => {
@@ -85,30 +91,33 @@ fn passed(
     }
 }
 
-fn passed_over(
+fn passed_over<T: Threads + Wait + Sync>(
+    rt: &T,
     alloc: Global,
     checked: &Checked,
     files: &mut MemStore,
     way: Way,
 ) -> Result<Option<Result<Groups, PassErr>>, NoMemory> {
-    Ok(passed(alloc, checked, files, names(alloc)?.as_slice(), way))
+    Ok(passed(rt, alloc, checked, files, names(alloc)?.as_slice(), way))
 }
 
 // Whether the pass over a log comes to this, if it is made in this way.
-fn way_is<W: Wanted>(
+fn way_is<T: Threads + Wait + Sync, W: Wanted>(
+    rt: &T,
     alloc: Global,
     checked: &Checked,
     log: &str,
     way: Way,
     wanted: &W,
 ) -> Result<bool, NoMemory> {
-    match passed_over(alloc, checked, &mut store(alloc, log)?, way)? {
+    match passed_over(rt, alloc, checked, &mut store(alloc, log)?, way)? {
         Some(passed) => wanted.is(alloc, checked, &passed),
         None => Ok(false),
     }
 }
 
-fn limits_are<W: Wanted>(
+fn limits_are<T: Threads + Wait + Sync, W: Wanted>(
+    rt: &T,
     alloc: Global,
     checked: &Checked,
     log: &str,
@@ -116,7 +125,7 @@ fn limits_are<W: Wanted>(
     wanted: &W,
 ) -> Result<bool, NoMemory> {
     'limits: for limit in LIMITS {
-        if !way_is(alloc, checked, log, Way::Runs(chunk, limit), wanted)? {
+        if !way_is(rt, alloc, checked, log, Way::Runs(chunk, limit), wanted)? {
             return Ok(false);
         }
     }
@@ -124,14 +133,15 @@ fn limits_are<W: Wanted>(
 }
 
 /// Whether the passes over a log, by runs of each size, come to this.
-pub(crate) fn runs_are<W: Wanted>(
+pub(crate) fn runs_are<T: Threads + Wait + Sync, W: Wanted>(
+    rt: &T,
     alloc: Global,
     checked: &Checked,
     log: &str,
     wanted: &W,
 ) -> Result<bool, NoMemory> {
     'chunks: for chunk in CHUNKS {
-        if !limits_are(alloc, checked, log, chunk, wanted)? {
+        if !limits_are(rt, alloc, checked, log, chunk, wanted)? {
             return Ok(false);
         }
     }
@@ -139,22 +149,24 @@ pub(crate) fn runs_are<W: Wanted>(
 }
 
 /// Whether the sequential pass over a log comes to this.
-pub(crate) fn sequence_is<W: Wanted>(
+pub(crate) fn sequence_is<T: Threads + Wait + Sync, W: Wanted>(
+    rt: &T,
     alloc: Global,
     checked: &Checked,
     log: &str,
     wanted: &W,
 ) -> Result<bool, NoMemory> {
-    way_is(alloc, checked, log, Way::InSequence, wanted)
+    way_is(rt, alloc, checked, log, Way::InSequence, wanted)
 }
 
 /// The groups of the sequential pass over a log; `None` where it has a problem.
-pub(crate) fn sequence_of(
+pub(crate) fn sequence_of<T: Threads + Wait + Sync>(
+    rt: &T,
     alloc: Global,
     checked: &Checked,
     log: &str,
 ) -> Result<Option<Groups>, NoMemory> {
-    match passed_over(alloc, checked, &mut store(alloc, log)?, Way::InSequence)? {
+    match passed_over(rt, alloc, checked, &mut store(alloc, log)?, Way::InSequence)? {
         Some(Ok(groups)) => Ok(Some(groups)),
         Some(Err(_)) | None => Ok(None),
     }

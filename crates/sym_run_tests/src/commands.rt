@@ -179,7 +179,7 @@ const OPTIONS: [Run; 13] = [
 
 #[test]
 fn options_change_the_form_and_the_size_alone(rt: HostRuntime) -> Result<(), Fail> {
-    all_hold(&rt, wrong_run(rt.alloc(), &OPTIONS))
+    all_hold(&rt, wrong_run(&rt, rt.alloc(), &OPTIONS))
 }
 
 /// A check of the script.
@@ -261,7 +261,7 @@ const CHECKS: [Run; 11] = [
 
 #[test]
 fn a_check_says_what_a_script_has(rt: HostRuntime) -> Result<(), Fail> {
-    all_hold(&rt, wrong_run(rt.alloc(), &CHECKS))
+    all_hold(&rt, wrong_run(&rt, rt.alloc(), &CHECKS))
 }
 
 /// A making, over a store of which each read fails.
@@ -319,5 +319,5 @@ const MAKES: [Run; 8] = [
 
 #[test]
 fn a_making_sums_up_its_log(rt: HostRuntime) -> Result<(), Fail> {
-    all_hold(&rt, wrong_run(rt.alloc(), &MAKES))
+    all_hold(&rt, wrong_run(&rt, rt.alloc(), &MAKES))
 }

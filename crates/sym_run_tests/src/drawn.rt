@@ -2,10 +2,12 @@
 //! pass.
 use crate::agreement::{Wanted, runs_are, sequence_of};
 use crate::runs::{BY_USER, COUNTER, SESSIONS, SHOWN, SUMS, TOGGLE};
-use crate::scripts::{Row, Scripted, check_scripted};
+use crate::scripts::{Scripted, check_scripted};
 use crate::worked::{GUARDED, PURCHASES, SIX};
 use std::alloc::Global;
+use std::sync::Wait;
 use std::test::Fail;
+use std::thread::Threads;
 use sym_base::NoMemory;
 use sym_check::Checked;
 use sym_engine::PassErr;
@@ -106,7 +108,8 @@ const BY_STATE: [Drawn; 2] = [Drawn(SESSIONS, 5, 5), Drawn(PURCHASES, 6, 5)];
 const IN_LINE: [Drawn; 3] = [Drawn(BY_USER, 7, 5), Drawn(SUMS, 8, 5), Drawn(SHOWN, 9, 5)];
 
 // Whether the runs over the log give these groups, of which there are so many.
-fn are_given(
+fn are_given<T: Threads + Wait + Sync>(
+    rt: &T,
     alloc: Global,
     checked: &Checked,
     log: &str,
@@ -114,25 +117,36 @@ fn are_given(
     count: usize,
 ) -> Result<bool, NoMemory> {
     match wanted {
-        Some(groups) => Ok(groups.len() == count && runs_are(alloc, checked, log, &Given(groups))?),
+        Some(groups) => Ok(
+            groups.len() == count && runs_are(rt, alloc, checked, log, &Given(groups))?,
+        ),
         None => Ok(false),
     }
 }
 
-fn agree(alloc: Global, checked: &Checked, log: &str, count: usize) -> Result<bool, NoMemory> {
-    let wanted = sequence_of(alloc, checked, log)?;
-    are_given(alloc, checked, log, wanted, count)
-}
-
-impl Row for Drawn {
-    fn holds(&self, alloc: Global, checked: &Checked) -> Result<bool, NoMemory> {
-        agree(alloc, checked, log_of(alloc, self.1)?.as_str(), self.2)
-    }
+fn agree<T: Threads + Wait + Sync>(
+    rt: &T,
+    alloc: Global,
+    checked: &Checked,
+    log: &str,
+    count: usize,
+) -> Result<bool, NoMemory> {
+    let wanted = sequence_of(rt, alloc, checked, log)?;
+    are_given(rt, alloc, checked, log, wanted, count)
 }
 
 impl Scripted for Drawn {
     fn script(&self) -> &str {
         self.0
+    }
+
+    fn holds<T: Threads + Wait + Sync>(
+        &self,
+        rt: &T,
+        alloc: Global,
+        checked: &Checked,
+    ) -> Result<bool, NoMemory> {
+        agree(rt, alloc, checked, log_of(alloc, self.1)?.as_str(), self.2)
     }
 }
 

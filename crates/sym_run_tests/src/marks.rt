@@ -3,8 +3,11 @@ ghost use Rattle.std.specs.Prelude.{◌≡◌, [], ◌∷◌, codes};
 
 use crate::runs::BY_USER;
 use std::alloc::Global;
+use std::sync::Wait;
 use std::test::Fail;
+use std::thread::Threads;
 use sym_base::{MemSink, MemStore, NoMemory};
+use sym_engine::{Free, OpenGate};
 use sym_report::{Heads, ReportForm, Row};
 use sym_top::{Status, symple};
 
@@ -83,7 +86,8 @@ fn store_of(alloc: Global) -> Result<MemStore, NoMemory> {
 }
 
 // The top call with two forms of one name, the first of which may find no memory.
-fn call_with(
+fn call_with<T: Threads + Wait + Sync>(
+    rt: &T,
     alloc: Global,
     words: &Vec<String>,
     store: &mut MemStore,
@@ -94,10 +98,12 @@ fn call_with(
     let first: Box<dyn ReportForm> = Box::new(alloc, Marks::new(alloc, b'.', is_full))?;
     let second: Box<dyn ReportForm> = Box::new(alloc, Marks::new(alloc, b'!', false))?;
     let forms = Vec::from_array(alloc, [first, second])?;
-    Ok(symple(alloc, words, store, out, &mut err, forms))
+    let gate = OpenGate { hold: Free };
+    Ok(symple(rt, alloc, words, store, out, &mut err, forms, &gate))
 }
 
-fn call(
+fn call<T: Threads + Wait + Sync>(
+    rt: &T,
     alloc: Global,
     words: &[&'static str],
     out: &mut MemSink,
@@ -105,7 +111,7 @@ fn call(
 ) -> Result<Status, NoMemory> {
     let words = words_of(alloc, words)?;
     let mut store = store_of(alloc)?;
-    call_with(alloc, &words, &mut store, out, is_full)
+    call_with(rt, alloc, &words, &mut store, out, is_full)
 }
 
 const MARKED: &[&str] = &["run", "--form", "marks", "s", "f"];
@@ -114,7 +120,7 @@ const MARKED: &[&str] = &["run", "--form", "marks", "s", "f"];
 fn the_first_form_of_the_name_writes_the_report(rt: HostRuntime) -> Result<(), Fail> {
     let alloc = rt.alloc();
     let mut out = MemSink::new(alloc, 100);
-    assert!(rt; call(alloc, MARKED, &mut out, false)? == Status::Done);
+    assert!(rt; call(&rt, alloc, MARKED, &mut out, false)? == Status::Done);
     assert!(rt; out.bytes() == b"<...>".as_slice());
     Ok(())
 }
@@ -123,7 +129,7 @@ fn the_first_form_of_the_name_writes_the_report(rt: HostRuntime) -> Result<(), F
 fn a_form_without_memory_ends_the_run(rt: HostRuntime) -> Result<(), Fail> {
     let alloc = rt.alloc();
     let mut out = MemSink::new(alloc, 100);
-    assert!(rt; call(alloc, MARKED, &mut out, true)? == Status::NoMemory);
+    assert!(rt; call(&rt, alloc, MARKED, &mut out, true)? == Status::NoMemory);
     assert!(rt; out.bytes().is_empty());
     Ok(())
 }
@@ -132,7 +138,7 @@ fn a_form_without_memory_ends_the_run(rt: HostRuntime) -> Result<(), Fail> {
 fn a_form_that_is_not_handed_in_is_usage(rt: HostRuntime) -> Result<(), Fail> {
     let alloc = rt.alloc();
     let mut out = MemSink::new(alloc, 100);
-    assert!(rt; call(alloc, &["run", "s", "f"], &mut out, false)? == Status::Usage);
-    assert!(rt; call(alloc, &["check", "s"], &mut out, false)? == Status::Done);
+    assert!(rt; call(&rt, alloc, &["run", "s", "f"], &mut out, false)? == Status::Usage);
+    assert!(rt; call(&rt, alloc, &["check", "s"], &mut out, false)? == Status::Done);
     Ok(())
 }

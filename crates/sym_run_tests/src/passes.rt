@@ -1,10 +1,14 @@
 //! Passes over files, by example.
-use crate::scripts::{Row, all_hold, check_rows};
+use crate::scripts::{Scripted, all_hold, check_scripted};
 use std::alloc::Global;
+use std::sync::Wait;
 use std::test::Fail;
+use std::thread::Threads;
 use sym_base::{Column, Key, MemStore, NoMemory, Outcome, State, Value};
 use sym_check::Checked;
-use sym_engine::{CHUNK_DEFAULT, LIMIT_DEFAULT, Options, PassErr, WORKERS_DEFAULT, pass};
+use sym_engine::{
+    CHUNK_DEFAULT, Free, LIMIT_DEFAULT, OpenGate, Options, PassErr, WORKERS_DEFAULT, pass,
+};
 use sym_plain::{Groups, columns};
 use sym_table::{Bad, BadCause, HeadFault};
 
@@ -195,7 +199,8 @@ fn are_groups(
 
 // Whether the pass over the files of these names, of at most 16 bytes each, cut into chunks of so
 // many rows, comes to this.
-fn pass_is(
+fn pass_is<T: Threads + Wait + Sync>(
+    rt: &T,
     alloc: Global,
     checked: &Checked,
     files: &mut MemStore,
@@ -212,14 +217,17 @@ fn pass_is(
         workers: WORKERS_DEFAULT,
         max_bytes: 16,
     };
-    match (pass(alloc, checked, files, names, &options), want) {
+    let gate = OpenGate { hold: Free };
+    let passed = pass(rt, alloc, checked, files, names, &options, &gate);
+    match (passed, want) {
         (Ok(groups), Want::Groups(wanted)) => are_groups(alloc, checked, &groups, wanted),
         (Err(why), Want::Stops(wanted)) => Ok(why == wanted),
         (Ok(_), Want::Stops(_)) | (Err(_), Want::Groups(_)) => Ok(false),
     }
 }
 
-fn run_is(
+fn run_is<T: Threads + Wait + Sync>(
+    rt: &T,
     alloc: Global,
     checked: &Checked,
     files: &mut MemStore,
@@ -228,13 +236,23 @@ fn run_is(
     want: Want,
 ) -> Result<bool, NoMemory> {
     let names = names(alloc, run)?;
-    pass_is(alloc, checked, files, names.as_slice(), chunk, want)
+    pass_is(rt, alloc, checked, files, names.as_slice(), chunk, want)
 }
 
-impl Row for Run {
-    fn holds(&self, alloc: Global, checked: &Checked) -> Result<bool, NoMemory> {
+impl Scripted for Run {
+    fn script(&self) -> &str {
+        SCRIPT
+    }
+
+    fn holds<T: Threads + Wait + Sync>(
+        &self,
+        rt: &T,
+        alloc: Global,
+        checked: &Checked,
+    ) -> Result<bool, NoMemory> {
         'chunks: for chunk in CHUNKS {
             if !run_is(
+                rt,
                 alloc,
                 checked,
                 &mut store(alloc, 0)?,
@@ -251,7 +269,7 @@ impl Row for Run {
 
 #[test]
 fn files_are_passed_in_order_up_to_their_first_problem(rt: HostRuntime) -> Result<(), Fail> {
-    check_rows(&rt, rt.alloc(), SCRIPT, &RUNS)
+    check_scripted(&rt, rt.alloc(), &RUNS)
 }
 
 /// The read that fails in a pass over three files, and the file that it is of. A file takes two
@@ -273,7 +291,8 @@ const WHOLE: Run = Run(
 );
 
 // Whether the pass fails at this file, and goes through afterwards.
-fn fails_once(
+fn fails_once<T: Threads + Wait + Sync>(
+    rt: &T,
     alloc: Global,
     checked: &Checked,
     files: &mut MemStore,
@@ -282,20 +301,29 @@ fn fails_once(
     let Run(names, whole) = WHOLE;
     let fault = Want::Stops(PassErr::Read { file });
     Ok(
-        run_is(alloc, checked, files, &names, CHUNK_DEFAULT, fault)?
-            && run_is(alloc, checked, files, &names, CHUNK_DEFAULT, whole)?,
+        run_is(rt, alloc, checked, files, &names, CHUNK_DEFAULT, fault)?
+            && run_is(rt, alloc, checked, files, &names, CHUNK_DEFAULT, whole)?,
     )
 }
 
-impl Row for Read {
-    fn holds(&self, alloc: Global, checked: &Checked) -> Result<bool, NoMemory> {
-        fails_once(alloc, checked, &mut store(alloc, self.0)?, self.1)
+impl Scripted for Read {
+    fn script(&self) -> &str {
+        SCRIPT
+    }
+
+    fn holds<T: Threads + Wait + Sync>(
+        &self,
+        rt: &T,
+        alloc: Global,
+        checked: &Checked,
+    ) -> Result<bool, NoMemory> {
+        fails_once(rt, alloc, checked, &mut store(alloc, self.0)?, self.1)
     }
 }
 
 #[test]
 fn a_read_may_fail_at_each_place(rt: HostRuntime) -> Result<(), Fail> {
-    check_rows(&rt, rt.alloc(), SCRIPT, &READS)
+    check_scripted(&rt, rt.alloc(), &READS)
 }
 
 /// Errors and their texts.

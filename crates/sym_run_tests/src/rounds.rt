@@ -8,9 +8,11 @@ ghost use Rattle.sym_table.specs.Rows.{FitsChunk};
 ghost use Rattle.sym_engine.specs.Rounds.{round_records, shown_chunk};
 ghost use Rattle.sym_run_tests.specs.Rounds.{Reads};
 
-use crate::scripts::{Row as Case, check_rows};
+use crate::scripts::{Row as Case, Scripted, check_rows, check_scripted};
 use std::alloc::Global;
+use std::sync::Wait;
 use std::test::Fail;
+use std::thread::Threads;
 use sym_base::{FILE_MAX_DEFAULT, MemStore, NoMemory};
 use sym_check::Checked;
 use sym_engine::{
@@ -82,7 +84,12 @@ impl Rounds for Noted {
     // It stands for any records.
     ghost stands = { λ _ _ _ _. Unit {0} };
 
-    fn take(&mut self, alloc: Global, work: &Work) -> Result<Took, NoMemory> {
+    fn take<T: Threads + Wait + Sync>(
+        &mut self,
+        _rt: &T,
+        alloc: Global,
+        work: &Work,
+    ) -> Result<Took, NoMemory> {
         let chunks = work.chunks.as_slice();
         self.rounds.push(chunks.len())?;
         read_chunks(alloc, &work.checked, chunks, &self.one)
@@ -157,7 +164,8 @@ fn noting(alloc: Global, one: Option<&str>) -> Result<Noted, NoMemory> {
     Ok(Noted { rounds, one })
 }
 
-fn taken(
+fn taken<T: Threads + Wait + Sync>(
+    rt: &T,
     alloc: Global,
     checked: &Checked,
     files: &mut MemStore,
@@ -177,15 +185,24 @@ fn taken(
     names.push(String::from_str(alloc, "a")?)?;
     names.push(String::from_str(alloc, "b")?)?;
     let names = names.as_slice();
-    Ok(Some(each_round(alloc, checked, files, names, &options, 1, noted)))
+    Ok(Some(each_round(rt, alloc, checked, files, names, &options, 1, noted)))
 }
 
-impl Case for Cut {
-    fn holds(&self, alloc: Global, checked: &Checked) -> Result<bool, NoMemory> {
+impl Scripted for Cut {
+    fn script(&self) -> &str {
+        SCRIPT
+    }
+
+    fn holds<T: Threads + Wait + Sync>(
+        &self,
+        rt: &T,
+        alloc: Global,
+        checked: &Checked,
+    ) -> Result<bool, NoMemory> {
         let Cut(rows, row, chunk, one, rounds, wanted) = self;
         let mut noted = noting(alloc, *one)?;
         let mut files = store(alloc, *rows, row)?;
-        match taken(alloc, checked, &mut files, *chunk, &mut noted)? {
+        match taken(rt, alloc, checked, &mut files, *chunk, &mut noted)? {
             Some(found) => Ok(found == *wanted && noted.rounds.as_slice() == *rounds),
             None => Ok(false),
         }
@@ -194,7 +211,7 @@ impl Case for Cut {
 
 #[test]
 fn files_are_cut_into_rounds_of_up_to_64_chunks(rt: HostRuntime) -> Result<(), Fail> {
-    check_rows(&rt, rt.alloc(), SCRIPT, &CUTS)
+    check_scripted(&rt, rt.alloc(), &CUTS)
 }
 
 /// The limit of a work, and the text of its file, which is cut into chunks of two rows.

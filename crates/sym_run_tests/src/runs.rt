@@ -1,8 +1,11 @@
 //! Whole runs over stores and sinks in memory.
 use crate::scripts::all_hold;
 use std::alloc::Global;
+use std::sync::Wait;
 use std::test::Fail;
+use std::thread::Threads;
 use sym_base::{MemSink, MemStore, NoMemory};
+use sym_engine::{Free, OpenGate};
 use sym_report::{CsvForm, PairsForm, ReportForm, TableForm};
 use sym_top::{StartErr, Status, refuse_start, symple};
 
@@ -213,9 +216,10 @@ fn sinks_of(alloc: Global, run: &Run) -> Result<(MemSink, MemSink), NoMemory> {
     Ok((out, err))
 }
 
-/// The top call, with the forms of the program. No other function makes it, since proofs beside its
-/// long contract are slow.
-pub(crate) fn call(
+/// The top call, with the forms and the gate of the program. No other function makes it, since proofs
+/// beside its long contract are slow.
+pub(crate) fn call<T: Threads + Wait + Sync>(
+    rt: &T,
     alloc: Global,
     words: &Vec<String>,
     store: &mut MemStore,
@@ -226,7 +230,8 @@ pub(crate) fn call(
     let csv: Box<dyn ReportForm> = Box::new(alloc, CsvForm::new(alloc))?;
     let pairs: Box<dyn ReportForm> = Box::new(alloc, PairsForm::new(alloc))?;
     let forms = Vec::from_array(alloc, [table, csv, pairs])?;
-    Ok(symple(alloc, words, store, out, err, forms))
+    let gate = OpenGate { hold: Free };
+    Ok(symple(rt, alloc, words, store, out, err, forms, &gate))
 }
 
 fn is_end(run: &Run, status: Status, out: &MemSink, err: &MemSink) -> bool {
@@ -234,33 +239,48 @@ fn is_end(run: &Run, status: Status, out: &MemSink, err: &MemSink) -> bool {
 }
 
 // Whether a call with these words comes to what is said of the run.
-fn ends_by(
+fn ends_by<T: Threads + Wait + Sync>(
+    rt: &T,
     alloc: Global,
     words: &Vec<String>,
     store: &mut MemStore,
     run: &Run,
 ) -> Result<bool, NoMemory> {
     let (mut out, mut err) = sinks_of(alloc, run)?;
-    let status = call(alloc, words, store, &mut out, &mut err)?;
+    let status = call(rt, alloc, words, store, &mut out, &mut err)?;
     Ok(is_end(run, status, &out, &err))
 }
 
-fn ends(alloc: Global, store: &mut MemStore, run: &Run) -> Result<bool, NoMemory> {
-    ends_by(alloc, &words_of(alloc, run)?, store, run)
+fn ends<T: Threads + Wait + Sync>(
+    rt: &T,
+    alloc: Global,
+    store: &mut MemStore,
+    run: &Run,
+) -> Result<bool, NoMemory> {
+    ends_by(rt, alloc, &words_of(alloc, run)?, store, run)
 }
 
-fn ends_and_stops(alloc: Global, store: &mut MemStore, run: &Run) -> Result<bool, NoMemory> {
-    Ok(ends(alloc, store, run)? && (!run.stops || ends(alloc, store, &UNREAD)?))
+fn ends_and_stops<T: Threads + Wait + Sync>(
+    rt: &T,
+    alloc: Global,
+    store: &mut MemStore,
+    run: &Run,
+) -> Result<bool, NoMemory> {
+    Ok(ends(rt, alloc, store, run)? && (!run.stops || ends(rt, alloc, store, &UNREAD)?))
 }
 
-fn holds(alloc: Global, run: &Run) -> Result<bool, NoMemory> {
-    ends_and_stops(alloc, &mut store_of(alloc, run)?, run)
+fn holds<T: Threads + Wait + Sync>(rt: &T, alloc: Global, run: &Run) -> Result<bool, NoMemory> {
+    ends_and_stops(rt, alloc, &mut store_of(alloc, run)?, run)
 }
 
 // The place of the first run that comes to something else, counted from 0.
-pub(crate) fn wrong_run(alloc: Global, runs: &[Run]) -> Result<Option<usize>, NoMemory> {
+pub(crate) fn wrong_run<T: Threads + Wait + Sync>(
+    rt: &T,
+    alloc: Global,
+    runs: &[Run],
+) -> Result<Option<usize>, NoMemory> {
     'runs: for (place, run) in runs.iter().enumerate() {
-        if !holds(alloc, run)? {
+        if !holds(rt, alloc, run)? {
             return Ok(Some(place));
         }
     }
@@ -435,7 +455,7 @@ const REPORTS: [Run; 25] = [
 
 #[test]
 fn runs_write_their_reports(rt: HostRuntime) -> Result<(), Fail> {
-    all_hold(&rt, wrong_run(rt.alloc(), &REPORTS))
+    all_hold(&rt, wrong_run(&rt, rt.alloc(), &REPORTS))
 }
 
 /// Scripts, the files that they are run over, and the lines of the refusals.
@@ -494,7 +514,7 @@ const REFUSALS: [Run; 7] = [
 
 #[test]
 fn what_is_refused_is_told(rt: HostRuntime) -> Result<(), Fail> {
-    all_hold(&rt, wrong_run(rt.alloc(), &REFUSALS))
+    all_hold(&rt, wrong_run(&rt, rt.alloc(), &REFUSALS))
 }
 
 /// A run over three files of users.
@@ -559,7 +579,7 @@ const READS: [Run; 8] = [
 
 #[test]
 fn a_failed_read_names_its_file(rt: HostRuntime) -> Result<(), Fail> {
-    all_hold(&rt, wrong_run(rt.alloc(), &READS))
+    all_hold(&rt, wrong_run(&rt, rt.alloc(), &READS))
 }
 
 /// A run over these files whose report is cut off.
@@ -615,7 +635,7 @@ const WRITES: [Run; 8] = [
 
 #[test]
 fn a_failed_write_leaves_a_prefix(rt: HostRuntime) -> Result<(), Fail> {
-    all_hold(&rt, wrong_run(rt.alloc(), &WRITES))
+    all_hold(&rt, wrong_run(&rt, rt.alloc(), &WRITES))
 }
 
 const WRITTEN: [Run; 1] = [Run {
@@ -626,7 +646,7 @@ const WRITTEN: [Run; 1] = [Run {
 
 #[test]
 fn a_report_is_whole_where_a_later_write_would_fail(rt: HostRuntime) -> Result<(), Fail> {
-    all_hold(&rt, wrong_run(rt.alloc(), &WRITTEN))
+    all_hold(&rt, wrong_run(&rt, rt.alloc(), &WRITTEN))
 }
 
 /// What a faulty command line writes, where the first read would fail.
@@ -671,7 +691,7 @@ const COMMANDS: [Run; 7] = [
 
 #[test]
 fn other_words_are_refused_before_anything_is_read(rt: HostRuntime) -> Result<(), Fail> {
-    all_hold(&rt, wrong_run(rt.alloc(), &COMMANDS))
+    all_hold(&rt, wrong_run(&rt, rt.alloc(), &COMMANDS))
 }
 
 /// Runs that are refused. The read that is to fail is the first one after the run.
@@ -744,7 +764,7 @@ const STOPPED: [Run; 7] = [
 
 #[test]
 fn nothing_is_read_after_a_refusal(rt: HostRuntime) -> Result<(), Fail> {
-    all_hold(&rt, wrong_run(rt.alloc(), &STOPPED))
+    all_hold(&rt, wrong_run(&rt, rt.alloc(), &STOPPED))
 }
 
 /// A run over as many files as a run may have, without the script's field.
@@ -758,7 +778,7 @@ const MOST_FILES: [Run; 1] = [Run {
 
 #[test]
 fn as_many_files_are_taken_as_a_run_may_have(rt: HostRuntime) -> Result<(), Fail> {
-    all_hold(&rt, wrong_run(rt.alloc(), &MOST_FILES))
+    all_hold(&rt, wrong_run(&rt, rt.alloc(), &MOST_FILES))
 }
 
 const ONE_FILE_MORE: [Run; 1] = [Run {
@@ -770,7 +790,7 @@ const ONE_FILE_MORE: [Run; 1] = [Run {
 
 #[test]
 fn one_file_more_is_refused(rt: HostRuntime) -> Result<(), Fail> {
-    all_hold(&rt, wrong_run(rt.alloc(), &ONE_FILE_MORE))
+    all_hold(&rt, wrong_run(&rt, rt.alloc(), &ONE_FILE_MORE))
 }
 
 /// A run that is refused, of which each write to `err` takes all it is given.
@@ -829,7 +849,7 @@ const LINES: [Run; 8] = [
 
 #[test]
 fn a_failed_write_ends_the_line(rt: HostRuntime) -> Result<(), Fail> {
-    all_hold(&rt, wrong_run(rt.alloc(), &LINES))
+    all_hold(&rt, wrong_run(&rt, rt.alloc(), &LINES))
 }
 
 fn start_is(alloc: Global, why: StartErr, status: Status, line: &str) -> bool {

@@ -1,7 +1,11 @@
 //! Rows of tables, each tried under a checked script.
+ghost use Rattle.std.specs.Thread.{IsSync};
+
 use std::alloc::Global;
 use std::process::Abort;
+use std::sync::Wait;
 use std::test::Fail;
+use std::thread::Threads;
 use sym_base::NoMemory;
 use sym_check::{Checked, check};
 use sym_parse::parse;
@@ -61,16 +65,29 @@ pub(crate) fn check_rows<R: Row>(
     }
 }
 
-/// A row of a table that has a script of its own.
-pub(crate) trait Scripted: Row {
+/// A row of a table that has a script of its own: whether what it says holds under the script, with
+/// the threads of a runtime.
+pub(crate) trait Scripted {
     fn script(&self) -> &str;
+
+    fn holds<T: Threads + Wait + Sync>(
+        &self,
+        rt: &T,
+        alloc: Global,
+        checked: &Checked,
+    ) -> Result<bool, NoMemory>
+        requires { IsSync T.row };
 }
 
 // The place of the first row that doesn't hold under its own script, or whose script is refused.
-fn first_wrong_scripted<S: Scripted>(alloc: Global, rows: &[S]) -> Result<Option<usize>, NoMemory> {
+fn first_wrong_scripted<T: Threads + Wait + Sync, S: Scripted>(
+    rt: &T,
+    alloc: Global,
+    rows: &[S],
+) -> Result<Option<usize>, NoMemory> {
     'rows: for (place, row) in rows.iter().enumerate() {
         match accepted(alloc, row.script()) {
-            Some(checked) if row.holds(alloc, &checked)? => {}
+            Some(checked) if row.holds(rt, alloc, &checked)? => {}
             _ => return Ok(Some(place)),
         }
     }
@@ -78,12 +95,12 @@ fn first_wrong_scripted<S: Scripted>(alloc: Global, rows: &[S]) -> Result<Option
 }
 
 /// Fails the test at the first row that doesn't hold under its own script.
-pub(crate) fn check_scripted<S: Scripted>(
-    rt: &impl Abort,
+pub(crate) fn check_scripted<T: Threads + Wait + Abort + Sync, S: Scripted>(
+    rt: &T,
     alloc: Global,
     rows: &[S],
 ) -> Result<(), Fail> {
-    all_hold(rt, first_wrong_scripted(alloc, rows))
+    all_hold(rt, first_wrong_scripted(rt, alloc, rows))
 }
 
 /// Fails the test at the row of this place, counted from 0.

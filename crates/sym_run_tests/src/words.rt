@@ -2,7 +2,9 @@
 use crate::runs::call;
 use crate::scripts::all_hold;
 use std::alloc::Global;
+use std::sync::Wait;
 use std::test::Fail;
+use std::thread::Threads;
 use sym_base::{MemSink, MemStore, NoMemory};
 use sym_top::Status;
 
@@ -68,7 +70,8 @@ fn is_end(end: End, status: Status, out: &MemSink, err: &MemSink) -> bool {
     status == end.status && out.bytes() == end.out.as_bytes() && err.bytes() == end.err.as_bytes()
 }
 
-fn ends(
+fn ends<T: Threads + Wait + Sync>(
+    rt: &T,
     alloc: Global,
     words: &Vec<String>,
     store: &mut MemStore,
@@ -76,27 +79,38 @@ fn ends(
 ) -> Result<bool, NoMemory> {
     let mut out = MemSink::new(alloc, 100);
     let mut err = MemSink::new(alloc, 100);
-    let status = call(alloc, words, store, &mut out, &mut err)?;
+    let status = call(rt, alloc, words, store, &mut out, &mut err)?;
     Ok(is_end(end, status, &out, &err))
 }
 
-fn ends_over(alloc: Global, words: &Vec<String>, end: End) -> Result<bool, NoMemory> {
+fn ends_over<T: Threads + Wait + Sync>(
+    rt: &T,
+    alloc: Global,
+    words: &Vec<String>,
+    end: End,
+) -> Result<bool, NoMemory> {
     let mut store = store_of(alloc)?;
-    ends(alloc, words, &mut store, end)
+    ends(rt, alloc, words, &mut store, end)
 }
 
-fn comes_to(alloc: Global, given: &[&'static str], end: End) -> Result<bool, NoMemory> {
-    ends_over(alloc, &words_of(alloc, given)?, end)
+fn comes_to<T: Threads + Wait + Sync>(
+    rt: &T,
+    alloc: Global,
+    given: &[&'static str],
+    end: End,
+) -> Result<bool, NoMemory> {
+    ends_over(rt, alloc, &words_of(alloc, given)?, end)
 }
 
 // The place of the first list that comes to something else, counted from 0.
-fn wrong_list(
+fn wrong_list<T: Threads + Wait + Sync>(
+    rt: &T,
     alloc: Global,
     lists: &[&'static [&'static str]],
     end: End,
 ) -> Result<Option<usize>, NoMemory> {
     'lists: for (place, list) in lists.iter().enumerate() {
-        if !comes_to(alloc, list, end)? {
+        if !comes_to(rt, alloc, list, end)? {
             return Ok(Some(place));
         }
     }
@@ -152,7 +166,7 @@ const RUNS: [&[&str]; 23] = [
 
 #[test]
 fn a_run_is_read_wherever_its_options_stand(rt: HostRuntime) -> Result<(), Fail> {
-    all_hold(&rt, wrong_list(rt.alloc(), &RUNS, ONE))
+    all_hold(&rt, wrong_list(&rt, rt.alloc(), &RUNS, ONE))
 }
 
 /// A run over the file `f`, twice.
@@ -166,7 +180,7 @@ const TWO_FILES: [&[&str]; 5] = [
 
 #[test]
 fn all_words_after_the_script_are_files(rt: HostRuntime) -> Result<(), Fail> {
-    all_hold(&rt, wrong_list(rt.alloc(), &TWO_FILES, TWO))
+    all_hold(&rt, wrong_list(&rt, rt.alloc(), &TWO_FILES, TWO))
 }
 
 const TOO_SMALL: [&[&str]; 4] = [
@@ -178,7 +192,7 @@ const TOO_SMALL: [&[&str]; 4] = [
 
 #[test]
 fn a_file_has_no_more_bytes_than_asked(rt: HostRuntime) -> Result<(), Fail> {
-    all_hold(&rt, wrong_list(rt.alloc(), &TOO_SMALL, LARGE))
+    all_hold(&rt, wrong_list(&rt, rt.alloc(), &TOO_SMALL, LARGE))
 }
 
 const NONE: [&[&str]; 105] = [
@@ -291,20 +305,24 @@ const NONE: [&[&str]; 105] = [
 
 #[test]
 fn other_lists_are_no_command(rt: HostRuntime) -> Result<(), Fail> {
-    all_hold(&rt, wrong_list(rt.alloc(), &NONE, USAGE))
+    all_hold(&rt, wrong_list(&rt, rt.alloc(), &NONE, USAGE))
 }
 
 /// Arguments that name a file which isn't there, and the line that names it.
 type Missing = (&'static [&'static str], &'static str);
 
-fn wrong_name(alloc: Global, rows: &[Missing]) -> Result<Option<usize>, NoMemory> {
+fn wrong_name<T: Threads + Wait + Sync>(
+    rt: &T,
+    alloc: Global,
+    rows: &[Missing],
+) -> Result<Option<usize>, NoMemory> {
     'rows: for (place, row) in rows.iter().enumerate() {
         let end = End {
             status: Status::ReadFault,
             out: "",
             err: row.1,
         };
-        if !comes_to(alloc, row.0, end)? {
+        if !comes_to(rt, alloc, row.0, end)? {
             return Ok(Some(place));
         }
     }
@@ -349,7 +367,7 @@ const MISSING: [Missing; 18] = [
 
 #[test]
 fn a_file_has_the_name_of_its_word(rt: HostRuntime) -> Result<(), Fail> {
-    all_hold(&rt, wrong_name(rt.alloc(), &MISSING))
+    all_hold(&rt, wrong_name(&rt, rt.alloc(), &MISSING))
 }
 
 /// The cells, the tests and the path bound of `s`.
@@ -367,7 +385,7 @@ const CHECKS: [&[&str]; 3] = [
 
 #[test]
 fn a_check_names_one_script(rt: HostRuntime) -> Result<(), Fail> {
-    all_hold(&rt, wrong_list(rt.alloc(), &CHECKS, COUNTS))
+    all_hold(&rt, wrong_list(&rt, rt.alloc(), &CHECKS, COUNTS))
 }
 
 /// The summary of five records.
@@ -389,5 +407,5 @@ const MAKES: [&[&str]; 7] = [
 
 #[test]
 fn a_making_has_two_numbers(rt: HostRuntime) -> Result<(), Fail> {
-    all_hold(&rt, wrong_list(rt.alloc(), &MAKES, FIVE))
+    all_hold(&rt, wrong_list(&rt, rt.alloc(), &MAKES, FIVE))
 }

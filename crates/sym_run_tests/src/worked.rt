@@ -3,9 +3,11 @@ use crate::agreement::{Wanted, runs_are, sequence_is};
 use crate::runs::{
     BY_USER, COUNTER, DOUBLE, EARLY, MIRROR, QUOTIENT, SESSIONS, SHOWN, SUMS, TOGGLE, TWO_HUNDRED,
 };
-use crate::scripts::{Row, Scripted, check_scripted};
+use crate::scripts::{Scripted, check_scripted};
 use std::alloc::Global;
+use std::sync::Wait;
 use std::test::Fail;
+use std::thread::Threads;
 use sym_base::{Column, Columns, Key, NoMemory, Outcome, ReportFault, State, Value};
 use sym_check::Checked;
 use sym_engine::PassErr;
@@ -225,15 +227,21 @@ impl Wanted for Worked {
     }
 }
 
-impl Row for Worked {
-    fn holds(&self, alloc: Global, checked: &Checked) -> Result<bool, NoMemory> {
-        Ok(runs_are(alloc, checked, self.1, self)? && sequence_is(alloc, checked, self.1, self)?)
-    }
-}
-
 impl Scripted for Worked {
     fn script(&self) -> &str {
         self.0
+    }
+
+    fn holds<T: Threads + Wait + Sync>(
+        &self,
+        rt: &T,
+        alloc: Global,
+        checked: &Checked,
+    ) -> Result<bool, NoMemory> {
+        Ok(
+            runs_are(rt, alloc, checked, self.1, self)?
+                && sequence_is(rt, alloc, checked, self.1, self)?,
+        )
     }
 }
 
@@ -288,15 +296,21 @@ impl Wanted for Refused {
     }
 }
 
-impl Row for Refused {
-    fn holds(&self, alloc: Global, checked: &Checked) -> Result<bool, NoMemory> {
-        Ok(runs_are(alloc, checked, self.1, self)? && sequence_is(alloc, checked, self.1, self)?)
-    }
-}
-
 impl Scripted for Refused {
     fn script(&self) -> &str {
         self.0
+    }
+
+    fn holds<T: Threads + Wait + Sync>(
+        &self,
+        rt: &T,
+        alloc: Global,
+        checked: &Checked,
+    ) -> Result<bool, NoMemory> {
+        Ok(
+            runs_are(rt, alloc, checked, self.1, self)?
+                && sequence_is(rt, alloc, checked, self.1, self)?,
+        )
     }
 }
 

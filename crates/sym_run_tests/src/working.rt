@@ -1,13 +1,15 @@
 //! The run of a round.
 use crate::rounds::read_chunks;
-use crate::scripts::{Row, check_rows};
+use crate::scripts::{Scripted, check_scripted};
 use std::alloc::Global;
+use std::sync::Wait;
 use std::test::Fail;
+use std::thread::Threads;
 use sym_base::{FILE_MAX_DEFAULT, Key, MemStore, NoMemory, Value};
 use sym_check::Checked;
 use sym_engine::{
-    CHUNK_DEFAULT, LIMIT_DEFAULT, Options, PassErr, Rounds, Took, WORKERS_DEFAULT, Work,
-    each_round, round,
+    CHUNK_DEFAULT, Free, LIMIT_DEFAULT, OpenGate, Options, PassErr, Rounds, Took, WORKERS_DEFAULT,
+    Work, each_round, round,
 };
 use sym_run::Run;
 
@@ -62,8 +64,14 @@ impl Rounds for Made {
     // It stands for any records.
     ghost stands = { λ _ _ _ _. Unit {0} };
 
-    fn take(&mut self, alloc: Global, work: &Work) -> Result<Took, NoMemory> {
-        let run = round(alloc, work, WORKERS_DEFAULT)?;
+    fn take<T: Threads + Wait + Sync>(
+        &mut self,
+        rt: &T,
+        alloc: Global,
+        work: &Work,
+    ) -> Result<Took, NoMemory> {
+        let gate = OpenGate { hold: Free };
+        let run = round(rt, alloc, work, WORKERS_DEFAULT, &gate)?;
         self.runs.push(seen_of(alloc, &run)?)?;
         read_chunks(alloc, &work.checked, work.chunks.as_slice(), &None)
     }
@@ -124,7 +132,8 @@ fn names(alloc: Global) -> Result<Vec<String>, NoMemory> {
 }
 
 // Takes the rounds of the file; `None` where the options aren't in their ranges.
-fn taken(
+fn taken<T: Threads + Wait + Sync>(
+    rt: &T,
     alloc: Global,
     checked: &Checked,
     files: &mut MemStore,
@@ -141,7 +150,7 @@ fn taken(
         workers: WORKERS_DEFAULT,
         max_bytes: FILE_MAX_DEFAULT,
     };
-    Some(each_round(alloc, checked, files, names, &options, 1, made))
+    Some(each_round(rt, alloc, checked, files, names, &options, 1, made))
 }
 
 // Whether all was taken, or stopped at a row that is no record.
@@ -153,7 +162,8 @@ fn is_through(taken: Option<Result<u64, PassErr>>) -> bool {
     }
 }
 
-fn makes(
+fn makes<T: Threads + Wait + Sync>(
+    rt: &T,
     alloc: Global,
     checked: &Checked,
     files: &mut MemStore,
@@ -163,17 +173,34 @@ fn makes(
         runs: Vec::new(alloc),
     };
     let names = names(alloc)?;
-    let taken = taken(alloc, checked, files, names.as_slice(), case.1, &mut made);
+    let taken = taken(
+        rt,
+        alloc,
+        checked,
+        files,
+        names.as_slice(),
+        case.1,
+        &mut made,
+    );
     Ok(is_through(taken) && are_seen(&made, case.2))
 }
 
-impl Row for Case {
-    fn holds(&self, alloc: Global, checked: &Checked) -> Result<bool, NoMemory> {
-        makes(alloc, checked, &mut store(alloc, self.0)?, self)
+impl Scripted for Case {
+    fn script(&self) -> &str {
+        SCRIPT
+    }
+
+    fn holds<T: Threads + Wait + Sync>(
+        &self,
+        rt: &T,
+        alloc: Global,
+        checked: &Checked,
+    ) -> Result<bool, NoMemory> {
+        makes(rt, alloc, checked, &mut store(alloc, self.0)?, self)
     }
 }
 
 #[test]
 fn a_round_has_the_run_of_all_its_chunks(rt: HostRuntime) -> Result<(), Fail> {
-    check_rows(&rt, rt.alloc(), SCRIPT, &CASES)
+    check_scripted(&rt, rt.alloc(), &CASES)
 }

@@ -19,26 +19,26 @@ found asked held _ (no_program command why some is) =
 found asked held _ (problem command program why some is first) =
     ap (λ o. command_end asked o held) some
     ∙ ap (λ r. program_end asked command r (files_of command held)) (program-found (script_of command held) program is)
-    ∙ ap (files_end asked command program) ((files_problem program.plan (file_rules command) 0 1 (files_of command held) why).0 first)
+    ∙ ap (files_end asked command program) ((files_problem program.plan (file_rules asked command) 0 1 (files_of command held) why).0 first)
 found asked held _ (finished command program records some is fine) =
     ap (λ o. command_end asked o held) some
     ∙ ap (λ r. program_end asked command r (files_of command held)) (program-found (script_of command held) program is)
-    ∙ ap (files_end asked command program) ((files_records program.plan (file_rules command) 0 1 (files_of command held) records).0 fine)
+    ∙ ap (files_end asked command program) ((files_records program.plan (file_rules asked command) 0 1 (files_of command held) records).0 fine)
 
 files-is : (asked : Asked) (held : Held) (command : Command) (program : Program) →
     command_of asked ≡ Some command → IsProgram (script_of command held) program → (r : Result (List Record) PassErr) →
-    records_in program.plan (file_rules command) 0 1 (files_of command held) ≡ r → IsEnd asked held (files_end asked command program r)
+    records_in program.plan (file_rules asked command) 0 1 (files_of command held) ≡ r → IsEnd asked held (files_end asked command program r)
 files-is asked held command program some is (Ok records) e =
     finished command program records some is
-    ((files_records program.plan (file_rules command) 0 1 (files_of command held) records).1 e)
+    ((files_records program.plan (file_rules asked command) 0 1 (files_of command held) records).1 e)
 files-is asked held command program some is (Err why) e =
     problem command program why some is
-    ((files_problem program.plan (file_rules command) 0 1 (files_of command held) why).1 e)
+    ((files_problem program.plan (file_rules asked command) 0 1 (files_of command held) why).1 e)
 
 program-is : (asked : Asked) (held : Held) (command : Command) → command_of asked ≡ Some command →
     (r : Result Program Refusal) → Reading (script_of command held) r → IsEnd asked held (program_end asked command r (files_of command held))
 program-is asked held command some (Ok program) is =
-    files-is asked held command program some is (records_in program.plan (file_rules command) 0 1 (files_of command held)) refl
+    files-is asked held command program some is (records_in program.plan (file_rules asked command) 0 1 (files_of command held)) refl
 program-is asked held command some (Err why) is = no_program command why some is
 
 command-is : (asked : Asked) (held : Held) (o : Option Command) → command_of asked ≡ o → IsEnd asked held (command_end asked o held)

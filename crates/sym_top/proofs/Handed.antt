@@ -5,6 +5,7 @@ use Rattle.std.specs.Option.{option_map, option_map_or}
 use Rattle.std.specs.Str.{bytes_eq}
 use Rattle.std.proofs.lemmas.List.Elements.{All-head, All-tail}
 use Rattle.sym_report.specs.Forms.{FormTexts, form_named}
+use Rattle.sym_table.specs.Reading.{Row}
 use Rattle.sym_top.specs.Commands.{asks, Form, Run, Runs, command_in, command_of, form_of, forms_of, handed, no_texts, texts_of}
 
 module _ {F : Type 0} (called : F → List ℕ) (texts : F → FormTexts) where
@@ -29,10 +30,10 @@ module _ {F : Type 0} (called : F → List ℕ) (texts : F → FormTexts) where
       ap (λ o. option_map_or (λ (f : Form). f.texts) o no_texts) (seen-named name forms ∙ ap (option_map form_seen) named)
 
   -- A run is carried out exactly if its form was chosen.
-  run-asked : (words : List (List ℕ)) (forms : List F) (run : Run) (o : Option F) → command_in words ≡ Some (Runs run) →
+  run-asked : (words : List (List ℕ)) (forms : List F) (shown : Row → Row) (run : Run) (o : Option F) → command_in words ≡ Some (Runs run) →
       form_named called run.form forms ≡ o →
-      command_of (asks words (forms_of called texts forms)) ≡ (if is_some o then Some (Runs run) else None)
-  run-asked words forms run o asked named =
+      command_of (asks words (forms_of called texts forms) shown) ≡ (if is_some o then Some (Runs run) else None)
+  run-asked words forms shown run o asked named =
       ap (handed (forms_of called texts forms)) asked
       ∙ ap (λ (found : Option Form). if is_some found then Some (Runs run) else None) (seen-named run.form forms ∙ ap (option_map form_seen) named)
       ∙ told o
@@ -41,13 +42,13 @@ module _ {F : Type 0} (called : F → List ℕ) (texts : F → FormTexts) where
       told None = refl
       told (Some form) = refl
 
-  pub run-handed : (words : List (List ℕ)) (forms : List F) (run : Run) (form : F) → command_in words ≡ Some (Runs run) →
-      form_named called run.form forms ≡ Some form → command_of (asks words (forms_of called texts forms)) ≡ Some (Runs run)
-  run-handed words forms run form asked named = run-asked words forms run (Some form) asked named
+  pub run-handed : (words : List (List ℕ)) (forms : List F) (shown : Row → Row) (run : Run) (form : F) → command_in words ≡ Some (Runs run) →
+      form_named called run.form forms ≡ Some form → command_of (asks words (forms_of called texts forms) shown) ≡ Some (Runs run)
+  run-handed words forms shown run form asked named = run-asked words forms shown run (Some form) asked named
 
-  pub run-unhanded : (words : List (List ℕ)) (forms : List F) (run : Run) → command_in words ≡ Some (Runs run) →
-      form_named called run.form forms ≡ None → command_of (asks words (forms_of called texts forms)) ≡ None
-  run-unhanded words forms run asked named = run-asked words forms run None asked named
+  pub run-unhanded : (words : List (List ℕ)) (forms : List F) (shown : Row → Row) (run : Run) → command_in words ≡ Some (Runs run) →
+      form_named called run.form forms ≡ None → command_of (asks words (forms_of called texts forms) shown) ≡ None
+  run-unhanded words forms shown run asked named = run-asked words forms shown run None asked named
 
 here-or-later : {F : Type 0} (P : F → Type 0) (first form : F) (later : Option F) (b : Bool) → P first →
     (later ≡ Some form → P form) → cond b (Some first) later ≡ Some form → P form
@@ -62,5 +63,5 @@ chosen-all called P name (first ∷ rest) form all named =
     here-or-later P first form (form_named called name rest) (bytes_eq (called first) name) (All-head P first rest all)
     (chosen-all called P name rest form (All-tail P first rest all)) named
 
-pub none-asked : (words : List (List ℕ)) (forms : List Form) → command_in words ≡ None → command_of (asks words forms) ≡ None
-none-asked words forms none = ap (handed forms) none
+pub none-asked : (words : List (List ℕ)) (forms : List Form) (shown : Row → Row) → command_in words ≡ None → command_of (asks words forms shown) ≡ None
+none-asked words forms shown none = ap (handed forms) none

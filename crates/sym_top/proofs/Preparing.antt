@@ -20,11 +20,12 @@ use Rattle.sym_check.specs.declared.elaborate.error.CheckErr.{CheckErr}
 use Rattle.sym_check.specs.declared.elaborate.error.CheckErr.TheVariants as check_error
 use Rattle.sym_engine.specs.declared.error.PassErr.{PassErr}
 use Rattle.sym_engine.specs.declared.error.PassErr.TheVariants as pass_error
-use Rattle.sym_engine.specs.FileRecords.{FileRules}
+use Rattle.sym_engine.specs.FileRecords.{FileRules, rules_of}
 use Rattle.sym_engine.specs.FirstProblems.{AllFine, FirstProblem, no_file}
 use Rattle.sym_engine.specs.Passing.{Holds, Counts, May, MayAll, PassedAll, HasFirstProblem, StopsPass}
 use Rattle.sym_report.specs.Forms.{FormTexts, report_text}
 use Rattle.sym_report.specs.ReportRows.{heads_of, row_of, some_faulty}
+use Rattle.sym_table.specs.Reading.{Row}
 use Rattle.sym_top.specs.declared.refusal.Place.TheVariants as place
 use Rattle.sym_top.specs.declared.refusal.Refusal.{Refusal}
 use Rattle.sym_top.specs.declared.refusal.Refusal.TheVariants as refusal
@@ -132,14 +133,15 @@ reports-by form program rules holds names groups faulty made text passed text_is
           (report_in form heads (rows_of program passed.records));
     }
 
--- The same of equal names, in an equal form, over a store that tells the same.
-pub reports-along : (form other : FormTexts) (program : Program) (rules : FileRules) (holds told : Holds) (names words : List (List ℕ)) (made : Status)
-    (text : List ℕ) → other ≡ form → holds ≡ told → names ≡ words → Reports form program rules holds names made text →
-    Reports other program rules told words made text
-reports-along form other program rules holds told names words made text forms stores same r =
-    subst (λ f. Reports f program rules told words made text) (sym forms)
+-- The same of equal names, in an equal form, by equal rules, over a store that tells the same.
+pub reports-along : (form other : FormTexts) (program : Program) (rules likewise : FileRules) (holds told : Holds) (names words : List (List ℕ))
+    (made : Status) (text : List ℕ) → other ≡ form → likewise ≡ rules → holds ≡ told → names ≡ words → Reports form program rules holds names made text →
+    Reports other program likewise told words made text
+reports-along form other program rules likewise holds told names words made text forms ruled stores same r =
+    subst (λ f. Reports f program likewise told words made text) (sym forms)
+    (subst (λ rs. Reports form program rs told words made text) (sym ruled)
     (subst (λ h. Reports form program rules h words made text) stores
-    (subst (λ ns. Reports form program rules holds ns made text) same r))
+    (subst (λ ns. Reports form program rules holds ns made text) same r)))
 
 -- ---- all of it
 
@@ -246,7 +248,7 @@ module _ (call : Call) (read : CommandRead) (asked : command_of call.asked ≡ S
 
   pub whole-ready : (held : Held) (program : Program) (records : List Record) (status : Status) (text : List ℕ) → MayHold call held →
       IsProgram (script_of (command_seen read) held) program →
-      AllFine program.plan (file_rules (command_seen read)) 1 (files_of (command_seen read) held) records →
+      AllFine program.plan (file_rules call.asked (command_seen read)) 1 (files_of (command_seen read) held) records →
       IsWholeEnd (whole_end call.asked (command_seen read) program records) status text → Ready call status text
   whole-ready held program records status text may is fine end = record {
     held = held;
@@ -313,7 +315,7 @@ module _ (call : Call) (read : RunRead) (asked : command_of call.asked ≡ Some 
   run-may = may-by call (command.Run read) asked read.script.now refl (λ held. refl)
 
   pub run-ready : (program : Program) (status : Status) (text : List ℕ) → Loads (call.holds read.script.now) program →
-      Reports (texts_of call.asked.forms read.form.now) program (file_rules (Runs (run_seen read))) call.holds (run_seen read).files status text →
+      Reports (texts_of call.asked.forms read.form.now) program (file_rules call.asked (Runs (run_seen read))) call.holds (run_seen read).files status text →
       Ready call status text
   run-ready program status text loads reports =
       let held : Held = record { script = loads.text; files = reports.files } in
@@ -331,14 +333,14 @@ module _ (call : Call) (read : RunRead) (asked : command_of call.asked ≡ Some 
         known-stops call (command.Run read) asked held checked why (run-may held loads.may may) loads.is_program stop
 
     problem-stops : (why : PassErr) →
-        HasFirstProblem (checked_program checked).plan (file_rules (Runs (run_seen read))) call.holds (run_seen read).files 1 why →
+        HasFirstProblem (checked_program checked).plan (file_rules call.asked (Runs (run_seen read))) call.holds (run_seen read).files 1 why →
         Stops call (record { why = pass_refusal why; command = Some (command.Run read); checked = Some checked })
     problem-stops why s =
         known (pass_refusal why) s.files s.may
         (promise.at_end (pass_refusal why) (problem (Runs (run_seen read)) (checked_program checked) why asked loads.is_program s.problem))
 
     error-stops : (why : PassErr) →
-        StopsPass (checked_program checked).plan (file_rules (Runs (run_seen read))) call.holds (run_seen read).files middle call.after why →
+        StopsPass (checked_program checked).plan (file_rules call.asked (Runs (run_seen read))) call.holds (run_seen read).files middle call.after why →
         Stops call (record { why = pass_refusal why; command = Some (command.Run read); checked = Some checked })
     error-stops (pass_error.Read file) s =
         known (refusal.Read (place.File file)) s.files s.may
@@ -350,7 +352,7 @@ module _ (call : Call) (read : RunRead) (asked : command_of call.asked ≡ Some 
     error-stops pass_error.NoMemory s = memory-out call (command.Run read) asked (Some checked)
 
     pub run-files-stop : (why : Refusal) →
-        StopsFiles (checked_program checked) (file_rules (Runs (run_seen read))) call.holds (run_seen read).files middle call.after why →
+        StopsFiles (checked_program checked) (file_rules call.asked (Runs (run_seen read))) call.holds (run_seen read).files middle call.after why →
         Stops call (record { why = why; command = Some (command.Run read); checked = Some checked })
     run-files-stop _ (stops why s) = error-stops why s
 
@@ -383,29 +385,41 @@ module _ (call : Call) (read : MakeRead) (asked : command_of call.asked ≡ Some
       (memory-out call (command.Make read) asked None)
   make-refused why (inr is) = refused-stops call (command.Make read) asked (record { script = []; files = [] }) why make-may is
 
-  pub make-files-stop : (checked : Checked) (why : Refusal) → IsProgram made_script (checked_program checked) →
-      StopsRecords (checked_program checked) (file_rules (Makes (make_seen read))) (made_file read.records read.seed ∷ []) why →
+  files-stop : (checked : Checked) (why : Refusal) → IsProgram made_script (checked_program checked) →
+      StopsRecords (checked_program checked) (file_rules call.asked (Makes (make_seen read))) (made_file read.records read.seed ∷ []) why →
       Stops call (record { why = why; command = Some (command.Make read); checked = Some checked })
-  make-files-stop checked _ is (first why problem_is) =
+  files-stop checked _ is (first why problem_is) =
       known-stops call (command.Make read) asked (record { script = []; files = [] }) checked (pass_refusal why) make-may is
       (promise.at_end (pass_refusal why) (problem (Makes (make_seen read)) (checked_program checked) why asked is problem_is))
-  make-files-stop checked _ is no_more = memory-out call (command.Make read) asked (Some checked)
+  files-stop checked _ is no_more = memory-out call (command.Make read) asked (Some checked)
 
-  pub make-ready : (checked : Checked) (groups : List (Key × Outcome)) (status : Status) (text : List ℕ) → IsProgram made_script (checked_program checked) →
-      Passed (checked_program checked) (file_rules (Makes (make_seen read))) (made_file read.records read.seed ∷ []) groups →
-      text ≡ summary_text read.records (map (row_of (checked_program checked).tree (checked_program checked).plan) groups) →
-      status ≡ rows_status (map (row_of (checked_program checked).tree (checked_program checked).plan) groups) →
-      Ready call status text
-  make-ready checked groups status text is passed text_is status_is =
-      let program = checked_program checked in
-      let rows = map (row_of program.tree program.plan) in
-      whole-ready call (command.Make read) asked (record { script = []; files = [] }) program passed.records status text make-may is passed.fine
-      (record {
-        whole = tt;
-        status_is = status_is ∙ ap (λ gs. rows_status (rows gs)) passed.stands;
-        text_is = subst (IsTextOf (whole_end call.asked (Makes (make_seen read)) program passed.records))
-            (sym (text_is ∙ ap (λ gs. summary_text read.records (rows gs)) passed.stands)) (summed read.records (rows_of program passed.records));
-      })
+  -- By the rows that a gate shows.
+  module _ (shown : Row → Row) (likewise : call.asked.shown ≡ shown) where
+    made-rules : rules_of read.options.max_bytes shown ≡ file_rules call.asked (Makes (make_seen read))
+    made-rules = ap (rules_of read.options.max_bytes) (sym likewise)
+
+    pub make-files-stop : (checked : Checked) (why : Refusal) → IsProgram made_script (checked_program checked) →
+        StopsRecords (checked_program checked) (rules_of read.options.max_bytes shown) (made_file read.records read.seed ∷ []) why →
+        Stops call (record { why = why; command = Some (command.Make read); checked = Some checked })
+    make-files-stop checked why is stop =
+        files-stop checked why is (subst (λ rules. StopsRecords (checked_program checked) rules (made_file read.records read.seed ∷ []) why) made-rules stop)
+
+    pub make-ready : (checked : Checked) (groups : List (Key × Outcome)) (status : Status) (text : List ℕ) → IsProgram made_script (checked_program checked) →
+        Passed (checked_program checked) (rules_of read.options.max_bytes shown) (made_file read.records read.seed ∷ []) groups →
+        text ≡ summary_text read.records (map (row_of (checked_program checked).tree (checked_program checked).plan) groups) →
+        status ≡ rows_status (map (row_of (checked_program checked).tree (checked_program checked).plan) groups) →
+        Ready call status text
+    make-ready checked groups status text is passed text_is status_is =
+        let program = checked_program checked in
+        let rows = map (row_of program.tree program.plan) in
+        let fine = subst (λ rules. AllFine program.plan rules 1 (made_file read.records read.seed ∷ []) passed.records) made-rules passed.fine in
+        whole-ready call (command.Make read) asked (record { script = []; files = [] }) program passed.records status text make-may is fine
+        (record {
+          whole = tt;
+          status_is = status_is ∙ ap (λ gs. rows_status (rows gs)) passed.stands;
+          text_is = subst (IsTextOf (whole_end call.asked (Makes (make_seen read)) program passed.records))
+              (sym (text_is ∙ ap (λ gs. summary_text read.records (rows gs)) passed.stands)) (summed read.records (rows_of program passed.records));
+        })
 
 sure-first : (program : Program) (rules : FileRules) (files : List (List ℕ)) (why : PassErr) (found : List (List ℕ)) → found ≡ files →
     FirstProblem program.plan rules 0 1 found why → StopsRecords program rules files (pass_refusal why)

@@ -5,7 +5,8 @@ use Rattle.std.specs.Option.{option_map, option_map_or, unwrap_or}
 use Rattle.std.specs.Str.{bytes_eq}
 use Rattle.clap.specs.Words.{Row, first_of, all_of}
 use Rattle.sym_base.specs.declared.limits.TheConstants as limit
-use Rattle.sym_engine.specs.FileRecords.{FileRules, plain_rules}
+use Rattle.sym_table.specs.Reading.{Row as FileRow}
+use Rattle.sym_engine.specs.FileRecords.{FileRules, rules_of}
 use Rattle.sym_engine.specs.declared.options.Options.{Options}
 use Rattle.sym_top.specs.declared.refusal.Place.{Place}
 use Rattle.sym_top.specs.declared.refusal.Place.TheVariants as place
@@ -25,14 +26,15 @@ pub record Form : Type 0 where
 unfoldable pub forms_of : {F : Type 0} → (F → List ℕ) → (F → FormTexts) → List F → List Form
 forms_of called texts forms = map (λ form. record { name = called form; texts = texts form }) forms
 
--- What a call is asked: its arguments, those after the program's name, and the forms that it is
--- handed.
+-- What a call is asked: its arguments, those after the program's name, the forms that it is handed,
+-- and what its gate shows each row of the files of records as.
 pub record Asked : Type 0 where
   pub words : List (List ℕ)
   pub forms : List Form
+  pub shown : FileRow → FileRow
 
-abbrev pub asks : List (List ℕ) → List Form → Asked
-asks words forms = record { words = words; forms = forms }
+abbrev pub asks : List (List ℕ) → List Form → (FileRow → FileRow) → Asked
+asks words forms shown = record { words = words; forms = forms; shown = shown }
 
 -- `run`: the form of the report, how files are cut and worked on, the script and the files.
 pub record Run : Type 0 where
@@ -202,8 +204,9 @@ name_at names (place.File number) = slice_get names.files number
 abbrev pub file_name : FileNames → Place → List ℕ
 file_name names at = unwrap_or (name_at names at) []
 
--- How a command reads its files of records.
-abbrev pub file_rules : Command → FileRules
-file_rules (Runs run) = plain_rules run.options.max_bytes
-file_rules (Checks check) = plain_rules limit.FILE_MAX_DEFAULT
-file_rules (Makes make) = plain_rules make.options.max_bytes
+-- How a command reads its files of records: at most so many bytes of each, and each row but the
+-- header as it is shown.
+abbrev pub file_rules : Asked → Command → FileRules
+file_rules asked (Runs run) = rules_of run.options.max_bytes asked.shown
+file_rules asked (Checks check) = rules_of limit.FILE_MAX_DEFAULT asked.shown
+file_rules asked (Makes make) = rules_of make.options.max_bytes asked.shown

@@ -16,7 +16,7 @@ files_end asked command program (Err why) = Refused (pass_refusal why)
 
 abbrev pub program_end : Asked → Command → Result Program Refusal → List (List ℕ) → End
 program_end asked command (Ok program) files =
-    files_end asked command program (records_in program.plan (file_rules command) 0 1 files)
+    files_end asked command program (records_in program.plan (file_rules asked command) 0 1 files)
 program_end asked command (Err why) files = Refused why
 
 abbrev pub command_end : Asked → Option Command → Held → End

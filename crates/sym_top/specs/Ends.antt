@@ -110,10 +110,10 @@ pub data IsEnd (asked : Asked) (held : Held) : End → Type 0 where
   problem : (command : Command) (program : Program) (why : PassErr)
       → command_of asked ≡ Some command
       → IsProgram (script_of command held) program
-      → FirstProblem program.plan (file_rules command) 0 1 (files_of command held) why
+      → FirstProblem program.plan (file_rules asked command) 0 1 (files_of command held) why
       → IsEnd asked held (Refused (pass_refusal why))
   finished : (command : Command) (program : Program) (records : List Record)
       → command_of asked ≡ Some command
       → IsProgram (script_of command held) program
-      → AllFine program.plan (file_rules command) 1 (files_of command held) records
+      → AllFine program.plan (file_rules asked command) 1 (files_of command held) records
       → IsEnd asked held (whole_end asked command program records)

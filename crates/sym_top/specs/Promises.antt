@@ -94,7 +94,7 @@ pub data IsStop (call : Call) (held : Held) : Refusal → Type 0 where
   file_unread : (command : Command) (program : Program) (records : List Record) (number : ℕ)
       → command_of call.asked ≡ Some command
       → IsProgram (script_of command held) program
-      → AllFine program.plan (file_rules command) 1 (take number held.files) records
+      → AllFine program.plan (file_rules call.asked command) 1 (take number held.files) records
       → ReadFailed call (place.File number)
       → IsStop call held (refusal.Read (place.File number))
   no_memory : IsStop call held refusal.NoMemory

@@ -2,7 +2,7 @@
 ghost use Rattle.std.specs.Prelude.{◌≡◌, [], ◌∷◌, Some, map, IfOk, IfErr};
 ghost use Rattle.std.specs.String.{string_bytes};
 ghost use Rattle.sym_base.specs.InMemory.{visible_bytes};
-ghost use Rattle.sym_engine.specs.FileRecords.{plain_rules};
+ghost use Rattle.sym_engine.specs.FileRecords.{rules_of};
 ghost use Rattle.sym_engine.specs.Options.{InRange};
 ghost use Rattle.sym_top.specs.Commands.{Makes, command_of};
 ghost use Rattle.sym_top.specs.Loading.{Passed, StopsRecords, Ready, Stops};
@@ -19,9 +19,11 @@ use crate::refusal::{Refusal, pass_refusal};
 use crate::report::Report;
 use crate::summary::summary;
 use std::alloc::Global;
+use std::sync::Wait;
+use std::thread::Threads;
 use sym_base::{NoMemory, SureStore};
 use sym_check::Checked;
-use sym_engine::pass;
+use sym_engine::{Gate, pass};
 use sym_plain::Groups;
 
 // A store with the log.
@@ -44,15 +46,21 @@ fn made_names(alloc: Global) -> Result<Vec<String>, NoMemory>
     Ok(names)
 }
 
-// The groups of a pass over the log.
-fn pass_made(alloc: Global, checked: &Checked, make: Make) -> Result<Groups, Refusal>
+// The groups of a pass over the log, through the gate.
+fn pass_made<T: Threads + Wait + Sync, G: Gate + Sync>(
+    rt: &T,
+    alloc: Global,
+    checked: &Checked,
+    make: Make,
+    gate: &G,
+) -> Result<Groups, Refusal>
     requires { InRange make.options }
     ensures passed { let program = checked_program checked.now in
-        let rules = plain_rules make.options.max_bytes in
+        let rules = rules_of make.options.max_bytes (G.shown gate.now) in
         let log = made_file_of make.records make.seed in
         IfOk result (Passed program rules (log ∷ [])) }
     ensures stopped { let program = checked_program checked.now in
-        let rules = plain_rules make.options.max_bytes in
+        let rules = rules_of make.options.max_bytes (G.shown gate.now) in
         let log = made_file_of make.records make.seed in
         IfErr result (StopsRecords program rules (log ∷ [])) }
 {
@@ -64,19 +72,27 @@ fn pass_made(alloc: Global, checked: &Checked, make: Make) -> Result<Groups, Ref
         Ok(names) => names,
         Err(_) => return Err(Refusal::NoMemory),
     };
-    match pass(alloc, checked, &mut store, names.as_slice(), &make.options) {
+    let names = names.as_slice();
+    match pass(rt, alloc, checked, &mut store, names, &make.options, gate) {
         Ok(groups) => Ok(groups),
         Err(error) => Err(pass_refusal(error)),
     }
 }
 
-/// The summary of a pass over the log of a making.
-pub fn prepare_make<'a>(alloc: Global, make: Make) -> Result<Report, Failure<'a>>
+/// The summary of a pass over the log of a making, through the gate.
+pub fn prepare_make<'a, T: Threads + Wait + Sync, G: Gate + Sync>(
+    rt: &T,
+    alloc: Global,
+    make: Make,
+    gate: &G,
+) -> Result<Report, Failure<'a>>
     requires { InRange make.options }
     ensures ready { (call : Call) → command_of call.asked ≡ Some (Makes (make_seen make)) →
+        call.asked.shown ≡ G.shown gate.now →
         IfOk result (λ report. Ready call report.status report.text.items) }
     ensures reported { IfOk result (λ report. IsReported report.status) }
     ensures stopped { (call : Call) → command_of call.asked ≡ Some (Makes (make_seen make)) →
+        call.asked.shown ≡ G.shown gate.now →
         IfErr result (Stops call) }
 {
     let checked = match accept(alloc, made_script()) {
@@ -89,7 +105,7 @@ pub fn prepare_make<'a>(alloc: Global, make: Make) -> Result<Report, Failure<'a>
             });
         }
     };
-    let groups = match pass_made(alloc, &checked, make) {
+    let groups = match pass_made(rt, alloc, &checked, make, gate) {
         Ok(groups) => groups,
         Err(why) => {
             return Err(Failure {

@@ -14,26 +14,33 @@ use crate::refusal::Refusal;
 use crate::report::report_files;
 use crate::status::Status;
 use std::alloc::Global;
+use std::sync::Wait;
+use std::thread::Threads;
 use sym_base::{NoMemory, Store};
 use sym_check::Checked;
+use sym_engine::Gate;
 use sym_parse::print;
 use sym_report::ReportForm;
 
-/// Gathers the report of a run in a form without bytes, and gives its status.
-pub fn prepare_run<'a, F: Store>(
+/// Gathers the report of a run in a form without bytes, and gives its status. The files of records
+/// are worked on through the gate.
+pub fn prepare_run<'a, T: Threads + Wait + Sync, F: Store, G: Gate + Sync>(
+    rt: &T,
     alloc: Global,
     run: Run<'a>,
     files: &mut F,
     form: &mut Box<dyn ReportForm>,
+    gate: &G,
 ) -> Result<Status, Failure<'a>>
     requires run { IsRun run }
     requires empty { gathered form.old ≡ [] }
     ensures ready { (asked : Asked) → command_of asked ≡ Some (Runs (run_seen run.entry)) →
-        texts_of asked.forms run.entry.form.now ≡ texts form.old →
+        texts_of asked.forms run.entry.form.now ≡ texts form.old → asked.shown ≡ G.shown gate.now →
         let call = call_of F.holds F.faults asked files.old files.new in
         IfOk result (λ status. Ready call status (gathered form.new)) }
     ensures reported { IfOk result IsReported }
     ensures stopped { (asked : Asked) → command_of asked ≡ Some (Runs (run_seen run.entry)) →
+        asked.shown ≡ G.shown gate.now →
         let call = call_of F.holds F.faults asked files.old files.new in
         IfErr result (Stops call) }
     ensures same { F.holds files.new ≡ F.holds files.old }
@@ -50,12 +57,14 @@ pub fn prepare_run<'a, F: Store>(
         }
     };
     match report_files(
+        rt,
         alloc,
         &checked,
         files,
         run.files.as_slice(),
         &run.options,
         form,
+        gate,
     ) {
         Ok(status) => Ok(status),
         Err(why) => Err(Failure {

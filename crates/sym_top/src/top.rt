@@ -21,8 +21,11 @@ use crate::refusal::{Refusal, write_refusal};
 use crate::status::Status;
 use crate::words::read_words;
 use std::alloc::Global;
+use std::sync::Wait;
+use std::thread::Threads;
 use sym_base::{Sink, Store, write_all};
 use sym_check::{Checked, FieldPlan};
+use sym_engine::Gate;
 use sym_report::{ReportForm, choose, report_bytes};
 
 // Writes a report's text.
@@ -93,25 +96,30 @@ fn finish<O: Sink, E: Sink>(
     }
 }
 
-// Runs a script over files, and writes the report through the form that the run names.
-fn run_files<F: Store, O: Sink, E: Sink>(
+// Runs a script over files, through the gate, and writes the report through the form that the run
+// names.
+fn run_files<T: Threads + Wait + Sync, F: Store, O: Sink, E: Sink, G: Gate + Sync>(
+    rt: &T,
     alloc: Global,
     run: Run<'_>,
-    forms: Vec<Box<dyn ReportForm>>,
     files: &mut F,
     out: &mut O,
     err: &mut E,
+    forms: Vec<Box<dyn ReportForm>>,
+    gate: &G,
 ) -> Status
     requires run { IsRun run }
     requires empty { All (λ f. gathered f ≡ []) forms.items }
     ensures says { (words : List (List ℕ)) → command_in words ≡ Some (Runs (run_seen run.entry)) →
-        let asked = asks words (forms_of (λ f. called f) (λ f. texts f) forms.items) in
+        let forms = forms_of (λ f. called f) (λ f. texts f) forms.items in
+        let asked = asks words forms (G.shown gate.now) in
         let call = call_of F.holds F.faults asked files.old files.new in
         let out = sunk O.written O.faults O.short out.old out.new in
         let err = sunk E.written E.faults E.short err.old err.new in
         Says call out err result }
     ensures leaves { (words : List (List ℕ)) → command_in words ≡ Some (Runs (run_seen run.entry)) →
-        let asked = asks words (forms_of (λ f. called f) (λ f. texts f) forms.items) in
+        let forms = forms_of (λ f. called f) (λ f. texts f) forms.items in
+        let asked = asks words forms (G.shown gate.now) in
         let call = call_of F.holds F.faults asked files.old files.new in
         let sunk_out = sunk O.written O.faults O.short out.old out.new in
         Leaves call sunk_out files.old files.new out.old out.new err.old err.new result }
@@ -124,7 +132,7 @@ fn run_files<F: Store, O: Sink, E: Sink>(
         Some(form) => form,
         None => return refuse(err, &no_command(Refusal::Usage)),
     };
-    let made = prepare_run(alloc, run, files, &mut form);
+    let made = prepare_run(rt, alloc, run, files, &mut form, gate);
     finish(out, err, made, report_bytes(&form))
 }
 
@@ -156,10 +164,18 @@ fn run_check<F: Store, O: Sink, E: Sink>(
     }
 }
 
-// Runs a script over a log that is made, and writes the summary.
-fn run_make<O: Sink, E: Sink>(alloc: Global, make: Make, out: &mut O, err: &mut E) -> Status
+// Runs a script over a log that is made, through the gate, and writes the summary.
+fn run_make<T: Threads + Wait + Sync, O: Sink, E: Sink, G: Gate + Sync>(
+    rt: &T,
+    alloc: Global,
+    make: Make,
+    out: &mut O,
+    err: &mut E,
+    gate: &G,
+) -> Status
     requires { InRange make.options }
     ensures says { (call : Call) → command_of call.asked ≡ Some (Makes (make_seen make)) →
+        call.asked.shown ≡ G.shown gate.now →
         let out = sunk O.written O.faults O.short out.old out.new in
         let err = sunk E.written E.faults E.short err.old err.new in
         Says call out err result }
@@ -170,30 +186,34 @@ fn run_make<O: Sink, E: Sink>(alloc: Global, make: Make, out: &mut O, err: &mut 
     ensures later_out { Later (sunk O.written O.faults O.short out.old out.new) }
     ensures later_err { Later (sunk E.written E.faults E.short err.old err.new) }
 {
-    match prepare_make(alloc, make) {
+    match prepare_make(rt, alloc, make, gate) {
         Ok(report) => finish(out, err, Ok(report.status), report.text.as_slice()),
         Err(failure) => finish(out, err, Err(failure), &[]),
     }
 }
 
 // Carries out the command that the arguments ask for.
-fn run<F: Store, O: Sink, E: Sink>(
+fn run<T: Threads + Wait + Sync, F: Store, O: Sink, E: Sink, G: Gate + Sync>(
+    rt: &T,
     alloc: Global,
     words: &Vec<String>,
     files: &mut F,
     out: &mut O,
     err: &mut E,
     forms: Vec<Box<dyn ReportForm>>,
+    gate: &G,
 ) -> Status
     requires { All (λ f. gathered f ≡ []) forms.items }
     ensures says { let words = map string_bytes words.now.items in
-        let asked = asks words (forms_of (λ f. called f) (λ f. texts f) forms.items) in
+        let forms = forms_of (λ f. called f) (λ f. texts f) forms.items in
+        let asked = asks words forms (G.shown gate.now) in
         let call = call_of F.holds F.faults asked files.old files.new in
         let out = sunk O.written O.faults O.short out.old out.new in
         let err = sunk E.written E.faults E.short err.old err.new in
         Says call out err result }
     ensures leaves { let words = map string_bytes words.now.items in
-        let asked = asks words (forms_of (λ f. called f) (λ f. texts f) forms.items) in
+        let forms = forms_of (λ f. called f) (λ f. texts f) forms.items in
+        let asked = asks words forms (G.shown gate.now) in
         let call = call_of F.holds F.faults asked files.old files.new in
         let sunk_out = sunk O.written O.faults O.short out.old out.new in
         Leaves call sunk_out files.old files.new out.old out.new err.old err.new result }
@@ -203,9 +223,9 @@ fn run<F: Store, O: Sink, E: Sink>(
     ensures later_err { Later (sunk E.written E.faults E.short err.old err.new) }
 {
     match read_words(alloc, words) {
-        Ok(Some(Command::Run(run))) => run_files(alloc, run, forms, files, out, err),
+        Ok(Some(Command::Run(run))) => run_files(rt, alloc, run, files, out, err, forms, gate),
         Ok(Some(Command::Check(check))) => run_check(alloc, check, files, out, err),
-        Ok(Some(Command::Make(make))) => run_make(alloc, make, out, err),
+        Ok(Some(Command::Make(make))) => run_make(rt, alloc, make, out, err, gate),
         Ok(None) => refuse(err, &no_command(Refusal::Usage)),
         Err(_) => refuse(err, &no_command(Refusal::NoMemory)),
     }
@@ -225,54 +245,65 @@ fn run<F: Store, O: Sink, E: Sink>(
 /// - `--workers`, the workers of a round: 1 to 64, by default 4;
 /// - `--max-bytes`, the most bytes of each file: 1 to 268,435,456, by default 67,108,864.
 ///
-/// No report depends on the first three.
+/// No report depends on the first three. The records of files, and of the log that `make` makes, are
+/// worked on round by round by `gate`, which may start threads of `rt`, and each row but the header
+/// is read as the gate shows it.
 ///
 /// The order is: arguments, the script's reading, its size, the script, then of each file its
 /// reading, its size, its header and its first row that is no record, then the writing. A read that
 /// fails stops the run. Nothing is written to `out` before the whole report is made. A failure of
 /// `err` leaves the status as it is.
-pub fn symple<F: Store, O: Sink, E: Sink>(
+pub fn symple<T: Threads + Wait + Sync, F: Store, O: Sink, E: Sink, G: Gate + Sync>(
+    rt: &T,
     alloc: Global,
     words: &Vec<String>,
     files: &mut F,
     out: &mut O,
     err: &mut E,
     forms: Vec<Box<dyn ReportForm>>,
+    gate: &G,
 ) -> Status
     requires { All (λ f. gathered f ≡ []) forms.items }
     ensures reported { let words = map string_bytes words.now.items in
-        let asked = asks words (forms_of (λ f. called f) (λ f. texts f) forms.items) in
+        let forms = forms_of (λ f. called f) (λ f. texts f) forms.items in
+        let asked = asks words forms (G.shown gate.now) in
         let call = call_of F.holds F.faults asked files.old files.new in
         let out = sunk O.written O.faults O.short out.old out.new in
         IsReported result → Wrote call out result }
     ensures refused { let words = map string_bytes words.now.items in
-        let asked = asks words (forms_of (λ f. called f) (λ f. texts f) forms.items) in
+        let forms = forms_of (λ f. called f) (λ f. texts f) forms.items in
+        let asked = asks words forms (G.shown gate.now) in
         let call = call_of F.holds F.faults asked files.old files.new in
         let out = sunk O.written O.faults O.short out.old out.new in
         let err = sunk E.written E.faults E.short err.old err.new in
         IsRefused result → Refuses call out err result }
     ensures expected { let words = map string_bytes words.now.items in
-        let asked = asks words (forms_of (λ f. called f) (λ f. texts f) forms.items) in
+        let forms = forms_of (λ f. called f) (λ f. texts f) forms.items in
+        let asked = asks words forms (G.shown gate.now) in
         let call = call_of F.holds F.faults asked files.old files.new in
         let out = sunk O.written O.faults O.short out.old out.new in
         let err = sunk E.written E.faults E.short err.old err.new in
         (held : Held) (end : End) → Told call held → IsEnd call.asked held end →
         Unless result (Answers call held end out err result) }
     ensures complete { let words = map string_bytes words.now.items in
-        let asked = asks words (forms_of (λ f. called f) (λ f. texts f) forms.items) in
+        let forms = forms_of (λ f. called f) (λ f. texts f) forms.items in
+        let asked = asks words forms (G.shown gate.now) in
         let call = call_of F.holds F.faults asked files.old files.new in
         let out = sunk O.written O.faults O.short out.old out.new in
         MustReport call out → IsRefused result → result ≡ Status.NoMemory }
     ensures usage { let words = map string_bytes words.now.items in
-        let asked = asks words (forms_of (λ f. called f) (λ f. texts f) forms.items) in
+        let forms = forms_of (λ f. called f) (λ f. texts f) forms.items in
+        let asked = asks words forms (G.shown gate.now) in
         let call = call_of F.holds F.faults asked files.old files.new in
         result ≡ Status.Usage → IsUsage call }
     ensures no_command { let words = map string_bytes words.now.items in
-        let asked = asks words (forms_of (λ f. called f) (λ f. texts f) forms.items) in
+        let forms = forms_of (λ f. called f) (λ f. texts f) forms.items in
+        let asked = asks words forms (G.shown gate.now) in
         let call = call_of F.holds F.faults asked files.old files.new in
         IsUsage call → (result ≡ Status.Usage) ⊎ (result ≡ Status.NoMemory) }
     ensures unread { let words = map string_bytes words.now.items in
-        let asked = asks words (forms_of (λ f. called f) (λ f. texts f) forms.items) in
+        let forms = forms_of (λ f. called f) (λ f. texts f) forms.items in
+        let asked = asks words forms (G.shown gate.now) in
         let call = call_of F.holds F.faults asked files.old files.new in
         IsUsage call → files.new ≡ files.old }
     ensures unwritten { IsUnwritten result → out.new ≡ out.old }
@@ -284,5 +315,5 @@ pub fn symple<F: Store, O: Sink, E: Sink>(
     ensures later_out { Later (sunk O.written O.faults O.short out.old out.new) }
     ensures later_err { Later (sunk E.written E.faults E.short err.old err.new) }
 {
-    run(alloc, words, files, out, err, forms)
+    run(rt, alloc, words, files, out, err, forms, gate)
 }

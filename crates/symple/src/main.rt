@@ -12,7 +12,10 @@ use std::env;
 use std::io::{ErrorKind, Write};
 use std::process::ExitCode;
 use std::rt::{Env, Files};
+use std::sync::Wait;
+use std::thread::Threads;
 use sym_base::{NoMemory, Sink, Store};
+use sym_engine::{Free, OpenGate};
 use sym_report::{CsvForm, PairsForm, ReportForm, TableForm};
 use sym_top::{StartErr, Status, refuse_start, symple};
 
@@ -23,7 +26,7 @@ fn main(rt: HostRuntime) -> ExitCode {
 // Runs the command that the words of this process give, over the files that it reaches.
 fn run<R, O, E>(rt: &R, out: O, err: E) -> Status
 where
-    R: Files + Env + AllocGlobal + Drop,
+    R: Files + Env + Threads + Wait + AllocGlobal + Sync + Drop,
     O: Write + Drop,
     E: Write + Drop,
 {
@@ -36,14 +39,16 @@ where
         return refuse_start(&mut err, StartErr::NoMemory);
     };
     let mut out = StreamSink::new(out);
-    match carry_out(rt.alloc(), &words, &mut files, &mut out, &mut err) {
+    match carry_out(rt, rt.alloc(), &words, &mut files, &mut out, &mut err) {
         Ok(status) => status,
         Err(_) => refuse_start(&mut err, StartErr::NoMemory),
     }
 }
 
-// Carries out the command of these arguments, with the forms `table`, `csv` and `pairs`.
-fn carry_out<F: Store, O: Sink, E: Sink>(
+// Carries out the command of these arguments, with the forms `table`, `csv` and `pairs`, and a gate
+// that shows each row as it is and holds no worker up.
+fn carry_out<T: Threads + Wait + Sync, F: Store, O: Sink, E: Sink>(
+    rt: &T,
     alloc: Global,
     words: &Vec<String>,
     files: &mut F,
@@ -54,7 +59,8 @@ fn carry_out<F: Store, O: Sink, E: Sink>(
     let csv: Box<dyn ReportForm> = Box::new(alloc, CsvForm::new(alloc))?;
     let pairs: Box<dyn ReportForm> = Box::new(alloc, PairsForm::new(alloc))?;
     let forms = Vec::from_array(alloc, [table, csv, pairs])?;
-    Ok(symple(alloc, words, files, out, err, forms))
+    let gate = OpenGate { hold: Free };
+    Ok(symple(rt, alloc, words, files, out, err, forms, &gate))
 }
 
 // The arguments after the program's name. Where one of them isn't UTF-8 there is no such command.

@@ -2,7 +2,7 @@ use Rattle.std.proofs.Common.{◌≡◌, ◌∙◌, List, [], ◌∷◌, ℕ, So
 use Rattle.std.specs.String.{string_bytes}
 use Rattle.sym_base.specs.InMemory.{visible_bytes}
 use Rattle.sym_check.specs.Checking.CheckedScripts.{checked_plan}
-use Rattle.sym_engine.specs.FileRecords.{plain_rules}
+use Rattle.sym_engine.specs.FileRecords.{rules_of}
 use Rattle.sym_engine.specs.FirstProblems.{AllFine}
 use Rattle.sym_engine.specs.Passing.{Holds, MayAll}
 use Rattle.sym_top.specs.Loading.{StopsRecords, no_more}
@@ -18,15 +18,15 @@ one-file : (holds : Holds) (names : List (List ℕ)) (name log : List ℕ) → n
 one-file holds names name log named has found may = files-told holds names found (log ∷ []) may (ap (map holds) named ∙ ap (λ o. o ∷ []) has)
 
 pub returns-in-Err-clause-stopped : goal.returns-in-Err-clause-stopped
-returns-in-Err-clause-stopped c = no_more
+returns-in-Err-clause-stopped g c = no_more
 
 pub returns-in-Err-made_names-clause-stopped : goal.returns-in-Err-made_names-clause-stopped
-returns-in-Err-made_names-clause-stopped c = no_more
+returns-in-Err-made_names-clause-stopped g c = no_more
 
 pub returns-clause-stopped : goal.returns-clause-stopped
-returns-clause-stopped c =
+returns-clause-stopped g c =
     let program = checked_program c.args.checked.now in
-    let rules = plain_rules c.args.make.options.max_bytes in
+    let rules = rules_of c.args.make.options.max_bytes (g.G.Gate.shown c.args.gate.now) in
     let log = made_file c.args.make.records c.args.make.seed in
     let holds = visible_bytes c.in-Ok.store in
     let names = map string_bytes c.as_slice.result.now in
@@ -35,9 +35,9 @@ returns-clause-stopped c =
     (sure-stops program rules holds names (log ∷ []) c.in-Err-pass.error (one-file holds names _ log named c.in-Ok.ensures) c.in-Err-pass.ensures.stopped)
 
 pub returns-in-Ok-pass-clause-passed : goal.returns-in-Ok-pass-clause-passed
-returns-in-Ok-pass-clause-passed c =
+returns-in-Ok-pass-clause-passed g c =
     let passed = c.in-Ok-pass.ensures.passed in
-    let rules = plain_rules c.args.make.options.max_bytes in
+    let rules = rules_of c.args.make.options.max_bytes (g.G.Gate.shown c.args.gate.now) in
     let log = made_file c.args.make.records c.args.make.seed in
     let named = ap (map string_bytes) c.as_slice.ensures.value ∙ c.in-Ok-made_names.ensures in
     let same = one-file (visible_bytes c.in-Ok.store) (map string_bytes c.as_slice.result.now) _ log named c.in-Ok.ensures passed.files passed.may in

@@ -3,7 +3,7 @@ use Rattle.std.specs.String.{string_bytes}
 use Rattle.sym_check.specs.Checking.CheckedScripts.{checked_plan}
 use Rattle.sym_check.specs.Plan.WellFormed.{IsWellFormed}
 use Rattle.sym_engine.specs.declared.error.PassErr.TheVariants as pass_error
-use Rattle.sym_engine.specs.FileRecords.{plain_rules}
+use Rattle.sym_engine.specs.FileRecords.{rules_of}
 use Rattle.sym_top.specs.Loading.{StopsFiles, stops}
 use Rattle.sym_top.specs.Programs.{checked_program}
 use Rattle.sym_top.specs.Promises.{IsReported}
@@ -16,7 +16,7 @@ pub write_report-requires : goal.write_report-requires
 write_report-requires g c =
     let well = subst IsWellFormed c.plan-plan.ensures.same c.plan-plan.ensures.well_formed in
     let passed = c.in-Ok.ensures.passed in
-    groups-keyed (checked_plan c.args.checked.now) (plain_rules c.args.options.now.max_bytes) 1 passed.files passed.records
+    groups-keyed (checked_plan c.args.checked.now) (rules_of c.args.options.now.max_bytes (g.G.Gate.shown c.args.gate.now)) 1 passed.files passed.records
     c.in-Ok.groups well passed.fine passed.stands
 
 pub returns-in-Ok-write_report-clause-reported : goal.returns-in-Ok-write_report-clause-reported
@@ -29,7 +29,7 @@ returns-in-Err-clause-stopped g c =
 
 pub returns-in-Ok-write_report-clause-ready : goal.returns-in-Ok-write_report-clause-ready
 returns-in-Ok-write_report-clause-ready g c =
-    reports-by _ (checked_program c.args.checked.now) (plain_rules c.args.options.now.max_bytes) (g.F.Store.holds c.args.files.now)
+    reports-by _ (checked_program c.args.checked.now) (rules_of c.args.options.now.max_bytes (g.G.Gate.shown c.args.gate.now)) (g.F.Store.holds c.args.files.now)
     (map string_bytes c.args.names.now) c.in-Ok.groups c.in-Ok-write_report.faulty c.report_status.result _ c.in-Ok.ensures.passed
     (rw c.requires.empty at c.in-Ok-write_report.ensures.text) c.in-Ok-write_report.ensures.faulty c.report_status.ensures
 

@@ -9,7 +9,7 @@ use Rattle.sym_top.proofs.top.run_files.Goals as goal
 pub returns-in-None-clause-says : goal.returns-in-None-clause-says
 returns-in-None-clause-says g c words is =
     stop-says _ _ _ c.no_command.result c.refuse.result
-    (subst (Stops _) (sym c.no_command.ensures) (usage-stops _ (run-unhanded _ _ words c.args.forms.items (run_seen c.args.run) is (sym c.in-None.ensures))))
+    (subst (Stops _) (sym c.no_command.ensures) (usage-stops _ (run-unhanded _ _ words c.args.forms.items _ (run_seen c.args.run) is (sym c.in-None.ensures))))
     c.refuse.ensures.status (record { written = refl; faults = refl; short = refl }) c.refuse.ensures.told
 
 pub returns-in-None-clause-leaves : goal.returns-in-None-clause-leaves
@@ -24,13 +24,13 @@ prepare_run-made-requires-clause-empty g c =
 pub returns-clause-says : goal.returns-clause-says
 returns-clause-says g c words is =
     let named = sym c.in-Some.ensures in
-    let handed = run-handed _ _ words c.args.forms.items (run_seen c.args.run) c.in-Some.form is named in
+    let handed = run-handed _ _ words c.args.forms.items _ (run_seen c.args.run) c.in-Some.form is named in
     let texts = texts-named _ _ c.args.run.form.now c.args.forms.items c.in-Some.form named in
     c.finish.ensures.says _
-    (made-match c.prepare_run-made.result _ _ _ c.report_bytes.ensures (c.prepare_run-made.ensures.ready _ handed texts)
-    (c.prepare_run-made.ensures.stopped _ handed))
+    (made-match c.prepare_run-made.result _ _ _ c.report_bytes.ensures (c.prepare_run-made.ensures.ready _ handed texts refl)
+    (c.prepare_run-made.ensures.stopped _ handed refl))
 
 pub returns-clause-leaves : goal.returns-clause-leaves
 returns-clause-leaves g c words is =
-    let handed = run-handed _ _ words c.args.forms.items (run_seen c.args.run) c.in-Some.form is (sym c.in-Some.ensures) in
+    let handed = run-handed _ _ words c.args.forms.items _ (run_seen c.args.run) c.in-Some.form is (sym c.in-Some.ensures) in
     some-leaves _ _ _ _ _ _ _ _ c.finish.result (asked-some _ _ handed) c.finish.ensures.unwritten c.finish.ensures.memory c.finish.ensures.quiet
