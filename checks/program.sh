@@ -7,8 +7,19 @@
 #   status 8 with its line and no report, and at least one run of each row has to end with 8. The
 #   rows by `row_some` have so many allocations that only the first, the last and three in between
 #   fail: 65,536 files and 65,537, the largest file, and a script that is one long `keep`.
+# Then runs over the examples and over random logs, by chunks, limits and workers of many sizes, have
+# to write the same bytes and end with the same status:
+#
+#     checks/program.sh [LOGS]
+#
+# The gate takes 4 random logs and every seventh setting, which is another one each time; with LOGS
+# each setting is taken, and so many random logs, usually 50.
 # Needs a C compiler as cc, and the GNU C library. The last line counts what passed and failed.
 set -u
+
+logs=${1:-4}
+every=7
+[ $# -eq 0 ] || every=1
 
 here=$(CDPATH='' cd -P "$(dirname "$0")" && pwd)
 root=$(dirname "$here")
@@ -465,6 +476,72 @@ printf 'ts,user\n1,a\nt,b\n2,a,x\n' >torn.csv
 row "the first bad record of two chunks" 4 'torn.csv: record 2: field ts is not a number' \
     run --chunk 1 --workers 2 sessions.symple torn.csv
 
+# No chunk, limit or number of workers changes what a run writes.
+setting=0
+
+# agrees NAME ARGUMENTS..: a run over these arguments writes and ends by any setting as on one thread
+# in the largest chunks.
+agrees() {
+    name=$1
+    shift
+    run "$program" run --chunk 65536 --workers 1 "$@"
+    cp "$work/out" "$work/wanted.out"
+    cp "$work/err" "$work/wanted.err"
+    wanted=$status
+    for chunk in 1 7 1024 65536; do
+        for limit in 1 2 16 256; do
+            for workers in 1 2 3 4 7 64; do
+                setting=$((setting + 1))
+                [ $((setting % every)) -eq 0 ] || continue
+                run "$program" run --chunk $chunk --limit $limit --workers $workers "$@"
+                note_answer "$name, by chunks of $chunk, limit $limit, $workers workers"
+            done
+        done
+    done
+}
+
+# drawn SEED: the file drawn.csv, a random log with the fields of several scripts. One of five is
+# long, and in one of three a row is no record.
+drawn() {
+    awk -v seed="$1" 'BEGIN {
+        srand(seed)
+        split("view cart buy buy", actions, " ")
+        print "ts,user,x,User ID,Action,Amount"
+        rows = seed % 5 == 0 ? 3000 : int(rand() * 200)
+        bad = seed % 3 == 0 ? int(rand() * rows) + 1 : 0
+        for (row = 1; row <= rows; row++) {
+            ts += int(rand() * 40)
+            user = "u" int(rand() * 7)
+            x = rand() < 0.1 ? "" : rand() < 0.01 ? "1000000000000" : int(rand() * 20) - 9
+            if (row == bad)
+                print rand() < 0.5 ? ts "," user : "t," user ",x," user ",none,y"
+            else
+                print ts "," user "," x "," user "," actions[int(rand() * 4) + 1] "," x
+        }
+    }' >drawn.csv
+}
+
+pairs=0
+for script in "$root"/examples/*.symple "$root"/examples/reference/*.symple; do
+    for file in "$root"/examples/*.csv "$root"/examples/reference/*.csv; do
+        run "$program" run "$script" "$file"
+        [ "$status" -le 1 ] || continue
+        agrees "${script##*/} over ${file##*/}" "$script" "$file"
+        pairs=$((pairs + 1))
+    done
+done
+[ "$pairs" -ge 12 ]
+note $? "only $pairs pairs of an example's script and log"
+seed=1
+while [ "$seed" -le "$logs" ]; do
+    drawn "$seed"
+    for script in counts sums sessions purchases quotients; do
+        agrees "$script over random log $seed" $script.symple drawn.csv
+        agrees "$script over random log $seed, twice" $script.symple drawn.csv drawn.csv
+    done
+    seed=$((seed + 1))
+done
+
 # takes ARGUMENTS..: whether the program takes this command or form by now.
 takes() {
     run "$program" "$@"
@@ -521,6 +598,10 @@ if takes make 5 1; then
     row "a made file" 0 'records 5\ngroups 3\nfaults 0\nsessions 0\n' make 5 1
     row "a made file in chunks" 0 'records 5\ngroups 3\nfaults 0\nsessions 0\n' \
         make --chunk 1 --limit 1 --workers 2 5 1
+    made='records 100000\ngroups 10\nfaults 0\nsessions 42092\n'
+    row_once "a long made file by one worker" 0 "$made" make --workers 1 100000 7
+    row_once "a long made file by many workers" 0 "$made" make --workers 64 --chunk 16 100000 7
+    row_once "a long made file" 0 "$made" make 100000 7
     row "no record to make" 2 usage make 0 1
     row "too many records to make" 2 usage make 1000001 1
 fi
