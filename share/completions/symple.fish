@@ -45,7 +45,7 @@ complete -c symple -n $is_run -l form -x -a 'table csv pairs' -d 'Form of the re
 complete -c symple -n $is_run -l max-bytes -x -d 'Bytes of a file: 1 to 268435456'
 complete -c symple -n $is_run -l chunk -x -d 'Records of a chunk: 1 to 65536'
 complete -c symple -n $is_run -l limit -x -d 'Paths of a summary: 1 to 256'
-complete -c symple -n $is_run -l workers -x -d 'Workers at a time: 1 to 64'
+complete -c symple -n $is_run -l workers -x -d 'Threads that work at once: 1 to 64'
 complete -c symple -n "$is_run; and test (__symple_place) -eq 0" -k -a '(__symple_scripts)'
 complete -c symple -n "$is_run; and test (__symple_place) -gt 0" -F
 
@@ -56,4 +56,4 @@ complete -c symple -n "$is_check; and test (__symple_place) -eq 0" -k -a '(__sym
 set -l is_make '__symple_command make'
 complete -c symple -n $is_make -l chunk -x -d 'Records of a chunk: 1 to 65536'
 complete -c symple -n $is_make -l limit -x -d 'Paths of a summary: 1 to 256'
-complete -c symple -n $is_make -l workers -x -d 'Workers at a time: 1 to 64'
+complete -c symple -n $is_make -l workers -x -d 'Threads that work at once: 1 to 64'
