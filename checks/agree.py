@@ -18,7 +18,7 @@ import tempfile
 
 import reference
 
-CHUNKS, LIMITS, WORKERS = (1, 7, 1024), (1, 2, 16, 256), (1, 2, 4)
+CHUNKS, LIMITS, WORKERS = (1, 7, 1024, 65536), (1, 2, 16, 256), (1, 2, 3, 4, 7, 64)
 SETTINGS = [(c, l, w) for c in CHUNKS for l in LIMITS for w in WORKERS]
 SETTINGS_A_CASE = 6
 NUMBERS = [0, 1, 1, 2, 2, 3, 4, 5, 7, 10, 30, 99, 1000, 999999999999, 1000000000000]
