@@ -72,8 +72,15 @@ fn pass_made<T: Threads + Wait + Sync, G: Gate + Sync>(
         Ok(names) => names,
         Err(_) => return Err(Refusal::NoMemory),
     };
-    let names = names.as_slice();
-    match pass(rt, alloc, checked, &mut store, names, &make.options, gate) {
+    match pass(
+        rt,
+        alloc,
+        checked,
+        &mut store,
+        names.as_slice(),
+        &make.options,
+        gate,
+    ) {
         Ok(groups) => Ok(groups),
         Err(error) => Err(pass_refusal(error)),
     }
