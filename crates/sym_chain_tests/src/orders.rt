@@ -12,7 +12,7 @@ use std::test::Fail;
 use sym_base::NoMemory;
 use sym_check::Checked;
 use sym_plain::Groups;
-use sym_run::{Applied, JoinTree, apply_joined};
+use sym_run::{Applied, JoinTree, apply_joined, of_chunks};
 use sym_table::Chunk;
 
 /// How many trees of joins there are over so many chunks.
@@ -64,6 +64,24 @@ fn is_wanted(applied: &Applied, wanted: &Groups) -> bool {
         Applied::Done(groups) => same_groups(groups, wanted),
         Applied::Bad(_) => false,
     }
+}
+
+/// Whether the run of the first chunk, extended by the others in turn, gives the groups.
+fn extended_holds(
+    alloc: Global,
+    checked: &Checked,
+    chunks: &[Chunk],
+    wanted: &Groups,
+    limit: u32,
+) -> Result<bool, NoMemory>
+    requires fit { All (FitsChunk (checked_plan checked.now).fields) chunks.now }
+{
+    if chunks.is_empty() || chunks.len() > 64 {
+        return Ok(false);
+    }
+    let run = of_chunks(alloc, checked, chunks, limit)?;
+    let applied = run.apply(alloc, checked, Groups::new(alloc))?;
+    Ok(is_wanted(&applied, wanted))
 }
 
 /// Whether the runs of the chunks, joined in the order of this number, give the groups.
@@ -171,6 +189,9 @@ impl Sizes {
             if !order_holds(alloc, checked, &chunks, 0, &wanted, limit)? {
                 return Ok(false);
             }
+            if !extended_holds(alloc, checked, &chunks, &wanted, limit)? {
+                return Ok(false);
+            }
         }
         Ok(true)
     }
@@ -238,7 +259,9 @@ impl Case for BadRows {
         }
         let order = tree(alloc, chunks.len(), 0)?;
         let applied = apply_joined(alloc, checked, &chunks, &order, Groups::new(alloc), 16)?;
-        Ok(is_bad(&applied, self.first))
+        let run = of_chunks(alloc, checked, &chunks, 16)?;
+        let extended = run.apply(alloc, checked, Groups::new(alloc))?;
+        Ok(is_bad(&applied, self.first) && is_bad(&extended, self.first))
     }
 }
 
