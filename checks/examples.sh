@@ -7,25 +7,9 @@
 # line counts what passed and failed.
 set -u
 
-here=$(CDPATH='' cd -P "$(dirname "$0")" && pwd)
-root=$(dirname "$here")
+# shellcheck source=checks/common.sh
+. "$(dirname "$0")/common.sh"
 cd "$root" || exit 1
-
-work=$(mktemp -d) || exit 1
-trap 'rm -rf "$work"' EXIT
-trap 'exit 1' HUP INT TERM
-
-passed=0
-failed=0
-
-note() {
-    if [ "$1" -eq 0 ]; then
-        passed=$((passed + 1))
-    else
-        failed=$((failed + 1))
-        echo "checks/examples.sh: $2" >&2
-    fi
-}
 
 # Writes the commands of a document as the files N.place, N.command and N.wanted, N from 1 on.
 split() {
@@ -117,5 +101,4 @@ for document in README.md docs/LANGUAGE.md docs/FORMS.md docs/TOOLS.md; do
     fi
 done
 
-echo "checks/examples.sh: $passed passed, $failed failed"
-[ "$failed" -eq 0 ]
+counted passed failed

@@ -6,17 +6,14 @@
 # counts what passed and failed.
 set -u
 
-here=$(CDPATH='' cd -P "$(dirname "$0")" && pwd)
-cd "$(dirname "$here")" || exit 1
+# shellcheck source=checks/common.sh
+. "$(dirname "$0")/common.sh"
+cd "$root" || exit 1
 
 if ! command -v python3 >/dev/null; then
     echo "checks/forms.sh: no python3: nothing is read back" >&2
     exit 0
 fi
-
-work=$(mktemp -d) || exit 1
-trap 'rm -rf "$work"' EXIT
-trap 'exit 1' HUP INT TERM
 
 cat >"$work/script" <<'end'
 field text: word;

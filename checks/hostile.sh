@@ -16,43 +16,14 @@
 # counts what passed and failed.
 set -u
 
-here=$(CDPATH='' cd -P "$(dirname "$0")" && pwd)
-root=$(dirname "$here")
+# shellcheck source=checks/common.sh
+. "$(dirname "$0")/common.sh"
 program=${SYMPLE_PROGRAM:-$root/crates/symple/out/symple}
 kills=${1:-10}
 mebibytes=${2:-1}
 [ $# -ge 1 ] && shift
 [ $# -ge 1 ] && shift
 [ $# -ge 1 ] || set -- calls streams files killed resources times
-
-# In /tmp, since a preloaded library's path can have no blank and no colon.
-work=$(TMPDIR=/tmp mktemp -d) || exit 1
-trap 'rm -rf "$work"' EXIT
-trap 'exit 1' HUP INT TERM
-
-passed=0
-failed=0
-
-note() {
-    if [ "$1" -eq 0 ]; then
-        passed=$((passed + 1))
-    else
-        failed=$((failed + 1))
-        echo "checks/hostile.sh: $2" >&2
-    fi
-}
-
-skipped() {
-    echo "checks/hostile.sh: skipped: $1"
-}
-
-# run COMMAND..: the command with empty files for its report and its line.
-run() {
-    : >"$work/out"
-    : >"$work/err"
-    "$@" >"$work/out" 2>"$work/err"
-    status=$?
-}
 
 # symple ARGUMENTS..: the program with these arguments.
 symple() {
@@ -793,5 +764,4 @@ for section do
     echo "checks/hostile.sh: $section in $(($(date +%s) - begun)) s"
 done
 
-echo "checks/hostile.sh: $passed passed, $failed failed"
-[ "$failed" -eq 0 ]
+counted passed failed

@@ -13,25 +13,9 @@
 # shellcheck disable=SC2016 # the backticks are those of the documents
 set -u
 
-here=$(CDPATH='' cd -P "$(dirname "$0")" && pwd)
-root=$(dirname "$here")
+# shellcheck source=checks/common.sh
+. "$(dirname "$0")/common.sh"
 cd "$root" || exit 1
-
-work=$(mktemp -d) || exit 1
-trap 'rm -rf "$work"' EXIT
-trap 'exit 1' HUP INT TERM
-
-found=0
-missing=0
-
-note() {
-    if [ "$1" -eq 0 ]; then
-        found=$((found + 1))
-    else
-        missing=$((missing + 1))
-        echo "checks/names.sh: $2" >&2
-    fi
-}
 
 # What stands in backticks in a document, one a line, outside of its indented blocks.
 quoted() {
@@ -189,5 +173,4 @@ done
 python3 "$here/calls.py"
 note $? "docs/CALLS.md: not the calls of the sources"
 
-echo "checks/names.sh: $found found, $missing missing"
-[ "$missing" -eq 0 ]
+counted found missing

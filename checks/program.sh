@@ -21,27 +21,10 @@ logs=${1:-4}
 every=7
 [ $# -eq 0 ] || every=1
 
-here=$(CDPATH='' cd -P "$(dirname "$0")" && pwd)
-root=$(dirname "$here")
+# shellcheck source=checks/common.sh
+. "$(dirname "$0")/common.sh"
 program=$root/crates/symple/out/symple
 no_memory=8
-
-# In /tmp, since a preloaded library's path can have no blank and no colon.
-work=$(TMPDIR=/tmp mktemp -d) || exit 1
-trap 'rm -rf "$work"' EXIT
-trap 'exit 1' HUP INT TERM
-
-passed=0
-failed=0
-
-note() {
-    if [ "$1" -eq 0 ]; then
-        passed=$((passed + 1))
-    else
-        failed=$((failed + 1))
-        echo "checks/program.sh: $2" >&2
-    fi
-}
 
 # expect STATUS TEXT: what a run has to answer. The text is a format of printf: the report of the
 # statuses 0 and 1, else the line on standard error, without `symple: ` and its end.
@@ -81,14 +64,6 @@ note_answer() {
 $(diff "$work/wanted.out" "$work/out" | head -n 5)
 $(diff "$work/wanted.err" "$work/err" | head -n 5)"
     fi
-}
-
-# Runs a command with empty streams for its report and its line.
-run() {
-    : >"$work/out"
-    : >"$work/err"
-    "$@" >"$out" 2>"$work/err"
-    status=$?
 }
 
 # Runs with the allocation of this number failing, and counts all allocations.
@@ -213,7 +188,6 @@ cc -O2 -shared -fPIC -o "$work/failing.so" "$here/failing_allocation.c" || exit 
 "$root/symple" run "$root/examples/counter.symple" "$root/examples/counter.csv" >/dev/null || exit 1
 cp "$here"/scripts/*.symple "$work"
 cd "$work" || exit 1
-out=$work/out
 
 # That a wrong answer is noticed: another status, report or line, and a run that isn't short.
 log 'user\na\n'
@@ -546,7 +520,7 @@ done
 takes() {
     run "$program" "$@"
     [ "$status" -eq 0 ] || {
-        echo "checks/program.sh: skipped: the program doesn't take $*"
+        skipped "the program doesn't take $*"
         return 1
     }
 }
@@ -720,5 +694,4 @@ wanted=6
 [ "$size" -lt "$(wc -c <whole.txt)" ] && [ "$size" -gt 0 ] && answered
 note $? "a report that is written in part: status $status, $size bytes"
 
-echo "checks/program.sh: $passed passed, $failed failed"
-[ "$failed" -eq 0 ]
+counted passed failed

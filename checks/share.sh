@@ -8,13 +8,9 @@
 # The last line counts what passed and failed.
 set -u
 
-here=$(CDPATH='' cd -P "$(dirname "$0")" && pwd)
-root=$(dirname "$here")
+# shellcheck source=checks/common.sh
+. "$(dirname "$0")/common.sh"
 cd "$root" || exit 1
-
-work=$(mktemp -d) || exit 1
-trap 'rm -rf "$work"' EXIT
-trap 'exit 1' HUP INT TERM
 
 manual=share/man/symple.1
 bash_words=share/completions/symple.bash
@@ -24,18 +20,6 @@ vim_words=share/vim/syntax/symple.vim
 grammar=share/textmate/symple.tmLanguage.json
 script=examples/counter.symple
 log=examples/counter.csv
-
-passed=0
-failed=0
-
-note() {
-    if [ "$1" -eq 0 ]; then
-        passed=$((passed + 1))
-    else
-        failed=$((failed + 1))
-        echo "checks/share.sh: $2" >&2
-    fi
-}
 
 # Whether a tool is there; one that isn't is told.
 has() {
@@ -370,5 +354,4 @@ try_manual
 try_tools
 try_install
 
-echo "checks/share.sh: $passed passed, $failed failed"
-[ "$failed" -eq 0 ]
+counted passed failed
