@@ -1,14 +1,17 @@
 //! The chains of runs: their segments by the limit, and copies.
+ghost use Rattle.std.specs.Prelude.{◌↔◌};
+ghost use Rattle.std.specs.Bool.{IsTrue};
 ghost use Rattle.sym_check.specs.Checking.CheckedScripts.{checked_plan};
+ghost use Rattle.sym_path.specs.Fitting.{SegmentFits};
 ghost use Rattle.sym_table.specs.Rows.{FitsChunk};
 
-use crate::logs::{SESSIONS, TOGGLE};
+use crate::logs::{ASKED, SESSIONS, TOGGLE};
 use crate::setting::{Case, check_cases, chunks_of, same_groups};
 use std::alloc::Global;
 use std::test::Fail;
 use sym_base::NoMemory;
 use sym_check::Checked;
-use sym_path::Segment;
+use sym_path::{Segment, pairs};
 use sym_plain::Groups;
 use sym_run::{Applied, Chain, Run, RunGroups, of_chunk};
 use sym_table::Chunk;
@@ -34,6 +37,35 @@ struct OneChain {
     limit: u32,
     /// How many paths each of its segments has.
     paths: &'static [usize],
+    /// How many pairs its first two segments have, if there are two.
+    pairs: Option<u64>,
+}
+
+/// Whether each of the segment's paths fits the script.
+fn fits(checked: &Checked, segment: &Segment) -> bool
+    ensures { IsTrue result ↔ SegmentFits (checked_plan checked.now) segment.now }
+{
+    segment.paths().iter().all(|path| path.fits(checked))
+}
+
+/// The pairs of two segments that fit the script and have few paths.
+fn pairs_of(checked: &Checked, first: &Segment, second: &Segment) -> Option<u64> {
+    if first.paths().len() > 1_024 || second.paths().len() > 1_024 {
+        return None;
+    }
+    if fits(checked, first) && fits(checked, second) {
+        Some(pairs(checked, first, second))
+    } else {
+        None
+    }
+}
+
+/// Whether the first two segments have so many pairs.
+fn has_pairs(checked: &Checked, segments: &[Segment], wanted: Option<u64>) -> bool {
+    match segments {
+        [first, second, ..] => pairs_of(checked, first, second) == wanted,
+        _ => wanted.is_none(),
+    }
 }
 
 fn same_chain(left: &Chain, right: &Chain) -> bool {
@@ -51,15 +83,24 @@ fn is_chain_copied(alloc: Global, chain: &Chain) -> Result<bool, NoMemory> {
     Ok(same_chain(&chain.copy(alloc)?, chain))
 }
 
+fn has_segments(checked: &Checked, chain: &Chain, case: &OneChain) -> bool {
+    has_paths(chain.segments(), case.paths) && has_pairs(checked, chain.segments(), case.pairs)
+}
+
 /// Whether the run has the one chain, and copies of it are the same.
-fn has_chain(alloc: Global, run: &Run, paths: &[usize]) -> Result<bool, NoMemory> {
+fn has_chain(
+    alloc: Global,
+    checked: &Checked,
+    run: &Run,
+    case: &OneChain,
+) -> Result<bool, NoMemory> {
     let copied = run.copy(alloc)?;
     if run.groups.len() != 1 || run.bad.is_some() || !same_chains(&copied.groups, &run.groups) {
         return Ok(false);
     }
     match run.groups.at(0) {
         Some((_key, chain)) => {
-            Ok(has_paths(chain.segments(), paths) && is_chain_copied(alloc, chain)?)
+            Ok(has_segments(checked, chain, case) && is_chain_copied(alloc, chain)?)
         }
         None => Ok(false),
     }
@@ -86,7 +127,7 @@ fn chunk_has_chain(
     requires { FitsChunk (checked_plan checked.now).fields chunk.now }
 {
     let run = of_chunk(alloc, checked, chunk, 0, case.limit)?;
-    if !has_chain(alloc, &run, case.paths)? {
+    if !has_chain(alloc, checked, &run, case)? {
         return Ok(false);
     }
     let applied = run.apply(alloc, checked, Groups::new(alloc))?;
@@ -117,25 +158,78 @@ fn segments_stay_apart_over_the_limit(rt: HostRuntime) -> Result<(), Fail> {
             log: toggles,
             limit: 1,
             paths: &[2, 2, 2],
+            pairs: Some(2),
         },
         OneChain {
             script: TOGGLE,
             log: toggles,
             limit: 2,
             paths: &[2],
+            pairs: None,
         },
         OneChain {
             script: SESSIONS,
             log: visits,
             limit: 3,
             paths: &[3, 3],
+            pairs: Some(4),
         },
         OneChain {
             script: SESSIONS,
             log: visits,
             limit: 4,
             paths: &[4],
+            pairs: None,
         },
     ];
     check_cases(&rt, rt.alloc(), &cases)
+}
+
+/// The same where a record has as many paths as it may have. Copies of so many are left out.
+#[derive(Drop)]
+struct Asked(OneChain);
+
+fn run_has_chain(checked: &Checked, run: &Run, case: &OneChain) -> bool {
+    match run.groups.at(0) {
+        Some((_key, chain)) => run.groups.len() == 1 && has_segments(checked, chain, case),
+        None => false,
+    }
+}
+
+fn chunk_has_asked(
+    alloc: Global,
+    checked: &Checked,
+    chunk: &Chunk,
+    case: &OneChain,
+) -> Result<bool, NoMemory>
+    requires { FitsChunk (checked_plan checked.now).fields chunk.now }
+{
+    let run = of_chunk(alloc, checked, chunk, 0, case.limit)?;
+    Ok(run_has_chain(checked, &run, case))
+}
+
+impl Case for Asked {
+    fn script(&self) -> &str {
+        self.0.script
+    }
+
+    fn holds(&self, alloc: Global, checked: &Checked) -> Result<bool, NoMemory> {
+        let chunks = chunks_of(alloc, checked, self.0.log, 1_024)?;
+        match chunks.as_slice() {
+            [chunk] => chunk_has_asked(alloc, checked, chunk, &self.0),
+            _ => Ok(false),
+        }
+    }
+}
+
+#[test]
+fn two_records_of_1024_paths_have_1024_pairs(rt: HostRuntime) -> Result<(), Fail> {
+    let asked = OneChain {
+        script: ASKED,
+        log: "x\n1\n1\n",
+        limit: 256,
+        paths: &[1_024, 1_024],
+        pairs: Some(1_024),
+    };
+    check_cases(&rt, rt.alloc(), &[Asked(asked)])
 }

@@ -16,6 +16,16 @@ pub(crate) const SUMS: &str = "field user: word; field x: num else 0; group user
 pub(crate) const TOGGLE: &str = "enum mode { idle, busy } field x: num; state phase: mode = idle; \
     update { if phase is idle { phase = busy; } else { phase = idle; } } report { phase = phase; }";
 
+/// So many tests of a cell that each of them may be true or false of it: a record has 1,024 paths.
+pub(crate) const ASKED: &str = "field x: num; state h: hold(num = 0); state w: words; \
+    test t(p: num, k: num) = p % k == 0; \
+    update { if t(h, 2) { push w \"a\"; } if t(h, 3) { push w \"b\"; } \
+    if t(h, 4) { push w \"c\"; } if t(h, 5) { push w \"d\"; } \
+    if t(h, 6) { push w \"e\"; } if t(h, 7) { push w \"f\"; } \
+    if t(h, 8) { push w \"g\"; } if t(h, 9) { push w \"h\"; } \
+    if t(h, 10) { push w \"i\"; } if t(h, 11) { push w \"j\"; } } \
+    report { c = count(w); }";
+
 pub(crate) const VISITS: &str = "ts,user\n10,a\n20,a\n60,a\n5,b\n61,a\n62,c\n90,b\n100,b\n101,c\n\
     102,a\n140,a\n141,d\n150,b\n151,b\n200,c\n201,a\n";
 
