@@ -1,4 +1,5 @@
-//! A form of the test's own: `<` for the names, `.` for each row, `>` for the end.
+//! A form of the test's own: `<` for the names, `.` for each row, `>` for the end. It finds memory for
+//! so many rows.
 ghost use Rattle.std.specs.Prelude.{codes};
 
 use std::alloc::Global;
@@ -9,12 +10,14 @@ use sym_report::{Heads, ReportForm, Row};
 #[derive(Drop)]
 pub(crate) struct Marks {
     bytes: Vec<u8>,
+    room: usize,
 }
 
 impl Marks {
-    pub(crate) fn new(alloc: Global) -> Marks {
+    pub(crate) fn new(alloc: Global, room: usize) -> Marks {
         Marks {
             bytes: Vec::new(alloc),
+            room,
         }
     }
 }
@@ -40,7 +43,11 @@ impl ReportForm for Marks {
     }
 
     fn row(&mut self, _alloc: Global, _heads: &Heads, _row: &Row) -> Result<(), NoMemory> {
+        if self.room == 0 {
+            return Err(NoMemory);
+        }
         self.bytes.push(b'.')?;
+        self.room -= 1;
         Ok(())
     }
 

@@ -230,7 +230,7 @@ fn report_in(alloc: Global, name: &str, report: GivenReport) -> Result<Vec<u8>, 
     forms.push(Box::new(alloc, TableForm::new(alloc))?)?;
     forms.push(Box::new(alloc, CsvForm::new(alloc))?)?;
     forms.push(Box::new(alloc, PairsForm::new(alloc))?)?;
-    forms.push(Box::new(alloc, Marks::new(alloc))?)?;
+    forms.push(Box::new(alloc, Marks::new(alloc, 9))?)?;
     match choose(forms, name) {
         Some(mut form) => bytes_of(alloc, &mut form, &heads, report.rows),
         None => Ok(Vec::new(alloc)),
@@ -269,5 +269,24 @@ fn no_form_has_another_name(rt: HostRuntime) -> Result<(), Fail> {
     'names: for name in ["", "cs", "csv ", "CSV", "html"] {
         check_report(&rt, rt.alloc(), name, REPORTS[1].report, "")?;
     }
+    Ok(())
+}
+
+// The form with memory for one row, after two rows of a report.
+fn after_two(alloc: Global) -> Result<Marks, NoMemory> {
+    let heads = heads_of(alloc, REPORTS[2].report)?;
+    let row = row_of(alloc, REPORTS[2].report.rows[0])?;
+    let mut marks = Marks::new(alloc, 1);
+    marks.begin(alloc, &heads)?;
+    if row.is_under(&heads) {
+        marks.row(alloc, &heads, &row)?;
+        let _second = marks.row(alloc, &heads, &row);
+    }
+    Ok(marks)
+}
+
+#[test]
+fn a_row_without_memory_leaves_the_bytes(rt: HostRuntime) -> Result<(), Fail> {
+    assert!(rt; after_two(rt.alloc())?.bytes() == b"<.".as_slice());
     Ok(())
 }
