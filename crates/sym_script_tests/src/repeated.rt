@@ -15,7 +15,7 @@ struct Repeated {
     wanted: Wanted,
 }
 
-const REPEATED: [Repeated; 22] = [
+const REPEATED: [Repeated; 24] = [
     Repeated {
         before: "",
         unit: "if phase is idle { phase = busy; } ",
@@ -99,6 +99,22 @@ const REPEATED: [Repeated; 22] = [
         count: 9,
         after: " { } } report { one = 1; }",
         wanted: Wanted::Branchy(2047),
+    },
+    // As many levels and operands as there may be.
+    Repeated {
+        before: "n = ",
+        unit: "(",
+        count: 64,
+        after: "n)))))))))))))))))))))))))))))))))))))))))))))))))))))))))))))))); } \
+            report { one = 1; }",
+        wanted: Wanted::Paths(3),
+    },
+    Repeated {
+        before: "n = 1",
+        unit: " + 1",
+        count: 255,
+        after: "; } report { one = 1; }",
+        wanted: Wanted::Paths(3),
     },
     // The bound stops at a million.
     Repeated {
