@@ -1,6 +1,8 @@
 //! Runs with options, checks and makings, with their ends.
+use crate::hostile::{ASKED, ASKED_MORE};
 use crate::runs::{
-    BY_USER, COUNTER, DONE, DOUBLE, Run, SESSIONS, TOGGLE, TWO_HUNDRED, USAGE, wrong_run,
+    BY_DAY, BY_USER, CLAMPED, COUNTER, DONE, DOUBLE, Run, SESSIONS, TOGGLE, TWO_HUNDRED, USAGE,
+    wrong_run,
 };
 use crate::scripts::all_hold;
 use std::test::Fail;
@@ -53,7 +55,7 @@ const ELEVEN: &str = branches!(
 );
 
 /// No option but the form and the size limit changes what a run comes to.
-const OPTIONS: [Run; 13] = [
+const OPTIONS: [Run; 15] = [
     Run {
         words: &[
             "run",
@@ -87,6 +89,21 @@ const OPTIONS: [Run; 13] = [
     },
     Run {
         words: &["run", "--chunk", "1", "count.symple", "log.csv"],
+        script: SESSIONS,
+        files: &["ts,user\n10,a\n20,a\n60,a\n5,b\n61,a\n"],
+        out: "user | sessions | open | longest\na | 1 | 2 | 2\nb | 0 | 1 | none\n--\n",
+        ..DONE
+    },
+    Run {
+        words: &[
+            "run",
+            "--limit",
+            "1",
+            "--chunk",
+            "1",
+            "count.symple",
+            "log.csv",
+        ],
         script: SESSIONS,
         files: &["ts,user\n10,a\n20,a\n60,a\n5,b\n61,a\n"],
         out: "user | sessions | open | longest\na | 1 | 2 | 2\nb | 0 | 1 | none\n--\n",
@@ -172,6 +189,13 @@ const OPTIONS: [Run; 13] = [
         ..DONE
     },
     Run {
+        words: &["run", "--form", "pairs", "count.symple", "log.csv"],
+        script: BY_DAY,
+        files: &["user,day\na,1\n"],
+        out: "user=\"a\" day=\"1\" n=1\n",
+        ..DONE
+    },
+    Run {
         words: &["run", "--form", "html", "count.symple", "log.csv"],
         ..USAGE
     },
@@ -189,9 +213,14 @@ const CHECK: Run = Run {
 };
 
 /// Scripts, and what `check` says of them.
-const CHECKS: [Run; 11] = [
+const CHECKS: [Run; 14] = [
     Run {
         script: COUNTER,
+        out: "cells 1 tests 0 paths 3\n",
+        ..CHECK
+    },
+    Run {
+        script: CLAMPED,
         out: "cells 1 tests 0 paths 3\n",
         ..CHECK
     },
@@ -217,6 +246,17 @@ const CHECKS: [Run; 11] = [
     },
     Run {
         script: ELEVEN,
+        status: Status::Script,
+        err: "symple: script: 2048 paths\n",
+        ..CHECK
+    },
+    Run {
+        script: ASKED,
+        out: "cells 2 tests 1 paths 1024\n",
+        ..CHECK
+    },
+    Run {
+        script: ASKED_MORE,
         status: Status::Script,
         err: "symple: script: 2048 paths\n",
         ..CHECK

@@ -13,6 +13,8 @@ mod drawn;
 #[cfg(test)]
 mod files;
 #[cfg(test)]
+mod hostile;
+#[cfg(test)]
 mod marks;
 #[cfg(test)]
 mod passes;

@@ -2,6 +2,7 @@
 ghost use Rattle.std.specs.Prelude.{◌≡◌, [], ◌∷◌, codes};
 
 use crate::runs::BY_USER;
+use crate::scripts::all_hold;
 use std::alloc::Global;
 use std::sync::Wait;
 use std::test::Fail;
@@ -11,23 +12,23 @@ use sym_engine::{Free, OpenGate};
 use sym_report::{Heads, ReportForm, Row};
 use sym_top::{Status, symple};
 
-/// A form that is called `marks`: `<` for the names, a mark for each row, `>` for the end. It may
-/// find no memory for a row.
+/// A form that is called `marks`: `<` for the names, a mark for each row, `>` for the end. It finds
+/// memory for so many rows.
 #[derive(Drop)]
 struct Marks {
     bytes: Vec<u8>,
     mark: u8,
-    is_full: bool,
+    room: usize,
 }
 
 impl Marks {
-    fn new(alloc: Global, mark: u8, is_full: bool) -> Marks
+    fn new(alloc: Global, mark: u8, room: usize) -> Marks
         ensures { result.bytes.items ≡ [] }
     {
         Marks {
             bytes: Vec::new(alloc),
             mark,
-            is_full,
+            room,
         }
     }
 }
@@ -53,10 +54,11 @@ impl ReportForm for Marks {
     }
 
     fn row(&mut self, _alloc: Global, _heads: &Heads, _row: &Row) -> Result<(), NoMemory> {
-        if self.is_full {
+        if self.room == 0 {
             return Err(NoMemory);
         }
         self.bytes.push(self.mark)?;
+        self.room -= 1;
         Ok(())
     }
 
@@ -85,60 +87,123 @@ fn store_of(alloc: Global) -> Result<MemStore, NoMemory> {
     Ok(store)
 }
 
-// The top call with two forms of one name, the first of which may find no memory.
+// The top call with two forms of one name, the first of which finds memory for so many rows.
 fn call_with<T: Threads + Wait + Sync>(
     rt: &T,
     alloc: Global,
     words: &Vec<String>,
     store: &mut MemStore,
     out: &mut MemSink,
-    is_full: bool,
+    err: &mut MemSink,
+    room: usize,
 ) -> Result<Status, NoMemory> {
-    let mut err = MemSink::new(alloc, 100);
-    let first: Box<dyn ReportForm> = Box::new(alloc, Marks::new(alloc, b'.', is_full))?;
-    let second: Box<dyn ReportForm> = Box::new(alloc, Marks::new(alloc, b'!', false))?;
+    let first: Box<dyn ReportForm> = Box::new(alloc, Marks::new(alloc, b'.', room))?;
+    let second: Box<dyn ReportForm> = Box::new(alloc, Marks::new(alloc, b'!', 9))?;
     let forms = Vec::from_array(alloc, [first, second])?;
     let gate = OpenGate { hold: Free };
-    Ok(symple(rt, alloc, words, store, out, &mut err, forms, &gate))
+    Ok(symple(rt, alloc, words, store, out, err, forms, &gate))
 }
 
-fn call<T: Threads + Wait + Sync>(
+/// Arguments, for how many rows the first form finds memory, and the end of the run.
+#[derive(Clone, Copy)]
+struct Marked {
+    words: &'static [&'static str],
+    room: usize,
+    status: Status,
+    out: &'static str,
+    err: &'static str,
+}
+
+fn is_end(marked: &Marked, status: Status, out: &MemSink, err: &MemSink) -> bool {
+    status == marked.status
+        && out.bytes() == marked.out.as_bytes()
+        && err.bytes() == marked.err.as_bytes()
+}
+
+fn ends<T: Threads + Wait + Sync>(
     rt: &T,
     alloc: Global,
-    words: &[&'static str],
-    out: &mut MemSink,
-    is_full: bool,
-) -> Result<Status, NoMemory> {
-    let words = words_of(alloc, words)?;
-    let mut store = store_of(alloc)?;
-    call_with(rt, alloc, &words, &mut store, out, is_full)
+    words: &Vec<String>,
+    store: &mut MemStore,
+    marked: &Marked,
+) -> Result<bool, NoMemory> {
+    let mut out = MemSink::new(alloc, 100);
+    let mut err = MemSink::new(alloc, 100);
+    let status = call_with(rt, alloc, words, store, &mut out, &mut err, marked.room)?;
+    Ok(is_end(marked, status, &out, &err))
 }
 
-const MARKED: &[&str] = &["run", "--form", "marks", "s", "f"];
+fn comes_to<T: Threads + Wait + Sync>(
+    rt: &T,
+    alloc: Global,
+    marked: &Marked,
+) -> Result<bool, NoMemory> {
+    let words = words_of(alloc, marked.words)?;
+    ends(rt, alloc, &words, &mut store_of(alloc)?, marked)
+}
+
+// The place of the first run that comes to something else, counted from 0.
+fn wrong_run<T: Threads + Wait + Sync>(
+    rt: &T,
+    alloc: Global,
+    rows: &[Marked],
+) -> Result<Option<usize>, NoMemory> {
+    'rows: for (place, marked) in rows.iter().enumerate() {
+        if !comes_to(rt, alloc, marked)? {
+            return Ok(Some(place));
+        }
+    }
+    Ok(None)
+}
+
+/// A run over three groups through the first form.
+const MARKED: Marked = Marked {
+    words: &["run", "--form", "marks", "s", "f"],
+    room: 3,
+    status: Status::Done,
+    out: "<...>",
+    err: "",
+};
 
 #[test]
 fn the_first_form_of_the_name_writes_the_report(rt: HostRuntime) -> Result<(), Fail> {
-    let alloc = rt.alloc();
-    let mut out = MemSink::new(alloc, 100);
-    assert!(rt; call(&rt, alloc, MARKED, &mut out, false)? == Status::Done);
-    assert!(rt; out.bytes() == b"<...>".as_slice());
-    Ok(())
+    all_hold(&rt, wrong_run(&rt, rt.alloc(), &[MARKED]))
 }
+
+/// The same without memory for a row.
+const FULL: Marked = Marked {
+    room: 0,
+    status: Status::NoMemory,
+    out: "",
+    err: "symple: out of memory\n",
+    ..MARKED
+};
+
+/// For the first row, for the second and for the third.
+const FULL_AT: [Marked; 3] = [FULL, Marked { room: 1, ..FULL }, Marked { room: 2, ..FULL }];
 
 #[test]
 fn a_form_without_memory_ends_the_run(rt: HostRuntime) -> Result<(), Fail> {
-    let alloc = rt.alloc();
-    let mut out = MemSink::new(alloc, 100);
-    assert!(rt; call(&rt, alloc, MARKED, &mut out, true)? == Status::NoMemory);
-    assert!(rt; out.bytes().is_empty());
-    Ok(())
+    all_hold(&rt, wrong_run(&rt, rt.alloc(), &FULL_AT))
 }
+
+/// A run in the form `table`, and a check, which writes in no form.
+const OTHERS: [Marked; 2] = [
+    Marked {
+        words: &["run", "s", "f"],
+        status: Status::Usage,
+        out: "",
+        err: "symple: usage\n",
+        ..MARKED
+    },
+    Marked {
+        words: &["check", "s"],
+        out: "cells 1 tests 0 paths 3\n",
+        ..MARKED
+    },
+];
 
 #[test]
 fn a_form_that_is_not_handed_in_is_usage(rt: HostRuntime) -> Result<(), Fail> {
-    let alloc = rt.alloc();
-    let mut out = MemSink::new(alloc, 100);
-    assert!(rt; call(&rt, alloc, &["run", "s", "f"], &mut out, false)? == Status::Usage);
-    assert!(rt; call(&rt, alloc, &["check", "s"], &mut out, false)? == Status::Done);
-    Ok(())
+    all_hold(&rt, wrong_run(&rt, rt.alloc(), &OTHERS))
 }

@@ -14,7 +14,7 @@ pub(crate) const COUNTER: &str =
     "field x: num; state n: int [0..3] = 0; update { n = n + 1; } report { n = n; }";
 
 // The same, and stays at three.
-const CLAMPED: &str =
+pub(crate) const CLAMPED: &str =
     "field x: num; state n: int [0..3] = 0 clamp; update { n = n + 1; } report { n = n; }";
 
 // A sum that stays in a range of which neither end is 0.
@@ -49,7 +49,7 @@ pub(crate) const BY_USER: &str =
     report { n = n; }";
 
 // A group for each user and day.
-const BY_DAY: &str = "field user: word; field day: word; group user, day; \
+pub(crate) const BY_DAY: &str = "field user: word; field day: word; group user, day; \
     state n: int [0..1000000] = 0; update { n = n + 1; } report { n = n; }";
 
 // A group for each value of all fields, in another order than theirs.
@@ -160,7 +160,7 @@ pub(crate) const DONE: Run = Run {
 };
 
 /// A run whose first read fails.
-const UNREAD: Run = Run {
+pub(crate) const UNREAD: Run = Run {
     read: 1,
     status: Status::ReadFault,
     err: "symple: count.symple: read fault\n",
@@ -199,7 +199,8 @@ fn add_files(alloc: Global, store: &mut MemStore, files: &[&str]) -> Result<(), 
     Ok(())
 }
 
-fn store_of(alloc: Global, run: &Run) -> Result<MemStore, NoMemory> {
+/// A store of the run's script and files, of which a read may fail.
+pub(crate) fn store_of(alloc: Global, run: &Run) -> Result<MemStore, NoMemory> {
     let mut store = MemStore::new(alloc);
     store.add(alloc, "count.symple", run.script.as_bytes())?;
     add_files(alloc, &mut store, run.files)?;
@@ -251,7 +252,8 @@ fn ends_by<T: Threads + Wait + Sync>(
     Ok(is_end(run, status, &out, &err))
 }
 
-fn ends<T: Threads + Wait + Sync>(
+/// Whether a run over this store comes to what is said of it.
+pub(crate) fn ends<T: Threads + Wait + Sync>(
     rt: &T,
     alloc: Global,
     store: &mut MemStore,
