@@ -1,6 +1,7 @@
 #!/usr/bin/env python3
 """Compares docs/CALLS.md with the sources: each public call of the crates has its row, each row
-names a call that is there, and each clause in a row is a clause of that call.
+names a call that is there, each clause in a row is a clause of that call, and nothing that a call
+could change is said to be the same.
 
     calls.py [--list]
 
@@ -271,6 +272,9 @@ def faults_of(row, call):
     refuses = bool(re.match(r"(Option|Result)<", call.returns()))
     if refuses and row.cells[0] == "none":
         yield f"{call.name} returns {call.returns()}, so it refuses something"
+    arguments = call.text.split("->")[0]
+    if row.cells[2] == "same" and "&mut" in arguments:
+        yield f"{call.name} takes &mut, so something can have changed"
     waits = "Wait" in call.text
     if waits != any("may wait" in cell for cell in row.cells):
         yield f"{call.name} may wait" if waits else f"{call.name} doesn't wait"
