@@ -9,7 +9,7 @@
 set -eu
 
 records=${1:-5000000}
-turns=3
+turns=${TURNS:-3}
 here=$(CDPATH='' cd -P "$(dirname "$0")" && pwd)
 root=$(dirname "$here")
 timer=/usr/bin/time

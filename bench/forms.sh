@@ -6,7 +6,7 @@
 # one record takes, as a loop of the shell starts it.
 # With --instructions it prints, in place of times, the instructions by valgrind.
 # Needs mawk, GNU date and time, or else valgrind (Debian's packages mawk, coreutils, time and
-# valgrind). TURNS is another number of turns.
+# valgrind).
 # Usage: bench/forms.sh [--instructions] [GROUPS]
 set -eu
 

@@ -12,7 +12,7 @@ set -eu
 
 records=${1:-4000000}
 most_bytes=67108864
-turns=3
+turns=${TURNS:-3}
 programs="symple two_keys rust mawk gawk python miller"
 patience=120
 here=$(CDPATH='' cd -P "$(dirname "$0")" && pwd)

@@ -1,7 +1,7 @@
 # Read by bench/explore.sh, bench/paths.sh and bench/runs.sh, which have set `here` to this
 # directory: builds the program `sym_bench`, with rt on PATH.
 # shellcheck shell=sh disable=SC2034,SC2154 # what the scripts use, and what they have set
-turns=3
+turns=${TURNS:-3}
 crate=$(dirname "$here")/crates/sym_bench
 program=$crate/out/sym_bench
 
