@@ -5,12 +5,13 @@
 # fields but for its second column, and each runs three times, in turn; miller, the slowest, is
 # stopped where it takes two minutes. Prints the least wall time and the most memory of each, and
 # their ratios to symple's, as a table.
-# Needs rustc, gawk, mawk, miller, python3, GNU date, time and timeout (Debian's packages rustc,
-# gawk, mawk, miller, python3, time and coreutils).
-# Usage: bench/sessions.sh [RECORDS]
+# With --instructions it prints, in place of all that, the instructions of a record by valgrind, with
+# one field in the group line and with two.
+# Needs rustc, gawk, mawk, miller, python3, GNU date, time and timeout, or else valgrind (Debian's
+# packages rustc, gawk, mawk, miller, python3, time, coreutils and valgrind).
+# Usage: bench/sessions.sh [--instructions] [RECORDS]
 set -eu
 
-records=${1:-4000000}
 most_bytes=67108864
 turns=${TURNS:-3}
 programs="symple two_keys rust mawk gawk python miller"
@@ -24,15 +25,43 @@ stop() {
     exit 1
 }
 
+work=$(mktemp -d)
+trap 'rm -rf "$work"' EXIT
+trap 'exit 1' HUP INT TERM
+
+# The launcher builds the program; its own few milliseconds are not measured.
+"$root/symple" run "$here/sessions.symple" /dev/null >"$work/report"
+
+# The instructions of a run of a script over a log.
+count() {
+    valgrind --tool=callgrind --callgrind-out-file=/dev/null \
+        "$root/crates/symple/out/symple" run "$here/$1.symple" "$work/$2.csv" \
+        2>&1 >"$work/report" | awk '/Collected/ { print $4 }'
+}
+
+# What a record takes: the instructions over the log less those over a log without records.
+of_record() {
+    echo $((($(count "$1" log) - $(count "$1" none)) / records))
+}
+
+if [ "${1:-}" = --instructions ]; then
+    records=${2:-65536}
+    command -v valgrind >/dev/null || stop "there is no valgrind"
+    printf '%-6s %9s %10s\n' users sessions two_keys
+    for users in 10 98304; do
+        mawk -v records="$records" -v users=$users -f "$here/visits.awk" >"$work/log.csv"
+        head -n 1 "$work/log.csv" >"$work/none.csv"
+        printf '%-6d %9d %10d\n' $users "$(of_record sessions)" "$(of_record two_keys)"
+    done
+    exit 0
+fi
+
+records=${1:-4000000}
 for tool in rustc gawk mawk mlr python3 timeout "$timer"; do
     command -v "$tool" >/dev/null || stop "there is no $tool"
 done
 # What stands for python3 may be a script that looks for it.
 python=$(python3 -c 'import sys; print(sys.executable)')
-
-work=$(mktemp -d)
-trap 'rm -rf "$work"' EXIT
-trap 'exit 1' HUP INT TERM
 
 # run PROGRAM USERS: one of the programs over one of the logs. Its status is 124 where miller was
 # stopped.
@@ -74,8 +103,6 @@ measure() {
     echo "$1 $2 $(((end - begin) / 1000)) $(tail -n 1 "$work/used")" >>"$work/turns"
 }
 
-# The launcher builds the program; its own few milliseconds are not measured.
-"$root/symple" run "$here/sessions.symple" /dev/null >"$work/report"
 rustc -O -o "$work/sessions" "$here/sessions.rs"
 for users in 10 98304; do
     mawk -v records="$records" -v users=$users -f "$here/visits.awk" >"$work/$users.csv"
