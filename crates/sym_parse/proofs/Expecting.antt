@@ -70,7 +70,7 @@ one-place text a b (end tokens s q k o) (token f x t r p g n) = absurd (no-end t
 one-place text a b (end tokens r p g n) (end others s q k o) = sym p ∙ q
 
 -- A text with an unexpected place has tokens, and they are no script's.
-never-script : (text : List ℕ) (at : ℕ) (tree : ScriptTree) → IsUnexpected text at → IsScriptOf text tree → ⊥
+pub never-script : (text : List ℕ) (at : ℕ) (tree : ScriptTree) → IsUnexpected text at → IsScriptOf text tree → ⊥
 never-script text at tree (token f x t r p g n) is =
     let e : is.tokens ≡ f ++ t ∷ x = same-tokens text is.tokens (f ++ t ∷ x) is.lexed r in
     let whole : CanGoOn (lexemes_of text is.tokens) = goes (lexemes_of text is.tokens) (record { limits = most; tree = tree; script = is.script }) in

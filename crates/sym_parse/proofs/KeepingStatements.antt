@@ -14,8 +14,8 @@ use Rattle.sym_parse.proofs.Keeping.{AtMost, at-most-self, at-most-before, Small
 use Rattle.sym_parse.proofs.KeepingExpressions.{if-agrees-where, values-keeps, expression-keeps}
 use Rattle.sym_parse.specs.Syntax.Statements as syntax
 use Rattle.sym_parse.specs.Syntax.Statements.{IsStatement, IsIf, IsIfWithin}
-use Rattle.sym_parse.proofs.Recognizing.{Numbers, Took, Says, Statements, fits-self}
-use Rattle.sym_parse.proofs.RecognizingStatements.{Statement, one-line, if-says}
+use Rattle.sym_parse.proofs.Recognizing.{Numbers, Took, Says, Statements}
+use Rattle.sym_parse.proofs.RecognizingStatements.{Statement, one-says, if-says}
 
 -- A statement takes a token.
 if-some : (most : LimitKind → ℕ) (room : ℕ) (ls : List Lexeme) (x : StmtTree) → IsIfWithin most room ls x → 0 < length ls
@@ -34,10 +34,11 @@ statement-some most room ls x (syntax.branch is) = if-some most room ls x is
 statement-takes : (most : LimitKind → ℕ) (room : ℕ) (i j : Input) (x : StmtTree) → begins_statement i ≡ true → statement most room (if_statement most room) i ≡ Ok (x, j) → length j.rest < length i.rest
 statement-takes most room i j x h e =
     let m : Numbers = record { most = most; room = room } in
+    let n : Numbers = record { most = λ k. suc (most k); room = room } in
     let if-line = if-says most room in
     let t : Took Statements m (Statement m (if_statement most room) (λ n. IsIfWithin n.most n.room) if-line) i x j =
-    subst (λ o. Says Statements m (Statement m (if_statement most room) (λ n. IsIfWithin n.most n.room) if-line) i o) e ((one-line m (if_statement most room) (λ n. IsIfWithin n.most n.room) if-line).says i h) in
-    let some = statement-some most room t.taken x (t.means m (fits-self m)).0 in
+    subst (λ o. Says Statements m 0 (Statement m (if_statement most room) (λ n. IsIfWithin n.most n.room) if-line) i o) e ((one-says m (if_statement most room) (λ n. IsIfWithin n.most n.room) if-line).says i h) in
+    let some = statement-some n.most room t.taken x (t.means n (record { wide = λ k. omega arith; deep = omega arith; one = λ k. omega arith })).0 in
     let all : length i.rest ≡ length (t.taken ++ j.rest) = ap length t.splits in
     omega (arith, some, all, length-append t.taken j.rest)
 

@@ -6,6 +6,7 @@ pub mod Chains
 pub mod Statements
 pub mod Lists
 pub mod Taking
+pub mod Wanting
 pub mod Recognizing
 pub mod RecognizingExpressions
 pub mod RecognizingStatements
@@ -27,4 +28,5 @@ pub mod KeepingStatements
 pub mod KeepingScripts
 pub mod Refusing
 pub mod Expecting
+pub mod Limiting
 pub mod Examples

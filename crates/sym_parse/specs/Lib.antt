@@ -6,6 +6,7 @@ pub mod Parsing
 pub mod Views
 pub mod Answers
 pub mod Sentences
+pub mod Beginnings
 pub mod Places
 pub mod Bare
 pub mod Printed

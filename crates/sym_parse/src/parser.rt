@@ -9,7 +9,7 @@ ghost use Rattle.sym_parse.specs.Answers.{Gives, IsScriptOf, ended, parsed, plac
 ghost use Rattle.sym_parse.specs.Lexemes.{lexemes_of};
 ghost use Rattle.sym_parse.specs.Limits.{most};
 ghost use Rattle.sym_parse.specs.Parsing.Scripts as spec;
-ghost use Rattle.sym_parse.specs.Places.{IsPassed, IsReached, IsRefusedAt, IsUnexpected};
+ghost use Rattle.sym_parse.specs.Places.{IsPassed, IsRefusedAt, IsUnexpected};
 ghost use Rattle.sym_parse.specs.declared.error.LimitKind.{LimitKind};
 
 use crate::error::ParseErr;
@@ -103,10 +103,10 @@ pub fn parse(alloc: Global, bytes: &[u8]) -> Result<Script, ParseErr>
     ensures unexpected { (at : ℕ) → IsErrOf result (ParseErr.Expected at) →
         IsUnexpected bytes.now at }
     ensures expected { (at : ℕ) → IsUnexpected bytes.now at → IsRefusedAt at result }
-    ensures reached { (at : ℕ) (which : LimitKind) → IsErrOf result (ParseErr.Limit at which) →
-        IsReached bytes.now at }
     ensures passed { (at : ℕ) (which : LimitKind) → IsErrOf result (ParseErr.Limit at which) →
         IsPassed bytes.now at which }
+    ensures limited { (at : ℕ) (which : LimitKind) → IsPassed bytes.now at which →
+        Gives result (Err (ParseErr.Limit at which)) }
     ensures exact { Gives result (parsed bytes.now) }
 {
     parse_text(alloc, bytes)
