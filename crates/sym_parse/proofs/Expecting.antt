@@ -1,12 +1,11 @@
 -- At most one place of a text is unexpected, and it is answered.
-use Rattle.std.proofs.Common.{◌≡◌, ◌≢◌, ℕ, List, [], ◌∷◌, ◌++◌, Result, Ok, Err, refl, ap, sym, ◌∙◌, subst, append_assoc}
+use Rattle.std.proofs.Common.{◌≡◌, ℕ, List, [], ◌∷◌, ◌++◌, Result, Ok, Err, ap, sym, ◌∙◌, subst, append_assoc}
 use Rattle.std.proofs.lemmas.List.{append-nil, map-append}
 use Rattle.sym_base.specs.declared.tree.script.Script.{Script}
 use Rattle.sym_base.specs.Trees.{ScriptTree, script_tree}
 use Rattle.sym_lex.specs.declared.error.LexFault.{LexFault}
 use Rattle.sym_lex.specs.declared.token.Token.{Token}
 use Rattle.sym_lex.specs.Rules.{LexResult, Reads}
-use Rattle.sym_lex.specs.Lexing.{lexed}
 use Rattle.sym_lex.proofs.Agreement.{reads-once}
 use Rattle.sym_parse.specs.declared.error.ParseErr.{ParseErr}
 use Rattle.sym_parse.specs.declared.error.ParseErr.TheVariants as answer

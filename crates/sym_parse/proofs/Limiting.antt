@@ -1,12 +1,11 @@
 -- At most one token of a text passes a limit first, and it is answered.
-use Rattle.std.proofs.Common.{◌≡◌, ℕ, zero, suc, ◌+◌, ◌-◌, ◌<◌, ◌≤◌, ◌⊎◌, inl, inr, false, List, [], ◌∷◌, ◌++◌, length, slice_get, Option, Some, Result, Ok, Err, refl, ap, sym, ◌∙◌, subst, arith, append_assoc, length-append}
+use Rattle.std.proofs.Common.{◌≡◌, ℕ, zero, suc, ◌-◌, ◌<◌, ◌≤◌, ◌⊎◌, inl, inr, false, List, [], ◌∷◌, ◌++◌, length, slice_get, Some, Result, Ok, Err, refl, ap, sym, ◌∙◌, subst, arith, append_assoc, length-append}
 use Rattle.std.proofs.lemmas.Bool.{cases_lt}
 use Rattle.std.proofs.lemmas.List.{length-map, map-append}
 use Rattle.std.proofs.lemmas.Option.{same_Some}
 use Rattle.sym_base.specs.declared.tree.script.Script.{Script}
 use Rattle.sym_base.specs.Trees.{ScriptTree}
 use Rattle.sym_lex.specs.declared.token.Token.{Token}
-use Rattle.sym_lex.specs.Rules.{LexResult, Reads}
 use Rattle.sym_lex.specs.Lexing.{lexed}
 use Rattle.sym_lex.proofs.Agreement.{reads-once}
 use Rattle.sym_parse.specs.declared.error.LimitKind.{LimitKind}

@@ -1,6 +1,6 @@
 -- What is read as statements is that, and the tokens before the place where reading them stops begin
 -- some. They are counted.
-use Rattle.std.proofs.Common.{◌≡◌, ℕ, zero, suc, ◌+◌, ◌-◌, ◌<◌, ◌≤◌, Bool, true, false, ◌||◌, nat_lt, List, [], ◌∷◌, ◌++◌, Ok, Err, refl, subst, arith}
+use Rattle.std.proofs.Common.{◌≡◌, ℕ, zero, suc, ◌+◌, ◌-◌, ◌<◌, ◌≤◌, Bool, true, false, ◌||◌, List, [], ◌∷◌, ◌++◌, Ok, Err, refl, subst, arith}
 use Rattle.sym_base.specs.declared.tree.name.Name.{Name as NameRecord}
 use Rattle.sym_base.specs.Trees.{StmtTree, StmtsTree, If, Done, Then}
 use Rattle.sym_base.specs.Sizes.{stmt_count, stmts_count}
@@ -12,7 +12,7 @@ use Rattle.sym_parse.specs.declared.stop.Stop.TheVariants as stop
 use Rattle.sym_parse.specs.Beginnings as begins
 use Rattle.sym_parse.specs.Beginnings.{Begins}
 use Rattle.sym_parse.specs.Lexemes.{Lexeme, Name, Word, Sign, IsKeyword, IsName}
-use Rattle.sym_parse.specs.Steps.{Input, Parsed, Parser, ◌>>◌, next, passed, sees_word, sees_sign, sees_name, sign, name}
+use Rattle.sym_parse.specs.Steps.{Input, Parsed, Parser, next, passed, sees_word, sees_sign, sees_name, sign, name}
 use Rattle.sym_parse.specs.Syntax.Expressions.{IsExprWithin}
 use Rattle.sym_parse.specs.Syntax.Statements as syntax
 use Rattle.sym_parse.specs.Syntax.Statements.{IsStatement, AreStatements, IsBlock, IsElse, IsIf, IsIfWithin, IsBlockWithin}

@@ -1,5 +1,5 @@
 -- Which tokens begin a thing that is counted, and which ones leave something open.
-use Rattle.std.specs.Prelude.{ℕ, ℤ, Bool, true, false, ◌||◌, if◌then◌else◌, List, [], ◌∷◌, Some}
+use Rattle.std.specs.Prelude.{ℕ, ℤ, Bool, ◌||◌, if◌then◌else◌, List, [], ◌∷◌, Some}
 use Rattle.sym_lex.specs.declared.keyword.Keyword.TheVariants as keyword
 use Rattle.sym_lex.specs.declared.symbol.Symbol.TheVariants as symbol
 use Rattle.sym_parse.specs.declared.error.LimitKind.{LimitKind}
