@@ -10,7 +10,7 @@ pub returns-in-Ok-None-clause-says : goal.returns-in-Ok-None-clause-says
 returns-in-Ok-None-clause-says g c =
     let none = sym c.in-Ok-None.ensures.read ∙ ap (option_map command_seen) c.in-Ok-None.field-0-is in
     stop-says _ _ _ c.no_command.result c.refuse.result
-    (subst (Stops _) (sym c.no_command.ensures) (usage-stops _ (none-asked _ _ _ none)))
+    (subst (Stops _) (sym c.no_command.ensures) (usage-stops _ (none-asked _ _ (g.G.Gate.shown c.args.gate.now) none)))
     c.refuse.ensures.status (record { written = refl; faults = refl; short = refl }) c.refuse.ensures.told
 
 pub returns-in-Err-clause-says : goal.returns-in-Err-clause-says
