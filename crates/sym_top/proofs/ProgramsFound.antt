@@ -7,17 +7,21 @@ use Rattle.sym_base.specs.Trees.{ScriptTree}
 use Rattle.sym_lex.specs.declared.token.Token.{Token}
 use Rattle.sym_lex.specs.Rules.{LexResult}
 use Rattle.sym_lex.specs.Lexing.{lexed}
+use Rattle.sym_parse.specs.declared.error.LimitKind.{LimitKind}
 use Rattle.sym_parse.specs.declared.error.ParseErr.{ParseErr}
 use Rattle.sym_parse.specs.declared.error.ParseErr.TheVariants as parse_error
 use Rattle.sym_parse.specs.declared.stop.Stop.TheVariants as stop
 use Rattle.sym_parse.specs.Answers.{IsScriptOf, by_tokens, ended, parsed}
 use Rattle.sym_parse.specs.Lexemes.{lexemes_of}
+use Rattle.sym_parse.specs.Places.{IsUnexpected, IsPassed}
 use Rattle.sym_parse.specs.Limits.{most}
 use Rattle.sym_parse.specs.Steps.{Parsed}
 use Rattle.sym_parse.specs.Parsing.Scripts.{script, start}
 use Rattle.sym_parse.specs.Sentences.{IsKeptBy}
 use Rattle.sym_parse.proofs.Answering.{parsed-found, parsed-reads, parsed-fault, fault-parsed}
-use Rattle.sym_parse.proofs.Refusing.{kept, unexpected-by, reached-by}
+use Rattle.sym_parse.proofs.Expecting.{expected-by, never-script}
+use Rattle.sym_parse.proofs.Limiting.{passed-parsed}
+use Rattle.sym_parse.proofs.Refusing.{kept, text-unexpected, text-passed}
 use Rattle.sym_check.specs.Plan.ScriptPlans.{ScriptPlan}
 use Rattle.sym_check.specs.Rules.Scripts.{plan_of}
 use Rattle.sym_check.specs.declared.elaborate.error.CheckErr.{CheckErr}
@@ -25,7 +29,7 @@ use Rattle.sym_check.proofs.ScriptsAgree.{accepted_planned, planned_accepted, br
 use Rattle.sym_top.specs.declared.refusal.Place.TheVariants as place
 use Rattle.sym_top.specs.declared.refusal.Refusal.{Refusal}
 use Rattle.sym_top.specs.declared.refusal.Refusal.TheVariants as refusal
-use Rattle.sym_top.specs.Programs.{Program, IsProgram, IsUnparsed, lexical, unexpected, reached, IsNoProgram, too_large, unparsed, broken, planned, program_of, program_in}
+use Rattle.sym_top.specs.Programs.{Program, IsProgram, IsUnparsed, lexical, unexpected, passed, IsNoProgram, too_large, unparsed, broken, planned, program_of, program_in}
 
 over : (n m : ℕ) → m < n → nat_le n m ≡ false
 over n m h = grind (arith, nat_tests)
@@ -63,20 +67,36 @@ parsed-some text e = result-some text (lexed text) e
 
 -- ---- where a text can't be read
 
-unparsed-parsed : (text : List ℕ) (why : ParseErr) → IsUnparsed text why → parsed text ≡ Err why
-unparsed-parsed text _ (lexical fault reads) = parsed-fault text fault reads
-unparsed-parsed text _ (unexpected at is e) = e
-unparsed-parsed text _ (reached at which is e) = e
-
 abbrev refused : ParseErr → Result Script ParseErr
 refused why = Err why
+
+abbrev outcome : Type 0
+outcome = Result ScriptTree ParseErr
+
+-- Where no token passes a limit, the first place at which no sentence goes on is answered.
+unexpected-by : (text : List ℕ) (at : ℕ) (o : outcome) → parsed text ≡ o → IsUnexpected text at →
+    ((spot : ℕ) (which : LimitKind) → IsPassed text spot which → ⊥) → o ≡ Err (parse_error.Expected at)
+unexpected-by text at (Ok tree) e u none = absurd (never-script text at tree u (parsed-found text tree e))
+unexpected-by text at (Err (parse_error.Lex fault)) e u none =
+    absurd (expected-by text (refused (parse_error.Lex fault)) (λ n. e) at u)
+unexpected-by text at (Err (parse_error.Expected spot)) e u none =
+    ap (λ (n : ℕ). Err (parse_error.Expected n)) (expected-by text (refused (parse_error.Expected spot)) (λ n. e) at u)
+unexpected-by text at (Err (parse_error.Limit spot which)) e u none = absurd (none spot which (text-passed text spot which e))
+unexpected-by text at (Err parse_error.NoMemory) e u none = absurd (parsed-some text e)
+
+never-both : (text : List ℕ) (at spot : ℕ) (which : LimitKind) → parsed text ≡ Err (parse_error.Expected at) → IsPassed text spot which → ⊥
+never-both text at spot which e p = let f : parsed text ≡ Err (parse_error.Limit spot which) = passed-parsed text spot which p in cc
+
+unparsed-parsed : (text : List ℕ) (why : ParseErr) → IsUnparsed text why → parsed text ≡ Err why
+unparsed-parsed text _ (lexical fault reads) = parsed-fault text fault reads
+unparsed-parsed text _ (unexpected at is none) = unexpected-by text at (parsed text) refl is none
+unparsed-parsed text _ (passed at which is) = passed-parsed text at which is
 
 pub parsed-unparsed : (text : List ℕ) (why : ParseErr) → parsed text ≡ Err why → IsUnparsed text why
 parsed-unparsed text (parse_error.Lex fault) e = lexical fault (fault-parsed text fault e)
 parsed-unparsed text (parse_error.Expected at) e =
-    unexpected at (unexpected-by text (refused (parse_error.Expected at)) (λ n. e) at refl) e
-parsed-unparsed text (parse_error.Limit at which) e =
-    reached at which (reached-by text (refused (parse_error.Limit at which)) (λ n. e) at which refl) e
+    unexpected at (text-unexpected text at e) (λ spot which p. never-both text at spot which e p)
+parsed-unparsed text (parse_error.Limit at which) e = passed at which (text-passed text at which e)
 parsed-unparsed text parse_error.NoMemory e = absurd (parsed-some text e)
 
 -- ---- what is, is found

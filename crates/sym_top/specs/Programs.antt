@@ -8,7 +8,7 @@ use Rattle.sym_parse.specs.declared.error.LimitKind.{LimitKind}
 use Rattle.sym_parse.specs.declared.error.ParseErr.{ParseErr}
 use Rattle.sym_parse.specs.declared.error.ParseErr.TheVariants as parse_error
 use Rattle.sym_parse.specs.Answers.{IsScriptOf, parsed}
-use Rattle.sym_parse.specs.Places.{IsUnexpected, IsReached}
+use Rattle.sym_parse.specs.Places.{IsUnexpected, IsPassed}
 use Rattle.sym_check.specs.Checking.CheckedScripts.{checked_tree, checked_plan}
 use Rattle.sym_check.specs.Plan.ScriptPlans.{ScriptPlan}
 use Rattle.sym_check.specs.Rules.Scripts.{IsAccepted, BreaksScript, plan_of}
@@ -32,20 +32,19 @@ pub record IsProgram (text : List ℕ) (program : Program) : Type 0 where
   pub script : IsScriptOf text program.tree
   pub accepted : IsAccepted program.tree program.plan
 
--- Where a text can't be read as a script: its first lexical fault; else a place at which no
--- sentence of the grammar goes on, or one that is reached under wider limits. Which place it is,
--- and which limit is passed, is what the parser's function answers (`parsed`).
+-- Where a text can't be read as a script: its first lexical fault; else the first token that passes
+-- a limit, with the kind of the limit; else, if none does, the first place at which no sentence of
+-- the grammar goes on.
 pub data IsUnparsed (text : List ℕ) : ParseErr → Type 0 where
   lexical : (fault : LexFault)
       → Reads 0 text (Err fault)
       → IsUnparsed text (parse_error.Lex fault)
   unexpected : (at : ℕ)
       → IsUnexpected text at
-      → parsed text ≡ Err (parse_error.Expected at)
+      → ((other : ℕ) (which : LimitKind) → IsPassed text other which → ⊥)
       → IsUnparsed text (parse_error.Expected at)
-  reached : (at : ℕ) (which : LimitKind)
-      → IsReached text at
-      → parsed text ≡ Err (parse_error.Limit at which)
+  passed : (at : ℕ) (which : LimitKind)
+      → IsPassed text at which
       → IsUnparsed text (parse_error.Limit at which)
 
 -- Why a text is refused as a script: its size; else where it can't be read; else the first rule
