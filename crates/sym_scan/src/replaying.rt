@@ -1,0 +1,180 @@
+//! Chunks that are replayed from how groups stand before them.
+ghost use Rattle.std.specs.Prelude.{◌≡◌, ◌≤◌, ◌++◌, [], IfOk, OnOk, if◌then◌else◌};
+ghost use Rattle.std.specs.List.{All};
+ghost use Rattle.std.specs.Map.{lookup};
+ghost use Rattle.sym_check.specs.Checking.CheckedScripts.{checked_plan};
+ghost use Rattle.sym_check.specs.Meaning.Groups.{is_key, key_of};
+ghost use Rattle.sym_plain.specs.Pairs.{after_record};
+ghost use Rattle.sym_table.specs.ChunkRecords.{all_records, chunk_records};
+ghost use Rattle.sym_table.specs.Rows.{FitsChunk};
+ghost use Rattle.sym_scan.specs.Replays.{GoesOn, replayed_to, row_of};
+ghost use Rattle.sym_scan.specs.Traces.{is_shown};
+
+use crate::rows::{TraceRow, TraceRows};
+use crate::starts::Starts;
+use std::alloc::Global;
+use std::slice;
+use sym_base::{Key, NoMemory, Record, Values};
+use sym_check::Checked;
+use sym_plain::{Groups, fold_into, key_into};
+use sym_table::{Bad, Chunk, decode_into};
+
+/// What chunks come to.
+#[derive(Drop)]
+pub enum Replayed {
+    /// The rows of those of their records that are shown.
+    Rows(TraceRows),
+    /// Their first row that is no record.
+    Bad(Bad),
+}
+
+/// The groups as they stand, and the rows so far. The record and the key are those that were made
+/// last, over whose memory the next ones are made.
+#[derive(Drop)]
+pub(crate) struct Replay {
+    pub(crate) groups: Groups,
+    pub(crate) rows: Vec<TraceRow>,
+    rec: Record,
+    key: Key,
+}
+
+impl Replay {
+    /// No rows yet. It takes no memory.
+    pub(crate) fn new(alloc: Global, starts: Starts) -> Replay
+        ensures groups { result.groups ≡ starts }
+        ensures rows { result.rows.items ≡ [] }
+    {
+        Replay {
+            groups: starts.into_groups(),
+            rows: Vec::new(alloc),
+            rec: Record {
+                no: 0,
+                fields: Values::new(alloc),
+            },
+            key: Key {
+                values: Values::new(alloc),
+            },
+        }
+    }
+}
+
+// Adds the row of a record with this number and key. The key and the group are copied.
+fn push_row(
+    alloc: Global,
+    no: u64,
+    key: &Key,
+    groups: &Groups,
+    rows: &mut Vec<TraceRow>,
+) -> Result<(), NoMemory>
+    ensures { let found = lookup (is_key key.now) groups.now in
+        OnOk result (rows.new.items ≡ rows.old.items ++ row_of no key.now found) }
+{
+    if let Some(outcome) = groups.find(key) {
+        rows.push(TraceRow {
+            no,
+            key: key.copy(alloc)?,
+            outcome: outcome.copy(alloc)?,
+        })?;
+    }
+    Ok(())
+}
+
+// Takes the record that was read: its group makes its step and, if the record is shown, there is a
+// row more.
+fn take_record(
+    alloc: Global,
+    checked: &Checked,
+    every: u64,
+    replay: &mut Replay,
+) -> Result<(), NoMemory>
+    requires { 1 ≤ every }
+    ensures groups { let p = checked_plan checked.now in
+        OnOk result (replay.new.groups ≡ after_record p replay.old.rec replay.old.groups) }
+    ensures rows { let rec = replay.old.rec in
+        let key = key_of (checked_plan checked.now) rec in
+        let row = row_of rec.no key (lookup (is_key key) replay.new.groups) in
+        OnOk result (replay.new.rows.items
+        ≡ replay.old.rows.items ++ (if is_shown every rec then row else [])) }
+{
+    fold_into(alloc, checked, &mut replay.groups, &replay.rec)?;
+    if replay.rec.no % every == 0 {
+        key_into(alloc, checked, &replay.rec, &mut replay.key)?;
+        push_row(
+            alloc,
+            replay.rec.no,
+            &replay.key,
+            &replay.groups,
+            &mut replay.rows,
+        )?;
+    }
+    Ok(())
+}
+
+// Takes the records of a chunk's rows, up to the first row that is none.
+fn take_rows(
+    alloc: Global,
+    checked: &Checked,
+    chunk: &Chunk,
+    every: u64,
+    replay: &mut Replay,
+) -> Result<Option<Bad>, NoMemory>
+    requires chunk { FitsChunk (checked_plan checked.now).fields chunk.now }
+    requires every { 1 ≤ every }
+    ensures { let p = checked_plan checked.now in
+        IfOk result (λ bad. GoesOn p every (chunk_records p chunk.now) replay.old bad replay.new) }
+{
+    'rows: for (index, row) in chunk.rows.as_slice().iter().enumerate() {
+        let no = chunk.first_no + index as u64;
+        let bad = decode_into(alloc, checked, &chunk.header, row, no, &mut replay.rec)?;
+        if bad.is_some() {
+            return Ok(bad);
+        }
+        take_record(alloc, checked, every, replay)?;
+    }
+    Ok(None)
+}
+
+/// The rows of those of the chunks' records whose numbers `every` divides, in order: how the
+/// record's group stands after it, which began with its start or, if it has none, with the initial
+/// state. `Bad` exactly where a row is no record: the first such row. The starts are led on where
+/// they are; a row that is shown gets copies of its key and of how its group stands.
+///
+/// `NoMemory` where an allocation failed.
+pub fn replay_all(
+    alloc: Global,
+    checked: &Checked,
+    chunks: &[Chunk],
+    every: u64,
+    starts: Starts,
+) -> Result<Replayed, NoMemory>
+    requires chunks { All (FitsChunk (checked_plan checked.now).fields) chunks.now }
+    requires every { 1 ≤ every }
+    ensures { let p = checked_plan checked.now in
+        IfOk result (λ replayed. replayed ≡ replayed_to p every starts (all_records p chunks.now)) }
+{
+    let mut replay = Replay::new(alloc, starts);
+    'chunks: for chunk in chunks {
+        if let Some(bad) = take_rows(alloc, checked, chunk, every, &mut replay)? {
+            return Ok(Replayed::Bad(bad));
+        }
+    }
+    Ok(Replayed::Rows(TraceRows::of(replay.rows)))
+}
+
+/// `replay_all` of one chunk, from starts that stay and are copied.
+pub fn replay(
+    alloc: Global,
+    checked: &Checked,
+    chunk: &Chunk,
+    every: u64,
+    starts: &Starts,
+) -> Result<Replayed, NoMemory>
+    requires chunk { FitsChunk (checked_plan checked.now).fields chunk.now }
+    requires every { 1 ≤ every }
+    ensures { let p = checked_plan checked.now in
+        let found = chunk_records p chunk.now in
+        IfOk result (λ replayed. replayed ≡ replayed_to p every starts.now found) }
+{
+    let starts = starts.copy(alloc)?;
+    replay_all(alloc, checked, slice::from_ref(chunk), every, starts)
+}
