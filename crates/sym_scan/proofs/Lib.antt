@@ -1,0 +1,5 @@
+pub mod TraceRows
+pub mod Standing
+pub mod Replaying
+pub mod StartLaws
+pub mod PartLaws

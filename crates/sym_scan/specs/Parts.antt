@@ -46,12 +46,12 @@ pub record IsRun (p : ScriptPlan) (limit : ℕ) (chunks : List Chunk) (ran : Par
   pub ends : IsFromTo 0 (length (part_chunks chunks ran.part)) ran.run
   pub stands : StandsForChunks p limit (part_chunks chunks ran.part) ran.run
 
--- The runs of parts one after the other, from one place up to the end of the chunks.
-abbrev pub AreRuns : ScriptPlan → ℕ → List Chunk → ℕ → List PartRun → Type 0
-AreRuns p limit chunks from [] = from ≡ length chunks
-AreRuns p limit chunks from (ran ∷ rest) =
+-- The runs of parts one after the other, from one place up to another.
+abbrev pub AreRuns : ScriptPlan → ℕ → List Chunk → ℕ → ℕ → List PartRun → Type 0
+AreRuns p limit chunks from to [] = from ≡ to
+AreRuns p limit chunks from to (ran ∷ rest) =
     (ran.part.first ≡ from) × IsRun p limit chunks ran
-    × AreRuns p limit chunks (from + ran.part.count) rest
+    × AreRuns p limit chunks (from + ran.part.count) to rest
 
 -- The starts of the keys of records are taken, and then the groups are led on by the records. Or a
 -- row is no record.

@@ -9,7 +9,7 @@ use Rattle.sym_check.specs.Meaning.Groups.{is_key}
 use Rattle.sym_check.specs.Plan.ScriptPlans.{ScriptPlan}
 use Rattle.sym_plain.specs.Pairs.{after_records}
 use Rattle.sym_table.specs.declared.bad.Bad.{Bad as BadRow}
-use Rattle.sym_scan.specs.declared.replaying.Replay.{Replay}
+use Rattle.sym_scan.specs.declared.replaying.Progress.{Progress}
 use Rattle.sym_scan.specs.declared.replaying.Replayed.{Replayed}
 use Rattle.sym_scan.specs.declared.replaying.Replayed.TheVariants.{Rows, Bad}
 use Rattle.sym_scan.specs.declared.rows.TraceRow.{TraceRow}
@@ -38,7 +38,7 @@ row_of no key (Some outcome) = record { no = no; key = key; outcome = outcome } 
 
 -- A replay has gone on over records: its groups have made their steps, and there are their rows
 -- more. Or one of the rows that were read is no record.
-abbrev pub GoesOn : ScriptPlan → ℕ → Result (List Record) BadRow → Replay → Option BadRow → Replay
+abbrev pub GoesOn : ScriptPlan → ℕ → Result (List Record) BadRow → Progress → Option BadRow → Progress
     → Type 0
 GoesOn p every (Ok records) old bad new =
     (bad ≡ None) × (new.groups ≡ after_records p records old.groups)

@@ -31,20 +31,20 @@ pub enum Replayed {
 /// The groups as they stand, and the rows so far. The record and the key are those that were made
 /// last, over whose memory the next ones are made.
 #[derive(Drop)]
-pub(crate) struct Replay {
+pub(crate) struct Progress {
     pub(crate) groups: Groups,
     pub(crate) rows: Vec<TraceRow>,
     rec: Record,
     key: Key,
 }
 
-impl Replay {
+impl Progress {
     /// No rows yet. It takes no memory.
-    pub(crate) fn new(alloc: Global, starts: Starts) -> Replay
+    pub(crate) fn new(alloc: Global, starts: Starts) -> Progress
         ensures groups { result.groups ≡ starts }
         ensures rows { result.rows.items ≡ [] }
     {
-        Replay {
+        Progress {
             groups: starts.into_groups(),
             rows: Vec::new(alloc),
             rec: Record {
@@ -85,26 +85,26 @@ fn take_record(
     alloc: Global,
     checked: &Checked,
     every: u64,
-    replay: &mut Replay,
+    progress: &mut Progress,
 ) -> Result<(), NoMemory>
     requires { 1 ≤ every }
     ensures groups { let p = checked_plan checked.now in
-        OnOk result (replay.new.groups ≡ after_record p replay.old.rec replay.old.groups) }
-    ensures rows { let rec = replay.old.rec in
+        OnOk result (progress.new.groups ≡ after_record p progress.old.rec progress.old.groups) }
+    ensures rows { let rec = progress.old.rec in
         let key = key_of (checked_plan checked.now) rec in
-        let row = row_of rec.no key (lookup (is_key key) replay.new.groups) in
-        OnOk result (replay.new.rows.items
-        ≡ replay.old.rows.items ++ (if is_shown every rec then row else [])) }
+        let row = row_of rec.no key (lookup (is_key key) progress.new.groups) in
+        OnOk result (progress.new.rows.items
+        ≡ progress.old.rows.items ++ (if is_shown every rec then row else [])) }
 {
-    fold_into(alloc, checked, &mut replay.groups, &replay.rec)?;
-    if replay.rec.no % every == 0 {
-        key_into(alloc, checked, &replay.rec, &mut replay.key)?;
+    fold_into(alloc, checked, &mut progress.groups, &progress.rec)?;
+    if progress.rec.no % every == 0 {
+        key_into(alloc, checked, &progress.rec, &mut progress.key)?;
         push_row(
             alloc,
-            replay.rec.no,
-            &replay.key,
-            &replay.groups,
-            &mut replay.rows,
+            progress.rec.no,
+            &progress.key,
+            &progress.groups,
+            &mut progress.rows,
         )?;
     }
     Ok(())
@@ -116,20 +116,20 @@ fn take_rows(
     checked: &Checked,
     chunk: &Chunk,
     every: u64,
-    replay: &mut Replay,
+    progress: &mut Progress,
 ) -> Result<Option<Bad>, NoMemory>
     requires chunk { FitsChunk (checked_plan checked.now).fields chunk.now }
     requires every { 1 ≤ every }
     ensures { let p = checked_plan checked.now in
-        IfOk result (λ bad. GoesOn p every (chunk_records p chunk.now) replay.old bad replay.new) }
+        IfOk result (λ bad. GoesOn p every (chunk_records p chunk.now) progress.old bad progress.new) }
 {
     'rows: for (index, row) in chunk.rows.as_slice().iter().enumerate() {
         let no = chunk.first_no + index as u64;
-        let bad = decode_into(alloc, checked, &chunk.header, row, no, &mut replay.rec)?;
+        let bad = decode_into(alloc, checked, &chunk.header, row, no, &mut progress.rec)?;
         if bad.is_some() {
             return Ok(bad);
         }
-        take_record(alloc, checked, every, replay)?;
+        take_record(alloc, checked, every, progress)?;
     }
     Ok(None)
 }
@@ -152,13 +152,13 @@ pub fn replay_all(
     ensures { let p = checked_plan checked.now in
         IfOk result (λ replayed. replayed ≡ replayed_to p every starts (all_records p chunks.now)) }
 {
-    let mut replay = Replay::new(alloc, starts);
+    let mut progress = Progress::new(alloc, starts);
     'chunks: for chunk in chunks {
-        if let Some(bad) = take_rows(alloc, checked, chunk, every, &mut replay)? {
+        if let Some(bad) = take_rows(alloc, checked, chunk, every, &mut progress)? {
             return Ok(Replayed::Bad(bad));
         }
     }
-    Ok(Replayed::Rows(TraceRows::of(replay.rows)))
+    Ok(Replayed::Rows(TraceRows::of(progress.rows)))
 }
 
 /// `replay_all` of one chunk, from starts that stay and are copied.

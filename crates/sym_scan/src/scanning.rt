@@ -126,7 +126,7 @@ fn run_all<T: Threads + Sync, S: LendsScript + Sync>(
     requires few { length chunks.now ≤ 64 }
     requires parts { AreParts 0 (length chunks.now) parts.items }
     ensures { let p = checked_plan (S.lent lender.now) in
-        IfOk result (λ runs. AreRuns p limit chunks.now 0 runs.items) }
+        IfOk result (λ runs. AreRuns p limit chunks.now 0 (length chunks.now) runs.items) }
 {
     let done = thread::map_vec(
         rt,

@@ -1,5 +1,6 @@
 //! How groups stand before each part of a round.
-ghost use Rattle.std.specs.Prelude.{◌≡◌, List, ℕ, IfOk, length};
+ghost use Rattle.std.specs.Prelude.{ℕ, List, IfOk, length};
+ghost use Rattle.std.specs.List.{All};
 ghost use Rattle.sym_check.specs.Checking.CheckedScripts.{checked_plan};
 ghost use Rattle.sym_table.specs.declared.chunk.Chunk.{Chunk as OneChunk};
 ghost use Rattle.sym_table.specs.ChunkRecords.{all_records};
@@ -78,14 +79,13 @@ pub(crate) fn start_all(
     runs: Vec<PartRun>,
     groups: &mut Groups,
 ) -> Result<AllStarted, NoMemory>
+    requires fits { All (λ ran. GroupsFit (checked_plan checked.now) ran.run.groups) runs.items }
     requires valid { AreValid (checked_plan checked.now) groups.old }
-    requires runs { (limit : ℕ) × (chunks : List OneChunk) ×
-        AreRuns (checked_plan checked.now) limit chunks 0 runs.items }
     ensures { (limit every : ℕ) (chunks : List OneChunk) →
-        AreRuns (checked_plan checked.now) limit chunks 0 runs.items →
-        let found = all_records (checked_plan checked.now) chunks in
+        AreRuns (checked_plan checked.now) limit chunks 0 (length chunks) runs.items →
+        let p = checked_plan checked.now in
         IfOk result (λ started.
-        StartsAll (checked_plan checked.now) every chunks found groups.old started groups.new) }
+        StartsAll p every chunks (all_records p chunks) groups.old started groups.new) }
 {
     let mut parts = Vec::with_capacity(alloc, runs.len())?;
     'parts: for PartRun { part, run } in runs {

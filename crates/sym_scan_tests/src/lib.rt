@@ -1,0 +1,17 @@
+//! Tests of traces, over the public calls of `sym_scan`.
+#![tactic(auto)]
+
+#[cfg(test)]
+mod anew;
+#[cfg(test)]
+mod drawn;
+#[cfg(test)]
+mod logs;
+#[cfg(test)]
+mod replays;
+#[cfg(test)]
+mod scanned;
+#[cfg(test)]
+mod setting;
+#[cfg(test)]
+mod worked;

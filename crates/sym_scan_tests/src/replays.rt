@@ -1,0 +1,1 @@
+//! Starts, and chunks that are replayed from them.
