@@ -1,3 +1,4 @@
+pub mod Found
 pub mod TraceRows
 pub mod Standing
 pub mod Replaying

@@ -1,9 +1,9 @@
 -- Parts one after the other, their runs and their starts.
-use Rattle.std.proofs.Common.{◌≡◌, ◌∙◌, ap, ap₂, sym, refl, subst, arith, ℕ, zero, suc, ◌+◌, ◌-◌, ◌<◌, ◌≤◌, List, [], ◌∷◌, ◌++◌, append-nil, append_assoc, length, take, drop, get_or, map, add-zero, Option, Some, None, Result, Ok, Err, IfOk}
-use Rattle.std.proofs.lemmas.List.{drop-drop, drop_all, take-append-drop}
+use Rattle.std.proofs.Common.{Vec, Global, ◌≡◌, ◌∙◌, ap, ap₂, sym, refl, subst, arith, ℕ, ◌+◌, ◌≤◌, List, [], ◌∷◌, ◌++◌, append-nil, append_assoc, length, drop, Result, Ok, Err}
+use Rattle.std.proofs.lemmas.List.{drop_all}
+use Rattle.std.proofs.lemmas.List.Folds.{drop_split}
 use Rattle.std.proofs.lemmas.List.Elements.{All-cons, All-head, All-nil, All-push, All-tail}
 use Rattle.std.proofs.lemmas.Grind.{flat_map-append}
-use Rattle.std.specs.Prelude.{slice_range}
 use Rattle.std.specs.List.{All, AllZip, flat_map}
 use Rattle.sym_base.specs.declared.values.value.Key.{Key}
 use Rattle.sym_base.specs.declared.values.record.Record.{Record}
@@ -24,14 +24,13 @@ use Rattle.sym_scan.specs.declared.starting.PartRun.{PartRun}
 use Rattle.sym_scan.specs.declared.starting.PartStarts.{PartStarts}
 use Rattle.sym_scan.specs.declared.starting.Started.{Started}
 use Rattle.sym_scan.specs.declared.starting.Started.TheVariants as started
-use Rattle.sym_scan.specs.Parts.{AreParts, AreRuns, IsPart, IsReady, IsRun, StartsFrom, part_chunks, part_rows}
+use Rattle.sym_scan.specs.declared.starting.AllStarted.TheVariants as all_started
+use Rattle.sym_scan.specs.Parts.{AreParts, AreRuns, IsPart, IsReady, IsRun, StartsAll, StartsFrom, part_chunks, part_rows, replayed_rows}
 use Rattle.sym_scan.specs.Replays.{replayed_to, starts_of}
 use Rattle.sym_scan.specs.Traces.{from_groups, rows_after}
+use Rattle.sym_scan.proofs.Found.{Found, both_before, none_before}
 use Rattle.sym_scan.proofs.Standing.{Pairs, after_records-append, rows_then}
 use Rattle.sym_scan.proofs.StartLaws.{rows_started}
-
-abbrev Found : Type 0
-Found = Result (List Record) BadRow
 
 -- ---- parts
 -- A part more.
@@ -102,16 +101,6 @@ pub all_mid : {A : Type 0} (P : A → Type 0) (before : List A) (x : A) (rest : 
 all_mid P [] x rest h = All-head P x rest h
 all_mid P (y ∷ before) x rest h = all_mid P before x rest (All-tail P y (before ++ x ∷ rest) h)
 
--- ---- the records of parts
--- The chunks of a part, and those after it.
-part_next : (chunks : List Chunk) (part : Part) → drop part.first chunks ≡ part_chunks chunks part ++ drop (part.first + part.count) chunks
-part_next chunks part =
-    let some : (part.first + part.count) - part.first ≡ part.count = omega arith in
-    let there : part.count + part.first ≡ part.first + part.count = omega arith in
-    sym (take-append-drop part.count (drop part.first chunks))
-    ∙ ap₂ (λ (n : ℕ) (rest : List Chunk). take n (drop part.first chunks) ++ rest) (sym some)
-    (drop-drop part.count part.first chunks)
-
 -- ---- starts
 -- Parts are started up to a place: the groups are led on by the records before it.
 pub record IsStarting (p : ScriptPlan) (every : ℕ) (chunks : List Chunk) (to : ℕ) (first groups : List (Key × Outcome)) (parts : List PartStarts) : Type 0 where
@@ -120,3 +109,74 @@ pub record IsStarting (p : ScriptPlan) (every : ℕ) (chunks : List Chunk) (to :
   pub led : groups ≡ after_records p records first
   pub ready : All (IsReady p chunks) parts
   pub rows : flat_map (part_rows p every chunks) parts ≡ rows_after p every (from_groups p first) [] records
+
+pub starting_none : (p : ScriptPlan) (every : ℕ) (chunks : List Chunk) (groups : List (Key × Outcome)) → IsStarting p every chunks 0 groups groups []
+starting_none p every chunks groups = record {
+  records = [];
+  are = none_before (all_records p chunks);
+  led = refl;
+  ready = All-nil (IsReady p chunks);
+  rows = refl;
+}
+
+-- What was found of the chunks from a part on: of the part's, and then of the others.
+part_next : (p : ScriptPlan) (chunks : List Chunk) (part : Part)
+    → all_records p (drop part.first chunks) ≡ in_turn (all_records p (part_chunks chunks part)) (all_records p (drop (part.first + part.count) chunks))
+part_next p chunks part =
+    ap (all_records p) (drop_split chunks part.first (part.first + part.count) (omega arith))
+    ∙ all_records-append p (part_chunks chunks part) (drop (part.first + part.count) chunks)
+
+-- The rows of a part from its starts, which are those from all groups.
+rows_of_part : (p : ScriptPlan) (every : ℕ) (chunks : List Chunk) (ready : PartStarts) (records : List Record) (groups : Pairs) → all_records p (part_chunks chunks ready.part) ≡ Ok records
+    → ready.starts ≡ starts_of groups (keys p records) → part_rows p every chunks ready ≡ rows_after p every (from_groups p groups) [] records
+rows_of_part p every chunks ready records groups are starts =
+    ap (λ (found : Found). replayed_rows (replayed_to p every ready.starts found)) are
+    ∙ ap (λ (gs : Pairs). rows_after p every (from_groups p gs) [] records) starts
+    ∙ rows_started p every groups records
+
+-- A part more.
+pub starting_on : (p : ScriptPlan) (every : ℕ) (chunks : List Chunk) (part : Part) (starts : List (Key × Outcome)) (first old new : List (Key × Outcome)) (parts : List PartStarts)
+    → IsPart (length chunks) part → IsStarting p every chunks part.first first old parts → StartsFrom p (all_records p (part_chunks chunks part)) old (started.From starts) new
+    → IsStarting p every chunks (part.first + part.count) first new (parts ++ record { part = part; starts = starts } ∷ [])
+starting_on p every chunks part starts first old new parts is h s = of (all_records p (part_chunks chunks part)) refl s
+  where
+    of : (found : Found) → all_records p (part_chunks chunks part) ≡ found → StartsFrom p found old (started.From starts) new
+        → IsStarting p every chunks (part.first + part.count) first new (parts ++ record { part = part; starts = starts } ∷ [])
+    of (Err why) e s = absurd s
+    of (Ok next) e s =
+        let ready : PartStarts = record { part = part; starts = starts } in
+        let mine : part_rows p every chunks ready ≡ rows_after p every (from_groups p (after_records p h.records first)) [] next =
+        rows_of_part p every chunks ready next old e s.0 ∙ ap (λ (gs : Pairs). rows_after p every (from_groups p gs) [] next) h.led in
+        record {
+          records = h.records ++ next;
+          are =
+              h.are
+              ∙ ap (in_turn (Ok h.records)) (part_next p chunks part ∙ ap (λ (f : Found). in_turn f (all_records p (drop (part.first + part.count) chunks))) e)
+              ∙ both_before h.records next (all_records p (drop (part.first + part.count) chunks));
+          led = s.1 ∙ ap (after_records p next) h.led ∙ sym (after_records-append p h.records next first);
+          ready = All-push (IsReady p chunks) parts ready h.ready (record { within = is.within; records = next; are = e });
+          rows =
+              flat_map-append (part_rows p every chunks) parts (ready ∷ [])
+              ∙ ap₂ (λ (xs ys : List TraceRow). xs ++ ys) h.rows (append-nil (part_rows p every chunks ready) ∙ mine)
+              ∙ sym (rows_then p every first h.records next);
+        }
+
+-- A part with a row that is no record.
+pub starting_bad : (p : ScriptPlan) (every : ℕ) (chunks : List Chunk) (part : Part) (bad : BadRow) (first old new : List (Key × Outcome)) (parts : List PartStarts)
+    → IsStarting p every chunks part.first first old parts → StartsFrom p (all_records p (part_chunks chunks part)) old (started.Bad bad) new → StartsAll p every chunks (all_records p chunks) first (all_started.Bad bad) new
+starting_bad p every chunks part bad first old new parts h s = of (all_records p (part_chunks chunks part)) refl s
+  where
+    of : (found : Found) → all_records p (part_chunks chunks part) ≡ found → StartsFrom p found old (started.Bad bad) new → StartsAll p every chunks (all_records p chunks) first (all_started.Bad bad) new
+    of (Ok next) e s = absurd s
+    of (Err why) e s =
+        let all : all_records p chunks ≡ Err why =
+        h.are ∙ ap (in_turn (Ok h.records)) (part_next p chunks part ∙ ap (λ (f : Found). in_turn f (all_records p (drop (part.first + part.count) chunks))) e) in
+        subst (λ (f : Found). StartsAll p every chunks f first (all_started.Bad bad) new) (sym all) s
+
+-- All parts are started.
+pub starting_all : (p : ScriptPlan) (every : ℕ) (chunks : List Chunk) (first groups : List (Key × Outcome)) (parts : Vec PartStarts Global) → IsStarting p every chunks (length chunks) first groups parts.items
+    → StartsAll p every chunks (all_records p chunks) first (all_started.From parts) groups
+starting_all p every chunks first groups parts h =
+    let all : all_records p chunks ≡ Ok h.records =
+    h.are ∙ ap (λ (cs : List Chunk). in_turn (Ok h.records) (all_records p cs)) (drop_all (length chunks) chunks (omega arith)) ∙ ap Ok (append-nil h.records) in
+    subst (λ (f : Found). StartsAll p every chunks f first (all_started.From parts) groups) (sym all) (h.ready, h.rows, h.led)

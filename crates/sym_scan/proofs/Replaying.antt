@@ -1,5 +1,5 @@
 -- Replays that go on, record by record and chunk by chunk.
-use Rattle.std.proofs.Common.{◌≡◌, ◌∙◌, ap, ap₂, sym, refl, subst, arith, ℕ, suc, ◌+◌, ◌<◌, ◌≤◌, Bool, if◌then◌else◌, List, [], ◌∷◌, ◌++◌, append-nil, append_assoc, length, drop, get_or, add-one, drop-cons, Option, Some, None, Result, Ok, Err}
+use Rattle.std.proofs.Common.{◌≡◌, ◌∙◌, ap, ap₂, sym, refl, subst, arith, ℕ, suc, ◌+◌, ◌<◌, ◌≤◌, Bool, if◌then◌else◌, List, [], ◌∷◌, ◌++◌, append-nil, append_assoc, length, drop, get_or, add-one, drop-cons, Option, Some, None, is_some, true, Result, Ok, Err}
 use Rattle.std.proofs.lemmas.List.{drop_all}
 use Rattle.std.specs.Map.{lookup}
 use Rattle.sym_base.specs.declared.values.value.Key.{Key}
@@ -29,10 +29,8 @@ use Rattle.sym_scan.specs.declared.replaying.Replayed.TheVariants.{Rows, Bad}
 use Rattle.sym_scan.specs.declared.rows.TraceRow.{TraceRow}
 use Rattle.sym_scan.specs.Traces.{from_groups, is_shown, row_after, rows_after}
 use Rattle.sym_scan.specs.Replays.{GoesOn, replayed_to, row_of}
+use Rattle.sym_scan.proofs.Found.{Found, both_before, none_before}
 use Rattle.sym_scan.proofs.Standing.{Pairs, after_records-append, rows_then, stand_after}
-
-abbrev Found : Type 0
-Found = Result (List Record) BadRow
 
 -- ---- one record
 -- The row of a record whose group has made its step.
@@ -59,59 +57,60 @@ record_taken p every rec old new groups rows =
     )
 
 -- ---- records in turn
--- The progress since the first: records of what was found are taken, and `rest` is what is left.
-pub record IsReplaying (p : ScriptPlan) (every : ℕ) (found rest : Result (List Record) BadRow) (first now : Progress) : Type 0 where
+-- The progress from some groups and rows on: records of what was found are taken, and `rest` is what
+-- is left.
+pub record IsReplaying (p : ScriptPlan) (every : ℕ) (found rest : Result (List Record) BadRow) (first : List (Key × Outcome)) (shown : List TraceRow) (now : Progress) : Type 0 where
   pub records : List Record
   pub are : found ≡ in_turn (Ok records) rest
-  pub groups : now.groups ≡ after_records p records first.groups
-  pub rows : now.rows.items ≡ first.rows.items ++ rows_after p every (from_groups p first.groups) [] records
+  pub groups : now.groups ≡ after_records p records first
+  pub rows : now.rows.items ≡ shown ++ rows_after p every (from_groups p first) [] records
 
-none_before : (r : Found) → r ≡ in_turn (Ok []) r
-none_before (Ok found) = refl
-none_before (Err bad) = refl
-
-both_before : (first next : List Record) (r : Found) → in_turn (Ok first) (in_turn (Ok next) r) ≡ in_turn (Ok (first ++ next)) r
-both_before first next (Ok rest) = ap Ok (sym (append_assoc first next rest))
-both_before first next (Err bad) = refl
-
-pub replaying_none : (p : ScriptPlan) (every : ℕ) (found : Result (List Record) BadRow) (now : Progress) → IsReplaying p every found found now now
-replaying_none p every found now = record {
+pub replaying_none : (p : ScriptPlan) (every : ℕ) (found : Result (List Record) BadRow) (first : List (Key × Outcome)) (shown : List TraceRow) (now : Progress)
+    → now.groups ≡ first → now.rows.items ≡ shown → IsReplaying p every found found first shown now
+replaying_none p every found first shown now groups rows = record {
   records = [];
   are = none_before found;
-  groups = refl;
-  rows = sym (append-nil now.rows.items);
+  groups = groups;
+  rows = rows ∙ sym (append-nil shown);
 }
 
-replayed_some : (p : ScriptPlan) (every : ℕ) (found rest : Found) (next : List Record) (bad : Option BadRow) (first old new : Progress)
-    → IsReplaying p every found (in_turn (Ok next) rest) first old → GoesOn p every (Ok next) old bad new → IsReplaying p every found rest first new
-replayed_some p every found rest next bad first old new h g = record {
+replayed_some : (p : ScriptPlan) (every : ℕ) (found rest : Found) (next : List Record) (bad : Option BadRow) (first : Pairs) (shown : List TraceRow) (old new : Progress)
+    → IsReplaying p every found (in_turn (Ok next) rest) first shown old → GoesOn p every (Ok next) old bad new → IsReplaying p every found rest first shown new
+replayed_some p every found rest next bad first shown old new h g = record {
   records = h.records ++ next;
   are = h.are ∙ both_before h.records next rest;
-  groups = g.1 ∙ ap (after_records p next) h.groups ∙ sym (after_records-append p h.records next first.groups);
+  groups = g.1 ∙ ap (after_records p next) h.groups ∙ sym (after_records-append p h.records next first);
   rows =
       g.2
       ∙ ap (λ (rows : List TraceRow). rows ++ rows_after p every (from_groups p old.groups) [] next) h.rows
-      ∙ append_assoc first.rows.items (rows_after p every (from_groups p first.groups) [] h.records) (rows_after p every (from_groups p old.groups) [] next)
-      ∙ ap (λ (groups : Pairs). first.rows.items ++ (rows_after p every (from_groups p first.groups) [] h.records ++ rows_after p every (from_groups p groups) [] next)) h.groups
-      ∙ ap (λ (rows : List TraceRow). first.rows.items ++ rows) (sym (rows_then p every first.groups h.records next));
+      ∙ append_assoc shown (rows_after p every (from_groups p first) [] h.records) (rows_after p every (from_groups p old.groups) [] next)
+      ∙ ap (λ (groups : Pairs). shown ++ (rows_after p every (from_groups p first) [] h.records ++ rows_after p every (from_groups p groups) [] next)) h.groups
+      ∙ ap (λ (rows : List TraceRow). shown ++ rows) (sym (rows_then p every first h.records next));
 }
 
 -- A part more, of which no row is bad, and of which one is.
-pub replaying_on : (p : ScriptPlan) (every : ℕ) (found part rest : Result (List Record) BadRow) (bad : Option BadRow) (first old new : Progress) → bad ≡ None
-    → IsReplaying p every found (in_turn part rest) first old → GoesOn p every part old bad new → IsReplaying p every found rest first new
-replaying_on p every found (Ok next) rest bad first old new none h g = replayed_some p every found rest next bad first old new h g
-replaying_on p every found (Err why) rest bad first old new none h g = let other : Some why ≡ None = sym g ∙ none in absurd (cc)
+pub replaying_on : (p : ScriptPlan) (every : ℕ) (found part rest : Result (List Record) BadRow) (bad : Option BadRow) (first : List (Key × Outcome)) (shown : List TraceRow) (old new : Progress) → bad ≡ None
+    → IsReplaying p every found (in_turn part rest) first shown old → GoesOn p every part old bad new → IsReplaying p every found rest first shown new
+replaying_on p every found (Ok next) rest bad first shown old new none h g = replayed_some p every found rest next bad first shown old new h g
+replaying_on p every found (Err why) rest bad first shown old new none h g = let other : Some why ≡ None = sym g ∙ none in absurd (cc)
 
-pub replaying_bad : (p : ScriptPlan) (every : ℕ) (found part rest : Result (List Record) BadRow) (bad : BadRow) (first old new : Progress)
-    → IsReplaying p every found (in_turn part rest) first old → GoesOn p every part old (Some bad) new → found ≡ Err bad
-replaying_bad p every found (Ok next) rest bad first old new h g = let none = g.0 in absurd (cc)
-replaying_bad p every found (Err why) rest bad first old new h g = let same : why ≡ bad = cc in h.are ∙ ap Err same
+pub replaying_bad : (p : ScriptPlan) (every : ℕ) (found part rest : Result (List Record) BadRow) (told : Option BadRow) (bad : BadRow) (first : List (Key × Outcome)) (shown : List TraceRow) (old new : Progress) → told ≡ Some bad
+    → IsReplaying p every found (in_turn part rest) first shown old → GoesOn p every part old told new → found ≡ Err bad
+replaying_bad p every found (Ok next) rest told bad first shown old new some h g = let none = g.0 in absurd (cc)
+replaying_bad p every found (Err why) rest told bad first shown old new some h g = let same : why ≡ bad = cc in h.are ∙ ap Err same
 
--- Nothing is left.
-pub replaying_all : (p : ScriptPlan) (every : ℕ) (found rest : Result (List Record) BadRow) (first now : Progress) → rest ≡ Ok [] → IsReplaying p every found rest first now → GoesOn p every found first None now
-replaying_all p every found rest first now none h =
-    let are : found ≡ Ok h.records = h.are ∙ ap (in_turn (Ok h.records)) none ∙ ap Ok (append-nil h.records) in
-    subst (λ (f : Found). GoesOn p every f first None now) (sym are) (refl, h.groups, h.rows)
+-- Nothing is left: all records are taken.
+replayed_whole : (p : ScriptPlan) (every : ℕ) (found rest : Found) (first : Pairs) (shown : List TraceRow) (now : Progress) → rest ≡ Ok [] → (h : IsReplaying p every found rest first shown now) → found ≡ Ok h.records
+replayed_whole p every found rest first shown now none h = h.are ∙ ap (in_turn (Ok h.records)) none ∙ ap Ok (append-nil h.records)
+
+pub replaying_all : (p : ScriptPlan) (every : ℕ) (found rest : Result (List Record) BadRow) (old now : Progress) → rest ≡ Ok [] → IsReplaying p every found rest old.groups old.rows.items now → GoesOn p every found old None now
+replaying_all p every found rest old now none h =
+    subst (λ (f : Found). GoesOn p every f old None now) (sym (replayed_whole p every found rest old.groups old.rows.items now none h)) (refl, h.groups, h.rows)
+
+pub replay_told : (p : ScriptPlan) (every : ℕ) (found rest : Result (List Record) BadRow) (starts : List (Key × Outcome)) (now : Progress) → rest ≡ Ok [] → IsReplaying p every found rest starts [] now
+    → Rows now.rows.items ≡ replayed_to p every starts found
+replay_told p every found rest starts now none h =
+    ap Rows h.rows ∙ ap (replayed_to p every starts) (sym (replayed_whole p every found rest starts [] now none h))
 
 -- ---- rows
 record_is : (n : ℕ) (read : Result (List Value) BadCause) (rec : Record) → numbered n read ≡ decoded.Is rec → record_or_bad n read ≡ Ok rec
@@ -142,34 +141,31 @@ rows_next p header n i rows row found within is e =
     of (Ok rec) (Err bad) = refl
     of (Err bad) rest = refl
 
-pub row_replayed : (p : ScriptPlan) (every : ℕ) (header : Header) (n i : ℕ) (rows : List Row) (row : Row) (told : Option BadRow) (rec : Record) (found : Result (List Record) BadRow) (first old new : Progress)
+pub row_replayed : (p : ScriptPlan) (every : ℕ) (header : Header) (n i : ℕ) (rows : List Row) (row : Row) (told : Option BadRow) (rec : Record) (found : Result (List Record) BadRow) (first : List (Key × Outcome)) (shown : List TraceRow) (old new : Progress)
     → i < length rows → row ≡ get_or rows i row → told ≡ None → Fills told rec (numbered (n + i) (read_row p.enums p.fields header row))
     → GoesOn p every (Ok (rec ∷ [])) old None new
-    → IsReplaying p every found (records_or_bad p header (n + i) (drop i rows)) first old → IsReplaying p every found (records_or_bad p header (n + (i + 1)) (drop (i + 1) rows)) first new
-row_replayed p every header n i rows row told rec found first old new within is none fills goes h =
+    → IsReplaying p every found (records_or_bad p header (n + i) (drop i rows)) first shown old → IsReplaying p every found (records_or_bad p header (n + (i + 1)) (drop (i + 1) rows)) first shown new
+row_replayed p every header n i rows row told rec found first shown old new within is none fills goes h =
     let F : Option BadRow → Type 0 = λ o. Fills o rec (numbered (n + i) (read_row p.enums p.fields header row)) in
     let are : record_or_bad (n + i) (read_row p.enums p.fields header row) ≡ Ok rec = record_is (n + i) (read_row p.enums p.fields header row) rec (subst F none fills) in
-    replaying_on p every found (Ok (rec ∷ [])) (records_or_bad p header (n + (i + 1)) (drop (i + 1) rows)) None first old new refl
-    (subst (λ (rest : Found). IsReplaying p every found rest first old) (rows_next p header n i rows row (Ok (rec ∷ [])) within is (ap (and_then (λ rec. Ok (rec ∷ []))) are)) h)
+    replaying_on p every found (Ok (rec ∷ [])) (records_or_bad p header (n + (i + 1)) (drop (i + 1) rows)) None first shown old new refl
+    (subst (λ (rest : Found). IsReplaying p every found rest first shown old) (rows_next p header n i rows row (Ok (rec ∷ [])) within is (ap (and_then (λ rec. Ok (rec ∷ []))) are)) h)
     goes
 
-pub row_bad : (p : ScriptPlan) (every : ℕ) (header : Header) (n i : ℕ) (rows : List Row) (row : Row) (told : Option BadRow) (bad : BadRow) (rec : Record) (found : Result (List Record) BadRow) (first old : Progress)
-    → i < length rows → row ≡ get_or rows i row → told ≡ Some bad → Fills told rec (numbered (n + i) (read_row p.enums p.fields header row))
-    → IsReplaying p every found (records_or_bad p header (n + i) (drop i rows)) first old → found ≡ Err bad
-row_bad p every header n i rows row told bad rec found first old within is some fills h =
-    let F : Option BadRow → Type 0 = λ o. Fills o rec (numbered (n + i) (read_row p.enums p.fields header row)) in
-    let are : record_or_bad (n + i) (read_row p.enums p.fields header row) ≡ Err bad = bad_is (n + i) (read_row p.enums p.fields header row) bad (subst F some fills) in
-    replaying_bad p every found (Err bad) (records_or_bad p header (n + (i + 1)) (drop (i + 1) rows)) bad first old old
-    (subst (λ (rest : Found). IsReplaying p every found rest first old) (rows_next p header n i rows row (Err bad) within is (ap (and_then (λ rec. Ok (rec ∷ []))) are)) h)
-    refl
+pub row_bad : (p : ScriptPlan) (every : ℕ) (header : Header) (n i : ℕ) (rows : List Row) (row : Row) (told : Option BadRow) (rec : Record) (found : Result (List Record) BadRow) (old now new : Progress)
+    → i < length rows → row ≡ get_or rows i row → is_some told ≡ true → Fills told rec (numbered (n + i) (read_row p.enums p.fields header row))
+    → IsReplaying p every found (records_or_bad p header (n + i) (drop i rows)) old.groups old.rows.items now → GoesOn p every found old told new
+row_bad p every header n i rows row None rec found old now new within is some fills h = absurd (cc)
+row_bad p every header n i rows row (Some bad) rec found old now new within is some fills h =
+    let are : record_or_bad (n + i) (read_row p.enums p.fields header row) ≡ Err bad = bad_is (n + i) (read_row p.enums p.fields header row) bad fills in
+    let all : found ≡ Err bad =
+    replaying_bad p every found (Err bad) (records_or_bad p header (n + (i + 1)) (drop (i + 1) rows)) (Some bad) bad old.groups old.rows.items now now refl
+    (subst (λ (rest : Found). IsReplaying p every found rest old.groups old.rows.items now) (rows_next p header n i rows row (Err bad) within is (ap (and_then (λ rec. Ok (rec ∷ []))) are)) h)
+    refl in
+    subst (λ (f : Found). GoesOn p every f old (Some bad) new) (sym all) refl
 
 -- ---- chunks
 -- What was found of the chunks that are left.
 pub chunks_next : (p : ScriptPlan) (chunks : List Chunk) (i : ℕ) (cut : Chunk) → i < length chunks → cut ≡ get_or chunks i cut
     → all_records p (drop i chunks) ≡ in_turn (chunk_records p cut) (all_records p (drop (i + 1) chunks))
 chunks_next p chunks i cut within is = ap (all_records p) (left_from chunks i cut within is)
-
--- What a replay comes to.
-pub replay_told : (p : ScriptPlan) (every : ℕ) (found : Result (List Record) BadRow) (first now : Progress) → first.rows.items ≡ [] → GoesOn p every found first None now → Rows now.rows.items ≡ replayed_to p every first.groups found
-replay_told p every (Ok records) first now none g = ap Rows (g.2 ∙ ap (λ (rows : List TraceRow). rows ++ rows_after p every (from_groups p first.groups) [] records) none)
-replay_told p every (Err bad) first now none g = absurd (cc)

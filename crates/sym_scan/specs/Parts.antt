@@ -10,7 +10,6 @@ use Rattle.sym_plain.specs.Pairs.{after_records}
 use Rattle.sym_table.specs.declared.bad.Bad.{Bad as BadRow}
 use Rattle.sym_table.specs.declared.chunk.Chunk.{Chunk}
 use Rattle.sym_table.specs.ChunkRecords.{all_records}
-use Rattle.sym_run.specs.Applying.{AreValid}
 use Rattle.sym_run.specs.Runs.{IsFromTo, StandsForChunks}
 use Rattle.sym_scan.specs.declared.parts.Part.{Part}
 use Rattle.sym_scan.specs.declared.replaying.Replayed.{Replayed}
@@ -59,7 +58,6 @@ abbrev pub StartsFrom : ScriptPlan → Result (List Record) BadRow → List (Key
     → List (Key × Outcome) → Type 0
 StartsFrom p (Ok records) old (started.From starts) new =
     (starts ≡ starts_of old (keys p records)) × (new ≡ after_records p records old)
-    × AreValid p new
 StartsFrom p (Ok records) old (started.Bad bad) new = ⊥
 StartsFrom p (Err first) old (started.From starts) new = ⊥
 StartsFrom p (Err first) old (started.Bad bad) new = bad ≡ first
@@ -88,7 +86,7 @@ StartsAll p every chunks (Ok records) old (all_started.From parts) new =
     All (IsReady p chunks) parts.items
     × (flat_map (part_rows p every chunks) parts.items
     ≡ rows_after p every (from_groups p old) [] records)
-    × (new ≡ after_records p records old) × AreValid p new
+    × (new ≡ after_records p records old)
 StartsAll p every chunks (Ok records) old (all_started.Bad bad) new = ⊥
 StartsAll p every chunks (Err first) old (all_started.From parts) new = ⊥
 StartsAll p every chunks (Err first) old (all_started.Bad bad) new = bad ≡ first

@@ -28,6 +28,18 @@ pub enum Replayed {
     Bad(Bad),
 }
 
+impl Replayed {
+    /// An equal answer of its own.
+    pub fn copy(&self, alloc: Global) -> Result<Replayed, NoMemory>
+        ensures { IfOk result (λ replayed. replayed ≡ self.now) }
+    {
+        match self {
+            Replayed::Rows(rows) => Ok(Replayed::Rows(rows.copy(alloc)?)),
+            Replayed::Bad(bad) => Ok(Replayed::Bad(*bad)),
+        }
+    }
+}
+
 /// The groups as they stand, and the rows so far. The record and the key are those that were made
 /// last, over whose memory the next ones are made.
 #[derive(Drop)]

@@ -33,6 +33,21 @@ pub enum Scanned {
     Bad(Bad),
 }
 
+impl Scanned {
+    /// An equal answer of its own.
+    pub fn copy(&self, alloc: Global) -> Result<Scanned, NoMemory>
+        ensures { IfOk result (λ scanned. scanned ≡ self.now) }
+    {
+        match self {
+            Scanned::Done { rows, groups } => Ok(Scanned::Done {
+                rows: rows.copy(alloc)?,
+                groups: groups.copy(alloc)?,
+            }),
+            Scanned::Bad(bad) => Ok(Scanned::Bad(*bad)),
+        }
+    }
+}
+
 // A value that lends a checked script. Workers share it by its bound: that a checked script may be
 // shared is then shown once, where the round is handed in.
 trait LendsScript {

@@ -55,7 +55,8 @@ fn start(
 ) -> Result<Started, NoMemory>
     requires fits { GroupsFit (checked_plan checked.now) run.groups }
     requires valid { AreValid (checked_plan checked.now) groups.old }
-    ensures { (limit : ℕ) (chunks : List OneChunk) → IsFromTo 0 (length chunks) run →
+    ensures valid { IfOk result (λ started. AreValid (checked_plan checked.now) groups.new) }
+    ensures starts { (limit : ℕ) (chunks : List OneChunk) → IsFromTo 0 (length chunks) run →
         StandsForChunks (checked_plan checked.now) limit chunks run →
         let found = all_records (checked_plan checked.now) chunks in
         IfOk result (λ started.
@@ -81,14 +82,16 @@ pub(crate) fn start_all(
 ) -> Result<AllStarted, NoMemory>
     requires fits { All (λ ran. GroupsFit (checked_plan checked.now) ran.run.groups) runs.items }
     requires valid { AreValid (checked_plan checked.now) groups.old }
-    ensures { (limit every : ℕ) (chunks : List OneChunk) →
+    ensures valid { IfOk result (λ started. AreValid (checked_plan checked.now) groups.new) }
+    ensures starts { (limit every : ℕ) (chunks : List OneChunk) →
         AreRuns (checked_plan checked.now) limit chunks 0 (length chunks) runs.items →
         let p = checked_plan checked.now in
         IfOk result (λ started.
         StartsAll p every chunks (all_records p chunks) groups.old started groups.new) }
 {
     let mut parts = Vec::with_capacity(alloc, runs.len())?;
-    'parts: for PartRun { part, run } in runs {
+    'parts: for ran in runs {
+        let PartRun { part, run } = ran;
         match start(alloc, checked, run, groups)? {
             Started::From(starts) => parts.push(PartStarts { part, starts })?,
             Started::Bad(bad) => return Ok(AllStarted::Bad(bad)),

@@ -14,4 +14,6 @@ mod scanned;
 #[cfg(test)]
 mod setting;
 #[cfg(test)]
+mod texts;
+#[cfg(test)]
 mod worked;

@@ -110,3 +110,21 @@ pub(crate) fn opened<'a>(
     }
     Cutter::open(alloc, checked, log.as_bytes(), 1, rows).ok()
 }
+
+/// The first round of a log; none where the log has no header of the script.
+pub(crate) fn round_of(
+    alloc: Global,
+    checked: &Checked,
+    log: &str,
+    rows: u32,
+) -> Result<Chunks, NoMemory>
+    ensures { IfOk result (All (FitsChunk (checked_plan checked.now).fields)) }
+{
+    match opened(alloc, checked, log, rows) {
+        Some(cutter) => {
+            let mut cutter = cutter;
+            next_round(alloc, checked, &mut cutter)
+        }
+        None => Ok(Chunks::new(alloc)),
+    }
+}

@@ -2,13 +2,12 @@
 use crate::logs::{COUNTER, FIVES, SESSIONS, SUMS, VISITS};
 use crate::scanned::{Traced, Way, trace_log};
 use crate::setting::{Case, check_cases};
+use crate::texts::text_of;
 use std::alloc::Global;
 use std::test::Fail;
 use std::thread::Threads;
-use sym_base::{Column, FaultKind, Key, NoMemory, Outcome, Value};
+use sym_base::NoMemory;
 use sym_check::Checked;
-use sym_plain::columns;
-use sym_scan::TraceRow;
 
 /// A log, and its trace as a text of a line for each row: the number, the key, and then the columns
 /// or the fault. Of a log with a row that is no record, the number of the first.
@@ -18,77 +17,6 @@ struct Log(&'static str, &'static str, u64, Result<&'static str, u64>);
 const CHUNKS: [u32; 3] = [1, 2, 1_024];
 
 const WORKERS: [u32; 3] = [1, 4, 64];
-
-fn push_value(alloc: Global, text: &mut String, value: &Value) -> Result<(), NoMemory> {
-    match value {
-        Value::Num(number) => text.push_str(format!(in alloc; " {number}")?.as_str())?,
-        Value::Word(word) => {
-            text.push_str(" ")?;
-            text.push_str(word.as_str())?;
-        }
-        Value::Label(label) => text.push_str(format!(in alloc; " label {label}")?.as_str())?,
-    }
-    Ok(())
-}
-
-fn push_key(alloc: Global, text: &mut String, key: &Key) -> Result<(), NoMemory> {
-    'values: for value in key.values.as_slice() {
-        push_value(alloc, text, value)?;
-    }
-    text.push_str(":")?;
-    Ok(())
-}
-
-fn push_column(alloc: Global, text: &mut String, column: &Column) -> Result<(), NoMemory> {
-    match column {
-        Column::Num(number) => text.push_str(format!(in alloc; " {number}")?.as_str())?,
-        Column::Nothing => text.push_str(" none")?,
-        _ => text.push_str(" other")?,
-    }
-    Ok(())
-}
-
-fn push_outcome(
-    alloc: Global,
-    checked: &Checked,
-    text: &mut String,
-    outcome: &Outcome,
-) -> Result<(), NoMemory> {
-    match outcome {
-        Outcome::Going(state) => {
-            let columns = columns(alloc, checked, state)?;
-            push_columns(alloc, text, columns.as_slice())?;
-        }
-        Outcome::Ended(fault) => match fault.kind {
-            FaultKind::Over(cell) => {
-                let no = fault.no;
-                text.push_str(format!(in alloc; " over {cell} at {no}")?.as_str())?;
-            }
-            FaultKind::Arith => text.push_str(" arithmetic")?,
-        },
-    }
-    text.push_str("\n")?;
-    Ok(())
-}
-
-fn push_columns(alloc: Global, text: &mut String, columns: &[Column]) -> Result<(), NoMemory> {
-    'columns: for column in columns {
-        push_column(alloc, text, column)?;
-    }
-    Ok(())
-}
-
-/// The text of rows.
-fn text_of(alloc: Global, checked: &Checked, rows: &[TraceRow]) -> Result<String, NoMemory> {
-    let mut text = String::new(alloc);
-    'rows: for row in rows {
-        let no = row.no;
-        text.push_str(format!(in alloc; "{no}")?.as_str())?;
-        push_key(alloc, &mut text, &row.key)?;
-        push_outcome(alloc, checked, &mut text, &row.outcome)?;
-    }
-    Ok(text)
-}
 
 impl Log {
     fn is_wanted(
