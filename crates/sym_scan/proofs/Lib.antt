@@ -1,6 +1,10 @@
+pub mod Lists
 pub mod Found
 pub mod TraceRows
 pub mod Standing
 pub mod Replaying
 pub mod StartLaws
 pub mod PartLaws
+pub mod Jobs
+pub mod ScanLaws
+pub mod CheckedShared

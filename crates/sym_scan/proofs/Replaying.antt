@@ -30,6 +30,7 @@ use Rattle.sym_scan.specs.declared.rows.TraceRow.{TraceRow}
 use Rattle.sym_scan.specs.Traces.{from_groups, is_shown, row_after, rows_after}
 use Rattle.sym_scan.specs.Replays.{GoesOn, replayed_to, row_of}
 use Rattle.sym_scan.proofs.Found.{Found, both_before, none_before}
+use Rattle.sym_scan.proofs.Lists.{left_from}
 use Rattle.sym_scan.proofs.Standing.{Pairs, after_records-append, rows_then, stand_after}
 
 -- ---- one record
@@ -120,10 +121,6 @@ record_is n (Err why) rec e = cc
 bad_is : (n : ℕ) (read : Result (List Value) BadCause) (bad : BadRow) → numbered n read ≡ decoded.Bad bad → record_or_bad n read ≡ Err bad
 bad_is n (Ok values) bad e = cc
 bad_is n (Err why) bad e = let same : record { no = n; cause = why } ≡ bad = cc in ap Err same
-
--- The item at a place, before those that are left.
-left_from : {A : Type 0} (xs : List A) (i : ℕ) (x : A) → i < length xs → x ≡ get_or xs i x → drop i xs ≡ x ∷ drop (i + 1) xs
-left_from xs i x within is = rw add-one (drop-cons xs i x within ∙ ap (λ y. y ∷ drop (suc i) xs) (sym is))
 
 -- What was found of the rows that are left: of the next one, and then of the others.
 rows_next : (p : ScriptPlan) (header : Header) (n i : ℕ) (rows : List Row) (row : Row) (found : Result (List Record) BadRow) → i < length rows → row ≡ get_or rows i row

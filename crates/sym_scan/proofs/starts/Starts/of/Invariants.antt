@@ -5,4 +5,4 @@ use Rattle.sym_scan.specs.Replays.{starts_of}
 use Rattle.sym_scan.proofs.starts.Starts.of.Given as goal
 
 abbrev pub invariant-keys : goal.invariant-keys
-invariant-keys l = l.starts ≡ starts_of l.groups (take l.index (keys_of l.run.groups))
+invariant-keys l = l.starts ≡ starts_of l.groups (keys_of (take l.index l.run.groups))
