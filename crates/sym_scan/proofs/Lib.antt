@@ -2,7 +2,7 @@ pub mod Lists
 pub mod Found
 pub mod TraceRows
 pub mod Standing
-pub mod Replaying
+pub mod ReplaySteps
 pub mod StartLaws
 pub mod PartLaws
 pub mod Jobs

@@ -1,6 +1,8 @@
 -- Parts one after the other, their runs and their starts.
-use Rattle.std.proofs.Common.{Vec, Global, ◌≡◌, ◌∙◌, ap, ap₂, sym, refl, subst, arith, ℕ, ◌+◌, ◌≤◌, List, [], ◌∷◌, ◌++◌, append-nil, append_assoc, length, drop, Result, Ok, Err}
-use Rattle.std.proofs.lemmas.List.{drop_all}
+use Rattle.std.proofs.Common.{Vec, Global, ◌≡◌, ◌∙◌, ap, ap₂, sym, refl, subst, arith, ℕ, ◌+◌, ◌-◌, ◌≤◌, List, [], ◌∷◌, ◌++◌, append-nil, append_assoc, length, drop, Result, Ok, Err}
+use Rattle.std.proofs.lemmas.List.{drop_all, take_all}
+use Rattle.std.specs.Map.{keys_of}
+use Rattle.std.specs.Prelude.{slice_range}
 use Rattle.std.proofs.lemmas.List.Folds.{drop_split}
 use Rattle.std.proofs.lemmas.List.Elements.{All-cons, All-head, All-nil, All-push, All-tail}
 use Rattle.std.proofs.lemmas.Grind.{flat_map-append}
@@ -15,8 +17,12 @@ use Rattle.sym_table.specs.declared.bad.Bad.{Bad as BadRow}
 use Rattle.sym_table.specs.declared.chunk.Chunk.{Chunk}
 use Rattle.sym_table.specs.ChunkRecords.{all_records}
 use Rattle.sym_table.specs.RowRecords.{in_turn}
-use Rattle.sym_run.specs.Applying.{AreValid}
-use Rattle.sym_run.specs.Runs.{GroupsFit}
+use Rattle.sym_run.specs.Applying.{IfDone, applied_to, bad_of}
+use Rattle.sym_run.specs.declared.runs.Applied.{Applied}
+use Rattle.sym_run.specs.declared.runs.Applied.TheVariants as applied
+use Rattle.sym_run.specs.declared.runs.Run.{Run}
+use Rattle.sym_run.specs.Runs.{GroupsFit, GroupsStandFor, HasFound, IsFromTo, StandsForChunks}
+use Rattle.sym_run.proofs.AppliedRuns.{applied_all}
 use Rattle.sym_run.proofs.FoundRecords.{all_records-append}
 use Rattle.sym_scan.specs.declared.parts.Part.{Part}
 use Rattle.sym_scan.specs.declared.rows.TraceRow.{TraceRow}
@@ -25,7 +31,7 @@ use Rattle.sym_scan.specs.declared.starting.PartStarts.{PartStarts}
 use Rattle.sym_scan.specs.declared.starting.Started.{Started}
 use Rattle.sym_scan.specs.declared.starting.Started.TheVariants as started
 use Rattle.sym_scan.specs.declared.starting.AllStarted.TheVariants as all_started
-use Rattle.sym_scan.specs.Parts.{AreParts, AreRuns, IsPart, IsReady, IsRun, StartsAll, StartsFrom, part_chunks, part_rows, replayed_rows}
+use Rattle.sym_scan.specs.Parts.{AreParts, AreRuns, IsPart, IsReady, IsRun, IsRunOf, StartsAll, StartsFrom, part_chunks, part_rows, replayed_rows}
 use Rattle.sym_scan.specs.Replays.{replayed_to, starts_of}
 use Rattle.sym_scan.specs.Traces.{from_groups, rows_after}
 use Rattle.sym_scan.proofs.Found.{Found, both_before, none_before}
@@ -51,11 +57,7 @@ parts_within from to (x ∷ parts) a =
     All-cons (IsPart to) x parts (record { some = a.1; within = omega arith }) (parts_within (from + x.count) to parts a.2)
 
 -- ---- runs
--- The run of a part that was given.
-abbrev pub IsGiven : ScriptPlan → ℕ → List Chunk → Part → PartRun → Type 0
-IsGiven p limit chunks part ran = (ran.part ≡ part) × IsRun p limit chunks ran
-
-pub runs_given : (p : ScriptPlan) (limit : ℕ) (chunks : List Chunk) (from to : ℕ) (parts : List Part) (runs : List PartRun) → AreParts from to parts → AllZip (IsGiven p limit chunks) parts runs
+pub runs_given : (p : ScriptPlan) (limit : ℕ) (chunks : List Chunk) (from to : ℕ) (parts : List Part) (runs : List PartRun) → AreParts from to parts → AllZip (IsRunOf p limit chunks) parts runs
     → AreRuns p limit chunks from to runs
 runs_given p limit chunks from to [] [] a z = a
 runs_given p limit chunks from to [] (ran ∷ runs) a z = absurd z
@@ -102,6 +104,37 @@ all_mid P [] x rest h = All-head P x rest h
 all_mid P (y ∷ before) x rest h = all_mid P before x rest (All-tail P y (before ++ x ∷ rest) h)
 
 -- ---- starts
+-- What a run of all chunks found.
+found_whole : (p : ScriptPlan) (limit : ℕ) (chunks : List Chunk) (run : Run) → IsFromTo 0 (length chunks) run → StandsForChunks p limit chunks run → HasFound p limit (all_records p chunks) run.bad run.groups
+found_whole p limit chunks run ends h =
+    let from = ends.from in
+    let to = ends.to in
+    let whole : slice_range chunks run.lo run.hi ≡ chunks = rw (from, to) (take_all (length chunks - 0) chunks (omega arith)) in
+    subst (λ (cs : List Chunk). HasFound p limit (all_records p cs) run.bad run.groups) whole h.found
+
+done_from : (p : ScriptPlan) (limit : ℕ) (found : Found) (run : Run) (old given new starts : Pairs) (applied : Applied) → HasFound p limit found run.bad run.groups → applied ≡ applied_to p found given → given ≡ old
+    → applied ≡ applied.Done new → starts ≡ starts_of old (keys_of run.groups) → StartsFrom p found old (started.From starts) new
+done_from p limit (Ok records) run old given new starts applied h is same done e =
+    let led : new ≡ after_records p records given = cc in (e ∙ ap (starts_of old) h.2.keys_are, led ∙ ap (after_records p records) same)
+done_from p limit (Err why) run old given new starts applied h is same done e = absurd (cc)
+
+bad_from : (p : ScriptPlan) (found : Found) (old given new : Pairs) (bad : BadRow) (applied : Applied) → applied ≡ applied_to p found given → applied ≡ applied.Bad bad → StartsFrom p found old (started.Bad bad) new
+bad_from p (Ok records) old given new bad applied is broken = absurd (cc)
+bad_from p (Err why) old given new bad applied is broken = cc
+
+-- A run is applied after its starts are taken.
+pub started_done : (p : ScriptPlan) (limit : ℕ) (chunks : List Chunk) (run : Run) (old given new starts : List (Key × Outcome)) (applied : Applied) → IsFromTo 0 (length chunks) run → StandsForChunks p limit chunks run
+    → bad_of applied ≡ run.bad → ((records : List Record) → GroupsStandFor p records run.groups → IfDone applied (λ g. g ≡ after_records p records given)) → given ≡ old
+    → applied ≡ applied.Done new → starts ≡ starts_of old (keys_of run.groups) → StartsFrom p (all_records p chunks) old (started.From starts) new
+started_done p limit chunks run old given new starts applied ends h bad groups same done e =
+    done_from p limit (all_records p chunks) run old given new starts applied (found_whole p limit chunks run ends h) (applied_all p limit chunks run given applied h ends bad groups) same done e
+
+pub started_bad : (p : ScriptPlan) (limit : ℕ) (chunks : List Chunk) (run : Run) (old given new : List (Key × Outcome)) (why : BadRow) (applied : Applied) → IsFromTo 0 (length chunks) run → StandsForChunks p limit chunks run
+    → bad_of applied ≡ run.bad → ((records : List Record) → GroupsStandFor p records run.groups → IfDone applied (λ g. g ≡ after_records p records given))
+    → applied ≡ applied.Bad why → StartsFrom p (all_records p chunks) old (started.Bad why) new
+started_bad p limit chunks run old given new why applied ends h bad groups broken =
+    bad_from p (all_records p chunks) old given new why applied (applied_all p limit chunks run given applied h ends bad groups) broken
+
 -- Parts are started up to a place: the groups are led on by the records before it.
 pub record IsStarting (p : ScriptPlan) (every : ℕ) (chunks : List Chunk) (to : ℕ) (first groups : List (Key × Outcome)) (parts : List PartStarts) : Type 0 where
   pub records : List Record

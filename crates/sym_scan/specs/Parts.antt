@@ -45,6 +45,10 @@ pub record IsRun (p : ScriptPlan) (limit : ℕ) (chunks : List Chunk) (ran : Par
   pub ends : IsFromTo 0 (length (part_chunks chunks ran.part)) ran.run
   pub stands : StandsForChunks p limit (part_chunks chunks ran.part) ran.run
 
+-- The run of this part.
+abbrev pub IsRunOf : ScriptPlan → ℕ → List Chunk → Part → PartRun → Type 0
+IsRunOf p limit chunks part ran = (ran.part ≡ part) × IsRun p limit chunks ran
+
 -- The runs of parts one after the other, from one place up to another.
 abbrev pub AreRuns : ScriptPlan → ℕ → List Chunk → ℕ → ℕ → List PartRun → Type 0
 AreRuns p limit chunks from to [] = from ≡ to

@@ -33,8 +33,9 @@ replayed_to p every starts (Err bad) = Bad bad
 
 -- The row of a record with this number and key whose group stands so; none where there is no group.
 abbrev pub row_of : ℕ → Key → Option Outcome → List TraceRow
-row_of no key None = []
-row_of no key (Some outcome) = record { no = no; key = key; outcome = outcome } ∷ []
+row_of number key None = []
+row_of number key (Some outcome) =
+    record { no = number; key = key; outcome = outcome } ∷ []
 
 -- A replay has gone on over records: its groups have made their steps, and there are their rows
 -- more. Or one of the rows that were read is no record.

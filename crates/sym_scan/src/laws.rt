@@ -1,8 +1,7 @@
 //! Laws of traces.
-ghost use Rattle.std.specs.Prelude.{◌≡◌, ◌++◌, ℕ, List};
+ghost use Rattle.std.specs.Prelude.{◌≡◌, ◌++◌, [], ℕ, List};
 ghost use Rattle.sym_base.specs.declared.values.record.Record.{Record as OneRecord};
 ghost use Rattle.sym_check.specs.Plan.ScriptPlans.{ScriptPlan};
-ghost use Rattle.sym_plain.specs.Pairs.{after_records};
 ghost use Rattle.sym_check.specs.Meaning.Groups.{pass};
 ghost use Rattle.sym_scan.specs.Traces.{from_groups, rows_after, trace, trace_after};
 

@@ -8,7 +8,7 @@ ghost use Rattle.sym_check.specs.Meaning.Groups.{pass};
 ghost use Rattle.sym_table.specs.ChunkRecords.{all_records};
 ghost use Rattle.sym_table.specs.Rows.{FitsChunk};
 ghost use Rattle.sym_run.specs.Applying.{AreValid};
-ghost use Rattle.sym_scan.specs.Parts.{AreParts, AreRuns, IsPart, IsReady, IsRun, part_rows};
+ghost use Rattle.sym_scan.specs.Parts.{AreParts, AreRuns, IsPart, IsReady, IsRunOf, part_rows};
 ghost use Rattle.sym_scan.specs.Scans.{IfDone, scanned_to, traced_to};
 
 use crate::parts::{Part, parts};
@@ -78,8 +78,7 @@ fn run_part(
     requires fit { All (FitsChunk (checked_plan checked.now).fields) chunks.now }
     requires few { length chunks.now ≤ 64 }
     requires part { IsPart (length chunks.now) part }
-    ensures part { IfOk result (λ ran. ran.part ≡ part) }
-    ensures run { IfOk result (IsRun (checked_plan checked.now) limit chunks.now) }
+    ensures { IfOk result (IsRunOf (checked_plan checked.now) limit chunks.now part) }
 {
     let run = of_chunks(alloc, checked, part.of(chunks), limit)?;
     Ok(PartRun { part, run })
@@ -149,9 +148,8 @@ fn run_all<T: Threads + Sync, S: LendsScript + Sync>(
         &|part: Part| -> Result<PartRun, NoMemory>
             requires { All (FitsChunk (checked_plan (S.lent lender.now)).fields) chunks.now
                 × (length chunks.now ≤ 64) × IsPart (length chunks.now) part }
-            ensures part { IfOk result (λ ran. ran.part ≡ part) }
-            ensures run { let p = checked_plan (S.lent lender.entry.now) in
-                IfOk result (IsRun p limit chunks.entry.now) }
+            ensures { let p = checked_plan (S.lent lender.entry.now) in
+                IfOk result (IsRunOf p limit chunks.entry.now part) }
         { run_part(alloc, lender.script(), chunks, part, limit) },
     )?;
     values_of(alloc, done)

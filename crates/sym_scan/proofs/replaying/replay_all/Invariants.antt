@@ -2,7 +2,7 @@
 use Rattle.std.proofs.Common.{[], drop}
 use Rattle.sym_check.specs.Checking.CheckedScripts.{checked_plan}
 use Rattle.sym_table.specs.ChunkRecords.{all_records}
-use Rattle.sym_scan.proofs.Replaying.{IsReplaying}
+use Rattle.sym_scan.proofs.ReplaySteps.{IsReplaying}
 use Rattle.sym_scan.proofs.replaying.replay_all.Given as goal
 
 abbrev pub invariant-chunks : goal.invariant-chunks

@@ -3,7 +3,7 @@ use Rattle.std.proofs.Common.{◌+◌, drop}
 use Rattle.sym_check.specs.Checking.CheckedScripts.{checked_plan}
 use Rattle.sym_table.specs.ChunkRecords.{chunk_records}
 use Rattle.sym_table.specs.RowRecords.{records_or_bad}
-use Rattle.sym_scan.proofs.Replaying.{IsReplaying}
+use Rattle.sym_scan.proofs.ReplaySteps.{IsReplaying}
 use Rattle.sym_scan.proofs.replaying.take_rows.Given as goal
 
 abbrev pub invariant-rows : goal.invariant-rows

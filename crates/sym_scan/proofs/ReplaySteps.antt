@@ -1,5 +1,5 @@
 -- Replays that go on, record by record and chunk by chunk.
-use Rattle.std.proofs.Common.{◌≡◌, ◌∙◌, ap, ap₂, sym, refl, subst, arith, ℕ, suc, ◌+◌, ◌<◌, ◌≤◌, Bool, if◌then◌else◌, List, [], ◌∷◌, ◌++◌, append-nil, append_assoc, length, drop, get_or, add-one, drop-cons, Option, Some, None, is_some, true, Result, Ok, Err}
+use Rattle.std.proofs.Common.{◌≡◌, ◌∙◌, ap, ap₂, sym, refl, subst, arith, ℕ, suc, ◌+◌, ◌<◌, ◌≤◌, Bool, if◌then◌else◌, List, [], ◌∷◌, ◌++◌, append-nil, append_assoc, length, drop, get_or, add-one, drop-cons, Option, Some, None, is_some, true, false, Result, Ok, Err}
 use Rattle.std.proofs.lemmas.List.{drop_all}
 use Rattle.std.specs.Map.{lookup}
 use Rattle.sym_base.specs.declared.values.value.Key.{Key}
@@ -34,6 +34,9 @@ use Rattle.sym_scan.proofs.Lists.{left_from}
 use Rattle.sym_scan.proofs.Standing.{Pairs, after_records-append, rows_then, stand_after}
 
 -- ---- one record
+abbrev pub row_with : ℕ → Key → Outcome → TraceRow
+row_with number key outcome = record { no = number; key = key; outcome = outcome }
+
 -- The row of a record whose group has made its step.
 row_is : (p : ScriptPlan) (rec : Record) (groups : Pairs)
     → row_of rec.no (key_of p rec) (lookup (is_key (key_of p rec)) (after_record p rec groups)) ≡ row_after p (from_groups p groups) [] rec ∷ []
@@ -42,7 +45,7 @@ row_is p rec groups =
     let o : Outcome = step p (from_groups p groups k) rec in
     let found : lookup (is_key k) (after_record p rec groups) ≡ Some o = lookup-put-same k o groups in
     let is : o ≡ after p (records_of p k (rec ∷ [])) (from_groups p groups k) = ap (standing p) (sym found) ∙ stand_after p (rec ∷ []) groups k in
-    ap (row_of rec.no k) found ∙ ap (λ (u : Outcome). record { no = rec.no; key = k; outcome = u } ∷ []) is
+    ap (row_of rec.no k) found ∙ ap (λ (u : Outcome). row_with rec.no k u ∷ []) is
 
 pub record_taken : (p : ScriptPlan) (every : ℕ) (rec : Record) (old new : Progress) → new.groups ≡ after_record p rec old.groups
     → new.rows.items ≡ old.rows.items ++ (if is_shown every rec then row_of rec.no (key_of p rec) (lookup (is_key (key_of p rec)) new.groups) else [])
@@ -139,12 +142,12 @@ rows_next p header n i rows row found within is e =
     of (Err bad) rest = refl
 
 pub row_replayed : (p : ScriptPlan) (every : ℕ) (header : Header) (n i : ℕ) (rows : List Row) (row : Row) (told : Option BadRow) (rec : Record) (found : Result (List Record) BadRow) (first : List (Key × Outcome)) (shown : List TraceRow) (old new : Progress)
-    → i < length rows → row ≡ get_or rows i row → told ≡ None → Fills told rec (numbered (n + i) (read_row p.enums p.fields header row))
+    → i < length rows → row ≡ get_or rows i row → is_some told ≡ false → Fills told rec (numbered (n + i) (read_row p.enums p.fields header row))
     → GoesOn p every (Ok (rec ∷ [])) old None new
     → IsReplaying p every found (records_or_bad p header (n + i) (drop i rows)) first shown old → IsReplaying p every found (records_or_bad p header (n + (i + 1)) (drop (i + 1) rows)) first shown new
-row_replayed p every header n i rows row told rec found first shown old new within is none fills goes h =
-    let F : Option BadRow → Type 0 = λ o. Fills o rec (numbered (n + i) (read_row p.enums p.fields header row)) in
-    let are : record_or_bad (n + i) (read_row p.enums p.fields header row) ≡ Ok rec = record_is (n + i) (read_row p.enums p.fields header row) rec (subst F none fills) in
+row_replayed p every header n i rows row (Some bad) rec found first shown old new within is none fills goes h = absurd (cc)
+row_replayed p every header n i rows row None rec found first shown old new within is none fills goes h =
+    let are : record_or_bad (n + i) (read_row p.enums p.fields header row) ≡ Ok rec = record_is (n + i) (read_row p.enums p.fields header row) rec fills in
     replaying_on p every found (Ok (rec ∷ [])) (records_or_bad p header (n + (i + 1)) (drop (i + 1) rows)) None first shown old new refl
     (subst (λ (rest : Found). IsReplaying p every found rest first shown old) (rows_next p header n i rows row (Ok (rec ∷ [])) within is (ap (and_then (λ rec. Ok (rec ∷ []))) are)) h)
     goes
