@@ -19,7 +19,7 @@ use Rattle.sym_table.specs.ChunkRecords.{all_records}
 use Rattle.sym_table.specs.RowRecords.{in_turn}
 use Rattle.sym_run.specs.Applying.{IfDone, applied_to, bad_of}
 use Rattle.sym_run.specs.declared.runs.Applied.{Applied}
-use Rattle.sym_run.specs.declared.runs.Applied.TheVariants as applied
+use Rattle.sym_run.specs.declared.runs.Applied.TheVariants as applying
 use Rattle.sym_run.specs.declared.runs.Run.{Run}
 use Rattle.sym_run.specs.Runs.{GroupsFit, GroupsStandFor, HasFound, IsFromTo, StandsForChunks}
 use Rattle.sym_run.proofs.AppliedRuns.{applied_all}
@@ -113,25 +113,25 @@ found_whole p limit chunks run ends h =
     subst (λ (cs : List Chunk). HasFound p limit (all_records p cs) run.bad run.groups) whole h.found
 
 done_from : (p : ScriptPlan) (limit : ℕ) (found : Found) (run : Run) (old given new starts : Pairs) (applied : Applied) → HasFound p limit found run.bad run.groups → applied ≡ applied_to p found given → given ≡ old
-    → applied ≡ applied.Done new → starts ≡ starts_of old (keys_of run.groups) → StartsFrom p found old (started.From starts) new
+    → applied ≡ applying.Done new → starts ≡ starts_of old (keys_of run.groups) → StartsFrom p found old (started.From starts) new
 done_from p limit (Ok records) run old given new starts applied h is same done e =
     let led : new ≡ after_records p records given = cc in (e ∙ ap (starts_of old) h.2.keys_are, led ∙ ap (after_records p records) same)
 done_from p limit (Err why) run old given new starts applied h is same done e = absurd (cc)
 
-bad_from : (p : ScriptPlan) (found : Found) (old given new : Pairs) (bad : BadRow) (applied : Applied) → applied ≡ applied_to p found given → applied ≡ applied.Bad bad → StartsFrom p found old (started.Bad bad) new
+bad_from : (p : ScriptPlan) (found : Found) (old given new : Pairs) (bad : BadRow) (applied : Applied) → applied ≡ applied_to p found given → applied ≡ applying.Bad bad → StartsFrom p found old (started.Bad bad) new
 bad_from p (Ok records) old given new bad applied is broken = absurd (cc)
 bad_from p (Err why) old given new bad applied is broken = cc
 
 -- A run is applied after its starts are taken.
 pub started_done : (p : ScriptPlan) (limit : ℕ) (chunks : List Chunk) (run : Run) (old given new starts : List (Key × Outcome)) (applied : Applied) → IsFromTo 0 (length chunks) run → StandsForChunks p limit chunks run
     → bad_of applied ≡ run.bad → ((records : List Record) → GroupsStandFor p records run.groups → IfDone applied (λ g. g ≡ after_records p records given)) → given ≡ old
-    → applied ≡ applied.Done new → starts ≡ starts_of old (keys_of run.groups) → StartsFrom p (all_records p chunks) old (started.From starts) new
+    → applied ≡ applying.Done new → starts ≡ starts_of old (keys_of run.groups) → StartsFrom p (all_records p chunks) old (started.From starts) new
 started_done p limit chunks run old given new starts applied ends h bad groups same done e =
     done_from p limit (all_records p chunks) run old given new starts applied (found_whole p limit chunks run ends h) (applied_all p limit chunks run given applied h ends bad groups) same done e
 
 pub started_bad : (p : ScriptPlan) (limit : ℕ) (chunks : List Chunk) (run : Run) (old given new : List (Key × Outcome)) (why : BadRow) (applied : Applied) → IsFromTo 0 (length chunks) run → StandsForChunks p limit chunks run
     → bad_of applied ≡ run.bad → ((records : List Record) → GroupsStandFor p records run.groups → IfDone applied (λ g. g ≡ after_records p records given))
-    → applied ≡ applied.Bad why → StartsFrom p (all_records p chunks) old (started.Bad why) new
+    → applied ≡ applying.Bad why → StartsFrom p (all_records p chunks) old (started.Bad why) new
 started_bad p limit chunks run old given new why applied ends h bad groups broken =
     bad_from p (all_records p chunks) old given new why applied (applied_all p limit chunks run given applied h ends bad groups) broken
 

@@ -1,4 +1,4 @@
-use Rattle.std.proofs.Common.{Vec, Global, length, map, Ok, ◌≡◌, subst, sym}
+use Rattle.std.proofs.Common.{Vec, Global, length, map, Ok, ◌≡◌, ◌∙◌, subst, sym}
 use Rattle.std.proofs.lemmas.Result.{IfOk-weaker}
 use Rattle.sym_check.specs.Checking.CheckedScripts.{checked_plan}
 use Rattle.sym_scan.specs.declared.parts.Part.{Part}
@@ -22,5 +22,5 @@ returns g c =
     IfOk-weaker c.values_of.result (λ (runs : Vec PartRun Global). map Ok runs.items ≡ c.in_ok-done.done.items) (λ (runs : Vec PartRun Global). AreRuns p c.args.limit chunks 0 (length chunks) runs.items)
     (λ runs made.
     runs_given p c.args.limit chunks 0 (length chunks) c.args.parts.items runs.items c.requires.parts
-    (jobs_give _ _ (IsRunOf p c.args.limit chunks) c.args.parts.items c.in_ok-done.done.items runs.items (λ job r post. post) c.in_ok-done.ensures.len made c.in_ok-done.ensures.each))
+    (jobs_give _ _ (IsRunOf p c.args.limit chunks) c.args.parts.items c.in_ok-done.done.items runs.items (λ job r post. post) (sym c.in_ok-done.done.ok.0 ∙ c.in_ok-done.ensures.len ∙ c.args.parts.ok.0) made c.in_ok-done.ensures.each))
     c.values_of.ensures

@@ -25,8 +25,9 @@ parts-preserved c =
           let is = subst (λ (s : Started). StartsFrom p (all_records p (part_chunks chunks ran.part)) c.parts.groups s c.start.new.groups) c.in-From.is (c.in_ok-starts.ensures.starts limit (part_chunks chunks ran.part) next.is.ends next.is.stands) in
           let before = subst (λ (n : ℕ). IsStarting p every chunks n c.args.groups.now c.parts.groups c.parts.parts.items) (sym next.first) (c.parts.invariant.on limit every chunks next.mid next.before) in
           let end : ran.part.first + ran.part.count ≡ to = ap (λ (n : ℕ). n + ran.part.count) next.first ∙ next.end in
+          let ready : PartStarts = record { part = ran.part; starts = c.in-From.starts } in
           subst (IsStarting p every chunks to c.args.groups.now c.start.new.groups) (sym c.in_ok-push-in-From.ensures.items)
-          (subst (λ (n : ℕ). IsStarting p every chunks n c.args.groups.now c.start.new.groups _) end
+          (subst (λ (n : ℕ). IsStarting p every chunks n c.args.groups.now c.start.new.groups (c.parts.parts.items ++ ready ∷ [])) end
           (starting_on p every chunks ran.part c.in-From.starts c.args.groups.now c.parts.groups c.start.new.groups c.parts.parts.items next.is.part before is));
     }
 
