@@ -1,5 +1,5 @@
 -- Parts one after the other, their runs and their starts.
-use Rattle.std.proofs.Common.{Vec, Global, ◌≡◌, ◌∙◌, ap, ap₂, sym, refl, subst, arith, ℕ, ◌+◌, ◌-◌, ◌≤◌, List, [], ◌∷◌, ◌++◌, append-nil, append_assoc, length, drop, Result, Ok, Err}
+use Rattle.std.proofs.Common.{Vec, Global, ◌≡◌, ◌∙◌, ap, ap₂, sym, refl, subst, arith, ℕ, ◌+◌, ◌-◌, ◌≤◌, List, [], ◌∷◌, ◌++◌, append-nil, length, drop, Ok, Err}
 use Rattle.std.proofs.lemmas.List.{drop_all, take_all}
 use Rattle.std.specs.Map.{keys_of}
 use Rattle.std.specs.Prelude.{slice_range}
@@ -28,7 +28,6 @@ use Rattle.sym_scan.specs.declared.parts.Part.{Part}
 use Rattle.sym_scan.specs.declared.rows.TraceRow.{TraceRow}
 use Rattle.sym_scan.specs.declared.starting.PartRun.{PartRun}
 use Rattle.sym_scan.specs.declared.starting.PartStarts.{PartStarts}
-use Rattle.sym_scan.specs.declared.starting.Started.{Started}
 use Rattle.sym_scan.specs.declared.starting.Started.TheVariants as started
 use Rattle.sym_scan.specs.declared.starting.AllStarted.TheVariants as all_started
 use Rattle.sym_scan.specs.Parts.{AreParts, AreRuns, IsPart, IsReady, IsRun, IsRunOf, StartsAll, StartsFrom, part_chunks, part_rows, replayed_rows}

@@ -1,6 +1,5 @@
 -- Replays that go on, record by record and chunk by chunk.
-use Rattle.std.proofs.Common.{◌≡◌, ◌∙◌, ap, ap₂, sym, refl, subst, arith, ℕ, suc, ◌+◌, ◌<◌, ◌≤◌, Bool, if◌then◌else◌, List, [], ◌∷◌, ◌++◌, append-nil, append_assoc, length, drop, get_or, add-one, drop-cons, Option, Some, None, is_some, true, false, Result, Ok, Err}
-use Rattle.std.proofs.lemmas.List.{drop_all}
+use Rattle.std.proofs.Common.{◌≡◌, ◌∙◌, ap, sym, refl, subst, arith, ℕ, ◌+◌, ◌<◌, if◌then◌else◌, List, [], ◌∷◌, ◌++◌, append-nil, append_assoc, length, drop, get_or, Option, Some, None, is_some, true, false, Result, Ok, Err}
 use Rattle.std.specs.Map.{lookup}
 use Rattle.sym_base.specs.declared.values.value.Key.{Key}
 use Rattle.sym_base.specs.declared.values.value.Value.{Value}
@@ -14,7 +13,6 @@ use Rattle.sym_plain.specs.Pairs.{after_record, after_records, standing}
 use Rattle.sym_plain.proofs.Puts.{lookup-put-same}
 use Rattle.sym_table.specs.declared.bad.Bad.{Bad as BadRow}
 use Rattle.sym_table.specs.declared.bad.BadCause.{BadCause}
-use Rattle.sym_table.specs.declared.bad.Decoded.{Decoded}
 use Rattle.sym_table.specs.declared.bad.Decoded.TheVariants as decoded
 use Rattle.sym_table.specs.declared.chunk.Chunk.{Chunk}
 use Rattle.sym_table.specs.declared.header.Header.{Header}
@@ -24,8 +22,7 @@ use Rattle.sym_table.specs.Reading.{Row}
 use Rattle.sym_table.specs.RowRecords.{in_turn, record_or_bad, records_or_bad}
 use Rattle.sym_table.specs.Rows.{read_row}
 use Rattle.sym_scan.specs.declared.replaying.Progress.{Progress}
-use Rattle.sym_scan.specs.declared.replaying.Replayed.{Replayed}
-use Rattle.sym_scan.specs.declared.replaying.Replayed.TheVariants.{Rows, Bad}
+use Rattle.sym_scan.specs.declared.replaying.Replayed.TheVariants.{Rows}
 use Rattle.sym_scan.specs.declared.rows.TraceRow.{TraceRow}
 use Rattle.sym_scan.specs.Traces.{from_groups, is_shown, row_after, rows_after}
 use Rattle.sym_scan.specs.Replays.{GoesOn, replayed_to, row_of}

@@ -1,18 +1,12 @@
 -- Scans: the rows of a round and the groups after it.
-use Rattle.std.specs.Prelude.{◌≡◌, ◌≤◌, ℕ, ◌+◌, List, [], ◌∷◌, ◌++◌, length, Result, Ok, Err, slice_range}
-use Rattle.std.specs.Map.{keys_of}
+use Rattle.std.specs.Prelude.{ℕ, List, [], ◌++◌, Result, Ok, Err}
 use Rattle.sym_base.specs.declared.values.value.Key.{Key}
 use Rattle.sym_base.specs.declared.values.record.Record.{Record}
 use Rattle.sym_base.specs.declared.values.state.Outcome.{Outcome}
-use Rattle.sym_check.specs.Meaning.Groups.{keys, pass}
+use Rattle.sym_check.specs.Meaning.Groups.{pass}
 use Rattle.sym_check.specs.Plan.ScriptPlans.{ScriptPlan}
 use Rattle.sym_plain.specs.Pairs.{after_records}
 use Rattle.sym_table.specs.declared.bad.Bad.{Bad as BadRow}
-use Rattle.sym_table.specs.declared.chunk.Chunk.{Chunk}
-use Rattle.sym_table.specs.ChunkRecords.{all_records}
-use Rattle.sym_run.specs.Applying.{AreValid}
-use Rattle.sym_run.specs.Runs.{IsFromTo, StandsForChunks}
-use Rattle.sym_scan.specs.declared.rows.TraceRow.{TraceRow}
 use Rattle.sym_scan.specs.declared.scanning.Scanned.{Scanned}
 use Rattle.sym_scan.specs.declared.scanning.Scanned.TheVariants.{Done, Bad}
 use Rattle.sym_scan.specs.Traces.{from_groups, rows_after, trace_after}

@@ -1,7 +1,6 @@
 use Rattle.std.proofs.Common.{Vec, Global, length, map, Ok, ◌≡◌, ◌∙◌, subst, sym}
 use Rattle.std.proofs.lemmas.Result.{IfOk-weaker}
 use Rattle.sym_check.specs.Checking.CheckedScripts.{checked_plan}
-use Rattle.sym_scan.specs.declared.parts.Part.{Part}
 use Rattle.sym_scan.specs.declared.starting.PartRun.{PartRun}
 use Rattle.sym_scan.specs.Parts.{AreRuns, IsPart, IsRunOf}
 use Rattle.sym_scan.proofs.Jobs.{jobs_give}
