@@ -5,7 +5,7 @@ ghost use Rattle.sym_report.specs.Forms.{HasColumns, IsUnder};
 ghost use Rattle.sym_report.specs.ReportRows.{is_bad, is_faulty};
 
 use std::alloc::Global;
-use sym_base::{Column, Columns, NoMemory, Text, Texts};
+use sym_base::{Column, Columns, NoMemory, Plain, Text, Texts};
 
 /// The names above a report's rows.
 #[derive(PartialEq, Eq, Drop)]
@@ -64,6 +64,12 @@ impl Row {
         ensures { IsTrue result ↔ IsUnder heads.now self.now }
     {
         self.keys.len() == heads.keys.len() && has_columns(&heads.columns, &self.body)
+    }
+}
+
+impl Plain for Row {
+    fn copied(&self, alloc: Global) -> Result<Row, NoMemory> {
+        self.copy(alloc)
     }
 }
 
