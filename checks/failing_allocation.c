@@ -3,11 +3,14 @@
 // number of all allocations is written to the file that ALLOCATION_COUNT names. Works with the GNU
 // C library.
 
+#define _GNU_SOURCE
 #include <errno.h>
 #include <stdatomic.h>
 #include <stddef.h>
 #include <stdio.h>
 #include <stdlib.h>
+#include <sys/syscall.h>
+#include <unistd.h>
 
 void *__libc_malloc(size_t size);
 void *__libc_calloc(size_t count, size_t size);
@@ -33,6 +36,13 @@ __attribute__((destructor)) static void end(void) {
         fprintf(file, "%lu\n", total);
         fclose(file);
     }
+}
+
+// A program that starts threads ends by this call, which runs no destructor.
+void _exit(int status) {
+    end();
+    syscall(SYS_exit_group, status);
+    __builtin_unreachable();
 }
 
 static int fails(void) {
