@@ -6,12 +6,14 @@
 // - CALL_PIECE: reads and writes take at most so many bytes.
 // - RUN_COMMAND: before the call that would fail, this is run by the shell, and nothing fails.
 // At the end of the program its numbers of opens, reads and writes, and the microseconds that it
-// took of the processors, are written to the file that CALL_COUNT names. Works with the GNU C
-// library.
+// took of the processors, are written to the file that CALL_COUNT names, and how many threads it
+// started to the one that THREAD_COUNT names. Works with the GNU C library.
 
 #define _GNU_SOURCE
+#include <dlfcn.h>
 #include <errno.h>
 #include <fcntl.h>
+#include <pthread.h>
 #include <stdarg.h>
 #include <stdatomic.h>
 #include <stdio.h>
@@ -26,6 +28,7 @@ enum kind { OPEN, READ, WRITE, KINDS };
 #define DESCRIPTORS 64
 
 static atomic_ulong calls[KINDS];
+static atomic_ulong threads;
 // Written before main begins.
 static enum kind failing_kind = KINDS;
 static unsigned long failing;
@@ -71,6 +74,21 @@ __attribute__((destructor)) static void end(void) {
                 1000000 * seconds + microseconds);
         fclose(file);
     }
+    name = getenv("THREAD_COUNT");
+    file = name ? fopen(name, "w") : NULL;
+    if (file) {
+        fprintf(file, "%lu\n", threads);
+        fclose(file);
+    }
+}
+
+int pthread_create(pthread_t *thread, const pthread_attr_t *attributes, void *(*begun)(void *),
+                   void *argument) {
+    int (*create)(pthread_t *, const pthread_attr_t *, void *(*)(void *), void *) =
+        (int (*)(pthread_t *, const pthread_attr_t *, void *(*)(void *), void *))dlsym(
+            RTLD_NEXT, "pthread_create");
+    atomic_fetch_add(&threads, 1);
+    return create(thread, attributes, begun, argument);
 }
 
 // A program that starts threads ends by this call, which runs no destructor.

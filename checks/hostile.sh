@@ -4,7 +4,7 @@
 # - streams: standard streams that are closed, full, slow or gone;
 # - files: that change while they are read, pipes, devices, directories, files without leave, names;
 # - killed: ended by kill -9 at random moments, what was written is a prefix of the report;
-# - resources: little memory, a small stack, no leave to start threads;
+# - resources: little memory, a small stack, no leave to start threads, and how many are started;
 # - times: scripts and logs that are slow to take. None takes more than 20 times as long as a plain
 #   one of its size, but for those that docs/LANGUAGE.md names.
 #
@@ -562,6 +562,27 @@ no_threads() {
     note_end "resources: no leave to start threads" 0 three.txt ''
 }
 
+# started THREADS WORKERS: over a log of 8 chunks, so many threads are started by so many workers,
+# of which one works in the thread that is there.
+started() {
+    run env LD_PRELOAD="$work/calls.so" THREAD_COUNT=threads "$program" run --chunk 1 --workers "$2" \
+        eight.symple eight.csv
+    [ "$status" -eq 0 ] && [ "$(cat threads)" = "$1" ]
+    note $? "resources: $2 workers started $(cat threads) threads"
+}
+
+threads() {
+    {
+        echo 'field user: word; group user; state n: int [0..9] = 0;'
+        echo 'update { n = n + 1; } report { n = n; }'
+    } >eight.symple
+    printf 'user\na\na\na\na\na\na\na\na\n' >eight.csv
+    started 0 1
+    started 1 2
+    started 3 4
+    started 7 64
+}
+
 check_resources() {
     little_memory run counts.symple wide.csv
     small_stack
@@ -569,6 +590,7 @@ check_resources() {
         # shellcheck disable=SC2086 # words
         little_memory run $workers counts.symple wide.csv
         no_threads
+        threads
     else
         skipped 'no leave to start threads: the program takes no --workers'
     fi
