@@ -2,7 +2,8 @@
 # Measures `symple run` with 1, 2 and 4 workers, over four workloads: the sessions of 10 and of
 # 98,304 users, a count of 10 users, and a funnel of 1,000 users. Beside it the sequential pass of
 # the same crates, gawk, mawk, and a program written by hand in Rust. All come to the same groups,
-# symple writes the same report with each number of workers, and each runs three times, in turn.
+# symple writes the same report with each number of workers, and each runs three times, in turn
+# (TURNS sets another number).
 # Prints the least wall time of each in seconds, its ratio to the sequential pass's, and the
 # processor time and memory of that run.
 # Of the sequential pass, sym_bench's, it is the processor time of the pass over a log in memory,
