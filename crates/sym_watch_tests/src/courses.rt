@@ -27,10 +27,34 @@ const COURSES: [&[Step]; 5] = [
     &[Look(None), Look(None)],
     &[Learn, Look(None)],
     // The newest is seen, once the watcher was told of it and also before.
-    &[Look(None), Publish(5), Publish(9), Learn, Look(Some(9)), Look(Some(9))],
-    &[Publish(5), Look(Some(5)), Learn, Publish(9), Look(Some(9)), Learn, Look(Some(9))],
+    &[
+        Look(None),
+        Publish(5),
+        Publish(9),
+        Learn,
+        Look(Some(9)),
+        Look(Some(9)),
+    ],
+    &[
+        Publish(5),
+        Look(Some(5)),
+        Learn,
+        Publish(9),
+        Look(Some(9)),
+        Learn,
+        Look(Some(9)),
+    ],
     // Borders may stand still.
-    &[Publish(0), Publish(0), Look(Some(0)), Publish(0), Learn, Look(Some(0)), Publish(1), Look(Some(1))],
+    &[
+        Publish(0),
+        Publish(0),
+        Look(Some(0)),
+        Publish(0),
+        Learn,
+        Look(Some(0)),
+        Publish(1),
+        Look(Some(1)),
+    ],
 ];
 
 // Whether the course goes as it says.
