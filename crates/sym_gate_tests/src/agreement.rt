@@ -1,0 +1,103 @@
+//! Small rounds, by one worker and by many.
+use crate::bodies::Body;
+use crate::comparing::{Seen, Worked, seen_by};
+use crate::holds::{Holder, Until};
+use std::alloc::Global;
+use std::sync::Wait;
+use std::test::Fail;
+use std::thread::Threads;
+use sym_base::NoMemory;
+use sym_engine::OpenGate;
+
+/// A log of teams and results, how many chunks it has and how many groups, and the number of its
+/// first row that is no record.
+struct Case(&'static str, usize, usize, Option<u64>);
+
+const CASES: [Case; 10] = [
+    Case("team,result\na,win\n", 1, 1, None),
+    Case("team,result\na,win\nb,loss\n", 2, 2, None),
+    Case("team,result\na,win\na,loss\na,win\n", 3, 1, None),
+    Case(
+        "team,result\na,win\nb,win\na,win\nc,draw\nb,win\n",
+        5,
+        3,
+        None,
+    ),
+    Case(
+        "team,result\na,win\nb,win\nc,loss\na,win\na,win\nb,draw\nc,win\na,loss\nb,win\n",
+        9,
+        3,
+        None,
+    ),
+    Case("team,result\na,tie\n", 1, 0, Some(1)),
+    Case("team,result\na,win\nb,tie\n", 2, 0, Some(2)),
+    Case("team,result\na,tie\nb\na,win\n", 3, 0, Some(1)),
+    Case(
+        "team,result\na,win\nb,win\na\nc,tie\nb,win\n",
+        5,
+        0,
+        Some(3),
+    ),
+    Case(
+        "team,result\na,win\nb,win\nc,loss\na,win\na,win\nb,draw\nc,win\na,tie\nb\n",
+        9,
+        0,
+        Some(8),
+    ),
+];
+
+const WORKERS: [u32; 5] = [1, 2, 3, 8, 64];
+
+// Whether this is seen of the log, and each chunk is claimed once, with so many workers.
+fn is_seen<T: Threads + Wait + Sync>(
+    rt: &T,
+    alloc: Global,
+    case: &Case,
+    worked: Worked,
+) -> Result<bool, NoMemory> {
+    let Case(log, chunks, groups, bad) = case;
+    let hold = Holder::new(Until::Now, 0);
+    let gate = OpenGate { hold };
+    let seen = seen_by(rt, alloc, log, worked, &gate)?;
+    let wanted = Seen {
+        chunks: *chunks,
+        same: true,
+        groups: *groups,
+        bad: *bad,
+    };
+    Ok(seen == Some(wanted) && gate.hold.claimed_once(*chunks) && !gate.hold.gave_up())
+}
+
+// The place of the first log of which this isn't seen, with so many workers.
+fn first_wrong<T: Threads + Wait + Sync>(
+    rt: &T,
+    alloc: Global,
+    worked: Worked,
+) -> Result<Option<usize>, NoMemory> {
+    'cases: for (place, case) in CASES.iter().enumerate() {
+        if !is_seen(rt, alloc, case, worked)? {
+            return Ok(Some(place));
+        }
+    }
+    Ok(None)
+}
+
+#[test]
+fn any_workers_make_of_a_round_what_one_thread_does(rt: HostRuntime) -> Result<(), Fail> {
+    'workers: for workers in WORKERS {
+        let body = Body::Round;
+        let wrong = first_wrong(&rt, rt.alloc(), Worked { body, workers })?;
+        assert_eq!(rt; wrong, None, "{workers} workers");
+    }
+    Ok(())
+}
+
+#[test]
+fn the_other_bodies_make_of_a_round_what_one_thread_does(rt: HostRuntime) -> Result<(), Fail> {
+    let workers = 2;
+    'bodies: for body in [Body::Gate, Body::Serial, Body::Halves] {
+        let wrong = first_wrong(&rt, rt.alloc(), Worked { body, workers })?;
+        assert_eq!(rt; wrong, None, "{body:?}");
+    }
+    Ok(())
+}
