@@ -1,4 +1,5 @@
-//! Tests of rounds that several workers work at once, over the public calls of `sym_engine`.
+//! Tests of rounds that several workers work at once and of gates, over the public calls of
+//! `sym_engine` and `sym_top`.
 #![tactic(auto)]
 
 #[cfg(test)]
@@ -13,5 +14,7 @@ mod gates;
 mod holds;
 #[cfg(test)]
 mod passing;
+#[cfg(test)]
+mod runs;
 #[cfg(test)]
 mod showing;
