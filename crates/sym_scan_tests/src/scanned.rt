@@ -1,5 +1,5 @@
 //! Whole logs, traced round by round.
-ghost use Rattle.std.specs.Prelude.{OnOk};
+ghost use Rattle.std.specs.Prelude.{◌≡◌, [], OnOk};
 ghost use Rattle.sym_check.specs.Checking.CheckedScripts.{checked_plan};
 ghost use Rattle.sym_table.specs.Rows.{FitsChunk, FitsHeader};
 ghost use Rattle.std.specs.List.{All};
@@ -37,7 +37,9 @@ pub(crate) struct Traced {
 }
 
 impl Traced {
-    fn new(alloc: Global) -> Traced {
+    fn new(alloc: Global) -> Traced
+        ensures { result.groups ≡ [] }
+    {
         Traced {
             rows: Vec::new(alloc),
             groups: Groups::new(alloc),
