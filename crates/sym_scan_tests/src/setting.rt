@@ -1,6 +1,7 @@
 //! Scripts, and the rounds of a log, for these tests.
 ghost use Rattle.std.specs.Prelude.{IfOk, IfSome};
 ghost use Rattle.std.specs.List.{All};
+ghost use Rattle.std.specs.Thread.{IsSync};
 ghost use Rattle.sym_check.specs.Checking.CheckedScripts.{checked_plan};
 ghost use Rattle.sym_table.specs.Rows.{FitsChunk, FitsHeader};
 
@@ -22,7 +23,8 @@ pub(crate) trait Case {
         rt: &T,
         alloc: Global,
         checked: &Checked,
-    ) -> Result<bool, NoMemory>;
+    ) -> Result<bool, NoMemory>
+        requires sync { IsSync T.row };
 }
 
 /// The script of a text; `None` if the text is refused.
