@@ -45,3 +45,4 @@ mod WholeScripts
 mod FewParts
 mod Seen
 mod PlannedScripts
+pub mod CheckedShared

@@ -5,4 +5,4 @@ pub mod Walks
 pub mod FileByFile
 pub mod Folds
 pub mod RoundRuns
-pub mod CheckedShared
+pub mod WorkShared

@@ -7,4 +7,3 @@ pub mod StartLaws
 pub mod PartLaws
 pub mod Jobs
 pub mod ScanLaws
-pub mod CheckedShared

@@ -4,7 +4,7 @@ use Rattle.sym_check.specs.contracts.checking.accepted.Checked.{the_type as chec
 use Rattle.sym_table.specs.declared.chunk.Chunk.{Chunk}
 use Rattle.sym_table.specs.ChunkRecords.{all_records}
 use Rattle.sym_scan.specs.Scans.{scanned_to}
-use Rattle.sym_scan.proofs.CheckedShared.{checked_sync}
+use Rattle.sym_check.proofs.CheckedShared.{checked_sync}
 use Rattle.sym_scan.proofs.ScanLaws.{scan_traces}
 use Rattle.sym_scan.proofs.scanning.scan_round.Goals as goal
 
