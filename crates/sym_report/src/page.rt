@@ -42,6 +42,17 @@ fn new_writer(alloc: Global) -> Writer<Vec<u8>>
         .from_writer(Vec::new(alloc))
 }
 
+// Puts a new writer in its place. A writer has a buffer of 8 KiB, and a function clears the memory of
+// its locals when it is called: so this isn't inlined where a row is written.
+#[cold]
+#[inline(never)]
+fn renew(writer: &mut Writer<Vec<u8>>, alloc: Global)
+    ensures empty { (writer_under writer.new).items ≡ [] }
+    ensures between { IsBetweenRows writer.new }
+{
+    *writer = new_writer(alloc);
+}
+
 // Writes a row, of which the writer may keep a part or all. Where memory runs out, it may be within
 // the row.
 fn put_row(writer: &mut Writer<Vec<u8>>, row: &ByteRecord) -> Result<(), NoMemory>
@@ -101,7 +112,7 @@ impl Page {
     /// Begins a new page if this one is full.
     pub(crate) fn turn(&mut self, alloc: Global) {
         if self.bytes().len() > PAGE_BYTES {
-            self.writer = new_writer(alloc);
+            renew(&mut self.writer, alloc);
         }
     }
 
@@ -112,7 +123,7 @@ impl Page {
         match write_row(&mut self.writer, row) {
             Ok(()) => Ok(()),
             Err(refused) => {
-                self.writer = new_writer(alloc);
+                renew(&mut self.writer, alloc);
                 Err(refused)
             }
         }
