@@ -1,5 +1,5 @@
 //! The report of groups, through any form.
-ghost use Rattle.std.specs.Prelude.{◌≡◌, ◌++◌, ◌||◌, map, slice_get, OnOk, IfOk};
+ghost use Rattle.std.specs.Prelude.{◌≡◌, ◌++◌, map, slice_get, OnOk, IfOk};
 ghost use Rattle.std.specs.List.{All};
 ghost use Rattle.sym_check.specs.Checking.CheckedScripts.{checked_tree, checked_plan};
 ghost use Rattle.sym_check.specs.Meaning.Validity.{IsKey};
@@ -15,13 +15,6 @@ use std::alloc::Global;
 use sym_base::{Key, NoMemory, Outcome};
 use sym_check::Checked;
 use sym_plain::Groups;
-
-// Whether one of two holds.
-fn either(left: bool, right: bool) -> bool
-    ensures { result ≡ (left || right) }
-{
-    left || right
-}
 
 // Appends the row of a group; whether it is faulty.
 fn write_row(
@@ -95,7 +88,7 @@ fn write_rows(
     let mut faulty = false;
     'groups: for index in 0..groups.len() {
         let found = write_group(alloc, checked, heads, groups, index, form)?;
-        faulty = either(faulty, found);
+        faulty |= found;
     }
     Ok(faulty)
 }

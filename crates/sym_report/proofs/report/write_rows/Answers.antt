@@ -1,4 +1,4 @@
-use Rattle.std.proofs.Common.{◌∙◌}
+use Rattle.std.proofs.Common.{◌∙◌, refl}
 use Rattle.sym_check.specs.Checking.CheckedScripts.{checked_tree, checked_plan}
 use Rattle.sym_report.specs.ReportRows.{row_of}
 use Rattle.sym_report.proofs.Reports.{rows_more, faulty_more}
@@ -15,7 +15,7 @@ groups-preserved g c =
           before.text found.text;
       faulty =
           faulty_more row c.args.groups.now c.groups.index c.groups.faulty c.in_ok-found.found
-          c.either-faulty.result before.faulty found.faulty c.either-faulty.ensures;
+          _ before.faulty found.faulty refl;
       texts = found.texts ∙ before.texts;
       called = found.called ∙ before.called;
     }
