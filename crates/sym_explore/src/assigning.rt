@@ -207,7 +207,7 @@ fn keep_all(
         return Ok(());
     };
     keep_each(alloc, cell, values, paths)?;
-    put_parts(alloc, &mut last, cell, values);
+    put_parts(alloc, &mut last, cell, values)?;
     paths.push(last)?;
     Ok(())
 }

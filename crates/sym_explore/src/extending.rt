@@ -155,7 +155,7 @@ pub fn fresh_with(
     ensures stands { IfOk result (StandsFor (checked_plan checked.now) (rec.now ∷ [])) }
 {
     let whole = Path::all(alloc, checked)?;
-    let mut paths = Vec::new(alloc);
+    let mut paths = Vec::with_capacity(alloc, 1)?;
     paths.push(whole)?;
     let explored = explore_each(alloc, checked.plan(), rec, buffers, paths)?;
     settle(alloc, explored)

@@ -38,10 +38,11 @@ fn write_label(old: &mut Form, form: EnumForm)
     }
 }
 
-/// Makes it the form of a hold cell with these parts. Known parts that it had are given for them.
+/// Makes it the form of a hold cell with these parts. Known parts that it had are given for them;
+/// else they are copied, which takes no more memory than they need.
 #[inline(always)]
-fn write_parts(alloc: Global, old: &mut Form, parts: &mut Values)
-    ensures { old.new ≡ Form.Hold (HoldForm.Const parts.old) }
+fn write_parts(alloc: Global, old: &mut Form, parts: &mut Values) -> Result<(), NoMemory>
+    ensures { OnOk result (old.new ≡ Form.Hold (HoldForm.Const parts.old)) }
 {
     match old {
         Form::Hold(HoldForm::Const(held)) => mem::swap(held, parts),
@@ -49,11 +50,9 @@ fn write_parts(alloc: Global, old: &mut Form, parts: &mut Values)
         | Form::Enum(_)
         | Form::Int(_)
         | Form::Nums(_)
-        | Form::Words(_) => {
-            let parts = mem::replace(parts, Values::new(alloc));
-            *old = Form::Hold(HoldForm::Const(parts));
-        }
+        | Form::Words(_) => *old = Form::Hold(HoldForm::Const(parts.copy(alloc)?)),
     }
+    Ok(())
 }
 
 /// Adds an element where the list lies. After an `Err` the list is empty.
@@ -112,11 +111,18 @@ fn put_label_at(forms: &mut Forms, cell: u16, form: EnumForm)
 }
 
 #[inline(always)]
-fn put_parts_at(alloc: Global, forms: &mut Forms, cell: u16, parts: &mut Values)
-    ensures { forms.new ≡ slice_set forms.old cell (Form.Hold (HoldForm.Const parts.old)) }
+fn put_parts_at(
+    alloc: Global,
+    forms: &mut Forms,
+    cell: u16,
+    parts: &mut Values,
+) -> Result<(), NoMemory>
+    ensures { let form = Form.Hold (HoldForm.Const parts.old) in
+        OnOk result (forms.new ≡ slice_set forms.old cell form) }
 {
-    if let Some(old) = forms.get_mut(usize::from(cell)) {
-        write_parts(alloc, old, parts);
+    match forms.get_mut(usize::from(cell)) {
+        Some(old) => write_parts(alloc, old, parts),
+        None => Ok(()),
     }
 }
 
@@ -172,12 +178,17 @@ pub(crate) fn put_label(path: &mut Path, cell: u16, form: EnumForm)
 /// The same of the known parts of a hold cell. The values get the memory of parts that were known
 /// before.
 #[inline(always)]
-pub(crate) fn put_parts(alloc: Global, path: &mut Path, cell: u16, parts: &mut Values)
-    ensures { path.new ≡ with_parts path.old cell parts.old }
+pub(crate) fn put_parts(
+    alloc: Global,
+    path: &mut Path,
+    cell: u16,
+    parts: &mut Values,
+) -> Result<(), NoMemory>
+    ensures { OnOk result (path.new ≡ with_parts path.old cell parts.old) }
 {
     match &mut path.end {
         PathEnd::Next(forms) => put_parts_at(alloc, forms, cell, parts),
-        PathEnd::Ended(_) => {}
+        PathEnd::Ended(_) => Ok(()),
     }
 }
 

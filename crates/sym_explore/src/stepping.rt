@@ -124,10 +124,7 @@ fn keep_in(
         (after_do (script_plan _plan.now) (known_values known.now) no d) no path.old path.new) }
 {
     match set_values(alloc, known, values, scratch) {
-        Ok(()) => {
-            put_parts(alloc, path, cell, scratch);
-            Ok(())
-        }
+        Ok(()) => put_parts(alloc, path, cell, scratch),
         Err(Stop::Fault(_)) => {
             path.fail(arith(no));
             Ok(())

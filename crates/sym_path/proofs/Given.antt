@@ -14,10 +14,3 @@ added_next f old xs i x e = append_assoc old (map f (take i xs)) (f x ∷ []) �
 
 pub words_next : {A : Type 0} (old xs : List A) (i : ℕ) (x : A) → slice_get xs i ≡ Some x → (old ++ take i xs) ++ x ∷ [] ≡ old ++ take (i + 1) xs
 words_next old xs i x e = append_assoc old (take i xs) (x ∷ []) ∙ ap (λ ys. old ++ ys) (sym (take_get xs i x e))
-
--- One cell more.
-pub cells_next : (forms : List Form) (s : State) (cells : List Cell) (i : ℕ) (f : Form) (c : Cell) → slice_get forms i ≡ Some f → slice_get cells i ≡ Some c → cells_at (take i forms) s (take i cells) ++ cell_at f s c ∷ [] ≡ cells_at (take (i + 1) forms) s (take (i + 1) cells)
-cells_next [] s cells i f c e h = absurd (cc)
-cells_next (g ∷ forms) s [] i f c e h = absurd (cc)
-cells_next (g ∷ forms) s (d ∷ cells) zero f c e h = let same : f ≡ g = cc in let same' : c ≡ d = cc in ap (λ x. x ∷ []) (ap (λ x. cell_at x s c) same ∙ ap (cell_at g s) same')
-cells_next (g ∷ forms) s (d ∷ cells) (suc i) f c e h = rw add-one (ap (λ xs. cell_at g s d ∷ xs) (rw add-one at (cells_next forms s cells i f c e h)))

@@ -39,3 +39,4 @@ pub mod Pulled
 pub mod SettlingLists
 pub mod SettlingStands
 pub mod WholePaths
+mod Written

@@ -1,6 +1,7 @@
 -- States whose lists are moved out, and what forms make of them.
-use Rattle.std.proofs.Common.{◌≡◌, ◌++◌, ◌∷◌, ℕ, ℤ, pos, true, false, ◌+ℤ◌, ◌*ℤ◌, List, [], Option, Some, None, inl, inr, map, refl, sym, ap, ◌∙◌, subst}
+use Rattle.std.proofs.Common.{◌≡◌, ◌++◌, ◌∷◌, ℕ, ℤ, pos, true, false, ◌+ℤ◌, ◌*ℤ◌, List, [], Option, Some, None, inl, inr, length, map, refl, sym, ap, ◌∙◌, subst, if◌then◌else◌}
 use Rattle.std.proofs.lemmas.Bool.{cases_eq}
+use Rattle.std.proofs.lemmas.List.{length-set}
 use Rattle.std.specs.Prelude.{slice_get, slice_set}
 use Rattle.sym_base.specs.Limits.{IsNumber}
 use Rattle.sym_base.specs.States.{cell_label, cell_number, cell_parts, cell_nums, cell_words}
@@ -16,6 +17,7 @@ use Rattle.sym_path.specs.declared.form.Form.{Form}
 use Rattle.sym_path.specs.declared.form.Form.TheVariants as form
 use Rattle.sym_path.specs.Giving.{cell_at, HasNumbers}
 use Rattle.sym_path.specs.Leading.{IsListOut, SameButLists, is_list}
+use Rattle.sym_path.specs.Writing.{draft_at, is_written_over}
 use Rattle.sym_path.proofs.Lists.{all_at, all_from, set_other, set_same}
 
 pub same_self : (s : State) → SameButLists s s
@@ -51,6 +53,10 @@ cell_same s t (form.Nums added) x y h n w =
     ap (λ (xs : List ℤ). cell.Nums (xs ++ map (λ f. form_value f t) added)) n
     ∙ ap (λ (xs : List ℤ). cell.Nums (cell_nums (Some x) ++ xs)) (numbers_same s t h added)
 cell_same s t (form.Words added) x y h n w = ap (λ (ts : List (List ℕ)). cell.Words (ts ++ added)) w
+
+-- So do their drafts.
+pub draft_same : (c : ℕ) (s t : State) (f : Form) (x y : Cell) → SameButLists s t → cell_nums (Some y) ≡ cell_nums (Some x) → cell_words (Some y) ≡ cell_words (Some x) → draft_at c f t y ≡ draft_at c f s x
+draft_same c s t f x y h n w = ap (λ (z : Cell). if is_written_over c f then cell.Enum 0 else z) (cell_same s t f x y h n w)
 
 number_still : (s t : State) → SameButLists s t → (f : IntForm) → IsNumber (form_value f s) → IsNumber (form_value f t)
 number_still s t h f n = subst (λ (x : ℤ). IsNumber x) (sym (number_same s t h f)) n
@@ -89,6 +95,7 @@ moved_out s t c x h at is = record {
     parts = λ d. ap (λ (cells : List Cell). cell_parts (slice_get cells d)) is ∙ put_same cell_parts s.cells c d x (cell.Enum 0) at (sym h.parts);
   };
   others = λ d other. ap (λ (cells : List Cell). slice_get cells d) is ∙ set_other s.cells c d (cell.Enum 0) other;
+  count = ap length is ∙ length-set s.cells c (cell.Enum 0);
 }
 
 -- A list cell gives its list,
@@ -105,6 +112,7 @@ none_out s c o at n w = record {
   words = sym (ap cell_words at ∙ w);
   same = same_self s;
   others = λ d other. refl;
+  count = refl;
 }
 
 -- and another cell none.

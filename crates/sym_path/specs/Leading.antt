@@ -1,6 +1,6 @@
 -- States whose lists are moved out while a path's forms take their place, and the path of a segment
 -- that is for a state.
-use Rattle.std.specs.Prelude.{◌≡◌, ◌≢◌, ◌<◌, ◌⊎◌, ℕ, Bool, true, false, List, Option, Some, None, slice_get}
+use Rattle.std.specs.Prelude.{◌≡◌, ◌≢◌, ◌<◌, ◌⊎◌, ℕ, Bool, true, false, List, Option, Some, None, length, slice_get}
 use Rattle.std.specs.List.{All}
 use Rattle.sym_base.specs.Tests.{Truth}
 use Rattle.sym_base.specs.States.{label_at, number_at, parts_at, cell_nums, cell_words}
@@ -37,6 +37,7 @@ pub record IsListOut (c : ℕ) (old new : State) (out : Cell) : Type 0 where
   pub words : cell_words (Some out) ≡ cell_words (slice_get old.cells c)
   pub same : SameButLists old new
   pub others : (d : ℕ) → d ≢ c → slice_get new.cells d ≡ slice_get old.cells d
+  pub count : length new.cells ≡ length old.cells
 
 -- No path of the list admits the state.
 abbrev pub NoneAdmits : Truth → List Path → State → Type 0

@@ -20,3 +20,4 @@ pub mod Settling
 pub mod Standing
 pub mod Taking
 pub mod Within
+pub mod Writing

@@ -12,16 +12,15 @@ ghost use Rattle.sym_int.specs.Lines.{form_value};
 ghost use Rattle.sym_path.specs.Admitting.{Admits};
 ghost use Rattle.sym_path.specs.Fitting.{PathFits};
 ghost use Rattle.sym_path.specs.Following.{AdmitsOutcome, end_after};
-ghost use Rattle.sym_path.specs.Giving.{cell_at, cells_at, end_at, HasNumbers, nums_after, words_after};
-ghost use Rattle.sym_path.specs.Leading.{IsListOut, is_list};
+ghost use Rattle.sym_path.specs.Giving.{cell_at, end_at, HasNumbers, nums_after, state_at, words_after};
+ghost use Rattle.sym_path.specs.Leading.{IsListOut, SameButLists, is_list};
+ghost use Rattle.sym_path.specs.Writing.{AreDrafts, draft_at};
 
 use crate::form::Form;
 use crate::path::{Path, PathEnd};
+use crate::writing::finish_all;
 use std::alloc::Global;
-use std::mem;
-use sym_base::{
-    Cell, Cells, Fault, FaultKind, NoMemory, Nums, Outcome, Sequence, State, Text, Words,
-};
+use sym_base::{Cell, Cells, NoMemory, Nums, Outcome, Sequence, State, Text, Words};
 use sym_check::{Checked, Plan};
 use sym_int::IntForm;
 use sym_vector::ListForm;
@@ -80,6 +79,23 @@ impl Form {
             Form::Words(added) => Ok(Cell::Words(words_of(alloc, added, old)?)),
         }
     }
+
+    /// The draft of the cell with this number.
+    fn draft_at(
+        &self,
+        alloc: Global,
+        cell: usize,
+        state: &State,
+        old: Cell,
+    ) -> Result<Cell, NoMemory>
+        requires { HasNumbers state.now self.now }
+        ensures { IfOk result (λ c. c ≡ draft_at cell self.now state.now old) }
+    {
+        if self.is_written_over(cell) {
+            return Ok(Cell::Enum(0));
+        }
+        self.cell_at(alloc, state, old)
+    }
 }
 
 /// Whether the cell with this number, counted from 0, is a list cell.
@@ -106,27 +122,30 @@ fn list_out(state: &mut State, index: usize) -> Cell
     }
 }
 
-/// What the cells hold by their forms. The lists of the state are moved.
-fn cells_of(alloc: Global, forms: &[Form], state: State) -> Result<Cells, NoMemory>
-    requires numbers { All (HasNumbers state) forms.now }
-    requires lengths { length forms.now ≡ length state.cells }
-    ensures { IfOk result (λ cells. cells ≡ cells_at forms.now state state.cells) }
+/// The drafts of the cells of a state, whose lists are moved out of it into them.
+fn drafts_of(alloc: Global, forms: &[Form], state: &mut State) -> Result<Cells, NoMemory>
+    requires numbers { All (HasNumbers state.old) forms.now }
+    requires lengths { length forms.now ≡ length state.old.cells }
+    ensures drafts { IfOk result (AreDrafts forms.now state.old (length forms.now)) }
+    ensures same { OnOk result (SameButLists state.old state.new) }
+    ensures cells { OnOk result (length state.new.cells ≡ length state.old.cells) }
 {
-    let mut left = state;
-    let mut cells = Vec::with_capacity(alloc, forms.len())?;
+    let mut drafts = Vec::with_capacity(alloc, forms.len())?;
     'cells: for index in 0..forms.len() {
-        let old = list_out(&mut left, index);
-        cells.push(forms[index].cell_at(alloc, &left, old)?)?;
+        let old = list_out(state, index);
+        drafts.push(forms[index].draft_at(alloc, index, state, old)?)?;
     }
-    Ok(Sequence::of(cells))
+    Ok(Sequence::of(drafts))
 }
 
-/// What stands in the place of an outcome while that is changed. It takes no memory.
-fn no_outcome() -> Outcome {
-    Outcome::Ended(Fault {
-        kind: FaultKind::Arith,
-        no: 0,
-    })
+/// Makes the state what the forms make of it, where it lies.
+fn change(alloc: Global, forms: &[Form], state: &mut State) -> Result<(), NoMemory>
+    requires numbers { All (HasNumbers state.old) forms.now }
+    requires lengths { length forms.now ≡ length state.old.cells }
+    ensures { OnOk result (state.new ≡ state_at forms.now state.old) }
+{
+    let drafts = drafts_of(alloc, forms, state)?;
+    finish_all(alloc, forms, drafts, state)
 }
 
 impl Path {
@@ -145,30 +164,13 @@ impl Path {
         ensures value { IfOk result (λ o. o ≡ end_at self.now.end state.now) }
         ensures valid { IfOk result (IsValidOutcome (checked_plan checked.now)) }
     {
-        self.gives_by(alloc, checked.plan(), state.copy(alloc)?)
+        let mut outcome = Outcome::Going(state.copy(alloc)?);
+        self.lead(alloc, checked, &mut outcome)?;
+        Ok(outcome)
     }
 
-    /// The same by a plan alone, of a state that is given away.
-    fn gives_by(&self, alloc: Global, _plan: &Plan, state: State) -> Result<Outcome, NoMemory>
-        requires known { IsWellFormed (script_plan _plan.now) }
-        requires fits { PathFits (script_plan _plan.now) self.now }
-        requires valid { IsValid (script_plan _plan.now) state }
-        requires admitted { Admits (test_truth (script_plan _plan.now).tests)
-            self.now.when state }
-        ensures value { IfOk result (λ o. o ≡ end_at self.now.end state) }
-        ensures valid { IfOk result (IsValidOutcome (script_plan _plan.now)) }
-    {
-        match &self.end {
-            PathEnd::Next(forms) => {
-                let cells = cells_of(alloc, forms.as_slice(), state)?;
-                Ok(Outcome::Going(State { cells }))
-            }
-            PathEnd::Ended(fault) => Ok(Outcome::Ended(*fault)),
-        }
-    }
-
-    /// Puts what the path makes of an outcome that it admits in its place. The lists of the state
-    /// are moved. After an `Err` the outcome is unspecified.
+    /// Puts what the path makes of an outcome that it admits in its place: the cells of the state
+    /// are changed where they lie, and lists are moved. After an `Err` the outcome is unspecified.
     pub fn lead(
         &self,
         alloc: Global,
@@ -182,11 +184,27 @@ impl Path {
         ensures value { OnOk result (outcome.new ≡ end_after self.now.end outcome.old) }
         ensures valid { OnOk result (IsValidOutcome (checked_plan checked.now) outcome.new) }
     {
-        match mem::replace(outcome, no_outcome()) {
-            Outcome::Going(state) => {
-                *outcome = self.gives_by(alloc, checked.plan(), state)?;
-                Ok(())
-            }
+        self.lead_by(alloc, checked.plan(), outcome)
+    }
+
+    /// The same by a plan alone.
+    fn lead_by(&self, alloc: Global, _plan: &Plan, outcome: &mut Outcome) -> Result<(), NoMemory>
+        requires known { IsWellFormed (script_plan _plan.now) }
+        requires fits { PathFits (script_plan _plan.now) self.now }
+        requires valid { IsValidOutcome (script_plan _plan.now) outcome.old }
+        requires admitted { AdmitsOutcome (test_truth (script_plan _plan.now).tests)
+            self.now.when outcome.old }
+        ensures value { OnOk result (outcome.new ≡ end_after self.now.end outcome.old) }
+        ensures valid { OnOk result (IsValidOutcome (script_plan _plan.now) outcome.new) }
+    {
+        match outcome {
+            Outcome::Going(state) => match &self.end {
+                PathEnd::Next(forms) => change(alloc, forms.as_slice(), state),
+                PathEnd::Ended(fault) => {
+                    *outcome = Outcome::Ended(*fault);
+                    Ok(())
+                }
+            },
             Outcome::Ended(_) => unreachable!(),
         }
     }

@@ -23,6 +23,7 @@ mod segment;
 mod settling;
 mod suiting;
 mod within;
+mod writing;
 
 pub use composing::compose;
 pub use counting::pairs;

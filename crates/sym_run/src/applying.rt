@@ -43,27 +43,27 @@ fn lead_on(
     }
 }
 
-/// A new group begins with the initial state, which the chain leads on.
+/// A new group begins with the initial state, which the chain leads on. The key is copied.
 fn begin(
     alloc: Global,
     checked: &Checked,
     groups: &mut Groups,
-    key: Key,
+    key: &Key,
     chain: &Chain,
 ) -> Result<(), NoMemory>
     requires fits { ChainFits (checked_plan checked.now) chain.now }
     requires valid { AreValid (checked_plan checked.now) groups.old }
-    requires new { lookup (is_key key) groups.old ≡ None }
+    requires new { lookup (is_key key.now) groups.old ≡ None }
     ensures valid { OnOk result (AreValid (checked_plan checked.now) groups.new) }
     ensures leads { (records : List OneRecord) →
         ChainStandsFor (checked_plan checked.now) records chain.now →
-        OnOk result (groups.new ≡ led_on (checked_plan checked.now) records key groups.old) }
+        OnOk result (groups.new ≡ led_on (checked_plan checked.now) records key.now groups.old) }
 {
     well_formed_plans_keep_states_valid();
     let _plan = checked.plan();
     let mut outcome = Outcome::Going(initial(alloc, checked)?);
     chain.lead(alloc, checked, &mut outcome)?;
-    groups.begin(alloc, key, outcome)
+    groups.begin(alloc, key.copy(alloc)?, outcome)
 }
 
 /// The group with this key is led on by the chain, or begins so.
@@ -71,7 +71,7 @@ fn apply_group(
     alloc: Global,
     checked: &Checked,
     groups: &mut Groups,
-    key: Key,
+    key: &Key,
     chain: &Chain,
 ) -> Result<(), NoMemory>
     requires fits { ChainFits (checked_plan checked.now) chain.now }
@@ -79,30 +79,31 @@ fn apply_group(
     ensures valid { OnOk result (AreValid (checked_plan checked.now) groups.new) }
     ensures leads { (records : List OneRecord) →
         ChainStandsFor (checked_plan checked.now) records chain.now →
-        OnOk result (groups.new ≡ led_on (checked_plan checked.now) records key groups.old) }
+        OnOk result (groups.new ≡ led_on (checked_plan checked.now) records key.now groups.old) }
 {
-    if lead_on(alloc, checked, groups, &key, chain)? {
+    if lead_on(alloc, checked, groups, key, chain)? {
         return Ok(());
     }
     begin(alloc, checked, groups, key, chain)
 }
 
-/// Leads the groups on by the chains of a run. Keys of new groups are moved.
+/// Leads the groups on by the chains of a run. They are let go together after it, with their keys:
+/// a group that took its memory from among theirs would scatter that of the runs to come.
 pub(crate) fn apply_all(
     alloc: Global,
     checked: &Checked,
-    chains: RunGroups,
+    chains: &RunGroups,
     groups: &mut Groups,
 ) -> Result<(), NoMemory>
-    requires fits { GroupsFit (checked_plan checked.now) chains }
+    requires fits { GroupsFit (checked_plan checked.now) chains.now }
     requires valid { AreValid (checked_plan checked.now) groups.old }
     ensures valid { OnOk result (AreValid (checked_plan checked.now) groups.new) }
     ensures groups { (records : List OneRecord) →
-        GroupsStandFor (checked_plan checked.now) records chains →
+        GroupsStandFor (checked_plan checked.now) records chains.now →
         OnOk result (groups.new ≡ after_records (checked_plan checked.now) records groups.old) }
 {
-    'groups: for (key, chain) in chains.into_map() {
-        apply_group(alloc, checked, groups, key, &chain)?;
+    'groups: for (key, chain) in chains.map.iter() {
+        apply_group(alloc, checked, groups, key, chain)?;
     }
     Ok(())
 }

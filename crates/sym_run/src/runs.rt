@@ -204,7 +204,7 @@ impl Run {
             return Ok(Applied::Bad(bad));
         }
         let mut groups = groups;
-        apply_all(alloc, checked, chains, &mut groups)?;
+        apply_all(alloc, checked, &chains, &mut groups)?;
         Ok(Applied::Done(groups))
     }
 }

@@ -14,7 +14,7 @@ returns c =
     let these : c.deref_mut.result.now ≡ front = c.deref_mut.ensures.value in
     let back = written_back _ _ front (omega (arith, c.keep_each.auto.paths, ap length these)) (omega (arith, c.keep_each.auto.paths, c.deref_mut.ensures.len)) in
     let kept : c.keep_each.new.paths ≡ map f front = c.in_ok-keep_each.ensures ∙ ap (map f) these in
-    let own : c.put_parts.new.path ≡ f last = c.put_parts.ensures in
+    let own : c.put_parts.new.path ≡ f last = c.in_ok-put_parts.ensures in
     c.in_ok-push.ensures.items
     ∙ (λ i. back i ++ own i ∷ [])
     ∙ ap (λ (ps : List Path). ps ++ f last ∷ []) kept

@@ -1,4 +1,5 @@
 use Rattle.std.proofs.Common.{◌≡◌, ◌∙◌, List, Result, Err, map, ap, subst}
+use Rattle.std.proofs.lemmas.Result.{on_ok_weaker}
 use Rattle.sym_check.specs.Checking.KnownValues.{known_values}
 use Rattle.sym_check.specs.Meaning.FixedValues.{Environment, fixed_values}
 use Rattle.sym_check.specs.Meaning.Updates.{or_fault}
@@ -15,7 +16,9 @@ returns-in-Ok c =
     let p : ScriptPlan = script_plan c.args._plan.now in
     let k : Environment = known_values c.args.known.now in
     let es : List FixedPlan = map fixed_plan c.args.values.now in
-    kept_stepped p k c.args.no c.args.path.now c.requires.sure c.args.cell es c.set_values.new.values c.put_parts.new.path c.requires.well c.in-Ok.ensures c.put_parts.ensures
+    on_ok_weaker c.put_parts.result
+    (λ e. kept_stepped p k c.args.no c.args.path.now c.requires.sure c.args.cell es c.set_values.new.values c.put_parts.new.path c.requires.well c.in-Ok.ensures e)
+    c.put_parts.ensures
 
 pub returns-in-Err-Fault : goal.returns-in-Err-Fault
 returns-in-Err-Fault c =

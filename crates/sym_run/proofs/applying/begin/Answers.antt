@@ -1,5 +1,6 @@
-use Rattle.std.proofs.Common.{◌≡◌, ◌∙◌, ap}
+use Rattle.std.proofs.Common.{◌≡◌, ◌∙◌, [], ◌∷◌, ◌++◌, ap}
 use Rattle.std.proofs.lemmas.Result.{on_ok_weaker}
+use Rattle.sym_base.specs.declared.values.value.Key.{Key}
 use Rattle.sym_base.specs.declared.values.state.State.{State}
 use Rattle.sym_base.specs.declared.values.state.Outcome.TheVariants.{Going}
 use Rattle.sym_check.specs.Checking.CheckedScripts.{checked_plan}
@@ -13,5 +14,5 @@ returns-clause-leads c = λ records s.
     let is : c.lead.new.outcome ≡ after p records (Going (initial p)) =
     c.in_ok-lead.ensures.value records s ∙ ap (λ (s : State). after p records (Going s)) c.in_ok-initial.ensures in
     on_ok_weaker c.begin.result
-    (λ e. e ∙ begun_led p records c.args.key c.args.groups.now c.lead.new.outcome c.requires.new is)
+    (λ e. e ∙ ap (λ (k : Key). c.args.groups.now ++ (k, c.lead.new.outcome) ∷ []) c.in_ok-copy.ensures ∙ begun_led p records c.args.key.now c.args.groups.now c.lead.new.outcome c.requires.new is)
     c.begin.ensures.ok
