@@ -6,3 +6,4 @@ pub mod FileByFile
 pub mod Folds
 pub mod RoundRuns
 pub mod WorkShared
+pub mod Summed

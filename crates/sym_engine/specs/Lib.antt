@@ -5,3 +5,4 @@ pub mod Rounds
 pub mod Passing
 pub mod Taking
 pub mod Pieces
+pub mod Saving

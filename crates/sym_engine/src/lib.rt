@@ -15,6 +15,8 @@ mod passing;
 mod piece;
 mod rounds;
 mod sequential;
+mod summarising;
+mod summing;
 mod taking;
 mod ways;
 mod workers;
@@ -28,5 +30,6 @@ pub use options::{CHUNK_DEFAULT, LIMIT_DEFAULT, LIMIT_MAX, Options, WORKERS_DEFA
 pub use passing::pass;
 pub use rounds::{Rounds, Took, Work};
 pub use sequential::sequential_pass;
+pub use summarising::summarise;
 pub use workers::worked;
 pub use working::round;
