@@ -1,5 +1,5 @@
 -- What the parts of reading files come to.
-use Rattle.std.specs.Prelude.{◌≡◌, ◌≤◌, ◌<◌, ℕ, ◌+◌, List, [], ◌++◌, length, map, Option, Some, IfSome, Result, Ok, Err}
+use Rattle.std.specs.Prelude.{◌≡◌, ◌≤◌, ◌<◌, ℕ, ◌+◌, List, [], ◌++◌, length, map, Option, Some, None, IfSome, Result, Ok, Err}
 use Rattle.std.specs.List.{All, flat_map}
 use Rattle.std.specs.Option.{unwrap_or}
 use Rattle.sym_base.specs.Counts.{Rose}
@@ -17,13 +17,15 @@ use Rattle.sym_table.specs.ChunkRecords.{RunOn}
 use Rattle.sym_table.specs.Reading.{Row}
 use Rattle.sym_table.specs.Rows.{FitsChunk, FitsHeader}
 use Rattle.sym_table.specs.RowRecords.{records_or_bad}
+use Rattle.sym_run.specs.declared.runs.Run.{Run}
 use Rattle.sym_run.specs.Applying.{AreValid}
+use Rattle.sym_run.specs.Runs.{GroupsFit, GroupsStandFor}
 use Rattle.sym_engine.specs.declared.error.PassErr.{PassErr}
 use Rattle.sym_engine.specs.declared.error.PassErr.TheVariants as pass_err
 use Rattle.sym_engine.specs.declared.rounds.Took.{Took}
 use Rattle.sym_engine.specs.declared.rounds.Took.TheVariants as took
 use Rattle.sym_engine.specs.FileRecords.{or_else, shown_rows, row_records}
-use Rattle.sym_engine.specs.Rounds.{AreWorkers, Extends}
+use Rattle.sym_engine.specs.Rounds.{Extends}
 
 -- Why a file wasn't read: a read failed, or the file has more than `max` bytes.
 abbrev pub IsUnread : ℕ → ℕ → Option (List ℕ) → ℕ → ℕ → PassErr → Type 0
@@ -59,13 +61,32 @@ OpensFile p shown file first rows (Err pass_err.NoMemory) = Unit {0}
 abbrev pub ArePassed : ScriptPlan → List (Key × Outcome) → List Record → Type 0
 ArePassed p groups records = groups ≡ pass p records
 
--- The same of groups that runs are applied to: their states are valid, and the workers who make a
--- run are in their range.
-pub record ArePassedBy (p : ScriptPlan) (groups : List (Key × Outcome)) (workers : ℕ)
-    (records : List Record) : Type 0 where
+-- The same of groups that runs can be applied to: their states are valid.
+pub record AreLedBy (p : ScriptPlan) (groups : List (Key × Outcome)) (records : List Record)
+    : Type 0 where
   pub passed : ArePassed p groups records
   pub valid : AreValid p groups
-  pub in_range : AreWorkers workers
+
+-- A run without a bad row stands for these records.
+pub record StandsForRecords (p : ScriptPlan) (run : Run) (records : List Record) : Type 0 where
+  pub fine : run.bad ≡ None
+  pub fits : GroupsFit p run.groups
+  pub stands : GroupsStandFor p records run.groups
+
+-- A run that is still to be applied stands for these records; where there is none, they are none.
+abbrev pub IsPendingFor : ScriptPlan → Option Run → List Record → Type 0
+IsPendingFor p None records = records ≡ []
+IsPendingFor p (Some run) records = StandsForRecords p run records
+
+-- The groups are those of one sequential pass over the first of these records, and the pending run
+-- stands for the others.
+pub record ArePassedBy (p : ScriptPlan) (groups : List (Key × Outcome)) (pending : Option Run)
+    (records : List Record) : Type 0 where
+  pub done : List Record
+  pub rest : List Record
+  pub all : records ≡ done ++ rest
+  pub led : AreLedBy p groups done
+  pub waits : IsPendingFor p pending rest
 
 -- The rows that a cutter has left; of one that was refused memory, none.
 abbrev pub rows_left : Cutting → List Row

@@ -1,12 +1,37 @@
-use Rattle.std.proofs.Common.{ℕ, [], rules, ap, subst}
+use Rattle.std.proofs.Common.{[], ap, subst}
 use Rattle.sym_check.specs.Checking.CheckedScripts.{checked_plan}
 use Rattle.sym_table.specs.Reading.{Row}
 use Rattle.sym_engine.specs.FileRecords.{rules_of}
 use Rattle.sym_engine.specs.FirstProblems.{AllFine}
+use Rattle.sym_engine.proofs.RoundRuns.{begun}
 use Rattle.sym_engine.proofs.passing.pass.Goals as goal
+
+pub each_round-requires-clause-stands : goal.each_round-requires-clause-stands
+each_round-requires-clause-stands g c κs within =
+    let options = c.requires.options in
+    let is = c.new-rounds.ensures in
+    let rounds = c.new-rounds.result in (
+      [],
+      begun (checked_plan c.args.checked.now) rounds.workers c.args.options.now.workers rounds.passed.groups rounds.passed.pending
+          is.workers (record { some = options.some_workers; most = options.most_workers }) is.groups is.pending,
+    )
+
+pub into_groups-requires : goal.into_groups-requires
+into_groups-requires g c =
+    let options = c.requires.options in
+    let is = c.new-rounds.ensures in
+    let rounds = c.new-rounds.result in
+    let all = c.in_ok-each_round.ensures.taken in (
+      all.records,
+      (all.stands.1 [] (begun (checked_plan c.args.checked.now) rounds.workers c.args.options.now.workers rounds.passed.groups rounds.passed.pending
+          is.workers (record { some = options.some_workers; most = options.most_workers }) is.groups is.pending)).1,
+    )
 
 pub returns-clause-passed : goal.returns-clause-passed
 returns-clause-passed g c =
+    let options = c.requires.options in
+    let is = c.new-rounds.ensures in
+    let rounds = c.new-rounds.result in
     let all = c.in_ok-each_round.ensures.taken in
     let P : (Row → Row) → Type 0 = λ shown. AllFine (checked_plan c.args.checked.now) (rules_of c.args.options.now.max_bytes shown) 1 all.files all.records in
     record {
@@ -14,5 +39,6 @@ returns-clause-passed g c =
       may = all.may;
       records = all.records;
       fine = subst P (ap g.G.Gate.shown c.new-rounds.ensures.gate) all.fine;
-      stands = (all.stands.1 [] (record { passed = c.new-rounds.ensures.groups; valid = search rules; in_range = search rules })).passed;
+      stands = (c.in_ok-into_groups.ensures all.records (all.stands.1 [] (begun (checked_plan c.args.checked.now) rounds.workers c.args.options.now.workers rounds.passed.groups rounds.passed.pending
+          is.workers (record { some = options.some_workers; most = options.most_workers }) is.groups is.pending)).1).passed;
     }

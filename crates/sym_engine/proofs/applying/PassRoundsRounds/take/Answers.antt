@@ -1,19 +1,20 @@
 use Rattle.sym_check.specs.Checking.CheckedScripts.{checked_plan}
+use Rattle.sym_check.proofs.CheckedShared.{checked_sync}
+use Rattle.sym_check.specs.contracts.checking.accepted.Checked.{the_type as checked}
 use Rattle.sym_engine.specs.Rounds.{shown_chunks}
-use Rattle.sym_engine.proofs.RoundRuns.{groups_led, round_bad}
+use Rattle.sym_engine.proofs.RoundRuns.{next_pending, round_bad}
 use Rattle.sym_engine.proofs.applying.PassRoundsRounds.take.Goals as goal
 
-pub returns-in-Done-clause-takes : goal.returns-in-Done-clause-takes
-returns-in-Done-clause-takes g c =
-    let cuts = shown_chunks (g.G.Gate.shown c.args.self.now.gate.now) c.args.work.now.chunks in
-    groups_led (checked_plan c.args.work.now.checked) c.args.work.now.limit c.args.self.now.workers cuts c.in_ok-run.run' c.args.self.now.groups c.replace-groups.result c.in-Done.groups
-    c.in_ok-groups.field-0 c.in_ok-run.ensures
-    (record { bad = c.in_ok-groups.ensures.bad; valid = c.in_ok-groups.ensures.valid; groups_are = c.in_ok-groups.ensures.groups })
-    c.replace-groups.ensures.value c.in-Done.is
+pub work_beside-requires-sync-C : goal.work_beside-requires-sync-C
+work_beside-requires-sync-C g c κs within = record { shared = λ x. checked_sync.shared (checked.to x) }
 
-pub returns-in-Bad-clause-takes : goal.returns-in-Bad-clause-takes
-returns-in-Bad-clause-takes g c =
+pub returns-in-Some-clause-takes : goal.returns-in-Some-clause-takes
+returns-in-Some-clause-takes g c =
     let cuts = shown_chunks (g.G.Gate.shown c.args.self.now.gate.now) c.args.work.now.chunks in
-    round_bad (checked_plan c.args.work.now.checked) c.args.work.now.limit cuts c.in_ok-run.run' c.replace-groups.result c.in_ok-groups.field-0 c.in-Bad.bad c.in_ok-run.ensures
-    (record { bad = c.in_ok-groups.ensures.bad; valid = c.in_ok-groups.ensures.valid; groups_are = c.in_ok-groups.ensures.groups })
-    c.in-Bad.is
+    round_bad (checked_plan c.args.work.now.checked) c.args.work.now.limit cuts c.in_ok-run.run' c.in-Some.bad c.in_ok-run.ensures.run c.in-Some.is
+
+pub returns-clause-takes : goal.returns-clause-takes
+returns-clause-takes g c =
+    let cuts = shown_chunks (g.G.Gate.shown c.args.self.now.gate.now) c.args.work.now.chunks in
+    next_pending (checked_plan c.args.work.now.checked) c.args.work.now.limit c.args.self.now.workers cuts c.in_ok-run.run' c.args.self.now.passed.groups _ c.args.self.now.passed.pending
+    c.in_ok-run.ensures.run c.in_default.is c.in_ok-run.ensures.led
