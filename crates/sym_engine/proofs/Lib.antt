@@ -7,3 +7,4 @@ pub mod Folds
 pub mod RoundRuns
 pub mod WorkShared
 pub mod Summed
+pub mod Stretched

@@ -1,74 +1,95 @@
 //! The workers of a round, who meet on a board.
-ghost use Rattle.std.specs.Prelude.{◌≡◌, ◌≤◌, true, None, All, IfOk, IfSome, IfNone, vec_len};
+ghost use Rattle.std.specs.Prelude.{◌≡◌, ◌≤◌, ◌<◌, true, None, All, IfOk, IfSome, IfNone, length, vec_len};
 ghost use Rattle.sym_base.specs.declared.limits.TheConstants as limit;
 ghost use Rattle.sym_board.specs.Passes.{board_input, board_leaves, board_seats, hand, has_ended, IsFree, IsNewPassOf, IsPassOf};
 ghost use Rattle.sym_check.specs.Checking.CheckedScripts.{checked_plan};
-ghost use Rattle.sym_engine.specs.Pieces.{IsBoardOf, IsDone, StandsBetween};
+ghost use Rattle.sym_engine.specs.Pieces.{IsBoardOf, IsDone, StandsBetween, StandsFrom};
 ghost use Rattle.sym_engine.specs.Rounds.{AreWorkers, IsLimit, IsRound, StandsForAll};
 
 use crate::entering::Enter;
 use crate::piece::RunPiece;
 use crate::rounds::Work;
+use crate::stretches::{LendsStretches, Stretches};
 use std::alloc::Global;
+use std::marker::PhantomData;
 use std::thread;
 use std::thread::Threads;
 use sym_base::NoMemory;
-use sym_board::{Board, Made, Pass};
+use sym_board::{Board, Made, Pass, Piece};
 use sym_run::{Run, of_chunk};
 
-// A value that lends the work of a round. Workers share it by its bound: that a checked script may
-// be shared is then shown once, where the round is handed in.
-trait LendsWork {
-    ghost use Rattle.sym_engine.specs.declared.rounds.Work.{Work as OneWork};
+// Into how many stretches a round is cut for each worker: so that a worker who is done early takes
+// another one.
+const STRETCHES: u32 = 2;
 
-    ghost lent: { Self → OneWork };
-
-    fn work(&self) -> &Work
-        ensures { result.now ≡ lent self.now };
-}
-
-impl LendsWork for Work {
-    ghost lent = { λ work. work };
-
-    fn work(&self) -> &Work {
-        self
+// The run of the chunks from `first` up to but without `end`: that of the first one, which takes on
+// the others in turn.
+fn run_between<E: Enter>(
+    alloc: Global,
+    work: &Work,
+    worker: u32,
+    first: u32,
+    end: u32,
+    hold: &E,
+) -> Result<Run, NoMemory>
+    requires round { IsRound (checked_plan work.now.checked).fields work.now.chunks }
+    requires some { first < end }
+    requires within { end ≤ length work.now.chunks }
+    ensures { IfOk result (StandsFrom work.now first end) }
+{
+    let chunks = work.chunks.as_slice();
+    hold.enter(worker, first);
+    let mut run = of_chunk(
+        alloc,
+        &work.checked,
+        &chunks[first as usize],
+        first,
+        work.limit,
+    )?;
+    'chunks: for number in first + 1..end {
+        hold.enter(worker, number);
+        run = run.extend(alloc, &work.checked, &chunks[number as usize], work.limit)?;
     }
+    Ok(run)
 }
 
 // A worker's number and its pass to the board.
 #[derive(Drop)]
-struct Worker {
+struct Worker<P: Piece> {
     number: u32,
-    pass: Pass<RunPiece>,
+    pass: Pass<P>,
 }
 
-// Claims chunks and carries their runs up, until every chunk is claimed or an allocation fails. In
+// Claims stretches and carries their runs up, until every one is claimed or an allocation fails. In
 // the first case the pass comes back with an empty hand and has ended, in the second one with a
 // node in its hand.
-fn work_chunks<E: Enter>(
+fn work_stretches<S: LendsStretches + Send, E: Enter>(
     alloc: Global,
-    board: &Board<RunPiece>,
-    work: &Work,
-    worker: Worker,
+    board: &Board<RunPiece<S>>,
+    stretches: &S,
+    worker: Worker<RunPiece<S>>,
     hold: &E,
-) -> Pass<RunPiece>
+) -> Pass<RunPiece<S>>
     requires pass { IsPassOf board.now worker.pass × IsFree worker.pass }
-    requires board { IsBoardOf work.now board.now }
+    requires board { let s = stretches.now in IsBoardOf s (S.lent s) (S.size s) board.now }
     ensures of { IsPassOf board.now result }
     ensures ended { hand result ≡ None → has_ended result ≡ true }
 {
     let Worker { number, mut pass } = worker;
-    let chunks = work.chunks.as_slice();
-    'chunks: while let Some(chunk) = board.claim(&mut pass) {
-        hold.enter(number, chunk);
-        let cut = &chunks[chunk as usize];
-        let Ok(run) = of_chunk(alloc, &work.checked, cut, chunk, work.limit) else {
+    let work = stretches.work();
+    let each = stretches.chunks_each();
+    let chunks = work.chunks.len() as u32;
+    'stretches: while let Some(stretch) = board.claim(&mut pass) {
+        let first = stretch * each;
+        let end = chunks.min(first + each);
+        let Ok(run) = run_between(alloc, work, number, first, end, hold) else {
             return pass;
         };
-        if board
-            .carry(alloc, work, &mut pass, RunPiece { run })
-            .is_err()
-        {
+        let piece = RunPiece {
+            run,
+            of: PhantomData,
+        };
+        if board.carry(alloc, stretches, &mut pass, piece).is_err() {
             return pass;
         }
     }
@@ -76,11 +97,11 @@ fn work_chunks<E: Enter>(
 }
 
 // The passes with their numbers, from 0 on.
-fn numbered(
+fn numbered<S: LendsStretches + Send>(
     alloc: Global,
-    board: &Board<RunPiece>,
-    mut passes: Vec<Pass<RunPiece>>,
-) -> Result<Vec<Worker>, NoMemory>
+    board: &Board<RunPiece<S>>,
+    mut passes: Vec<Pass<RunPiece<S>>>,
+) -> Result<Vec<Worker<RunPiece<S>>>, NoMemory>
     requires passes { All (λ p. IsNewPassOf board.now p) passes.items }
     requires few { vec_len passes ≤ limit.WORKERS_MAX }
     ensures len { IfOk result (λ workers. vec_len workers ≡ vec_len passes) }
@@ -95,72 +116,88 @@ fn numbered(
     Ok(workers)
 }
 
+// A board over the stretches of a round, and passes for the workers, but no more than there are
+// stretches.
+fn board_over<S: LendsStretches + Send>(
+    alloc: Global,
+    stretches: &S,
+    workers: u32,
+) -> Result<Made<RunPiece<S>>, NoMemory>
+    requires round { let work = S.lent stretches.now in
+        IsRound (checked_plan work.checked).fields work.chunks }
+    requires some { 1 ≤ S.size stretches.now }
+    requires few { S.size stretches.now ≤ limit.CHUNKS_MAX }
+    requires workers { AreWorkers workers }
+    ensures board { let s = stretches.now in
+        IfOk result (λ m. IsBoardOf s (S.lent s) (S.size s) m.board) }
+    ensures passes { IfOk result (λ m. All (λ p. IsNewPassOf m.board p) m.passes.items) }
+    ensures all { IfOk result (λ m. vec_len m.passes ≡ board_seats m.board) }
+{
+    let work = stretches.work();
+    let each = stretches.chunks_each();
+    let chunks = work.chunks.len() as u32;
+    let leaves = chunks.div_ceil(each);
+    let made: Made<RunPiece<S>> = Board::new(alloc, stretches, leaves, workers.min(leaves))?;
+    Ok(made)
+}
+
 // The run of the whole round. There is one wherever all workers got to the end.
-fn closed(board: Board<RunPiece>, passes: Vec<Pass<RunPiece>>) -> Option<Run>
+fn closed<S: LendsStretches + Send>(
+    board: Board<RunPiece<S>>,
+    passes: Vec<Pass<RunPiece<S>>>,
+) -> Option<Run>
     requires of { All (λ p. IsPassOf board p) passes.items }
     requires all { vec_len passes ≡ board_seats board }
-    ensures some { let work = board_input board in
-        IfSome result (λ run. StandsBetween work 0 (board_leaves board) (record { run = run })) }
+    ensures some { let s = board_input board in
+        IfSome result (StandsBetween (S.lent s) (S.size s) 0 (board_leaves board)) }
     ensures none { IfNone result (¬ All (λ p. IsDone p) passes.items) }
 {
     match board.close(passes) {
-        Some(RunPiece { run }) => Some(run),
+        Some(RunPiece { run, of: _of }) => Some(run),
         None => None,
     }
 }
 
 // The run of a round, by several workers. Each has a pass to one board.
-fn by_workers<T: Threads + Sync, W: LendsWork + Sync, E: Enter + Sync>(
+fn by_workers<T: Threads + Sync, S: LendsStretches + Send + Sync, E: Enter + Sync>(
     rt: &T,
     alloc: Global,
-    lender: &W,
+    stretches: &S,
     workers: u32,
     hold: &E,
 ) -> Result<Run, NoMemory>
-    requires round { let work = W.lent lender.now in
+    requires round { let work = S.lent stretches.now in
         IsRound (checked_plan work.checked).fields work.chunks }
-    requires limit { IsLimit (W.lent lender.now).limit }
+    requires some { 1 ≤ S.size stretches.now }
+    requires few { S.size stretches.now ≤ limit.CHUNKS_MAX }
     requires workers { AreWorkers workers }
-    ensures { let work = W.lent lender.now in
+    ensures { let work = S.lent stretches.now in
         IfOk result (StandsForAll (checked_plan work.checked) work.limit work.chunks) }
 {
-    let work = lender.work();
-    let chunks = work.chunks.len() as u32;
-    let Made { board, passes } = Board::new(alloc, work, chunks, workers)?;
+    let made = board_over(alloc, stretches, workers)?;
+    let Made { board, passes } = made;
     let numbered = numbered(alloc, &board, passes)?;
     let done = thread::map_vec(
         rt,
         numbered,
-        &|worker: Worker| -> Pass<RunPiece>
-            requires { IsNewPassOf board worker.pass × IsBoardOf (W.lent lender.now) board }
+        &|worker: Worker<RunPiece<S>>| -> Pass<RunPiece<S>>
+            requires { let s = stretches.now in
+                IsNewPassOf board worker.pass × IsBoardOf s (S.lent s) (S.size s) board }
             ensures { IsPassOf board result }
-        { work_chunks(alloc, &board, lender.work(), worker, hold) },
+        { work_stretches(alloc, &board, stretches, worker, hold) },
     )?;
-    closed(board, done).ok_or(NoMemory)
-}
-
-// The run of a round, by one worker, who takes its chunks in order.
-fn by_one<E: Enter>(alloc: Global, work: &Work, hold: &E) -> Result<Run, NoMemory>
-    requires round { IsRound (checked_plan work.now.checked).fields work.now.chunks }
-    requires limit { IsLimit work.now.limit }
-    ensures { let p = checked_plan work.now.checked in
-        IfOk result (StandsForAll p work.now.limit work.now.chunks) }
-{
-    let chunks = work.chunks.as_slice();
-    hold.enter(0, 0);
-    let mut run = of_chunk(alloc, &work.checked, &chunks[0], 0, work.limit)?;
-    'chunks: for number in 1..chunks.len() {
-        hold.enter(0, number as u32);
-        run = run.extend(alloc, &work.checked, &chunks[number], work.limit)?;
+    match closed(board, done) {
+        Some(run) => Ok(run),
+        None => Err(NoMemory),
     }
-    Ok(run)
 }
 
 /// The run of all chunks of a round, which is the work's: the first row that is no record, or each
 /// key's chain. As many workers as are asked for, but no more than there are chunks, work at once.
-/// Each claims a chunk, tells `hold`, makes the chunk's run and joins it with neighbouring ones that
-/// are there, until no chunk is left. With one worker no thread is made. The result doesn't depend
-/// on the number of workers or on who claimed what.
+/// The chunks are cut into a few stretches for each worker, of neighbouring chunks. A worker claims
+/// a stretch, tells `hold` of each of its chunks, makes the stretch's run and joins it with
+/// neighbouring ones that are there, until no stretch is left. With one worker no thread is made.
+/// The result doesn't depend on the number of workers or on who claimed what.
 ///
 /// `NoMemory` where an allocation failed.
 pub fn worked<T: Threads + Sync, E: Enter + Sync>(
@@ -176,9 +213,10 @@ pub fn worked<T: Threads + Sync, E: Enter + Sync>(
     ensures { let p = checked_plan work.now.checked in
         IfOk result (StandsForAll p work.now.limit work.now.chunks) }
 {
-    let most = workers.min(work.chunks.len() as u32);
-    if most == 1 {
-        return by_one(alloc, work, hold);
+    let chunks = work.chunks.len() as u32;
+    if workers.min(chunks) == 1 {
+        return run_between(alloc, work, 0, 0, chunks, hold);
     }
-    by_workers(rt, alloc, work, most, hold)
+    let each = chunks.div_ceil(workers * STRETCHES);
+    by_workers(rt, alloc, &Stretches { work, each }, workers, hold)
 }

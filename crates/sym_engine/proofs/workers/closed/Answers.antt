@@ -8,7 +8,7 @@ not_both F G never [] there f g = absurd (omega arith)
 not_both F G never (x ∷ xs) there f g = never x (f 0 x (omega arith)) (g 0 x (omega arith))
 
 pub returns-in-None-clause-none : goal.returns-in-None-clause-none
-returns-in-None-clause-none c = λ done.
+returns-in-None-clause-none g c = λ done.
     let none = c.in-None.ensures.none (λ k d near. (done k d near).0) c.requires.all in
     let some_pass = c.args.board.sizes.2 in
     let all = c.requires.all in

@@ -1,11 +1,10 @@
 use Rattle.std.proofs.Common.{All, Some, sym, subst, arith}
 use Rattle.std.proofs.lemmas.List.Elements.{All-pop, All-push}
 use Rattle.sym_board.specs.Passes.{IsNewPassOf}
-use Rattle.sym_engine.specs.declared.workers.Worker.{Worker}
 use Rattle.sym_engine.proofs.workers.numbered.Goals as goal
 
 pub passes-preserved : goal.passes-preserved
-passes-preserved c =
+passes-preserved g c =
     let board = c.args.board.now in
     let was = c.passes.invariant in
     let pass = c.in-Some.pass in
@@ -15,6 +14,6 @@ passes-preserved c =
     let count = was.count in
     record {
       left = popped.0;
-      each = subst (All (λ (w : Worker). IsNewPassOf board w.pass)) (sym c.in_ok-push.ensures.items) (All-push (λ (w : Worker). IsNewPassOf board w.pass) c.passes.workers.items _ was.each popped.1);
+      each = subst (All (λ w. IsNewPassOf board w.pass)) (sym c.in_ok-push.ensures.items) (All-push (λ w. IsNewPassOf board w.pass) c.passes.workers.items _ was.each popped.1);
       count = omega arith;
     }

@@ -1,6 +1,9 @@
-use Rattle.sym_engine.specs.contracts.rounds.Work.{the_type as work}
-use Rattle.sym_engine.proofs.WorkShared.{work_fields}
+use denote.Param.Send.{sendable}
+use Rattle.sym_engine.proofs.WorkShared.{work_shared}
 use Rattle.sym_engine.proofs.workers.worked.Goals as goal
 
-pub by_workers-requires-sync-W : goal.by_workers-requires-sync-W
-by_workers-requires-sync-W g c κs within = record { shared = λ x. work_fields.shared (work.to x) }
+pub by_workers-requires-sync-S : goal.by_workers-requires-sync-S
+by_workers-requires-sync-S g c κs within = search (work_shared, sendable) depth 60 fits 20000
+
+pub by_workers-requires-send-S : goal.by_workers-requires-send-S
+by_workers-requires-send-S g c κs within = search (work_shared, sendable) depth 60 fits 20000

@@ -1,0 +1,52 @@
+-- The stretches of a round, and what their runs stand for.
+use Rattle.std.proofs.Common.{◌≡◌, ◌∙◌, ℕ, ◌+◌, ◌*◌, ◌≤◌, List, None, length, sym, subst, arith}
+use Rattle.std.specs.Int.{div_ceil}
+use Rattle.std.proofs.lemmas.Grind.{div_ceil_times}
+use Rattle.std.proofs.Math.Nat.{mul-le-mul_right}
+use Rattle.sym_check.specs.Checking.CheckedScripts.{checked_plan}
+use Rattle.sym_table.specs.declared.chunk.Chunk.{Chunk}
+use Rattle.sym_run.specs.declared.runs.Run.{Run}
+use Rattle.sym_run.specs.Runs.{AreTight, GroupsFit, IsFromTo, StandsForChunks}
+use Rattle.sym_run.proofs.FoundRecords.{run_tight}
+use Rattle.sym_engine.specs.declared.rounds.Work.{Work}
+use Rattle.sym_engine.specs.Pieces.{AreStretches, StandsBetween, StandsFrom, start_of}
+use Rattle.sym_engine.specs.Rounds.{StandsForAll}
+
+-- As many stretches as the share of each, rounded up.
+pub stretched : (chunks each count : ℕ) → 1 ≤ each → count ≡ div_ceil chunks each → AreStretches chunks each count
+stretched chunks each count some is =
+    let P : ℕ → Type 0 = λ n. AreStretches chunks each n in
+    let bounds = div_ceil_times chunks each some in
+    subst P (sym is) (record {
+      some = some;
+      filled = λ number near.
+          let most : (number + 1) * each ≤ div_ceil chunks each * each = mul-le-mul_right each (omega arith) in
+          omega (arith, bounds.1, most);
+      all = bounds.0;
+    })
+
+-- The run of all stretches.
+pub of_all : (work : Work) (each count : ℕ) (run : Run) → AreStretches (length work.chunks) each count → StandsBetween work each 0 count run → StandsForAll (checked_plan work.checked) work.limit work.chunks run
+of_all work each count run are h =
+    let all = are.all in
+    let from : start_of (length work.chunks) each 0 ≡ 0 = omega arith in
+    let to : start_of (length work.chunks) each count ≡ length work.chunks = omega arith in
+    record { ends = record { from = h.ends.from ∙ from; to = h.ends.to ∙ to }; stands = h.stands }
+
+-- ---- two runs that meet, where the work is an equal one
+pub fits_of : (work lent : Work) (lo hi : ℕ) (run : Run) → work ≡ lent → StandsFrom lent lo hi run → GroupsFit (checked_plan work.checked) run.groups
+fits_of work lent lo hi run is h = subst (λ (w : Work). GroupsFit (checked_plan w.checked) run.groups) (sym is) h.stands.fits
+
+pub tight_of : (work lent : Work) (lo hi : ℕ) (run : Run) → work ≡ lent → StandsFrom lent lo hi run → run.bad ≡ None → AreTight (checked_plan work.checked) work.limit run.groups
+tight_of work lent lo hi run is h none =
+    subst (λ (w : Work). AreTight (checked_plan w.checked) w.limit run.groups) (sym is) (run_tight (checked_plan lent.checked) lent.limit lent.chunks run h.stands none)
+
+pub joined : (work lent : Work) (run left right : Run) → work ≡ lent → IsFromTo left.lo right.hi run
+    → ((chunks : List Chunk) → StandsForChunks (checked_plan work.checked) work.limit chunks left → StandsForChunks (checked_plan work.checked) work.limit chunks right → StandsForChunks (checked_plan work.checked) work.limit chunks run)
+    → (lo mid hi : ℕ) → StandsFrom lent lo mid left → StandsFrom lent mid hi right → StandsFrom lent lo hi run
+joined work lent run left right is ends stands lo mid hi l r =
+    let P : Run → Work → Type 0 = λ x w. StandsForChunks (checked_plan w.checked) w.limit lent.chunks x in
+    record {
+      ends = record { from = ends.from ∙ l.ends.from; to = ends.to ∙ r.ends.to };
+      stands = subst (P run) is (stands lent.chunks (subst (P left) (sym is) l.stands) (subst (P right) (sym is) r.stands));
+    }
