@@ -540,9 +540,18 @@ user="a \\"b\\", c" buys=1 paid=250 biggest=250\n' \
         run --form csv capped.symple fives.csv
     row "a fault as pairs" 1 'fault="n overflows at record 4"\n' \
         run --form pairs capped.symple fives.csv
-    row "a list, a label and no number as csv" 0 \
-        'user,sessions,open,longest,fault\na,1,2,2,\nb,0,1,none,\n' \
-        run --form=csv --chunk 1 --workers 2 sessions.symple visits.csv
+    # By one worker and by two, as the form table is above.
+    for workers in 1 2; do
+        by="--chunk 1 --workers $workers"
+        # shellcheck disable=SC2086 # words
+        row "sessions by $workers as csv" 0 \
+            'user,sessions,open,longest,fault\na,1,2,2,\nb,0,1,none,\n' \
+            run --form=csv $by sessions.symple visits.csv
+        # shellcheck disable=SC2086 # words
+        row "sessions by $workers as pairs" 0 \
+            'user="a" sessions=1 open=2 longest=2\nuser="b" sessions=0 open=1 longest=none\n' \
+            run $by sessions.symple visits.csv --form pairs
+    done
 fi
 
 # Checks of scripts, and runs over a made file.
