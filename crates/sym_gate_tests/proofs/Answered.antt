@@ -20,7 +20,8 @@ use Rattle.sym_engine.specs.declared.rounds.Work.{Work}
 use Rattle.sym_engine.specs.Rounds.{StandsForAll, round_records}
 use Rattle.sym_engine.proofs.Folds.{plain_chunks}
 use Rattle.sym_engine.proofs.RoundRuns.{IsApplied, groups_led, round_bad}
-use Rattle.sym_gate_tests.specs.Comparing.{ComesTo, StandsFrom}
+use Rattle.sym_engine.specs.Pieces.{StandsFrom}
+use Rattle.sym_gate_tests.specs.Comparing.{ComesTo}
 
 came_to : (p : ScriptPlan) (limit : ℕ) (cuts : List Chunk) (run : Run) (given : List (Key × Outcome)) (found : Applied)
     → StandsForAll p limit cuts run → IsApplied p run given found → ComesTo (all_records p cuts) found

@@ -3,7 +3,7 @@
 ghost use Rattle.std.specs.Prelude.{◌≡◌, ◌≤◌, ◌<◌, IfOk, length};
 ghost use Rattle.sym_check.specs.Checking.CheckedScripts.{checked_plan};
 ghost use Rattle.sym_engine.specs.Rounds.{AreWorkers, IsLimit, IsRound, StandsForAll};
-ghost use Rattle.sym_gate_tests.specs.Comparing.{StandsFrom};
+ghost use Rattle.sym_engine.specs.Pieces.{StandsFrom};
 
 use crate::holds::Holder;
 use std::alloc::Global;
