@@ -1,0 +1,2 @@
+pub mod TraceReports
+pub mod Tracing

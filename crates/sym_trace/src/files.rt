@@ -1,0 +1,133 @@
+//! The trace over all files.
+ghost use Rattle.std.specs.Prelude.{◌≡◌, ◌≤◌, ℕ, List, IfOk, IfErr, length, map};
+ghost use Rattle.std.specs.String.{string_bytes};
+ghost use Rattle.sym_base.specs.declared.limits.TheConstants as limit;
+ghost use Rattle.sym_check.specs.Checking.CheckedScripts.{checked_plan, checked_tree};
+ghost use Rattle.sym_engine.specs.FileRecords.{plain_rules};
+ghost use Rattle.sym_engine.specs.Options.{InRange};
+ghost use Rattle.sym_engine.specs.Passing.{AllRead, StopsPass};
+ghost use Rattle.sym_trace.specs.TraceReports.{trace_heads};
+ghost use Rattle.sym_trace.specs.Tracing.{AreTraceRows, IsTraceReport};
+
+use crate::forms::{begin_report, end_report};
+use crate::rounds::{TraceRounds, Traces};
+use crate::rows::trace_heads;
+use std::alloc::Global;
+use std::marker::{Brand, PhantomData};
+use std::sync::Wait;
+use std::thread::Threads;
+use sym_base::Store;
+use sym_check::Checked;
+use sym_engine::{Options, PassErr, each_round};
+use sym_plain::Groups;
+use sym_report::{Heads, ReportForm};
+
+/// A form with the report of a trace, and whether one of the rows is faulty.
+#[derive(Drop)]
+pub struct Traced {
+    pub form: Box<dyn ReportForm>,
+    pub faulty: bool,
+}
+
+// Appends the rows of a trace, where the type says what stays the same.
+fn trace_rounds<S: Traces, T: Threads + Wait + Sync, F: Store>(
+    rt: &T,
+    alloc: Global,
+    checked: &Checked,
+    heads: &Heads,
+    files: &mut F,
+    names: &[String],
+    options: &Options,
+    every: u64,
+    form: Box<dyn ReportForm>,
+) -> Result<Traced, PassErr>
+    requires options { InRange options.now }
+    requires few { length names.now ≤ limit.FILES_MAX }
+    requires some { 1 ≤ every }
+    requires heads { heads.now ≡ trace_heads (checked_tree checked.now) (checked_plan checked.now) }
+    requires by { S.by ≡ record {
+      tree = checked_tree checked.now;
+      every = every;
+      texts = texts form;
+      begun = gathered form;
+    } }
+    ensures traced { let tree = checked_tree checked.now in let p = checked_plan checked.now in
+        let names = map string_bytes names.now in
+        let rules = plain_rules options.now.max_bytes in
+        let before = gathered form in
+        IfOk result (λ traced. AllRead p rules (F.holds files.old) names 1
+        (AreTraceRows tree p every (texts form) before (gathered traced.form) traced.faulty)) }
+    ensures texts { IfOk result (λ traced. texts traced.form ≡ texts form) }
+    ensures stopped { let p = checked_plan checked.now in
+        let names = map string_bytes names.now in
+        let rules = plain_rules options.now.max_bytes in
+        let before = F.faults files.old in
+        let after = F.faults files.new in
+        IfErr result (StopsPass p rules (F.holds files.old) names before after) }
+    ensures same { F.holds files.new ≡ F.holds files.old }
+    ensures later { (other : List ℕ) → F.faults files.old other ≤ F.faults files.new other }
+{
+    let mut rounds = TraceRounds::<S> {
+        checked,
+        heads,
+        every,
+        workers: options.workers,
+        groups: Groups::new(alloc),
+        form,
+        faulty: false,
+        of: PhantomData,
+    };
+    each_round(rt, alloc, checked, files, names, options, 1, &mut rounds)?;
+    Ok(Traced {
+        form: rounds.form,
+        faulty: rounds.faulty,
+    })
+}
+
+/// Appends the report of the trace of the records of the files of these names, in order: for each
+/// record whose number `every` divides, its number and how its group stands after it. It gives the
+/// form back, and says whether one of the rows is faulty.
+///
+/// Rows are read as they are. A round is worked by parts, at once, by `scan_round` of `sym_scan`,
+/// and the rows of a round go to the form before the next round is worked on.
+///
+/// # Errors
+///
+/// Those of `pass` of `sym_engine`, in the same order. The form is dropped.
+pub fn trace_files<T: Threads + Wait + Sync, F: Store>(
+    rt: &T,
+    alloc: Global,
+    checked: &Checked,
+    files: &mut F,
+    names: &[String],
+    options: &Options,
+    every: u64,
+    form: Box<dyn ReportForm>,
+) -> Result<Traced, PassErr>
+    requires options { InRange options.now }
+    requires few { length names.now ≤ limit.FILES_MAX }
+    requires some { 1 ≤ every }
+    ensures traced { let tree = checked_tree checked.now in let p = checked_plan checked.now in
+        let names = map string_bytes names.now in
+        let rules = plain_rules options.now.max_bytes in
+        let before = gathered form in
+        IfOk result (λ traced. AllRead p rules (F.holds files.old) names 1
+        (IsTraceReport tree p every (texts form) before (gathered traced.form) traced.faulty)) }
+    ensures stopped { let p = checked_plan checked.now in
+        let names = map string_bytes names.now in
+        let rules = plain_rules options.now.max_bytes in
+        let before = F.faults files.old in
+        let after = F.faults files.new in
+        IfErr result (StopsPass p rules (F.holds files.old) names before after) }
+    ensures same { F.holds files.new ≡ F.holds files.old }
+    ensures later { (other : List ℕ) → F.faults files.old other ≤ F.faults files.new other }
+{
+    let heads = trace_heads(alloc, checked)?;
+    let mut form = form;
+    begin_report(alloc, &mut form, &heads)?;
+    let mut traced = trace_rounds::<Brand, T, F>(
+        rt, alloc, checked, &heads, files, names, options, every, form,
+    )?;
+    end_report(alloc, &mut traced.form, &heads)?;
+    Ok(traced)
+}

@@ -1,0 +1,11 @@
+//! Traces over files: their reports, whose rows go to a form round by round.
+#![tactic(auto)]
+
+mod files;
+mod forms;
+mod rounds;
+mod rows;
+mod writing;
+
+pub use files::{Traced, trace_files};
+pub use rows::{RECORD_NAME, trace_heads, trace_row};
