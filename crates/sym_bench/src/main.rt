@@ -19,6 +19,7 @@ use crate::comparing::compare;
 use crate::log::records_of;
 use crate::measuring::{Way, measured};
 use crate::paths::{Kind, Timed, follow_in_turn, settle_in_turn};
+use crate::rounds::CHUNKS;
 use crate::scripts::{LISTS, checked_script, text_of};
 use crate::shown::shown;
 use crate::stop::Stop;
@@ -57,7 +58,8 @@ fn number_at(words: &[String], index: usize) -> Result<u32, Stop> {
 }
 
 /// `explore SCRIPT ROUNDS LIMIT`, `settle apart|touching|equal PATHS LENGTH TURNS`,
-/// `follow moved|copied LENGTH TURNS` or `pass log|rows|fold|runs|joins WORKLOAD RECORDS LIMIT`.
+/// `follow moved|copied LENGTH TURNS` or
+/// `pass log|rows|fold|runs|joins WORKLOAD RECORDS LIMIT [CHUNKS]`.
 fn run<R: Env + AllocGlobal + CpuClock + Print + Eprint>(rt: &R) -> Result<(), Stop> {
     let words = words_of(rt)?;
     let command = word_at(&words, 0)?;
@@ -199,14 +201,32 @@ fn way_of(word: &str) -> Result<Way, Stop> {
     }
 }
 
+/// How many chunks a round has at most; all that it may have where the word is missing.
+fn chunks_at(words: &[String], index: usize) -> Result<u32, Stop> {
+    if words.len() <= index {
+        return Ok(CHUNKS);
+    }
+    number_at(words, index)
+}
+
 /// Takes a pass over a log that is made.
 fn pass<R: AllocGlobal + CpuClock + Print + Eprint>(rt: &R, words: &[String]) -> Result<(), Stop> {
     let way = way_of(word_at(words, 1)?)?;
     let workload = workload_of(word_at(words, 2)?)?;
     let records = number_at(words, 3)?;
     let limit = number_at(words, 4)?;
+    let most = chunks_at(words, 5)?;
     let checked = checked_script(rt.alloc(), workload.script)?;
-    let found = measured(rt, rt.alloc(), &checked, workload, way, records, limit)?;
+    let found = measured(
+        rt,
+        rt.alloc(),
+        &checked,
+        workload,
+        way,
+        records,
+        limit,
+        most,
+    )?;
     let text = found.text;
     println!(rt; "{text}")?;
     let time = found.time.as_nanos();

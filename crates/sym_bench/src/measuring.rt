@@ -58,6 +58,7 @@ fn gone_over(
     cutter: &mut Cutter<'_>,
     way: Way,
     limit: u32,
+    most: u32,
 ) -> Result<String, Stop>
     requires { FitsHeader (checked_plan checked.now).fields cutter.old.header }
 {
@@ -68,13 +69,16 @@ fn gone_over(
             Ok(format!(in alloc; "{chunks} chunks")?)
         }
         Way::Fold => Ok(line_of(alloc, &fold_rows(alloc, checked, cutter)?)?),
-        Way::Runs => Ok(line_of(alloc, &run_rows(alloc, checked, cutter, limit, false)?)?),
-        Way::Joins => Ok(line_of(alloc, &run_rows(alloc, checked, cutter, limit, true)?)?),
+        Way::Runs => Ok(line_of(
+            alloc,
+            &run_rows(alloc, checked, cutter, limit, most, false)?,
+        )?),
+        Way::Joins => Ok(line_of(alloc, &run_rows(alloc, checked, cutter, limit, most, true)?)?),
     }
 }
 
-/// Makes the log of a workload, of so many records, and goes over it: the time is that of the
-/// latter.
+/// Makes the log of a workload, of so many records, and goes over it in rounds of at most so many
+/// chunks: the time is that of the latter.
 pub(crate) fn measured<R: CpuClock>(
     rt: &R,
     alloc: Global,
@@ -83,6 +87,7 @@ pub(crate) fn measured<R: CpuClock>(
     way: Way,
     records: u32,
     limit: u32,
+    most: u32,
 ) -> Result<Finding, Stop> {
     let log = log_of(alloc, workload, records)?;
     let start = rt.process_cpu_time()?;
@@ -90,7 +95,7 @@ pub(crate) fn measured<R: CpuClock>(
         return Err(Stop::Input);
     };
     let mut cutter = opened;
-    let text = gone_over(alloc, checked, &mut cutter, way, limit)?;
+    let text = gone_over(alloc, checked, &mut cutter, way, limit, most)?;
     let end = rt.process_cpu_time()?;
     Ok(Finding {
         text,

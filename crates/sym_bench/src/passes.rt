@@ -5,7 +5,7 @@ ghost use Rattle.sym_table.specs.Rows.{FitsChunk, FitsHeader};
 ghost use Rattle.sym_run.specs.Applying.{AreValid};
 ghost use Rattle.sym_run.specs.Runs.{StandsForChunks};
 
-use crate::rounds::{ROUNDS, keep_rows, next_round};
+use crate::rounds::{CHUNKS, ROUNDS, keep_rows, next_round};
 use crate::stop::Stop;
 use std::alloc::Global;
 use std::mem;
@@ -20,7 +20,7 @@ pub(crate) fn cut_rows(alloc: Global, cutter: &mut Cutter<'_>) -> Result<usize, 
     let mut spare = Spare::new(alloc);
     let mut count = 0usize;
     'rounds: for _round in 0..ROUNDS {
-        let chunks = next_round(alloc, cutter, &mut spare)?;
+        let chunks = next_round(alloc, cutter, &mut spare, CHUNKS)?;
         if chunks.is_empty() {
             return Ok(count);
         }
@@ -80,7 +80,7 @@ pub(crate) fn fold_rows(
         fields: Values::new(alloc),
     };
     'rounds: for _round in 0..ROUNDS {
-        let chunks = next_round(alloc, cutter, &mut spare)?;
+        let chunks = next_round(alloc, cutter, &mut spare, CHUNKS)?;
         if chunks.is_empty() {
             return Ok(groups);
         }
@@ -137,21 +137,23 @@ fn led_by(
     }
 }
 
-/// The groups of the rows that are left, by the runs of rounds, of which each is extended or joined
-/// chunk by chunk.
+/// The groups of the rows that are left, by the runs of rounds of at most so many chunks, of which
+/// each is extended or joined chunk by chunk.
 pub(crate) fn run_rows(
     alloc: Global,
     checked: &Checked,
     cutter: &mut Cutter<'_>,
     limit: u32,
+    most: u32,
     joins: bool,
 ) -> Result<Groups, Stop>
     requires { FitsHeader (checked_plan checked.now).fields cutter.old.header }
 {
+    let most = most.min(CHUNKS);
     let mut spare = Spare::new(alloc);
     let mut groups = Groups::new(alloc);
     'rounds: for _round in 0..ROUNDS {
-        let chunks = next_round(alloc, cutter, &mut spare)?;
+        let chunks = next_round(alloc, cutter, &mut spare, most)?;
         if chunks.is_empty() {
             return Ok(groups);
         }

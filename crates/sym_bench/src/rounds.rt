@@ -17,19 +17,21 @@ pub(crate) const CHUNKS: u32 = 64;
 /// How many rounds are taken at most.
 pub(crate) const ROUNDS: u32 = 65_536;
 
-/// The next chunks, of which there are none after the last row.
+/// The next chunks, at most so many, of which there are none after the last row.
 pub(crate) fn next_round(
     alloc: Global,
     cutter: &mut Cutter<'_>,
     spare: &mut Spare,
+    most: u32,
 ) -> Result<Chunks, NoMemory>
+    requires { most ≤ 64 }
     ensures few { IfOk result (λ chunks. length chunks ≤ 64) }
     ensures fit { (fields : List OneField) → FitsHeader fields cutter.old.header →
         IfOk result (λ chunks. All (FitsChunk fields) chunks) }
     ensures header { cutter.new.header ≡ cutter.old.header }
 {
     let mut chunks = Chunks::new(alloc);
-    'chunks: for _number in 0..CHUNKS {
+    'chunks: for _number in 0..most {
         match cutter.next_over(alloc, spare)? {
             Some(chunk) => chunks.push(chunk)?,
             None => return Ok(chunks),
