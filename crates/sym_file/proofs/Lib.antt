@@ -1,0 +1,15 @@
+pub mod Appending
+pub mod Codecs
+pub mod FormTexts
+pub mod Fronts
+pub mod Groups
+pub mod Lawful
+pub mod Loops
+pub mod Made
+pub mod NumberTexts
+pub mod PartTexts
+pub mod PathTexts
+pub mod Read
+pub mod SetBits
+pub mod Taking
+pub mod ValueTexts

@@ -1,0 +1,7 @@
+pub mod Deciding
+pub mod Making
+pub mod Reading
+pub mod SavedTexts
+pub mod Stored
+pub mod Texts
+pub mod Totals

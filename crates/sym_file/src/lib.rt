@@ -1,0 +1,21 @@
+//! Files of saved runs: what the records of a part of a log do to each group, as text. A saved run
+//! is written, and read back as the run that it was; and saved runs of consecutive records are
+//! taken, one after the other, to the groups of all of them.
+#![tactic(auto)]
+
+mod forms;
+pub mod laws;
+mod numbers;
+mod parts;
+mod paths;
+mod reading;
+mod saved_err;
+mod saved_text;
+mod totals;
+mod values;
+mod writing;
+
+pub use reading::read_saved;
+pub use saved_err::SavedErr;
+pub use saved_text::write_saved;
+pub use totals::{Taken, Totals};
