@@ -27,6 +27,8 @@ mod runs;
 #[cfg(test)]
 mod scripts;
 #[cfg(test)]
+mod summaries;
+#[cfg(test)]
 mod walk;
 #[cfg(test)]
 mod words;

@@ -14,7 +14,7 @@ use sym_table::{Bad, BadCause, HeadFault};
 
 /// How the number of a group stands.
 #[derive(Clone, Copy)]
-enum Standing {
+pub(crate) enum Standing {
     Is(i64),
     /// It left its range at the record of this number.
     Left(u64),
@@ -33,7 +33,7 @@ enum Want {
 struct Run([&'static str; 3], Want);
 
 /// The sum of each user's numbers, which is at most 8.
-const SCRIPT: &str = "field u: word; field n: num; group u; state k: int [0..8] = 0; \
+pub(crate) const SCRIPT: &str = "field u: word; field n: num; group u; state k: int [0..8] = 0; \
                       update { k = k + n; } report { k = k; }";
 
 /// The rows of a chunk, on which the groups don't depend.
@@ -122,7 +122,7 @@ const RUNS: [Run; 13] = [
 ];
 
 // The files, in memory, of which the read of this number fails.
-fn store(alloc: Global, failing: u64) -> Result<MemStore, NoMemory> {
+pub(crate) fn store(alloc: Global, failing: u64) -> Result<MemStore, NoMemory> {
     let mut store = MemStore::new(alloc);
     'files: for (name, text) in &FILES {
         store.add(alloc, name, text.as_bytes())?;
@@ -131,7 +131,7 @@ fn store(alloc: Global, failing: u64) -> Result<MemStore, NoMemory> {
     Ok(store)
 }
 
-fn names(alloc: Global, run: &[&'static str]) -> Result<Vec<String>, NoMemory> {
+pub(crate) fn names(alloc: Global, run: &[&'static str]) -> Result<Vec<String>, NoMemory> {
     let mut names = Vec::new(alloc);
     'names: for name in run {
         names.push(String::from_str(alloc, name)?)?;
@@ -183,7 +183,7 @@ fn is_group(
     }
 }
 
-fn are_groups(
+pub(crate) fn are_groups(
     alloc: Global,
     checked: &Checked,
     groups: &Groups,
