@@ -21,6 +21,9 @@ import reference
 CHUNKS, LIMITS, WORKERS = (1, 7, 1024, 65536), (1, 2, 16, 256), (1, 2, 3, 4, 7, 64)
 SETTINGS = [(c, l, w) for c in CHUNKS for l in LIMITS for w in WORKERS]
 SETTINGS_A_CASE = 6
+TRACES_A_CASE = 3
+# The cases whose traces are compared with a run over each prefix of the log.
+PREFIXED = 50
 NUMBERS = [0, 1, 1, 2, 2, 3, 4, 5, 7, 10, 30, 99, 1000, 999999999999, 1000000000000]
 WORDS = ["", "a", "b", "ann", "x y", "|", "none", "é€", 'q"', "back\\", "\t", "[1]"]
 FUNCTIONS = ("count", "sum", "min", "max", "first", "last", "part")
@@ -467,6 +470,7 @@ class Program:
         self.takes_options = False
         self.takes_forms = False
         self.takes_check = False
+        self.takes_trace = False
 
     def probe(self):
         """Which commands and options the program takes."""
@@ -475,6 +479,7 @@ class Program:
         self.takes_options = self.run(["--chunk", "1", "probe.symple", "probe.csv"])[0] == 0
         self.takes_forms = self.run(["--form", "csv", "probe.symple", "probe.csv"])[0] == 0
         self.takes_check = self.start(["check", "probe.symple"])[0] == 0
+        self.takes_trace = self.start(["trace", "probe.symple", "probe.csv"])[0] == 0
 
     def write(self, name, content):
         with open(os.path.join(self.folder, name), "wb") as file:
@@ -511,6 +516,43 @@ def answers(program, script, files, number):
             yield form, wanted, program.run(["--form", form, "script"] + names)
     if program.takes_check:
         yield "check", reference.check(b"script"), program.start(["check", "script"])
+    if program.takes_trace:
+        yield from traces(program, names, number)
+        if number <= PREFIXED:
+            yield from prefixes(program, script, names, files)
+
+
+def traces(program, names, number):
+    """The same of traces, each in another form, with other numbers shown and other settings."""
+    for turn in range(TRACES_A_CASE):
+        chunk, limit, workers = SETTINGS[(number * 11 + turn * 13) % len(SETTINGS)]
+        every = (1, 2, 7)[turn]
+        form = ("table", "csv", "pairs")[(number + turn) % 3]
+        asked = ["--form", form, "--every", str(every), "--chunk", str(chunk)]
+        asked += ["--limit", str(limit), "--workers", str(workers)]
+        wanted = reference.run(b"script", [name.encode() for name in names], form, every)
+        found = program.start(["trace"] + asked + ["script"] + names)
+        yield "trace " + " ".join(asked), wanted, found
+
+
+def prefixes(program, script, names, files):
+    """Of each row of a trace, the rows of its group in a run over the records up to it, and the row
+    without its number."""
+    status, text, _ = program.start(["trace", "--form", "csv", "script"] + names)
+    if status > 1:
+        return
+    width = len(reference.checked(script).script.group)
+    traced = list(reference.rows_of(text))[1:]
+    for place, content in enumerate(files):
+        rows = list(reference.rows_of(content))
+        for end in range(2, len(rows) + 1):
+            program.write("prefix.csv", b"".join(reference.csv_row(row) for row in rows[:end]))
+            asked = ["--form", "csv", "script"] + names[:place] + ["prefix.csv"]
+            report = list(reference.rows_of(program.run(asked)[1]))[1:]
+            row = traced.pop(0)[1:]
+            wanted = [other for other in report if other[:width] == row[:width]]
+            yield f"the trace at record {end - 1} of {names[place]}", wanted, [row]
+    yield "more rows of the trace", [], traced
 
 
 def differs(program, script, files, number):
@@ -520,11 +562,16 @@ def differs(program, script, files, number):
     return None
 
 
+def status_of(difference):
+    """The wanted status; a list of rows has none."""
+    return difference[1][0] if isinstance(difference[1], tuple) else None
+
+
 def smaller(program, script, files, number):
     """The case with lines dropped, as long as the answers differ, and a run is wanted to end with
     the same status."""
     texts = [script] + files
-    status = differs(program, script, files, number)[1][0]
+    status = status_of(differs(program, script, files, number))
     for index in range(len(texts)):
         lines = texts[index].splitlines(True)
         at = 0
@@ -532,7 +579,7 @@ def smaller(program, script, files, number):
             fewer = lines[:at] + lines[at + 1 :]
             tried = texts[:index] + [b"".join(fewer)] + texts[index + 1 :]
             found = differs(program, tried[0], tried[1:], number)
-            if found and found[1][0] == status:
+            if found and status_of(found) == status:
                 texts, lines = tried, fewer
             else:
                 at += 1
@@ -558,6 +605,7 @@ def main(path, cases, seed):
             (program.takes_options, "--chunk, --limit and --workers"),
             (program.takes_forms, "--form"),
             (program.takes_check, "check"),
+            (program.takes_trace, "trace"),
         ):
             if not taken:
                 print(f"checks/agree.sh: skipped: the program takes no {what}")

@@ -1196,6 +1196,8 @@ class Run:
         self.report = Report(checker)
         self.groups = {}
         self.number = 0
+        self.every = 0
+        self.traced = []
 
     def initial(self):
         state = {}
@@ -1246,18 +1248,24 @@ class Run:
             except Fault as error:
                 fault = (error.args[0], self.number)
         self.groups[key] = (state, fault)
+        if self.every > 0 and self.number % self.every == 0:
+            _, fault, values = self.row(key)
+            self.traced.append(((self.number,) + key, fault, values))
+
+    def row(self, key):
+        state, fault = self.groups[key]
+        return key, fault, [] if fault is not None else self.report.of(state)
 
     def ended(self, form):
-        """The status and the text of the report."""
+        """The status and the text of the report, or of the trace where there is one."""
         keys = [name[0] for name in self.script.group]
         columns = [name[0] for name, _ in self.script.columns]
-        rows, status = [], 0
-        for key, (state, fault) in self.groups.items():
-            values = [] if fault is not None else self.report.of(state)
-            if fault is not None or is_faulty(values):
-                status = 1
-            rows.append((key, fault, values))
-        return status, FORMS[form](keys, columns, rows)
+        if self.every > 0:
+            keys, rows = [b"record"] + keys, self.traced
+        else:
+            rows = [self.row(key) for key in self.groups]
+        faulty = any(fault is not None or is_faulty(values) for _, fault, values in rows)
+        return int(faulty), FORMS[form](keys, columns, rows)
 
 
 def read(name, most):
@@ -1271,10 +1279,12 @@ def read(name, most):
     return content
 
 
-def run(script, files, form="table"):
-    """Status, report and line of a run over the named files; names are byte strings."""
+def run(script, files, form="table", every=0):
+    """Status, report and line of a run over the named files; names are byte strings. Or of a trace,
+    where `every` is above 0."""
     try:
         whole = Run(checked(read(script, SCRIPT_BYTES)))
+        whole.every = every
         for name in files:
             whole.take_file(name, read(name, FILE_BYTES))
         status, text = whole.ended(form)

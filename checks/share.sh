@@ -119,7 +119,7 @@ zsh_file_words() {
 # Whether a command takes an option; the arguments beside it are right.
 takes() {
     case $1 in
-        run) set -- run "$2" "${3-}" "$script" "$log" ;;
+        run | trace) set -- "$1" "$2" "${3-}" "$script" "$log" ;;
         check) set -- check "$2" "${3-}" "$script" ;;
         make) set -- make "$2" "${3-}" 1 1 ;;
     esac
@@ -145,7 +145,7 @@ try_words() {
     same "$zsh_words: other words than the manual page" "$work/manual" "$work/zsh"
     same "$fish_words: other words than the manual page" "$work/manual" "$work/fish"
 
-    for command in run check make; do
+    for command in run trace check make; do
         grep -qx "$command" "$work/manual"
         note $? "$manual: no $command"
     done
@@ -163,7 +163,7 @@ try_words() {
     sed -n 's/.*_NAME: &str = "\(.*\)";/\1/p' crates/sym_top/src/arguments.rt >"$work/names"
     [ -s "$work/names" ]
     note $? "crates/sym_top/src/arguments.rt: no name of an argument"
-    for command in run check make; do
+    for command in run trace check make; do
         : >"$work/taken"
         { sed -n 's/^[a-z]* --//p' "$work/manual"; cat "$work/names"; } | sort -u >"$work/tried"
         while read -r name; do
@@ -179,8 +179,10 @@ try_words() {
     done
 }
 
-# The number of a constant of the sources.
+# The number of a constant of the sources, or the default of an option that they have.
 number_of() {
+    sed -n "/^pub const $1: NumberOption/,/default/s/^ *default: \([0-9_]*\),\$/\1/p" \
+        crates/sym_top/src/arguments.rt
     sed -n "s/^pub const $1: [a-z0-9]* = \([0-9_]*\);\$/\1/p" crates/sym_base/src/limits.rt \
         crates/sym_engine/src/*.rt | tr -d _
 }
@@ -194,22 +196,26 @@ try_ranges() {
             print option, $2, $4 + 0, $NF + 0
         }
     ' "$manual" >"$work/ranges"
-    [ "$(wc -l <"$work/ranges")" -eq 4 ]
-    note $? "$manual: not four ranges"
+    [ "$(wc -l <"$work/ranges")" -eq 5 ]
+    note $? "$manual: not five ranges"
     while read -r option least most default; do
-        for number in "$least" "$most"; do
-            takes run "$option" "$number"
-            note $? "run $option $number: refused, but in the range of $manual"
-        done
-        for number in $((least - 1)) $((most + 1)); do
-            ! takes run "$option" "$number"
-            note $? "run $option $number: taken, but outside of the range of $manual"
-        done
+        sed -n "s/^\([a-z]*\) $option\$/\1/p" "$work/manual" | grep -v make >"$work/commands"
+        while read -r command; do
+            for number in "$least" "$most"; do
+                takes "$command" "$option" "$number"
+                note $? "$command $option $number: refused, but in the range of $manual"
+            done
+            for number in $((least - 1)) $((most + 1)); do
+                ! takes "$command" "$option" "$number"
+                note $? "$command $option $number: taken, but outside of the range of $manual"
+            done
+        done <"$work/commands"
         for words in "$zsh_words" "$fish_words"; do
             grep -qF -- "$least to $most" "$words"
             note $? "$words: no range $least to $most"
         done
         case $option in
+            --every) name=EVERY ;;
             --chunk) name=CHUNK_DEFAULT ;;
             --limit) name=LIMIT_DEFAULT ;;
             --workers) name=WORKERS_DEFAULT ;;

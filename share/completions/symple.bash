@@ -4,6 +4,7 @@
 _symple_options() {
     case $1 in
         run) echo --form --chunk --limit --workers --max-bytes ;;
+        trace) echo --form --every --chunk --limit --workers --max-bytes ;;
         check) echo --print ;;
         make) echo --chunk --limit --workers ;;
     esac
@@ -22,7 +23,7 @@ _symple() {
     local current=${COMP_WORDS[COMP_CWORD]} command=${COMP_WORDS[1]}
     COMPREPLY=()
     if [ "$COMP_CWORD" -eq 1 ]; then
-        mapfile -t COMPREPLY < <(compgen -W "run check make" -- "$current")
+        mapfile -t COMPREPLY < <(compgen -W "run trace check make" -- "$current")
         return
     fi
 
@@ -58,9 +59,9 @@ _symple() {
             [[ $given == *" $word "* ]] || left+=("$word")
         done
         mapfile -t COMPREPLY < <(compgen -W "${left[*]}" -- "$current")
-    elif [[ $command == run || $command == check ]] && [ "$others" -eq 0 ]; then
+    elif [[ $command == @(run|trace|check) ]] && [ "$others" -eq 0 ]; then
         _symple_files "$current" .symple
-    elif [ "$command" = run ]; then
+    elif [[ $command == @(run|trace) ]]; then
         _symple_files "$current" ''
     fi
 }

@@ -29,6 +29,8 @@ mod scripts;
 #[cfg(test)]
 mod summaries;
 #[cfg(test)]
+mod traces;
+#[cfg(test)]
 mod walk;
 #[cfg(test)]
 mod words;

@@ -167,7 +167,7 @@ pub(crate) const UNREAD: Run = Run {
     ..DONE
 };
 
-fn push_words(
+pub(crate) fn push_words(
     alloc: Global,
     words: &mut Vec<String>,
     given: &[&'static str],
@@ -185,7 +185,7 @@ fn push_more(alloc: Global, words: &mut Vec<String>, more: usize) -> Result<(), 
     Ok(())
 }
 
-fn words_of(alloc: Global, run: &Run) -> Result<Vec<String>, NoMemory> {
+pub(crate) fn words_of(alloc: Global, run: &Run) -> Result<Vec<String>, NoMemory> {
     let mut words = Vec::new(alloc);
     push_words(alloc, &mut words, run.words)?;
     push_more(alloc, &mut words, run.more)?;
@@ -239,8 +239,8 @@ fn is_end(run: &Run, status: Status, out: &MemSink, err: &MemSink) -> bool {
     status == run.status && out.bytes() == run.out.as_bytes() && err.bytes() == run.err.as_bytes()
 }
 
-// Whether a call with these words comes to what is said of the run.
-fn ends_by<T: Threads + Wait + Sync>(
+/// Whether a call with these words comes to what is said of the run.
+pub(crate) fn ends_by<T: Threads + Wait + Sync>(
     rt: &T,
     alloc: Global,
     words: &Vec<String>,

@@ -169,6 +169,53 @@ fn a_run_is_read_wherever_its_options_stand(rt: HostRuntime) -> Result<(), Fail>
     all_hold(&rt, wrong_list(&rt, rt.alloc(), &RUNS, ONE))
 }
 
+/// The trace of the one record of `f`.
+const TRACED: End = End {
+    status: Status::Done,
+    out: "record | user | n\n1 | a | 1\n--\n",
+    err: "",
+};
+
+const TRACES: [&[&str]; 7] = [
+    &["trace", "s", "f"],
+    &["trace", "--every", "1", "s", "f"],
+    &["trace", "--every=0000000001", "s", "f"],
+    &["trace", "s", "f", "--every", "1", "--chunk", "5"],
+    &[
+        "trace",
+        "--form=table",
+        "--limit",
+        "1",
+        "s",
+        "--workers=64",
+        "f",
+    ],
+    &["trace", "--max-bytes", "7", "s", "f"],
+    &["trace", "--", "s", "f"],
+];
+
+#[test]
+fn a_trace_has_the_words_of_a_run_and_its_own(rt: HostRuntime) -> Result<(), Fail> {
+    all_hold(&rt, wrong_list(&rt, rt.alloc(), &TRACES, TRACED))
+}
+
+/// The trace of `f` where no record is shown.
+const UNSHOWN: End = End {
+    status: Status::Done,
+    out: "record | user | n\n--\n",
+    err: "",
+};
+
+const FEW: [&[&str]; 2] = [
+    &["trace", "--every", "2", "s", "f"],
+    &["trace", "--every=1000000", "s", "f"],
+];
+
+#[test]
+fn a_trace_shows_the_records_that_a_number_divides(rt: HostRuntime) -> Result<(), Fail> {
+    all_hold(&rt, wrong_list(&rt, rt.alloc(), &FEW, UNSHOWN))
+}
+
 /// A run over the file `f`, twice.
 const TWO_FILES: [&[&str]; 5] = [
     &["run", "s", "f", "f"],
@@ -195,7 +242,7 @@ fn a_file_has_no_more_bytes_than_asked(rt: HostRuntime) -> Result<(), Fail> {
     all_hold(&rt, wrong_list(&rt, rt.alloc(), &TOO_SMALL, LARGE))
 }
 
-const NONE: [&[&str]; 105] = [
+const NONE: [&[&str]; 116] = [
     &[],
     &[""],
     &["run"],
@@ -236,7 +283,18 @@ const NONE: [&[&str]; 105] = [
     &["make", "--print", "5", "1"],
     &["map", "s", "f"],
     &["reduce", "s", "f"],
-    &["trace", "s", "f"],
+    &["trace"],
+    &["trace", "s"],
+    &["trace", "--every", "0", "s", "f"],
+    &["trace", "--every", "1000001", "s", "f"],
+    &["trace", "--every", "-1", "s", "f"],
+    &["trace", "--every=", "s", "f"],
+    &["trace", "--every", "00000000001", "s", "f"],
+    &["trace", "--every", "1", "--every", "1", "s", "f"],
+    &["trace", "--print", "s", "f"],
+    &["trace", "--form", "html", "s", "f"],
+    &["run", "--every", "1", "s", "f"],
+    &["make", "--every", "1", "5", "1"],
     &["help"],
     &["help", "run"],
     &["-h"],

@@ -1,8 +1,8 @@
 -- Lists of arguments, and the commands that they ask for.
 use Rattle.std.proofs.Common.{◌≡◌, [], ◌∷◌, Some, None, true, refl, codes}
 use Rattle.clap.proofs.OnLiterals.{clap_on_literals}
-use Rattle.sym_top.specs.CommandLines.{run_app, check_app, make_app, matched}
-use Rattle.sym_top.specs.Commands.{Runs, Checks, Makes, command_in, run_of, check_of, make_of, run_found, check_found, make_found, run_options, options_found, files_found}
+use Rattle.sym_top.specs.CommandLines.{run_app, trace_app, check_app, make_app, matched}
+use Rattle.sym_top.specs.Commands.{Runs, Traces, Checks, Makes, command_in, run_of, trace_of, check_of, make_of, run_found, trace_found, check_found, make_found, run_options, options_found, files_found}
 use Rattle.sym_top.specs.Numbers.{number_of}
 
 -- `run s f`
@@ -49,6 +49,22 @@ no_file = refl
 help : command_in (codes "run" ∷ codes "--help" ∷ []) ≡ None
 unfolding command_in run_of matched run_app clap_on_literals
 help = refl
+
+-- `trace s --every 20 f`
+traced : command_in (codes "trace" ∷ codes "s" ∷ codes "--every" ∷ codes "20" ∷ codes "f" ∷ []) ≡ Some (Traces (record {
+  form = codes "table";
+  every = 20;
+  options = record { chunk = 1024; limit = 16; workers = 4; max_bytes = 67108864 };
+  script = codes "s";
+  files = codes "f" ∷ [];
+}))
+unfolding command_in trace_of matched trace_app trace_found run_options options_found files_found number_of clap_on_literals
+traced = refl
+
+-- `trace --every 0 s f`
+none_shown : command_in (codes "trace" ∷ codes "--every" ∷ codes "0" ∷ codes "s" ∷ codes "f" ∷ []) ≡ None
+unfolding command_in trace_of matched trace_app trace_found run_options options_found files_found number_of clap_on_literals
+none_shown = refl
 
 -- `check s --print`
 printed : command_in (codes "check" ∷ codes "s" ∷ codes "--print" ∷ []) ≡ Some (Checks (record { script = codes "s"; print = true }))

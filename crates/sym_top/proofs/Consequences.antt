@@ -18,7 +18,7 @@ use Rattle.sym_top.specs.declared.refusal.Refusal.{Refusal}
 use Rattle.sym_top.specs.declared.refusal.Refusal.TheVariants as refusal
 use Rattle.sym_top.specs.declared.status.Status.{Status}
 use Rattle.sym_top.specs.declared.status.Status.TheVariants as status
-use Rattle.sym_top.specs.Commands.{Command, Runs, Checks, Makes, FileNames, name_at, names_of}
+use Rattle.sym_top.specs.Commands.{Command, Runs, Traces, Checks, Makes, FileNames, name_at, names_of}
 use Rattle.sym_top.specs.Ends.{End, whole_end, Refused, Reported, Said, Summed, Held, IsEnd, usage, no_program, problem, finished, IsWhole, script_of, status_of}
 use Rattle.sym_top.specs.EndReading.{command_end}
 use Rattle.sym_top.specs.Loading.{Ready, Stops, failure_line}
@@ -388,6 +388,7 @@ module _ (call : Call) (out err : Sunk) (result : Status) where
 
   whole-words : (command : Command) (program : Program) (records : List Record) → status_of (whole_end call.asked command program records) ≡ status.Usage → ⊥
   whole-words (Runs run) program records e = fault-words _ e
+  whole-words (Traces trace) program records e = fault-words _ e
   whole-words (Checks check) program records e = cc
   whole-words (Makes make) program records e = fault-words _ e
 

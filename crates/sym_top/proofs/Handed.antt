@@ -6,7 +6,7 @@ use Rattle.std.specs.Str.{bytes_eq}
 use Rattle.std.proofs.lemmas.List.Elements.{All-head, All-tail}
 use Rattle.sym_report.specs.Forms.{FormTexts, form_named}
 use Rattle.sym_table.specs.Reading.{Row}
-use Rattle.sym_top.specs.Commands.{asks, Form, Run, Runs, command_in, command_of, form_of, forms_of, handed, no_texts, texts_of}
+use Rattle.sym_top.specs.Commands.{asks, Command, Form, Run, Runs, Trace, Traces, command_in, command_of, form_of, forms_of, handed, is_handed, no_texts, texts_of}
 
 module _ {F : Type 0} (called : F → List ℕ) (texts : F → FormTexts) where
   abbrev form_seen : F → Form
@@ -29,26 +29,34 @@ module _ {F : Type 0} (called : F → List ℕ) (texts : F → FormTexts) where
   texts-named name forms form named =
       ap (λ o. option_map_or (λ (f : Form). f.texts) o no_texts) (seen-named name forms ∙ ap (option_map form_seen) named)
 
-  -- A run is carried out exactly if its form was chosen.
-  run-asked : (words : List (List ℕ)) (forms : List F) (shown : Row → Row) (run : Run) (o : Option F) → command_in words ≡ Some (Runs run) →
-      form_named called run.form forms ≡ o →
-      command_of (asks words (forms_of called texts forms) shown) ≡ (if is_some o then Some (Runs run) else None)
-  run-asked words forms shown run o asked named =
+  -- A command that names a form is carried out exactly if the form was chosen.
+  form-asked : (words : List (List ℕ)) (forms : List F) (shown : Row → Row) (command : Command) (name : List ℕ) (o : Option F) →
+      command_in words ≡ Some command → is_handed (forms_of called texts forms) command ≡ is_some (form_of (forms_of called texts forms) name) →
+      form_named called name forms ≡ o → command_of (asks words (forms_of called texts forms) shown) ≡ (if is_some o then Some command else None)
+  form-asked words forms shown command name o asked by named =
       ap (handed (forms_of called texts forms)) asked
-      ∙ ap (λ (found : Option Form). if is_some found then Some (Runs run) else None) (seen-named run.form forms ∙ ap (option_map form_seen) named)
+      ∙ ap (λ (b : Bool). if b then Some command else None) (by ∙ ap (λ (found : Option Form). is_some found) (seen-named name forms ∙ ap (option_map form_seen) named))
       ∙ told o
     where
-      told : (found : Option F) → (if is_some (option_map form_seen found) then Some (Runs run) else None) ≡ (if is_some found then Some (Runs run) else None)
+      told : (found : Option F) → (if is_some (option_map form_seen found) then Some command else None) ≡ (if is_some found then Some command else None)
       told None = refl
       told (Some form) = refl
 
   pub run-handed : (words : List (List ℕ)) (forms : List F) (shown : Row → Row) (run : Run) (form : F) → command_in words ≡ Some (Runs run) →
       form_named called run.form forms ≡ Some form → command_of (asks words (forms_of called texts forms) shown) ≡ Some (Runs run)
-  run-handed words forms shown run form asked named = run-asked words forms shown run (Some form) asked named
+  run-handed words forms shown run form asked named = form-asked words forms shown (Runs run) run.form (Some form) asked refl named
 
   pub run-unhanded : (words : List (List ℕ)) (forms : List F) (shown : Row → Row) (run : Run) → command_in words ≡ Some (Runs run) →
       form_named called run.form forms ≡ None → command_of (asks words (forms_of called texts forms) shown) ≡ None
-  run-unhanded words forms shown run asked named = run-asked words forms shown run None asked named
+  run-unhanded words forms shown run asked named = form-asked words forms shown (Runs run) run.form None asked refl named
+
+  pub trace-handed : (words : List (List ℕ)) (forms : List F) (shown : Row → Row) (trace : Trace) (form : F) → command_in words ≡ Some (Traces trace) →
+      form_named called trace.form forms ≡ Some form → command_of (asks words (forms_of called texts forms) shown) ≡ Some (Traces trace)
+  trace-handed words forms shown trace form asked named = form-asked words forms shown (Traces trace) trace.form (Some form) asked refl named
+
+  pub trace-unhanded : (words : List (List ℕ)) (forms : List F) (shown : Row → Row) (trace : Trace) → command_in words ≡ Some (Traces trace) →
+      form_named called trace.form forms ≡ None → command_of (asks words (forms_of called texts forms) shown) ≡ None
+  trace-unhanded words forms shown trace asked named = form-asked words forms shown (Traces trace) trace.form None asked refl named
 
 here-or-later : {F : Type 0} (P : F → Type 0) (first form : F) (later : Option F) (b : Bool) → P first →
     (later ≡ Some form → P form) → cond b (Some first) later ≡ Some form → P form

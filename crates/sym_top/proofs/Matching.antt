@@ -6,12 +6,16 @@ use Rattle.clap.specs.Faults.{is_simple_and_free}
 use Rattle.clap.specs.declared.error.Error.{Error}
 use Rattle.clap.specs.declared.error.kind.ErrorKind.{ErrorKind}
 use Rattle.clap.specs.declared.error.kind.ErrorKind.TheVariants as kind
-use Rattle.sym_top.specs.CommandLines.{run_app, check_app, make_app, matched}
+use Rattle.sym_top.specs.CommandLines.{run_app, trace_app, check_app, make_app, matched}
 use Rattle.sym_top.specs.Commands.{command_in, command_by}
 
 pub run-free : is_simple_and_free run_app ≡ true
 unfolding run_app
 run-free = refl
+
+pub trace-free : is_simple_and_free trace_app ≡ true
+unfolding trace_app
+trace-free = refl
 
 pub check-free : is_simple_and_free check_app ≡ true
 unfolding check_app

@@ -1,5 +1,5 @@
 -- What each exit before the writing of a report says of the run.
-use Rattle.std.proofs.Common.{◌≡◌, ◌≢◌, ℕ, ◌+◌, ◌<◌, ◌≤◌, inl, inr, Bool, List, [], ◌∷◌, map, length, replicate, Option, None, Some, Result, Ok, Err, IfOk, IfErr, IfSome, slice_get, if◌then◌else◌, refl, sym, ap, subst, ◌∙◌, arith}
+use Rattle.std.proofs.Common.{◌≡◌, ◌≢◌, ℕ, ◌+◌, ◌<◌, ◌≤◌, inl, inr, Bool, List, [], ◌∷◌, ◌++◌, map, length, replicate, Option, None, Some, Result, Ok, Err, IfOk, IfErr, IfSome, slice_get, if◌then◌else◌, refl, sym, ap, subst, ◌∙◌, arith}
 use Rattle.std.proofs.lemmas.List.{length-replicate}
 use Rattle.sym_base.specs.Counts.{Rose}
 use Rattle.sym_base.specs.declared.limits.TheConstants as limit
@@ -22,7 +22,7 @@ use Rattle.sym_engine.specs.declared.error.PassErr.{PassErr}
 use Rattle.sym_engine.specs.declared.error.PassErr.TheVariants as pass_error
 use Rattle.sym_engine.specs.FileRecords.{FileRules, rules_of}
 use Rattle.sym_engine.specs.FirstProblems.{AllFine, FirstProblem, no_file}
-use Rattle.sym_engine.specs.Passing.{Holds, Counts, May, MayAll, PassedAll, HasFirstProblem, StopsPass}
+use Rattle.sym_engine.specs.Passing.{AllRead, Holds, Counts, May, MayAll, PassedAll, HasFirstProblem, StopsPass}
 use Rattle.sym_report.specs.Forms.{FormTexts, report_text}
 use Rattle.sym_report.specs.ReportRows.{heads_of, row_of, some_faulty}
 use Rattle.sym_table.specs.Reading.{Row}
@@ -32,8 +32,10 @@ use Rattle.sym_top.specs.declared.refusal.Refusal.TheVariants as refusal
 use Rattle.sym_top.specs.declared.status.Status.{Status}
 use Rattle.sym_top.specs.declared.status.Status.TheVariants as status
 use Rattle.sym_top.specs.declared.commands.Command.{Command as CommandRead}
-use Rattle.sym_top.specs.Commands.{Runs, Checks, Makes, FileNames, command_of, file_rules, name_at, names_of, shown_names, texts_of}
-use Rattle.sym_top.specs.Ends.{End, Held, IsWhole, status_of, IsTextOf, report_in, said, summed, usage, no_program, problem, finished, script_of, files_of, report_of, rows_of, rows_status, said_of, whole_end}
+use Rattle.sym_trace.specs.TraceReports.{trace_heads, trace_rows}
+use Rattle.sym_trace.specs.Tracing.{IsTraceReport}
+use Rattle.sym_top.specs.Commands.{Runs, Traces, Checks, Makes, FileNames, command_of, file_rules, name_at, names_of, shown_names, texts_of}
+use Rattle.sym_top.specs.Ends.{End, Held, IsWhole, status_of, IsTextOf, report_in, said, summed, usage, no_program, problem, finished, script_of, files_of, report_of, trace_report_of, rows_of, rows_status, said_of, whole_end}
 use Rattle.sym_top.specs.Loading.{MayRefuse, Loads, Unloads, refused, unread, no_memory, Passed, StopsRecords, first, no_more, Reports, StopsFiles, stops, Ready, Stops}
 use Rattle.sym_top.specs.Making.{made_file, made_script}
 use Rattle.sym_top.specs.Messages.{headers_of, line_of}
@@ -45,9 +47,10 @@ use Rattle.sym_top.specs.Refusals.{parse_refusal, check_refusal, read_refusal, p
 use Rattle.sym_top.specs.Summaries.{summary_text}
 use Rattle.sym_top.specs.declared.commands.Command.TheVariants as command
 use Rattle.sym_top.specs.declared.commands.Run.{Run as RunRead}
+use Rattle.sym_top.specs.declared.commands.Trace.{Trace as TraceRead}
 use Rattle.sym_top.specs.declared.commands.Check.{Check as CheckRead}
 use Rattle.sym_top.specs.declared.commands.Make.{Make as MakeRead}
-use Rattle.sym_top.specs.Words.{command_seen, run_seen, check_seen, make_seen}
+use Rattle.sym_top.specs.Words.{command_seen, run_seen, trace_seen, check_seen, make_seen}
 use Rattle.sym_top.specs.Telling.{Sunk, HasPrefix, Failed, Short}
 use Rattle.sym_top.proofs.ProgramsFound.{parsed-unparsed, program-found, none-found}
 
@@ -119,7 +122,7 @@ pub reports-by : (form : FormTexts) (program : Program) (rules : FileRules) (hol
     text ≡ report_text form (heads_of program.tree program.plan) (map (row_of program.tree program.plan) groups) →
     faulty ≡ some_faulty (map (row_of program.tree program.plan) groups) →
     made ≡ (if faulty then status.Faulted else status.Done) →
-    Reports form program rules holds names made text
+    Reports (report_of form program) program rules holds names made text
 reports-by form program rules holds names groups faulty made text passed text_is faulty_is made_is =
     let row = row_of program.tree program.plan in
     let heads = heads_of program.tree program.plan in
@@ -133,15 +136,34 @@ reports-by form program rules holds names groups faulty made text passed text_is
           (report_in form heads (rows_of program passed.records));
     }
 
--- The same of equal names, in an equal form, by equal rules, over a store that tells the same.
-pub reports-along : (form other : FormTexts) (program : Program) (rules likewise : FileRules) (holds told : Holds) (names words : List (List ℕ))
-    (made : Status) (text : List ℕ) → other ≡ form → likewise ≡ rules → holds ≡ told → names ≡ words → Reports form program rules holds names made text →
+-- The same of equal names, to an equal end, by equal rules, over a store that tells the same.
+pub reports-along : (end other : List Record → End) (program : Program) (rules likewise : FileRules) (holds told : Holds) (names words : List (List ℕ))
+    (made : Status) (text : List ℕ) → other ≡ end → likewise ≡ rules → holds ≡ told → names ≡ words → Reports end program rules holds names made text →
     Reports other program likewise told words made text
-reports-along form other program rules likewise holds told names words made text forms ruled stores same r =
-    subst (λ f. Reports f program likewise told words made text) (sym forms)
-    (subst (λ rs. Reports form program rs told words made text) (sym ruled)
-    (subst (λ h. Reports form program rules h words made text) stores
-    (subst (λ ns. Reports form program rules holds ns made text) same r)))
+reports-along end other program rules likewise holds told names words made text ends ruled stores same r =
+    subst (λ f. Reports f program likewise told words made text) (sym ends)
+    (subst (λ rs. Reports end program rs told words made text) (sym ruled)
+    (subst (λ h. Reports end program rules h words made text) stores
+    (subst (λ ns. Reports end program rules holds ns made text) same r)))
+
+-- The report of a trace, gathered in a form that had no bytes.
+pub trace-reports-by : (form : FormTexts) (program : Program) (every : ℕ) (rules : FileRules) (holds : Holds) (names : List (List ℕ)) (before text : List ℕ)
+    (faulty : Bool) (made : Status) → before ≡ [] →
+    AllRead program.plan rules holds names 1 (IsTraceReport program.tree program.plan every form before text faulty) →
+    made ≡ (if faulty then status.Faulted else status.Done) →
+    Reports (trace_report_of form program every) program rules holds names made text
+trace-reports-by form program every rules holds names before text faulty made empty all made_is =
+    let heads = trace_heads program.tree program.plan in
+    let rows = trace_rows program.tree program.plan every all.records in
+    record {
+      files = all.files;
+      may = all.may;
+      records = all.records;
+      fine = all.fine;
+      status_is = made_is ∙ ap (λ b. if b then status.Faulted else status.Done) all.stands.fault;
+      text_is = subst (IsTextOf (trace_report_of form program every all.records))
+          (sym (all.stands.text ∙ ap (λ (start : List ℕ). start ++ report_text form heads rows) empty)) (report_in form heads rows);
+    }
 
 -- ---- all of it
 
@@ -296,65 +318,129 @@ module _ (call : Call) (read : CommandRead) (asked : command_of call.asked ≡ S
         }
     load-stops _ no_memory = memory-out None
 
--- ---- a run
+-- ---- a command that reads a script and files
 
-module _ (call : Call) (read : RunRead) (asked : command_of call.asked ≡ Some (Runs (run_seen read))) where
-  file-failed : (number : ℕ) (name : List ℕ) → slice_get (run_seen read).files number ≡ Some name → Rose (call.before name) (call.after name) →
+module _ (call : Call) (read : CommandRead) (asked : command_of call.asked ≡ Some (command_seen read)) (name : List ℕ) (names : List (List ℕ))
+    (named : names_of (Some (command_seen read)) ≡ record { script = Some name; files = names })
+    (own : (held : Held) → script_of (command_seen read) held ≡ held.script) (its : (held : Held) → files_of (command_seen read) held ≡ held.files) where
+  script-named : (names_of (Some (command_seen read))).script ≡ Some name
+  script-named = ap (λ (ns : FileNames). ns.script) named
+
+  file-failed : (number : ℕ) (file : List ℕ) → slice_get names number ≡ Some file → Rose (call.before file) (call.after file) →
       ReadFailed call (place.File number)
-  file-failed number name named rose = record {
-    name = name;
-    named = ap (λ o. name_at (names_of o) (place.File number)) asked ∙ named;
+  file-failed number file found rose = record {
+    name = file;
+    named = ap (λ o. name_at (names_of o) (place.File number)) asked ∙ ap (λ (ns : FileNames). name_at ns (place.File number)) named ∙ found;
     rose = rose;
   }
 
+  pub reading-load-stops : (why : Refusal) → Unloads (call.holds name) (call.before name) (call.after name) why →
+      Stops call (record { why = why; command = Some read; checked = None })
+  reading-load-stops = load-stops call read asked name script-named own
+
+  reading-may : (held : Held) → May (call.holds name) held.script → MayAll call.holds names held.files → MayHold call held
+  reading-may held script files =
+      may-by call read asked name script-named own held script
+      (subst (λ (ns : List (List ℕ)). MayAll call.holds ns held.files) (sym (ap (λ (ns : FileNames). ns.files) named)) files)
+
+  own-program : (held : Held) (program : Program) → IsProgram held.script program → IsProgram (script_of (command_seen read) held) program
+  own-program held program is = subst (λ (text : List ℕ). IsProgram text program) (sym (own held)) is
+
+  pub reading-ready : (program : Program) (status : Status) (text : List ℕ) → Loads (call.holds name) program →
+      ((records : List Record) → IsWhole (whole_end call.asked (command_seen read) program records)) →
+      Reports (whole_end call.asked (command_seen read) program) program (file_rules call.asked (command_seen read)) call.holds names status text →
+      Ready call status text
+  reading-ready program status text loads whole reports =
+      let held : Held = record { script = loads.text; files = reports.files } in
+      whole-ready call read asked held program reports.records status text (reading-may held loads.may reports.may)
+      (own-program held program loads.is_program)
+      (subst (λ (fs : List (List ℕ)). AllFine program.plan (file_rules call.asked (command_seen read)) 1 fs reports.records) (sym (its held)) reports.fine)
+      (record { whole = whole reports.records; status_is = reports.status_is; text_is = reports.text_is })
+
+  -- What stops it after its script was accepted.
+  module _ (checked : Checked) (middle : Counts) (lower : (file : List ℕ) → call.before file ≤ middle file)
+      (loads : Loads (call.holds name) (checked_program checked)) where
+    known : (why : Refusal) (files : List (List ℕ)) → MayAll call.holds names files →
+        IsStop call (record { script = loads.text; files = files }) why →
+        Stops call (record { why = why; command = Some read; checked = Some checked })
+    known why files may stop =
+        let held : Held = record { script = loads.text; files = files } in
+        known-stops call read asked held checked why (reading-may held loads.may may) (own-program held (checked_program checked) loads.is_program) stop
+
+    problem-stops : (why : PassErr) →
+        HasFirstProblem (checked_program checked).plan (file_rules call.asked (command_seen read)) call.holds names 1 why →
+        Stops call (record { why = pass_refusal why; command = Some read; checked = Some checked })
+    problem-stops why s =
+        let held : Held = record { script = loads.text; files = s.files } in
+        known (pass_refusal why) s.files s.may
+        (promise.at_end (pass_refusal why)
+        (problem (command_seen read) (checked_program checked) why asked (own-program held (checked_program checked) loads.is_program)
+        (subst (λ (fs : List (List ℕ)). FirstProblem (checked_program checked).plan (file_rules call.asked (command_seen read)) 0 1 fs why) (sym (its held)) s.problem)))
+
+    pub reading-error-stops : (why : PassErr) →
+        StopsPass (checked_program checked).plan (file_rules call.asked (command_seen read)) call.holds names middle call.after why →
+        Stops call (record { why = pass_refusal why; command = Some read; checked = Some checked })
+    reading-error-stops (pass_error.Read file) s =
+        let held : Held = record { script = loads.text; files = s.files } in
+        known (refusal.Read (place.File file)) s.files s.may
+        (promise.file_unread (command_seen read) (checked_program checked) s.records file asked
+        (own-program held (checked_program checked) loads.is_program) s.fine
+        (file-failed file s.name s.named (omega (arith, lower s.name, s.rose))))
+    reading-error-stops (pass_error.TooLarge file) s = problem-stops (pass_error.TooLarge file) s
+    reading-error-stops (pass_error.Head file fault) s = problem-stops (pass_error.Head file fault) s
+    reading-error-stops (pass_error.Bad file bad) s = problem-stops (pass_error.Bad file bad) s
+    reading-error-stops pass_error.NoMemory s = memory-out call read asked (Some checked)
+
+-- ---- a run
+
+module _ (call : Call) (read : RunRead) (asked : command_of call.asked ≡ Some (Runs (run_seen read))) where
   pub run-load-stops : (why : Refusal) → Unloads (call.holds read.script.now) (call.before read.script.now) (call.after read.script.now) why →
       Stops call (record { why = why; command = Some (command.Run read); checked = None })
-  run-load-stops = load-stops call (command.Run read) asked read.script.now refl (λ held. refl)
-
-  run-may : (held : Held) → May (call.holds read.script.now) held.script → MayAll call.holds (run_seen read).files held.files → MayHold call held
-  run-may = may-by call (command.Run read) asked read.script.now refl (λ held. refl)
+  run-load-stops =
+      reading-load-stops call (command.Run read) asked read.script.now (run_seen read).files refl (λ held. refl) (λ held. refl)
 
   pub run-ready : (program : Program) (status : Status) (text : List ℕ) → Loads (call.holds read.script.now) program →
-      Reports (texts_of call.asked.forms read.form.now) program (file_rules call.asked (Runs (run_seen read))) call.holds (run_seen read).files status text →
+      Reports (report_of (texts_of call.asked.forms read.form.now) program) program (file_rules call.asked (Runs (run_seen read))) call.holds (run_seen read).files status text →
       Ready call status text
   run-ready program status text loads reports =
-      let held : Held = record { script = loads.text; files = reports.files } in
-      whole-ready call (command.Run read) asked held program reports.records status text (run-may held loads.may reports.may) loads.is_program reports.fine
-      (record { whole = tt; status_is = reports.status_is; text_is = reports.text_is })
+      reading-ready call (command.Run read) asked read.script.now (run_seen read).files refl (λ held. refl) (λ held. refl)
+      program status text loads (λ records. tt) reports
 
   -- What stops it after its script was accepted.
   module _ (checked : Checked) (middle : Counts) (lower : (name : List ℕ) → call.before name ≤ middle name)
       (loads : Loads (call.holds read.script.now) (checked_program checked)) where
-    known : (why : Refusal) (files : List (List ℕ)) → MayAll call.holds (run_seen read).files files →
-        IsStop call (record { script = loads.text; files = files }) why →
-        Stops call (record { why = why; command = Some (command.Run read); checked = Some checked })
-    known why files may stop =
-        let held : Held = record { script = loads.text; files = files } in
-        known-stops call (command.Run read) asked held checked why (run-may held loads.may may) loads.is_program stop
-
-    problem-stops : (why : PassErr) →
-        HasFirstProblem (checked_program checked).plan (file_rules call.asked (Runs (run_seen read))) call.holds (run_seen read).files 1 why →
-        Stops call (record { why = pass_refusal why; command = Some (command.Run read); checked = Some checked })
-    problem-stops why s =
-        known (pass_refusal why) s.files s.may
-        (promise.at_end (pass_refusal why) (problem (Runs (run_seen read)) (checked_program checked) why asked loads.is_program s.problem))
-
-    error-stops : (why : PassErr) →
-        StopsPass (checked_program checked).plan (file_rules call.asked (Runs (run_seen read))) call.holds (run_seen read).files middle call.after why →
-        Stops call (record { why = pass_refusal why; command = Some (command.Run read); checked = Some checked })
-    error-stops (pass_error.Read file) s =
-        known (refusal.Read (place.File file)) s.files s.may
-        (promise.file_unread (Runs (run_seen read)) (checked_program checked) s.records file asked loads.is_program s.fine
-        (file-failed file s.name s.named (omega (arith, lower s.name, s.rose))))
-    error-stops (pass_error.TooLarge file) s = problem-stops (pass_error.TooLarge file) s
-    error-stops (pass_error.Head file fault) s = problem-stops (pass_error.Head file fault) s
-    error-stops (pass_error.Bad file bad) s = problem-stops (pass_error.Bad file bad) s
-    error-stops pass_error.NoMemory s = memory-out call (command.Run read) asked (Some checked)
-
     pub run-files-stop : (why : Refusal) →
         StopsFiles (checked_program checked) (file_rules call.asked (Runs (run_seen read))) call.holds (run_seen read).files middle call.after why →
         Stops call (record { why = why; command = Some (command.Run read); checked = Some checked })
-    run-files-stop _ (stops why s) = error-stops why s
+    run-files-stop _ (stops why s) =
+        reading-error-stops call (command.Run read) asked read.script.now (run_seen read).files refl (λ held. refl) (λ held. refl)
+        checked middle lower loads why s
+
+-- ---- a trace
+
+module _ (call : Call) (read : TraceRead) (asked : command_of call.asked ≡ Some (Traces (trace_seen read))) where
+  pub trace-load-stops : (why : Refusal) → Unloads (call.holds read.script.now) (call.before read.script.now) (call.after read.script.now) why →
+      Stops call (record { why = why; command = Some (command.Trace read); checked = None })
+  trace-load-stops =
+      reading-load-stops call (command.Trace read) asked read.script.now (trace_seen read).files refl (λ held. refl) (λ held. refl)
+
+  pub trace-ready : (program : Program) (status : Status) (text : List ℕ) → Loads (call.holds read.script.now) program →
+      Reports (trace_report_of (texts_of call.asked.forms read.form.now) program read.every) program (file_rules call.asked (Traces (trace_seen read))) call.holds (trace_seen read).files status text →
+      Ready call status text
+  trace-ready program status text loads reports =
+      reading-ready call (command.Trace read) asked read.script.now (trace_seen read).files refl (λ held. refl) (λ held. refl)
+      program status text loads (λ records. tt) reports
+
+  -- What stops it after its script was accepted.
+  module _ (checked : Checked) (middle : Counts) (lower : (name : List ℕ) → call.before name ≤ middle name)
+      (loads : Loads (call.holds read.script.now) (checked_program checked)) where
+    pub trace-files-stop : (why : Refusal) (cause : PassErr) → why ≡ pass_refusal cause →
+        StopsPass (checked_program checked).plan (file_rules call.asked (Traces (trace_seen read))) call.holds (trace_seen read).files middle call.after cause →
+        Stops call (record { why = why; command = Some (command.Trace read); checked = Some checked })
+    trace-files-stop why cause is s =
+        subst (λ (w : Refusal). Stops call (record { why = w; command = Some (command.Trace read); checked = Some checked })) (sym is)
+        (reading-error-stops call (command.Trace read) asked read.script.now (trace_seen read).files refl (λ held. refl) (λ held. refl)
+        checked middle lower loads cause s)
 
 -- ---- a check
 

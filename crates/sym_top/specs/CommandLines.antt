@@ -41,6 +41,15 @@ run_app =
     let sized = with_rule (with_pass_options formed) (option_rule own.MAX_BYTES_NAME.now) in
     with_rule (with_rule sized (word_rule own.SCRIPT_NAME.now)) (words_rule own.FILES_NAME.now)
 
+-- `trace [--form NAME] [--every N] [--chunk N] [--limit N] [--workers N] [--max-bytes N] SCRIPT
+-- FILE...`
+unfoldable pub trace_app : App
+trace_app =
+    let formed = with_rule (bare_app own.TRACE_NAME.now) (option_rule own.FORM_NAME.now) in
+    let numbered = with_rule formed (option_rule own.EVERY_NAME.now) in
+    let sized = with_rule (with_pass_options numbered) (option_rule own.MAX_BYTES_NAME.now) in
+    with_rule (with_rule sized (word_rule own.SCRIPT_NAME.now)) (words_rule own.FILES_NAME.now)
+
 -- `check [--print] SCRIPT`
 unfoldable pub check_app : App
 check_app =

@@ -6,7 +6,7 @@ use Rattle.std.specs.Str.{bytes_eq}
 use Rattle.clap.specs.Words.{Row, first_of, all_of}
 use Rattle.sym_base.specs.declared.limits.TheConstants as limit
 use Rattle.sym_table.specs.Reading.{Row as FileRow}
-use Rattle.sym_engine.specs.FileRecords.{FileRules, rules_of}
+use Rattle.sym_engine.specs.FileRecords.{FileRules, plain_rules, rules_of}
 use Rattle.sym_engine.specs.declared.options.Options.{Options}
 use Rattle.sym_top.specs.declared.refusal.Place.{Place}
 use Rattle.sym_top.specs.declared.refusal.Place.TheVariants as place
@@ -14,7 +14,7 @@ use Rattle.sym_report.specs.Forms.{FormTexts, form_named}
 use Rattle.sym_top.specs.declared.numbers.NumberOption.{NumberOption}
 use Rattle.sym_top.specs.declared.numbers.NumberRange.{NumberRange}
 use Rattle.sym_top.specs.declared.arguments.TheConstants as own
-use Rattle.sym_top.specs.CommandLines.{run_app, check_app, make_app, matched}
+use Rattle.sym_top.specs.CommandLines.{run_app, trace_app, check_app, make_app, matched}
 use Rattle.sym_top.specs.Numbers.{number_in, option_number}
 
 -- A form of reports: what it is called, and its texts.
@@ -43,6 +43,14 @@ pub record Run : Type 0 where
   pub script : List ℕ
   pub files : List (List ℕ)
 
+-- `trace`: the same, and which records' rows are shown: those whose numbers `every` divides.
+pub record Trace : Type 0 where
+  pub form : List ℕ
+  pub every : ℕ
+  pub options : Options
+  pub script : List ℕ
+  pub files : List (List ℕ)
+
 -- `check`: the script, and whether it is printed.
 pub record Check : Type 0 where
   pub script : List ℕ
@@ -57,6 +65,7 @@ pub record Make : Type 0 where
 -- What is asked for.
 pub data Command : Type 0 where
   Runs : Run → Command
+  Traces : Trace → Command
   Checks : Check → Command
   Makes : Make → Command
 
@@ -88,7 +97,7 @@ options_found rows max_bytes = do
   workers ← number_found own.WORKERS own.WORKERS_NAME.now rows
   Some (record { chunk = chunk; limit = limit; workers = workers; max_bytes = max_bytes })
 
--- The options of `run`.
+-- The options of a command that reads files.
 unfoldable pub run_options : List Row → Option Options
 run_options rows = do
   max_bytes ← number_found own.MAX_BYTES own.MAX_BYTES_NAME.now rows
@@ -114,6 +123,21 @@ run_found rows = do
   files ← files_found rows
   Some (record { form = form_found rows; options = options; script = script; files = files })
 
+-- The trace that was found.
+unfoldable pub trace_found : List Row → Option Trace
+trace_found rows = do
+  options ← run_options rows
+  every ← number_found own.EVERY own.EVERY_NAME.now rows
+  script ← first_of own.SCRIPT_NAME.now rows
+  files ← files_found rows
+  Some (record {
+    form = form_found rows;
+    every = every;
+    options = options;
+    script = script;
+    files = files;
+  })
+
 -- The check that was found.
 unfoldable pub check_found : List Row → Option Check
 check_found rows = do
@@ -132,6 +156,9 @@ make_found rows = do
 unfoldable pub run_of : List (List ℕ) → Option Run
 run_of words = option_and_then run_found (matched run_app words)
 
+unfoldable pub trace_of : List (List ℕ) → Option Trace
+trace_of words = option_and_then trace_found (matched trace_app words)
+
 unfoldable pub check_of : List (List ℕ) → Option Check
 check_of words = option_and_then check_found (matched check_app words)
 
@@ -142,6 +169,8 @@ make_of words = option_and_then make_found (matched make_app words)
 abbrev pub command_by : List ℕ → List (List ℕ) → Option Command
 command_by name words =
     if bytes_eq name own.RUN_NAME.now then option_map (λ run. Runs run) (run_of words)
+    else if bytes_eq name own.TRACE_NAME.now
+    then option_map (λ trace. Traces trace) (trace_of words)
     else if bytes_eq name own.CHECK_NAME.now then option_map (λ check. Checks check) (check_of words)
     else if bytes_eq name own.MAKE_NAME.now then option_map (λ make. Makes make) (make_of words)
     else None
@@ -165,6 +194,7 @@ texts_of forms name = option_map_or (λ (form : Form). form.texts) (form_of form
 -- The command can be carried out with these forms: the form that it names is one of them.
 abbrev pub is_handed : List Form → Command → Bool
 is_handed forms (Runs run) = is_some (form_of forms run.form)
+is_handed forms (Traces trace) = is_some (form_of forms trace.form)
 is_handed forms (Checks check) = true
 is_handed forms (Makes make) = true
 
@@ -185,6 +215,7 @@ pub record FileNames : Type 0 where
 abbrev pub names_of : Option Command → FileNames
 names_of None = record { script = None; files = [] }
 names_of (Some (Runs run)) = record { script = Some run.script; files = run.files }
+names_of (Some (Traces trace)) = record { script = Some trace.script; files = trace.files }
 names_of (Some (Checks check)) = record { script = Some check.script; files = [] }
 names_of (Some (Makes make)) = record { script = None; files = [] }
 
@@ -192,6 +223,7 @@ names_of (Some (Makes make)) = record { script = None; files = [] }
 abbrev pub shown_names : Option Command → FileNames
 shown_names None = record { script = None; files = [] }
 shown_names (Some (Runs run)) = record { script = Some run.script; files = run.files }
+shown_names (Some (Traces trace)) = record { script = Some trace.script; files = trace.files }
 shown_names (Some (Checks check)) = record { script = Some check.script; files = [] }
 shown_names (Some (Makes make)) = record { script = None; files = own.MADE_NAME.now ∷ [] }
 
@@ -205,8 +237,9 @@ abbrev pub file_name : FileNames → Place → List ℕ
 file_name names at = unwrap_or (name_at names at) []
 
 -- How a command reads its files of records: at most so many bytes of each, and each row but the
--- header as it is shown.
+-- header as it is shown. A trace doesn't use the gate: its rows are read as they are.
 abbrev pub file_rules : Asked → Command → FileRules
 file_rules asked (Runs run) = rules_of run.options.max_bytes asked.shown
+file_rules asked (Traces trace) = plain_rules trace.options.max_bytes
 file_rules asked (Checks check) = rules_of limit.FILE_MAX_DEFAULT asked.shown
 file_rules asked (Makes make) = rules_of make.options.max_bytes asked.shown

@@ -15,7 +15,8 @@ use Rattle.sym_top.specs.declared.refusal.Refusal.{Refusal}
 use Rattle.sym_top.specs.declared.refusal.Refusal.TheVariants as refusal
 use Rattle.sym_top.specs.declared.status.Status.{Status}
 use Rattle.sym_top.specs.declared.status.Status.TheVariants as status
-use Rattle.sym_top.specs.Commands.{Asked, Command, Runs, Checks, Makes, command_of, file_rules, texts_of}
+use Rattle.sym_trace.specs.TraceReports.{trace_heads, trace_rows}
+use Rattle.sym_top.specs.Commands.{Asked, Command, Runs, Traces, Checks, Makes, command_of, file_rules, texts_of}
 use Rattle.sym_top.specs.CheckLines.{check_line}
 use Rattle.sym_top.specs.Making.{made_file, made_script}
 use Rattle.sym_top.specs.Programs.{Program, IsProgram, IsNoProgram}
@@ -68,12 +69,14 @@ pub record Held : Type 0 where
 -- The text of a command's script.
 abbrev pub script_of : Command → Held → List ℕ
 script_of (Runs run) held = held.script
+script_of (Traces trace) held = held.script
 script_of (Checks check) held = held.script
 script_of (Makes make) held = made_script
 
 -- The bytes of a command's files of records.
 abbrev pub files_of : Command → Held → List (List ℕ)
 files_of (Runs run) held = held.files
+files_of (Traces trace) held = held.files
 files_of (Checks check) held = []
 files_of (Makes make) held = made_file make.records make.seed ∷ []
 
@@ -87,6 +90,12 @@ abbrev pub report_of : FormTexts → Program → List Record → End
 report_of form program records =
     Reported form (heads_of program.tree program.plan) (rows_of program records)
 
+-- The report of the trace of records: a row for each record whose number `every` divides.
+abbrev pub trace_report_of : FormTexts → Program → ℕ → List Record → End
+trace_report_of form program every records =
+    Reported form (trace_heads program.tree program.plan)
+    (trace_rows program.tree program.plan every records)
+
 -- What `check` says of a script: its line, or the script as it is printed.
 abbrev pub said_of : Bool → Program → List ℕ
 said_of true program = script_text program.tree
@@ -96,6 +105,8 @@ said_of false program = check_line program.plan
 abbrev pub whole_end : Asked → Command → Program → List Record → End
 whole_end asked (Runs run) program records =
     report_of (texts_of asked.forms run.form) program records
+whole_end asked (Traces trace) program records =
+    trace_report_of (texts_of asked.forms trace.form) program trace.every records
 whole_end asked (Checks check) program records = Said (said_of check.print program)
 whole_end asked (Makes make) program records = Summed make.records (rows_of program records)
 

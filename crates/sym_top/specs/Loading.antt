@@ -12,7 +12,6 @@ use Rattle.sym_engine.specs.declared.error.PassErr.{PassErr}
 use Rattle.sym_engine.specs.FileRecords.{FileRules}
 use Rattle.sym_engine.specs.FirstProblems.{AllFine, FirstProblem}
 use Rattle.sym_engine.specs.Passing.{Holds, Counts, May, MayAll, StopsPass}
-use Rattle.sym_report.specs.Forms.{FormTexts}
 use Rattle.sym_top.specs.declared.refusal.Place.TheVariants as place
 use Rattle.sym_top.specs.declared.refusal.Refusal.{Refusal}
 use Rattle.sym_top.specs.declared.refusal.Refusal.TheVariants as refusal
@@ -20,7 +19,7 @@ use Rattle.sym_top.specs.declared.status.Status.{Status}
 use Rattle.sym_top.specs.declared.commands.Command.{Command as CommandRead}
 use Rattle.sym_top.specs.declared.load.Failure.{Failure}
 use Rattle.sym_top.specs.Commands.{FileNames, shown_names}
-use Rattle.sym_top.specs.Ends.{Held, IsTextOf, report_of, status_of}
+use Rattle.sym_top.specs.Ends.{End, Held, IsTextOf, status_of}
 use Rattle.sym_top.specs.Messages.{headers_of, line_of}
 use Rattle.sym_top.specs.Programs.{Program, IsProgram, IsNoProgram}
 use Rattle.sym_top.specs.Promises.{Call, MayHold, IsStop, HasReport, call_line}
@@ -67,16 +66,16 @@ pub data StopsRecords (program : Program) (rules : FileRules) (files : List (Lis
       → StopsRecords program rules files (pass_refusal why)
   no_more : StopsRecords program rules files refusal.NoMemory
 
--- This status and this text are those of the report, in this form, of the records of files which
--- the names may hold.
-pub record Reports (form : FormTexts) (program : Program) (rules : FileRules) (holds : Holds)
-    (names : List (List ℕ)) (status : Status) (text : List ℕ) : Type 0 where
+-- This status and this text are those of the end that the records come to of files which the names
+-- may hold.
+pub record Reports (end : List Record → End) (program : Program) (rules : FileRules)
+    (holds : Holds) (names : List (List ℕ)) (status : Status) (text : List ℕ) : Type 0 where
   pub files : List (List ℕ)
   pub may : MayAll holds names files
   pub records : List Record
   pub fine : AllFine program.plan rules 1 files records
-  pub status_is : status ≡ status_of (report_of form program records)
-  pub text_is : IsTextOf (report_of form program records) text
+  pub status_is : status ≡ status_of (end records)
+  pub text_is : IsTextOf (end records) text
 
 -- Why there is no report: the pass over the files was stopped, or memory ran out.
 pub data StopsFiles (program : Program) (rules : FileRules) (holds : Holds)

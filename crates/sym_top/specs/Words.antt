@@ -6,6 +6,7 @@ use Rattle.sym_base.specs.declared.limits.TheConstants as limit
 use Rattle.sym_engine.specs.Options.{InRange}
 use Rattle.sym_top.specs.declared.arguments.TheConstants as own
 use Rattle.sym_top.specs.declared.commands.Run.{Run as RunRead}
+use Rattle.sym_top.specs.declared.commands.Trace.{Trace as TraceRead}
 use Rattle.sym_top.specs.declared.commands.Check.{Check as CheckRead}
 use Rattle.sym_top.specs.declared.commands.Make.{Make as MakeRead}
 use Rattle.sym_top.specs.declared.commands.Command.{Command as CommandRead}
@@ -13,7 +14,7 @@ use Rattle.sym_top.specs.declared.commands.Command.TheVariants as read
 use Rattle.sym_top.specs.declared.commands.NamedFiles.{NamedFiles}
 use Rattle.sym_top.specs.declared.commands.NamedFiles.TheVariants as named
 use Rattle.sym_top.specs.declared.commands.FileNames.{FileNames as NamesRead}
-use Rattle.sym_top.specs.Commands.{Run, Check, Make, Command, Runs, Checks, Makes, FileNames}
+use Rattle.sym_top.specs.Commands.{Run, Trace, Check, Make, Command, Runs, Traces, Checks, Makes, FileNames}
 
 abbrev pub run_seen : RunRead → Run
 run_seen run = record {
@@ -21,6 +22,15 @@ run_seen run = record {
   options = run.options;
   script = run.script.now;
   files = map string_bytes run.files.items;
+}
+
+abbrev pub trace_seen : TraceRead → Trace
+trace_seen trace = record {
+  form = trace.form.now;
+  every = trace.every;
+  options = trace.options;
+  script = trace.script.now;
+  files = map string_bytes trace.files.items;
 }
 
 abbrev pub check_seen : CheckRead → Check
@@ -31,6 +41,7 @@ make_seen make = record { options = make.options; records = make.records; seed =
 
 abbrev pub command_seen : CommandRead → Command
 command_seen (read.Run run) = Runs (run_seen run)
+command_seen (read.Trace trace) = Traces (trace_seen trace)
 command_seen (read.Check check) = Checks (check_seen check)
 command_seen (read.Make make) = Makes (make_seen make)
 
@@ -50,7 +61,14 @@ pub record IsRun (run : RunRead) : Type 0 where
   pub range : InRange run.options
   pub few : length run.files.items ≤ limit.FILES_MAX
 
+-- The same, and some number is shown.
+pub record IsTrace (trace : TraceRead) : Type 0 where
+  pub range : InRange trace.options
+  pub few : length trace.files.items ≤ limit.FILES_MAX
+  pub some : 1 ≤ trace.every
+
 abbrev pub IsInRange : CommandRead → Type 0
 IsInRange (read.Run run) = IsRun run
+IsInRange (read.Trace trace) = IsTrace trace
 IsInRange (read.Check check) = Unit {0}
 IsInRange (read.Make make) = InRange make.options

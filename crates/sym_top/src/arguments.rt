@@ -6,6 +6,9 @@ use sym_engine::{CHUNK_DEFAULT, LIMIT_DEFAULT, LIMIT_MAX, WORKERS_DEFAULT};
 /// The command that runs a script over files.
 pub const RUN_NAME: &str = "run";
 
+/// The command that traces a script over files.
+pub const TRACE_NAME: &str = "trace";
+
 /// The command that checks a script.
 pub const CHECK_NAME: &str = "check";
 
@@ -26,6 +29,17 @@ pub const FORM_NAME: &str = "form";
 
 /// The form where none is named.
 pub const FORM_DEFAULT: &str = "table";
+
+/// Which records have a row of a trace: those whose numbers this one divides.
+pub const EVERY_NAME: &str = "every";
+
+pub const EVERY: NumberOption = NumberOption {
+    default: 1,
+    range: NumberRange {
+        least: 1,
+        most: 1_000_000,
+    },
+};
 
 /// The rows of a full chunk.
 pub const CHUNK_NAME: &str = "chunk";

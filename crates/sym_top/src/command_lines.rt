@@ -1,11 +1,12 @@
 //! The command lines, as `clap` reads them.
 ghost use Rattle.std.specs.Prelude.{◌≡◌, IfOk};
 ghost use Rattle.clap.specs.Words.{app_of, with_rule};
-ghost use Rattle.sym_top.specs.CommandLines.{option_rule, flag_rule, word_rule, words_rule, bare_app, with_pass_options, run_app, check_app, make_app};
+ghost use Rattle.sym_top.specs.CommandLines.{option_rule, flag_rule, word_rule, words_rule, bare_app, with_pass_options, run_app, trace_app, check_app, make_app};
 
 use crate::arguments::{
-    CHECK_NAME, CHUNK_NAME, FILES_NAME, FORM_NAME, LIMIT_NAME, MAKE_NAME, MAX_BYTES_NAME,
-    PRINT_NAME, RECORDS_NAME, RUN_NAME, SCRIPT_NAME, SEED_NAME, WORKERS_NAME,
+    CHECK_NAME, CHUNK_NAME, EVERY_NAME, FILES_NAME, FORM_NAME, LIMIT_NAME, MAKE_NAME,
+    MAX_BYTES_NAME, PRINT_NAME, RECORDS_NAME, RUN_NAME, SCRIPT_NAME, SEED_NAME, TRACE_NAME,
+    WORKERS_NAME,
 };
 use clap::{Arg, ArgAction, Command};
 use std::alloc::{AllocError, Global};
@@ -86,6 +87,19 @@ pub fn run_command<'a>(alloc: Global) -> Result<Command<'a>, AllocError>
 {
     let formed = with_option(alloc, bare_command(alloc, RUN_NAME), FORM_NAME)?;
     let optional = with_pass_options(alloc, formed)?;
+    let sized = with_option(alloc, optional, MAX_BYTES_NAME)?;
+    let scripted = with_word(alloc, sized, SCRIPT_NAME)?;
+    with_words(alloc, scripted, FILES_NAME)
+}
+
+/// `trace [--form NAME] [--every N] [--chunk N] [--limit N] [--workers N] [--max-bytes N] SCRIPT
+/// FILE...`
+pub fn trace_command<'a>(alloc: Global) -> Result<Command<'a>, AllocError>
+    ensures { IfOk result (λ c. app_of c ≡ trace_app) }
+{
+    let formed = with_option(alloc, bare_command(alloc, TRACE_NAME), FORM_NAME)?;
+    let numbered = with_option(alloc, formed, EVERY_NAME)?;
+    let optional = with_pass_options(alloc, numbered)?;
     let sized = with_option(alloc, optional, MAX_BYTES_NAME)?;
     let scripted = with_word(alloc, sized, SCRIPT_NAME)?;
     with_words(alloc, scripted, FILES_NAME)

@@ -18,6 +18,16 @@ pub struct Run<'a> {
     pub files: Vec<String>,
 }
 
+/// `trace`: the same, and which records' rows are shown: those whose numbers `every` divides.
+#[derive(Drop)]
+pub struct Trace<'a> {
+    pub form: &'a str,
+    pub every: u64,
+    pub options: Options,
+    pub script: &'a str,
+    pub files: Vec<String>,
+}
+
 /// `check`: the name of the script, and whether it is printed.
 #[derive(Clone, Copy)]
 pub struct Check<'a> {
@@ -37,6 +47,7 @@ pub struct Make {
 #[derive(Drop)]
 pub enum Command<'a> {
     Run(Run<'a>),
+    Trace(Trace<'a>),
     Check(Check<'a>),
     Make(Make),
 }
@@ -64,6 +75,10 @@ pub fn shown_names<'m>(command: &'m Option<Command<'_>>) -> FileNames<'m>
         Some(Command::Run(run)) => FileNames {
             script: Some(run.script),
             files: NamedFiles::Given(run.files.as_slice()),
+        },
+        Some(Command::Trace(trace)) => FileNames {
+            script: Some(trace.script),
+            files: NamedFiles::Given(trace.files.as_slice()),
         },
         Some(Command::Check(check)) => FileNames {
             script: Some(check.script),

@@ -5,6 +5,7 @@ mod arguments;
 mod check_line;
 mod command_lines;
 mod commands;
+mod finishing;
 pub mod laws;
 mod load;
 mod made;
@@ -19,6 +20,7 @@ mod report;
 mod status;
 mod summary;
 mod top;
+mod tracing;
 mod words;
 
 pub use message::refuse_start;

@@ -5,15 +5,15 @@ ghost use Rattle.std.specs.String.{string_bytes};
 ghost use Rattle.clap.specs.Words.{found_of, rows_of, first_of, all_of};
 ghost use Rattle.sym_base.specs.declared.limits.TheConstants as limit;
 ghost use Rattle.sym_engine.specs.Options.{InRange};
-ghost use Rattle.sym_top.specs.Commands.{number_found, word_number, flag_found, options_found, run_options as run_options_of, form_found, files_found, run_found, check_found, make_found};
-ghost use Rattle.sym_top.specs.Words.{run_seen, check_seen, make_seen, IsRun};
+ghost use Rattle.sym_top.specs.Commands.{number_found, word_number, flag_found, options_found, run_options as run_options_of, form_found, files_found, run_found, trace_found, check_found, make_found};
+ghost use Rattle.sym_top.specs.Words.{run_seen, trace_seen, check_seen, make_seen, IsRun, IsTrace};
 
 use crate::arguments::{
-    CHUNK_NAME, CHUNKS, FILES_NAME, FORM_DEFAULT, FORM_NAME, GIVEN, LIMIT_NAME, LIMITS, MAX_BYTES,
-    MAX_BYTES_NAME, PRINT_NAME, RECORDS, RECORDS_NAME, SCRIPT_NAME, SEED_NAME, SEEDS, WORKERS,
-    WORKERS_NAME,
+    CHUNK_NAME, CHUNKS, EVERY, EVERY_NAME, FILES_NAME, FORM_DEFAULT, FORM_NAME, GIVEN, LIMIT_NAME,
+    LIMITS, MAX_BYTES, MAX_BYTES_NAME, PRINT_NAME, RECORDS, RECORDS_NAME, SCRIPT_NAME, SEED_NAME,
+    SEEDS, WORKERS, WORKERS_NAME,
 };
-use crate::commands::{Check, Make, Run};
+use crate::commands::{Check, Make, Run, Trace};
 use crate::numbers::{NumberOption, NumberRange, number_or_default, number_within};
 use clap::ArgMatches;
 use std::alloc::Global;
@@ -147,6 +147,37 @@ pub fn read_run<'a>(alloc: Global, matches: &ArgMatches<'a>) -> Result<Option<Ru
     };
     Ok(Some(Run {
         form: read_form(matches),
+        options,
+        script,
+        files: copy_names(alloc, names)?,
+    }))
+}
+
+/// The trace that was found.
+#[tactic(auto, unfolding(crate::specs::Commands::trace_found))]
+pub fn read_trace<'a>(
+    alloc: Global,
+    matches: &ArgMatches<'a>,
+) -> Result<Option<Trace<'a>>, NoMemory>
+    ensures read { IfOk result (λ trace.
+        option_map trace_seen trace ≡ trace_found (rows_of (found_of matches.now))) }
+    ensures range { IfOk result (λ trace. IfSome trace IsTrace) }
+{
+    let Some(options) = read_run_options(matches) else {
+        return Ok(None);
+    };
+    let Some(every) = read_option(matches, EVERY_NAME, EVERY) else {
+        return Ok(None);
+    };
+    let Some(script) = text_of(matches, SCRIPT_NAME) else {
+        return Ok(None);
+    };
+    let Some(names) = read_files(matches) else {
+        return Ok(None);
+    };
+    Ok(Some(Trace {
+        form: read_form(matches),
+        every,
         options,
         script,
         files: copy_names(alloc, names)?,

@@ -4,6 +4,7 @@ ghost use Rattle.std.specs.String.{string_bytes};
 ghost use Rattle.sym_base.specs.declared.limits.TheConstants as limit;
 ghost use Rattle.sym_engine.specs.FileRecords.{rules_of};
 ghost use Rattle.sym_engine.specs.Options.{InRange};
+ghost use Rattle.sym_top.specs.Ends.{report_of};
 ghost use Rattle.sym_top.specs.Loading.{Reports, StopsFiles};
 ghost use Rattle.sym_top.specs.Programs.{checked_program};
 ghost use Rattle.sym_top.specs.Promises.{IsReported};
@@ -56,7 +57,8 @@ pub fn report_files<T: Threads + Wait + Sync, F: Store, G: Gate + Sync>(
         let program = checked_program checked.now in
         let rules = rules_of options.now.max_bytes (G.shown gate.now) in
         IfOk result (λ status.
-        Reports (texts form.old) program rules (F.holds files.old) names status (gathered form.new)) }
+        Reports (report_of (texts form.old) program) program rules (F.holds files.old) names status
+        (gathered form.new)) }
     ensures reported { IfOk result IsReported }
     ensures stopped { let names = map string_bytes names.now in
         let program = checked_program checked.now in

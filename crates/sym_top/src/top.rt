@@ -1,100 +1,29 @@
 //! The top call.
-ghost use Rattle.std.specs.Prelude.{◌≡◌, ◌≤◌, ◌⊎◌, ℕ, List, [], Some, map, MatchResult, IfOk, OnOk, IfErr};
+ghost use Rattle.std.specs.Prelude.{◌≡◌, ◌≤◌, ◌⊎◌, ℕ, List, [], Some, map};
 ghost use Rattle.std.specs.List.{All};
 ghost use Rattle.std.specs.String.{string_bytes};
 ghost use Rattle.sym_engine.specs.Options.{InRange};
 ghost use Rattle.sym_top.specs.Commands.{Asked, Runs, Checks, Makes, asks, command_in, command_of, forms_of};
 ghost use Rattle.sym_top.specs.Ends.{End, Held, IsEnd};
-ghost use Rattle.sym_top.specs.Loading.{Ready, Stops, failure_line, known_headers};
-ghost use Rattle.sym_top.specs.Messages.{headers_of};
-ghost use Rattle.sym_top.specs.Promises.{Call, call_of, IsUsage, Told, Answers, MustReport, Refuses, Says, Leaves, Unless, Wrote, WriteFails, IsRefused, IsReported, IsUnwritten};
-ghost use Rattle.sym_top.specs.Refusals.{status_of_refusal};
-ghost use Rattle.sym_top.specs.Telling.{Has, Later, Short, Tells, sunk};
+ghost use Rattle.sym_top.specs.Promises.{Call, call_of, IsUsage, Told, Answers, MustReport, Refuses, Says, Leaves, Unless, Wrote, IsRefused, IsReported, IsUnwritten};
+ghost use Rattle.sym_top.specs.Telling.{Later, Short, sunk};
 ghost use Rattle.sym_top.specs.Words.{run_seen, check_seen, make_seen, IsRun};
 
-use crate::commands::{Check, Command, Make, Run, shown_names};
-use crate::load::{Failure, no_command};
+use crate::commands::{Check, Command, Make, Run};
+use crate::finishing::{finish, refuse};
+use crate::load::no_command;
 use crate::made::prepare_make;
-use crate::message::tell;
 use crate::prepare::{prepare_check, prepare_run};
-use crate::refusal::{Refusal, write_refusal};
+use crate::refusal::Refusal;
 use crate::status::Status;
+use crate::tracing::run_trace;
 use crate::words::read_words;
 use std::alloc::Global;
 use std::sync::Wait;
 use std::thread::Threads;
-use sym_base::{Sink, Store, write_all};
-use sym_check::{Checked, FieldPlan};
+use sym_base::{Sink, Store};
 use sym_engine::Gate;
 use sym_report::{ReportForm, choose, report_bytes};
-
-// Writes a report's text.
-fn write_report<O: Sink>(out: &mut O, text: &[u8]) -> Result<(), Refusal>
-    ensures whole { OnOk result (Has (sunk O.written O.faults O.short out.old out.new) text.now) }
-    ensures part { let out = sunk O.written O.faults O.short out.old out.new in
-        IfErr result (WriteFails out text.now) }
-    ensures later { Later (sunk O.written O.faults O.short out.old out.new) }
-{
-    match write_all(out, text) {
-        Ok(()) => Ok(()),
-        Err(error) => Err(write_refusal(error)),
-    }
-}
-
-// The fields of a script, where one was accepted.
-fn known_fields(checked: &Option<Checked>) -> &[FieldPlan]
-    ensures { headers_of result.now ≡ known_headers checked.now }
-{
-    match checked {
-        Some(checked) => checked.plan().fields.as_slice(),
-        None => &[],
-    }
-}
-
-// Tells why a call stopped before it wrote, and gives its status.
-fn refuse<E: Sink>(err: &mut E, failure: &Failure<'_>) -> Status
-    ensures status { result ≡ status_of_refusal failure.now.why }
-    ensures told { let err = sunk E.written E.faults E.short err.old err.new in
-        Tells err (failure_line failure.now) }
-    ensures later { Later (sunk E.written E.faults E.short err.old err.new) }
-{
-    let names = shown_names(&failure.command);
-    tell(err, &names, known_fields(&failure.checked), failure.why);
-    failure.why.status()
-}
-
-// Writes a text that is ready, or tells why there is none.
-fn finish<O: Sink, E: Sink>(
-    out: &mut O,
-    err: &mut E,
-    made: Result<Status, Failure<'_>>,
-    text: &[u8],
-) -> Status
-    requires { IfOk made IsReported }
-    ensures says { (call : Call) →
-        MatchResult made.entry (λ status. Ready call status text.now) (Stops call) →
-        let out = sunk O.written O.faults O.short out.old out.new in
-        let err = sunk E.written E.faults E.short err.old err.new in
-        Says call out err result }
-    ensures unwritten { IsUnwritten result → out.new ≡ out.old }
-    ensures memory { result ≡ Status.NoMemory →
-        (out.new ≡ out.old) ⊎ Short (sunk O.written O.faults O.short out.old out.new) }
-    ensures quiet { IsReported result → err.new ≡ err.old }
-    ensures later_out { Later (sunk O.written O.faults O.short out.old out.new) }
-    ensures later_err { Later (sunk E.written E.faults E.short err.old err.new) }
-{
-    let status = match made {
-        Ok(status) => status,
-        Err(failure) => return refuse(err, &failure),
-    };
-    match write_report(out, text) {
-        Ok(()) => status,
-        Err(why) => {
-            tell(err, &shown_names(&None), &[], why);
-            why.status()
-        }
-    }
-}
 
 // Runs a script over files, through the gate, and writes the report through the form that the run
 // names.
@@ -224,6 +153,7 @@ fn run<T: Threads + Wait + Sync, F: Store, O: Sink, E: Sink, G: Gate + Sync>(
 {
     match read_words(alloc, words) {
         Ok(Some(Command::Run(run))) => run_files(rt, alloc, run, files, out, err, forms, gate),
+        Ok(Some(Command::Trace(trace))) => run_trace(rt, alloc, trace, files, out, err, forms),
         Ok(Some(Command::Check(check))) => run_check(alloc, check, files, out, err),
         Ok(Some(Command::Make(make))) => run_make(rt, alloc, make, out, err, gate),
         Ok(None) => refuse(err, &no_command(Refusal::Usage)),
@@ -238,16 +168,23 @@ fn run<T: Threads + Wait + Sync, F: Store, O: Sink, E: Sink, G: Gate + Sync>(
 /// at most 65,536 bytes, and there are at most 65,536 files. What is refused is told on `err`, in
 /// one line.
 ///
+/// `trace [--every N]`, with the options, the script and the files of `run`, writes how the group
+/// of a record stands after that record, for each record whose number N divides: a row as a report
+/// has it, with the record's number before it, under the name `record`. Its rows go to the form
+/// round by round.
+///
 /// Options may stand anywhere, each at most once. The form is `table`. A number is 1 to 10 digits:
 ///
+/// - `--every`, which records have a row: 1 to 1,000,000, by default 1;
 /// - `--chunk`, the rows of a chunk: 1 to 65,536, by default 1,024;
 /// - `--limit`, the path limit: 1 to 256, by default 16;
 /// - `--workers`, the workers of a round: 1 to 64, by default 4;
 /// - `--max-bytes`, the most bytes of each file: 1 to 268,435,456, by default 67,108,864.
 ///
-/// No report depends on the first three. The records of files, and of the log that `make` makes, are
-/// worked on round by round by `gate`, which may start threads of `rt`, and each row but the header
-/// is read as the gate shows it.
+/// No report depends on the chunk, the limit or the workers. The records of files, and of the log
+/// that `make` makes, are worked on round by round by `gate`, which may start threads of `rt`, and
+/// each row but the header is read as the gate shows it. A trace starts threads of `rt` itself, and
+/// reads rows as they are.
 ///
 /// The order is: arguments, the script's reading, its size, the script, then of each file its
 /// reading, its size, its header and its first row that is no record, then the writing. A read that

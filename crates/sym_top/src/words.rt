@@ -6,13 +6,13 @@ ghost use Rattle.clap.specs.Words.{app_of, found_of, rows_of};
 ghost use Rattle.clap.specs.Faults.{is_simple_and_free};
 ghost use Rattle.sym_engine.specs.Options.{InRange};
 ghost use Rattle.sym_top.specs.CommandLines.{matched};
-ghost use Rattle.sym_top.specs.Commands.{run_of, check_of, make_of, command_by, command_in};
-ghost use Rattle.sym_top.specs.Words.{run_seen, check_seen, make_seen, command_seen, IsRun, IsInRange};
+ghost use Rattle.sym_top.specs.Commands.{run_of, trace_of, check_of, make_of, command_by, command_in};
+ghost use Rattle.sym_top.specs.Words.{run_seen, trace_seen, check_seen, make_seen, command_seen, IsRun, IsTrace, IsInRange};
 
-use crate::arguments::{CHECK_NAME, MAKE_NAME, RUN_NAME};
-use crate::command_lines::{check_command, make_command, run_command};
-use crate::commands::{Check, Command, Make, Run};
-use crate::matches::{read_check, read_make, read_run};
+use crate::arguments::{CHECK_NAME, MAKE_NAME, RUN_NAME, TRACE_NAME};
+use crate::command_lines::{check_command, make_command, run_command, trace_command};
+use crate::commands::{Check, Command, Make, Run, Trace};
+use crate::matches::{read_check, read_make, read_run, read_trace};
 use clap::ArgMatches;
 use clap::error::ErrorKind;
 use std::alloc::Global;
@@ -46,6 +46,20 @@ fn read_run_words<'a>(alloc: Global, words: &'a [String]) -> Result<Option<Run<'
     let command = run_command(alloc)?;
     match find_matches(command, words)? {
         Some(matches) => read_run(alloc, &matches),
+        None => Ok(None),
+    }
+}
+
+// The trace that words ask for, the first of which is `trace`.
+#[tactic(auto, unfolding(crate::specs::Commands::trace_of))]
+fn read_trace_words<'a>(alloc: Global, words: &'a [String]) -> Result<Option<Trace<'a>>, NoMemory>
+    ensures read { IfOk result (λ trace.
+        option_map trace_seen trace ≡ trace_of (map string_bytes words.now)) }
+    ensures range { IfOk result (λ trace. IfSome trace IsTrace) }
+{
+    let command = trace_command(alloc)?;
+    match find_matches(command, words)? {
+        Some(matches) => read_trace(alloc, &matches),
         None => Ok(None),
     }
 }
@@ -90,6 +104,12 @@ fn read_command<'a>(
     if name == RUN_NAME {
         return match read_run_words(alloc, words)? {
             Some(run) => Ok(Some(Command::Run(run))),
+            None => Ok(None),
+        };
+    }
+    if name == TRACE_NAME {
+        return match read_trace_words(alloc, words)? {
+            Some(trace) => Ok(Some(Command::Trace(trace))),
             None => Ok(None),
         };
     }

@@ -1,6 +1,7 @@
 use Rattle.std.proofs.Common.{ap, sym, subst, map}
 use Rattle.std.specs.String.{string_bytes}
 use Rattle.sym_engine.specs.FileRecords.{rules_of}
+use Rattle.sym_top.specs.Ends.{report_of}
 use Rattle.sym_top.specs.Loading.{StopsFiles}
 use Rattle.sym_top.specs.Programs.{checked_program}
 use Rattle.sym_top.proofs.Preparing.{reports-along, run-load-stops, run-ready, run-files-stop}
@@ -13,7 +14,8 @@ returns-in-Err-clause-stopped g c asked is shown =
 pub returns-in-Ok-report_files-clause-ready : goal.returns-in-Ok-report_files-clause-ready
 returns-in-Ok-report_files-clause-ready g c asked is form shown =
     run-ready _ c.args.run is (checked_program c.in-Ok.checked) c.in-Ok-report_files.status _ c.in-Ok.ensures.loaded
-    (reports-along _ _ _ (rules_of c.args.run.options.max_bytes (g.G.Gate.shown c.args.gate.now)) _ _ _ _ _ c.in-Ok-report_files.status _ form
+    (reports-along _ _ _ (rules_of c.args.run.options.max_bytes (g.G.Gate.shown c.args.gate.now)) _ _ _ _ _ c.in-Ok-report_files.status _
+    (ap (λ texts. report_of texts (checked_program c.in-Ok.checked)) form)
     (ap (rules_of c.args.run.options.max_bytes) shown) c.in-Ok.ensures.same (ap (map string_bytes) c.as_slice.ensures.value)
     c.in-Ok-report_files.ensures.ready)
 

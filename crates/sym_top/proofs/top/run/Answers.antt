@@ -1,4 +1,4 @@
-use Rattle.std.proofs.Common.{◌∙◌, refl, sym, ap, subst, option_map}
+use Rattle.std.proofs.Common.{◌∙◌, Some, refl, sym, ap, subst, option_map}
 use Rattle.sym_top.specs.Loading.{Stops}
 use Rattle.sym_top.specs.Words.{command_seen}
 use Rattle.sym_top.proofs.Consequences.{stop-says}
@@ -18,3 +18,13 @@ returns-in-Err-clause-says g c =
     stop-says _ _ _ c.no_command-in-Err.result c.refuse-in-Err.result
     (subst (Stops _) (sym c.no_command-in-Err.ensures) (memory-stops _))
     c.refuse-in-Err.ensures.status (record { written = refl; faults = refl; short = refl }) c.refuse-in-Err.ensures.told
+
+pub returns-in-Ok-Some-Trace-clause-says : goal.returns-in-Ok-Some-Trace-clause-says
+returns-in-Ok-Some-Trace-clause-says g c =
+    c.run_trace.ensures.says _ (g.G.Gate.shown c.args.gate.now)
+    (sym c.in-Ok-Some-Trace.ensures.read ∙ ap (option_map command_seen) (c.in-Ok-Some-Trace.field-0-is ∙ ap Some c.in-Ok-Some-Trace.field-0-0-is))
+
+pub returns-in-Ok-Some-Trace-clause-leaves : goal.returns-in-Ok-Some-Trace-clause-leaves
+returns-in-Ok-Some-Trace-clause-leaves g c =
+    c.run_trace.ensures.leaves _ (g.G.Gate.shown c.args.gate.now)
+    (sym c.in-Ok-Some-Trace.ensures.read ∙ ap (option_map command_seen) (c.in-Ok-Some-Trace.field-0-is ∙ ap Some c.in-Ok-Some-Trace.field-0-0-is))

@@ -1,7 +1,7 @@
 use Rattle.std.proofs.Common.{inl, refl, subst}
 use Rattle.sym_top.specs.Promises.{IsReported}
 use Rattle.sym_top.proofs.Consequences.{refusal-refused, reported-written, stop-says, ready-says, cut-says}
-use Rattle.sym_top.proofs.top.finish.Goals as goal
+use Rattle.sym_top.proofs.finishing.finish.Goals as goal
 
 pub returns-in-Err-clause-says : goal.returns-in-Err-clause-says
 returns-in-Err-clause-says g c call stops =

@@ -1,7 +1,7 @@
 use Rattle.std.proofs.Common.{Err, sym, ap, subst}
 use Rattle.sym_top.specs.Promises.{WriteFails}
 use Rattle.sym_top.proofs.Preparing.{fails-by}
-use Rattle.sym_top.proofs.top.write_report.Goals as goal
+use Rattle.sym_top.proofs.finishing.write_report.Goals as goal
 
 pub returns-in-Err-clause-part : goal.returns-in-Err-clause-part
 returns-in-Err-clause-part g c =
