@@ -1,0 +1,25 @@
+//! Laws of the definitions that contracts cite.
+ghost use Rattle.std.specs.Prelude.{◌≡◌, ◌<◌, ◌^◌, ℕ, List};
+ghost use Rattle.sym_check.specs.Plan.ScriptPlans.{ScriptPlan};
+ghost use Rattle.sym_check.specs.Plan.WellFormed.{IsWellFormed};
+ghost use Rattle.sym_reduce.specs.Reducing.{AreReduced, FirstRunProblem, Pairs};
+ghost use Rattle.sym_reduce.specs.declared.error.ReduceErr.{ReduceErr as OneErr};
+
+/// Files of saved runs have one list of totals or one first problem, and never both.
+pub fn files_have_totals_or_a_problem()
+    ensures totals { (script : List ℕ) (p : ScriptPlan) (max_bytes next : ℕ) (totals : Pairs)
+        (files : List (List ℕ)) (end last : ℕ) (all more : Pairs) →
+        IsWellFormed p → max_bytes < 2 ^ 64 →
+        AreReduced script p max_bytes next totals files end all →
+        AreReduced script p max_bytes next totals files last more → all ≡ more }
+    ensures problem { (script : List ℕ) (p : ScriptPlan) (max_bytes file next : ℕ)
+        (totals : Pairs) (files : List (List ℕ)) (why other : OneErr) →
+        IsWellFormed p → max_bytes < 2 ^ 64 →
+        FirstRunProblem script p max_bytes file next totals files why →
+        FirstRunProblem script p max_bytes file next totals files other → why ≡ other }
+    ensures never { (script : List ℕ) (p : ScriptPlan) (max_bytes file next : ℕ)
+        (totals : Pairs) (files : List (List ℕ)) (end : ℕ) (all : Pairs) (why : OneErr) →
+        IsWellFormed p → max_bytes < 2 ^ 64 →
+        AreReduced script p max_bytes next totals files end all →
+        FirstRunProblem script p max_bytes file next totals files why → ⊥ }
+{}
