@@ -1,5 +1,5 @@
 -- The run of a round, and the groups that it is applied to.
-use Rattle.std.proofs.Common.{◌≡◌, ◌∙◌, refl, sym, ap, subst, arith, ℕ, ◌-◌, ◌<◌, List, [], ◌++◌, append-nil, length, get_or, Option, Some, None, Result, Ok, Err, IfOk, OnOk, slice_get}
+use Rattle.std.proofs.Common.{◌≡◌, ◌∙◌, refl, sym, ap, subst, arith, ℕ, ◌-◌, ◌<◌, List, [], ◌++◌, append-nil, length, get_or, Option, Some, None, Result, Ok, Err, slice_get}
 use Rattle.std.specs.Prelude.{slice_range}
 use Rattle.std.proofs.lemmas.List.{take_all}
 use Rattle.std.proofs.lemmas.List.Elements.{All-nil}
@@ -109,22 +109,6 @@ never_bad p groups given pending run found bad records is some by broken =
     let same = by.bad in
     let none : bad_of (applied.Bad bad) ≡ None = ap bad_of (sym broken) ∙ same ∙ fine in
     absurd (cc)
-
--- ---- what is known beside other calls
--- The groups of a call that gave them, whatever comes of another one, by an equal plan.
-pub led_as : {A E : Type 0} (r : Result A E) (p q : ScriptPlan) (old new : Pairs) (pending : Option Run)
-    → p ≡ q → ((records : List Record) → ArePassedBy p old pending records → AreLedBy p new records)
-    → (records : List Record) → ArePassedBy q old pending records → IfOk r (λ x. AreLedBy q new records)
-led_as (Ok x) p q old new pending same led records stood =
-    let P : ScriptPlan → Type 0 = λ plan. (records : List Record) → ArePassedBy plan old pending records → AreLedBy plan new records in subst P same led records stood
-led_as (Err e) p q old new pending same led records stood = tt
-
--- The same of a call that may have failed, and didn't.
-pub led_beside : {A B E F : Type 0} (a : Result A E) (x : A) (r : Result B F) (p : ScriptPlan) (old new : Pairs) (pending : Option Run)
-    → a ≡ Ok x → ((records : List Record) → ArePassedBy p old pending records → OnOk a (AreLedBy p new records))
-    → (records : List Record) → ArePassedBy p old pending records → IfOk r (λ y. AreLedBy p new records)
-led_beside {A} {E = E} a x r p old new pending is led =
-    led_as r p p old new pending refl (λ records stood. let P : Result A E → Type 0 = λ b. OnOk b (AreLedBy p new records) in subst P is (led records stood))
 
 -- ---- the beginning
 -- There are no groups yet, and no run.

@@ -1,10 +1,8 @@
 //! Rounds whose runs are applied to groups.
 ghost use Rattle.std.specs.Prelude.{◌≡◌, List, [], None, IfOk, OnOk};
-ghost use Rattle.std.specs.Thread.{IsSync};
 ghost use Rattle.sym_base.specs.declared.values.record.Record.{Record as OneRecord};
 ghost use Rattle.sym_check.specs.Checking.CheckedScripts.{checked_plan};
-ghost use Rattle.sym_check.specs.declared.checking.accepted.Checked.{Checked as OneScript};
-ghost use Rattle.sym_engine.specs.Rounds.{AreWorkers, IsLimit, IsRound, StandsForAll, shown_chunks};
+ghost use Rattle.sym_engine.specs.Rounds.{AreWorkers};
 ghost use Rattle.sym_engine.specs.Taking.{AreLedBy, ArePassedBy};
 
 use crate::gates::Gate;
@@ -12,7 +10,7 @@ use crate::rounds::{Rounds, Took, Work};
 use std::alloc::Global;
 use std::mem;
 use std::sync::Wait;
-use std::thread::{Threads, join_mut};
+use std::thread::Threads;
 use sym_base::NoMemory;
 use sym_check::Checked;
 use sym_plain::Groups;
@@ -73,73 +71,6 @@ impl Passed {
     }
 }
 
-// A value that lends a checked script. Threads share it by its bound: that a checked script may be
-// shared is then shown once, where the script is handed in.
-trait LendsScript {
-    ghost lent: { Self → OneScript };
-
-    fn script(&self) -> &Checked
-        ensures { result.now ≡ lent self.now };
-}
-
-impl LendsScript for Checked {
-    ghost lent = { λ checked. checked };
-
-    fn script(&self) -> &Checked {
-        self
-    }
-}
-
-// The run of a round, beside which another thread applies the run of the round before. With one
-// worker, and where no run is pending, no thread is made.
-fn work_beside<T: Threads + Wait + Sync, C: LendsScript + Sync, G: Gate>(
-    rt: &T,
-    alloc: Global,
-    gate: &G,
-    lender: &C,
-    work: &Work,
-    workers: u32,
-    passed: &mut Passed,
-) -> Result<Run, NoMemory>
-    requires sync { IsSync T.row }
-    requires round { IsRound (checked_plan work.now.checked).fields work.now.chunks }
-    requires limit { IsLimit work.now.limit }
-    requires workers { AreWorkers workers }
-    requires passed { let p = checked_plan (C.lent lender.now) in
-        (records : List OneRecord) × ArePassedBy p passed.old.groups passed.old.pending records }
-    ensures run { let p = checked_plan work.now.checked in
-        let chunks = shown_chunks (G.shown gate.now) work.now.chunks in
-        IfOk result (StandsForAll p work.now.limit chunks) }
-    ensures led { let p = checked_plan (C.lent lender.now) in (records : List OneRecord) →
-        ArePassedBy p passed.old.groups passed.old.pending records →
-        IfOk result (λ run. AreLedBy p passed.new.groups records) }
-{
-    if workers == 1 || passed.pending.is_none() {
-        passed.apply_pending(alloc, lender.script())?;
-        return gate.work_round(rt, alloc, work, workers);
-    }
-    let (applied, run) = join_mut(
-        rt,
-        &mut || -> Result<(), NoMemory>
-            requires { let p = checked_plan (C.lent lender.now) in (records : List OneRecord)
-                × ArePassedBy p passed.now.groups passed.now.pending records }
-            ensures { let p = checked_plan (C.lent lender.entry.now) in
-                let old = passed.entry.now in (records : List OneRecord) →
-                ArePassedBy p old.groups old.pending records →
-                OnOk result (AreLedBy p passed.exit.now.groups records) }
-        { passed.apply_pending(alloc, lender.script()) },
-        &mut || -> Result<Run, NoMemory>
-            requires { let p = checked_plan work.now.checked in IsSync T.row
-                × IsRound p.fields work.now.chunks × IsLimit work.now.limit × AreWorkers workers }
-            ensures { let p = checked_plan work.entry.now.checked in
-                let chunks = shown_chunks (G.shown gate.entry.now) work.entry.now.chunks in
-                IfOk result (StandsForAll p work.entry.now.limit chunks) }
-        { gate.work_round(rt, alloc, work, workers) },
-    );
-    applied?;
-    run
-}
-
 /// The groups of the rounds so far, the gate that has the run of each round made, and how many
 /// workers make it.
 #[derive(Drop)]
@@ -178,9 +109,8 @@ impl<'a, G: Gate + Sync> Rounds for PassRounds<'a, G> {
         alloc: Global,
         work: &Work,
     ) -> Result<Took, NoMemory> {
-        let passed = &mut self.passed;
-        let script = &work.checked;
-        let run = work_beside(rt, alloc, self.gate, script, work, self.workers, passed)?;
+        self.passed.apply_pending(alloc, &work.checked)?;
+        let run = self.gate.work_round(rt, alloc, work, self.workers)?;
         if let Some(bad) = run.bad {
             return Ok(Took::Bad(bad));
         }

@@ -22,9 +22,8 @@ use sym_plain::Groups;
 /// The groups of one sequential pass over the records of the files of these names, in order. The
 /// first row of each file is its header; records are numbered from 1, over all files. One file is
 /// in memory at a time, and a later one isn't read before the earlier one is done. The groups come
-/// from runs: that of each round is made by the gate and applied to the groups of those before it,
-/// with several workers while the next run is made. So each row but a header is read as the gate
-/// shows it.
+/// from runs: that of each round is made by the gate and applied to the groups of those before it.
+/// So each row but a header is read as the gate shows it.
 ///
 /// # Errors
 ///
