@@ -69,7 +69,7 @@ may_some : (holds : List ℕ → Option (List ℕ)) (names : List (List ℕ)) �
 may_some holds [] = tt
 may_some holds (name ∷ names) = (may_one (holds name), may_some holds names)
 
-may_both : (holds : List ℕ → Option (List ℕ)) (names others told more : List (List ℕ)) → MayAll holds names told → MayAll holds others more
+pub may_both : (holds : List ℕ → Option (List ℕ)) (names others told more : List (List ℕ)) → MayAll holds names told → MayAll holds others more
     → MayAll holds (names ++ others) (told ++ more)
 may_both holds [] others [] more a b = b
 may_both holds [] others (t ∷ told) more a b = absurd a
@@ -90,7 +90,7 @@ drop_at (n ∷ names) (suc k) name e =
     let more : suc (k + 1) ≡ suc k + 1 = omega arith in
     drop_at names k name e ∙ ap (λ m. name ∷ drop m (n ∷ names)) more
 
-take_at : (names : List (List ℕ)) (k : ℕ) (name : List ℕ) → slice_get names k ≡ Some name → take (k + 1) names ≡ take k names ++ name ∷ []
+pub take_at : (names : List (List ℕ)) (k : ℕ) (name : List ℕ) → slice_get names k ≡ Some name → take (k + 1) names ≡ take k names ++ name ∷ []
 take_at [] k name e = absurd (cc)
 take_at (n ∷ names) zero name e = let same : n ≡ name = cc in ap (λ x. x ∷ []) same
 take_at (n ∷ names) (suc k) name e =
@@ -117,7 +117,7 @@ told_count : (holds : List ℕ → Option (List ℕ)) (names told : List (List �
 told_count holds names told k name may at =
     sym (length_all_zip (λ n bytes. May (holds n) bytes) (take k names) told may) ∙ within names k name at
 
-file_fine : (p : ScriptPlan) (rules : FileRules) (file first : ℕ) (bytes : List ℕ) (records : List Record) → length bytes ≤ rules.max_bytes
+pub file_fine : (p : ScriptPlan) (rules : FileRules) (file first : ℕ) (bytes : List ℕ) (records : List Record) → length bytes ≤ rules.max_bytes
     → row_records p file first (rows_by rules bytes) ≡ Ok records → IsFine p rules first bytes records
 file_fine p rules file first bytes records size e =
     rw e at (in_size p rules file first bytes (rows_by rules bytes) size refl)

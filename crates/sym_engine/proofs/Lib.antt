@@ -8,3 +8,11 @@ pub mod RoundRuns
 pub mod WorkShared
 pub mod Summed
 pub mod Stretched
+pub mod RowsFull
+pub mod RoundLists
+pub mod ToldRows
+pub mod ToldFiles
+pub mod Logs
+pub mod PartialLists
+pub mod WatchedRounds
+pub mod WatchedFiles

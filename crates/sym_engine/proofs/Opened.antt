@@ -33,13 +33,14 @@ by_header p file first row rows r e =
 
 pub opened : (p : ScriptPlan) (shown : Row → Row) (file first : ℕ) (rows : List Row) (c : Cutting)
     → Opens p.fields rows (Ok c) → c.next_no ≡ first → FitsHeader p.fields c.header → IsOpened p shown file first rows c
-opened p shown file first [] c e next fits = record { left = []; has = e; next = next; fits = fits; reads = refl }
+opened p shown file first [] c e next fits = record { left = []; has = e; next = next; fits = fits; reads = refl; opens = e }
 opened p shown file first (row ∷ rows) c e next fits = record {
   left = rows;
   has = e.2;
   next = next;
   fits = fits;
   reads = by_header p file first row (map shown rows) (Ok c.header) (header_is p row c.header e.0 e.1);
+  opens = e;
 }
 
 fault_of : (p : ScriptPlan) (shown : Row → Row) (file first : ℕ) (rows : List Row) (why : HeadFault)

@@ -41,7 +41,7 @@ pub none_first : (r : Result (List Record) Bad) → r ≡ in_turn (Ok []) r
 none_first (Ok records) = refl
 none_first (Err bad) = refl
 
-turn_assoc : (a b c : Result (List Record) Bad) → in_turn a (in_turn b c) ≡ in_turn (in_turn a b) c
+pub turn_assoc : (a b c : Result (List Record) Bad) → in_turn a (in_turn b c) ≡ in_turn (in_turn a b) c
 turn_assoc (Err bad) b c = refl
 turn_assoc (Ok first) (Err bad) c = refl
 turn_assoc (Ok first) (Ok more) (Err bad) = refl
@@ -80,7 +80,7 @@ abbrev pub alone : Result Record Bad → Result (List Record) Bad
 alone (Ok rec) = Ok (rec ∷ [])
 alone (Err bad) = Err bad
 
-first_alone : (r : Result Record Bad) (others : Result (List Record) Bad)
+pub first_alone : (r : Result Record Bad) (others : Result (List Record) Bad)
     → and_then (λ rec. and_then (λ rest. Ok (rec ∷ rest)) others) r ≡ in_turn (alone r) others
 first_alone (Err bad) others = refl
 first_alone (Ok rec) (Err bad) = refl
@@ -139,7 +139,7 @@ round_next p header shown n (cut ∷ cuts) rest headers numbers =
     ∙ ap (λ r. in_turn (in_turn r more) (records_or_bad p header (n + length (cut.rows ++ rows_of cuts)) (map shown rest))) (sym head)
 
 -- ---- chunks that are cut off one after the other
-some_rows : (a b : List Row) → ◌≡◌ {A = Option (List Row)} (Some a) (Some b) → a ≡ b
+pub some_rows : (a b : List Row) → ◌≡◌ {A = Option (List Row)} (Some a) (Some b) → a ≡ b
 some_rows a b e = cc
 
 pub left_is : (o : Option (List Row)) → IsSome o → o ≡ Some (unwrap_or o [])
@@ -152,7 +152,7 @@ left_of o rows e = ap (λ x. unwrap_or x []) e
 pub is_some : (o : Option (List Row)) (rows : List Row) → o ≡ Some rows → IsSome o
 is_some o rows e = let P : Option (List Row) → Type 0 = λ x. IsSome x in subst P (sym e) refl
 
-more_rows : (cuts : List Chunk) (cut : Chunk) → rows_of (cuts ++ cut ∷ []) ≡ rows_of cuts ++ cut.rows
+pub more_rows : (cuts : List Chunk) (cut : Chunk) → rows_of (cuts ++ cut ∷ []) ≡ rows_of cuts ++ cut.rows
 more_rows cuts cut =
     flat_map-append (λ (k : Chunk). k.rows) cuts (cut ∷ []) ∙ ap (λ rows. rows_of cuts ++ rows) (append-nil cut.rows)
 
@@ -258,7 +258,7 @@ one_more (Ok rec) (Err bad) records n many e = absurd (cc)
 one_more (Ok rec) (Ok rest) records n many e =
     let same : rec ∷ rest ≡ records = cc in sym (ap length same) ∙ ap suc (many rest refl)
 
-records_many : (p : ScriptPlan) (header : Header) (n : ℕ) (rows : List Row) (records : List Record) → records_or_bad p header n rows ≡ Ok records → length records ≡ length rows
+pub records_many : (p : ScriptPlan) (header : Header) (n : ℕ) (rows : List Row) (records : List Record) → records_or_bad p header n rows ≡ Ok records → length records ≡ length rows
 records_many p header n [] records e = let none : records ≡ [] = cc in ap length none
 records_many p header n (row ∷ rows) records e =
     one_more (record_or_bad n (read_row p.enums p.fields header row)) (records_or_bad p header (n + 1) rows) records (length rows)
@@ -331,7 +331,7 @@ pub ahead_ends : {S : Type 0} (stands : S → List Record → Type 0) (p : Scrip
 ahead_ends stands p header shown first rows old now c cuts is none =
     taking_ends stands p header shown first rows old now is.from c is.taking (is.cut.ended none) (same_next is.from c cuts is.cut.cut none)
 
-some_rows_of : (cuts : List Chunk) → All (λ (cut : Chunk). 1 ≤ length cut.rows) cuts → 1 ≤ length cuts → 1 ≤ length (rows_of cuts)
+pub some_rows_of : (cuts : List Chunk) → All (λ (cut : Chunk). 1 ≤ length cut.rows) cuts → 1 ≤ length cuts → 1 ≤ length (rows_of cuts)
 some_rows_of [] filled many = absurd (omega arith)
 some_rows_of (k ∷ cuts) filled many =
     omega (arith, All-head (λ (c : Chunk). 1 ≤ length c.rows) k cuts filled, length-append k.rows (rows_of cuts))

@@ -6,3 +6,5 @@ pub mod Passing
 pub mod Taking
 pub mod Pieces
 pub mod Saving
+pub mod Partials
+pub mod Watching

@@ -1,5 +1,5 @@
 -- What the parts of reading files come to.
-use Rattle.std.specs.Prelude.{◌≡◌, ◌≤◌, ◌<◌, ℕ, ◌+◌, List, [], ◌++◌, length, map, Option, Some, None, IfSome, Result, Ok, Err}
+use Rattle.std.specs.Prelude.{◌≡◌, ◌≤◌, ◌<◌, ℕ, ◌+◌, ◌*◌, List, [], ◌++◌, length, map, Option, Some, None, IfSome, Result, Ok, Err}
 use Rattle.std.specs.List.{All, flat_map}
 use Rattle.std.specs.Option.{unwrap_or}
 use Rattle.sym_base.specs.Counts.{Rose}
@@ -12,7 +12,7 @@ use Rattle.sym_check.specs.Meaning.Groups.{pass}
 use Rattle.sym_check.specs.Plan.ScriptPlans.{ScriptPlan}
 use Rattle.sym_table.specs.declared.bad.Bad.{Bad}
 use Rattle.sym_table.specs.declared.chunk.Chunk.{Chunk}
-use Rattle.sym_table.specs.Cutting.{Cutting}
+use Rattle.sym_table.specs.Cutting.{Cutting, Opens}
 use Rattle.sym_table.specs.ChunkRecords.{RunOn}
 use Rattle.sym_table.specs.Reading.{Row}
 use Rattle.sym_table.specs.Rows.{FitsChunk, FitsHeader}
@@ -45,6 +45,7 @@ pub record IsOpened (p : ScriptPlan) (shown : Row → Row) (file first : ℕ) (r
   pub fits : FitsHeader p.fields c.header
   pub reads : row_records p file first (shown_rows shown rows)
       ≡ or_else (pass_err.Bad file) (records_or_bad p c.header first (map shown left))
+  pub opens : Opens p.fields rows (Ok c)
 
 -- The file is opened, or its header has a fault.
 abbrev pub OpensFile : ScriptPlan → (Row → Row) → ℕ → ℕ → List Row → Result Cutting PassErr
@@ -106,8 +107,12 @@ pub record AreCut (old new : Cutting) (cuts : List Chunk) : Type 0 where
   pub numbers : RunOn old.next_no cuts
   pub next : new.next_no ≡ old.next_no + length (rows_of cuts)
 
--- The next round of a file was cut off, which has no chunk only where no row was left. Its chunks fit
--- each script that the header fits.
+-- How many rows a full round has, by those of a full chunk.
+abbrev pub full_round : ℕ → ℕ
+full_round chunk = limit.CHUNKS_MAX * chunk
+
+-- The next round of a file was cut off: a full one, or what was left. It has no chunk only where no
+-- row was left. Its chunks fit each script that the header fits.
 pub record CutsRound (old new : Cutting) (cuts : List Chunk) : Type 0 where
   pub cut : AreCut old new cuts
   pub most : length cuts ≤ limit.CHUNKS_MAX
@@ -115,6 +120,9 @@ pub record CutsRound (old new : Cutting) (cuts : List Chunk) : Type 0 where
   pub fit : (fields : List FieldPlan) → FitsHeader fields old.header
       → All (FitsChunk fields) cuts
   pub header : new.header ≡ old.header
+  pub chunk : new.chunk ≡ old.chunk
+  pub rows : length (rows_of cuts) ≤ full_round old.chunk
+  pub full : length (rows_of cuts) < full_round old.chunk → new.left ≡ Some []
 
 -- A fact of a round whose records were taken.
 abbrev pub IfTaken : Took → Type 0 → Type 0

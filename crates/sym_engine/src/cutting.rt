@@ -1,11 +1,11 @@
 //! The next round of a file.
-ghost use Rattle.std.specs.Prelude.{◌≡◌, ◌≤◌, List, [], Some, IfOk, IsSome, OnOk, length};
+ghost use Rattle.std.specs.Prelude.{◌≡◌, ◌≤◌, ◌<◌, List, [], Some, IfOk, IsSome, OnOk, OnErr, length};
 ghost use Rattle.std.specs.List.{All};
 ghost use Rattle.sym_base.specs.declared.limits.TheConstants as limit;
 ghost use Rattle.sym_check.specs.Checking.CheckedScripts.{checked_plan};
 ghost use Rattle.sym_check.specs.declared.plan.script.FieldPlan.{FieldPlan as OneField};
 ghost use Rattle.sym_table.specs.Rows.{FitsChunk, FitsHeader};
-ghost use Rattle.sym_engine.specs.Taking.{AreCut, CutsRound, IfTaken};
+ghost use Rattle.sym_engine.specs.Taking.{AreCut, CutsRound, IfTaken, full_round, rows_of};
 
 use crate::rounds::{Took, Work};
 use std::alloc::Global;
@@ -27,6 +27,10 @@ pub(crate) fn next_round(
     ensures fit { (fields : List OneField) → FitsHeader fields cutter.old.header →
         IfOk result (λ chunks. All (FitsChunk fields) chunks) }
     ensures header { cutter.new.header ≡ cutter.old.header }
+    ensures chunk { cutter.new.chunk ≡ cutter.old.chunk }
+    ensures rows { IfOk result (λ chunks. length (rows_of chunks) ≤ full_round cutter.old.chunk) }
+    ensures full { IfOk result (λ chunks.
+        length (rows_of chunks) < full_round cutter.old.chunk → cutter.new.left ≡ Some []) }
 {
     let mut chunks = Chunks::new(alloc);
     'chunks: for _number in 0..CHUNKS_MAX {
@@ -78,6 +82,7 @@ pub(crate) fn then_cut(
 ) -> Result<Took, NoMemory>
     requires { IsSome cutter.old.left }
     ensures took { IfOk result (λ t. t ≡ took) }
+    ensures done { OnErr result (took ≡ Took.Done) }
     ensures next { IfOk result (λ t.
         IfTaken t (CutsRound cutter.old cutter.new work.new.chunks)) }
     ensures checked { checked_plan work.new.checked ≡ checked_plan work.old.checked }

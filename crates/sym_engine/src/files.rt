@@ -1,14 +1,16 @@
 //! The loop over all files.
-ghost use Rattle.std.specs.Prelude.{◌≡◌, ◌≤◌, ◌^◌, ℕ, List, IfOk, IfErr, length, map};
+ghost use Rattle.std.specs.Prelude.{◌≡◌, ◌≤◌, ◌^◌, ℕ, List, [], IfOk, IfErr, OnOk, length, map};
 ghost use Rattle.std.specs.String.{string_bytes};
 ghost use Rattle.sym_base.specs.declared.limits.TheConstants as limit;
 ghost use Rattle.sym_base.specs.declared.values.record.Record.{Record as OneRecord};
 ghost use Rattle.sym_check.specs.Checking.CheckedScripts.{checked_plan};
 ghost use Rattle.sym_engine.specs.FileRecords.{rules_of};
 ghost use Rattle.sym_engine.specs.Options.{InRange};
+ghost use Rattle.sym_engine.specs.Partials.{OfFiles, UntilStop, watched_files};
 ghost use Rattle.sym_engine.specs.Passing.{May, StopsFrom, TakenAll};
 ghost use Rattle.sym_engine.specs.Rounds.{stands_by};
 ghost use Rattle.sym_engine.specs.Taking.{IsUnread};
+ghost use Rattle.sym_engine.specs.Watching.{Point, Start, TellsAnywhere, tells_by};
 
 use crate::error::PassErr;
 use crate::options::Options;
@@ -75,6 +77,20 @@ pub(crate) fn take_files<F: Store, R, W: Way<R>>(
         let before = F.faults files.old in
         let after = F.faults files.new in
         IfErr result (StopsFrom first p rules (F.holds files.old) names before after) }
+    ensures told { let p = checked_plan checked.now in
+        let rules = rules_of options.now.max_bytes (W.shown rounds.old) in
+        let names = map string_bytes names.now in
+        let watched = watched_files p rules options.now.chunk (F.holds files.old) names first in
+        (start : Start) → W.told rounds.old p start Point.between [] →
+        OnOk result (OfFiles watched (length names) (W.told rounds.new p start Point.between)) }
+    ensures told_until { let p = checked_plan checked.now in
+        let rules = rules_of options.now.max_bytes (W.shown rounds.old) in
+        let names = map string_bytes names.now in
+        let watched = watched_files p rules options.now.chunk (F.holds files.old) names first in
+        (start : Start) → W.told rounds.old p start Point.between [] →
+        IfErr result (UntilStop watched (W.told rounds.new p start Point.between)
+        (W.told rounds.new p start Point.at_bad)
+        (TellsAnywhere (tells_by W.told p start) rounds.new)) }
     ensures shown { W.shown rounds.new ≡ W.shown rounds.old }
     ensures same { F.holds files.new ≡ F.holds files.old }
     ensures later { (other : List ℕ) → F.faults files.old other ≤ F.faults files.new other }

@@ -90,6 +90,8 @@ impl Way<Folded> for Alone {
 
     ghost stands = { λ folded p _ records. ArePassed p folded.groups records };
 
+    ghost told = { λ _ _ _ _ _. Unit {0} };
+
     ghost ready = { Unit {0} };
 
     fn take_on(

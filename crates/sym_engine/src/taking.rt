@@ -9,7 +9,8 @@ ghost use Rattle.sym_table.specs.RowRecords.{records_or_bad};
 ghost use Rattle.sym_table.specs.Rows.{FitsHeader};
 ghost use Rattle.sym_engine.specs.FileRecords.{row_records, shown_rows};
 ghost use Rattle.sym_engine.specs.Rounds.{IsLimit, stands_by};
-ghost use Rattle.sym_engine.specs.Taking.{OpensFile, TakesFile, TakesRows, rows_left};
+ghost use Rattle.sym_engine.specs.Taking.{OpensFile, TakesFile, TakesRows, full_round, rows_left};
+ghost use Rattle.sym_engine.specs.Watching.{Point, Start, TellsFile, TellsRows, tells_by};
 
 use crate::cutting::cut_round;
 use crate::error::PassErr;
@@ -42,8 +43,9 @@ fn open_file<'a>(
     requires first { first_no ≤ 2 ^ 62 }
     requires some { 1 ≤ chunk }
     requires most { chunk ≤ limit.CHUNK_MAX }
-    ensures { (shown : OneRow → OneRow) →
+    ensures opens { (shown : OneRow → OneRow) →
         OpensFile (checked_plan checked.now) shown file first_no (file_rows bytes.now) result }
+    ensures chunk { IfOk result (λ c. c.chunk ≡ chunk) }
 {
     match Cutter::open(alloc, checked, bytes, first_no, chunk) {
         Ok(cutter) => Ok(cutter),
@@ -73,6 +75,14 @@ fn take_rounds<R, W: Way<R>>(
         let read = records_or_bad p cutter.old.header first rows in
         let stood = stands_by W.stands p work.old.limit in
         IfOk result (TakesRows stood read first cutter.new.next_no rounds.old rounds.new) }
+    ensures tells { let p = checked_plan work.old.checked in
+        let shown = W.shown rounds.old in
+        let per = full_round cutter.old.chunk in
+        let first = cutter.old.next_no in
+        (start : Start) (before : List (List OneRecord)) →
+        W.told rounds.old p start Point.between before →
+        TellsRows (tells_by W.told p start) p cutter.old.header shown per first
+        (rows_left cutter.old) before rounds.new result }
     ensures shown { W.shown rounds.new ≡ W.shown rounds.old }
     ensures checked { checked_plan work.new.checked ≡ checked_plan work.old.checked }
     ensures same { work.new.limit ≡ work.old.limit }
@@ -112,6 +122,13 @@ pub(crate) fn take_file<R, W: Way<R>>(
         let read = row_records p file first rows in
         let stood = stands_by W.stands p work.old.limit in
         TakesFile stood read first course.new.next_no rounds.old rounds.new result }
+    ensures tells { let p = checked_plan work.old.checked in
+        let rows = shown_rows (W.shown rounds.old) (file_rows bytes.now) in
+        let per = full_round course.old.chunk in
+        (start : Start) (before : List (List OneRecord)) →
+        W.told rounds.old p start Point.between before →
+        TellsFile (tells_by W.told p start) p per file course.old.next_no rows before
+        rounds.new result }
     ensures shown { W.shown rounds.new ≡ W.shown rounds.old }
     ensures checked { checked_plan work.new.checked ≡ checked_plan work.old.checked }
     ensures same { work.new.limit ≡ work.old.limit }

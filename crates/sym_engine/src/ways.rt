@@ -1,5 +1,5 @@
 //! How rounds are taken: with the threads of a runtime, or on one thread.
-ghost use Rattle.std.specs.Prelude.{◌≡◌, ◌≤◌, ℕ, List, [], Some, IfOk, IsSome, length};
+ghost use Rattle.std.specs.Prelude.{◌≡◌, ◌≤◌, ◌<◌, ℕ, List, [], Some, IfOk, IsSome, length};
 ghost use Rattle.std.specs.List.{All};
 ghost use Rattle.std.specs.Thread.{IsSync};
 ghost use Rattle.sym_base.specs.declared.limits.TheConstants as limit;
@@ -10,7 +10,8 @@ ghost use Rattle.sym_check.specs.Plan.ScriptPlans.{ScriptPlan};
 ghost use Rattle.sym_table.specs.Reading.{Row as OneRow};
 ghost use Rattle.sym_table.specs.Rows.{FitsChunk, FitsHeader};
 ghost use Rattle.sym_engine.specs.Rounds.{IsLimit, IsRound, Takes, round_records, stands_by};
-ghost use Rattle.sym_engine.specs.Taking.{AreCut, CutsRound, IfTaken};
+ghost use Rattle.sym_engine.specs.Taking.{AreCut, CutsRound, IfTaken, full_round, rows_of};
+ghost use Rattle.sym_engine.specs.Watching.{Point, Start, TellsRound, tells_by};
 
 use crate::cutting::{next_round, replace_chunks, then_cut};
 use crate::rounds::{Rounds, Took, Work};
@@ -27,6 +28,9 @@ pub(crate) trait Way<R> {
 
     // Whether a value stands for these records, by a script and a path limit.
     ghost stands: { R → ScriptPlan → ℕ → List OneRecord → Type 0 };
+
+    // What observers were told of these rounds since a pass began, by where it stands.
+    ghost told: { R → ScriptPlan → Start → Point → List (List OneRecord) → Type 0 };
 
     // What a caller knows of the way's own types.
     ghost ready: { Type 0 };
@@ -52,6 +56,11 @@ pub(crate) trait Way<R> {
             let read = round_records p (shown rounds.old) work.old.chunks in
             let stood = stands_by stands p work.old.limit in
             IfOk result (Takes stood read rounds.old rounds.new) }
+        ensures tells { let p = checked_plan work.old.checked in
+            let read = round_records p (shown rounds.old) work.old.chunks in
+            (start : Start) (before : List (List OneRecord)) →
+            told rounds.old p start Point.between before →
+            TellsRound (tells_by told p start) read before rounds.new result }
         ensures next { IfOk result (λ took.
             IfTaken took (CutsRound cutter.old cutter.new work.new.chunks)) }
         ensures checked { checked_plan work.new.checked ≡ checked_plan work.old.checked }
@@ -97,6 +106,11 @@ fn take_beside<T: Threads + Wait + Sync, R: Rounds>(
     ensures fit { (fields : List OneField) → FitsHeader fields cutter.old.header →
         IfOk result.next (λ chunks. All (FitsChunk fields) chunks) }
     ensures header { cutter.new.header ≡ cutter.old.header }
+    ensures chunk { cutter.new.chunk ≡ cutter.old.chunk }
+    ensures rows { IfOk result.next (λ chunks.
+        length (rows_of chunks) ≤ full_round cutter.old.chunk) }
+    ensures full { IfOk result.next (λ chunks.
+        length (rows_of chunks) < full_round cutter.old.chunk → cutter.new.left ≡ Some []) }
 {
     let (next, took) = join_mut(
         rt,
@@ -119,6 +133,8 @@ impl<'a, T: Threads + Wait + Sync, R: Rounds> Way<R> for Threaded<'a, T> {
     ghost shown = { R.shown };
 
     ghost stands = { R.stands };
+
+    ghost told = { λ _ _ _ _ _. Unit {0} };
 
     ghost ready = { IsSync T.row };
 

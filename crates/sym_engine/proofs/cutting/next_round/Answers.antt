@@ -2,6 +2,7 @@ use Rattle.std.proofs.Common.{◌∙◌, sym, ap, subst, arith, length, length-a
 use Rattle.sym_table.specs.declared.header.Header.{Header}
 use Rattle.sym_table.specs.Rows.{FitsHeader}
 use Rattle.sym_engine.proofs.Walks.{cut_push, fit_push}
+use Rattle.sym_engine.proofs.RowsFull.{rows_push, full_push}
 use Rattle.sym_engine.proofs.cutting.next_round.Goals as goal
 
 pub chunks-preserved : goal.chunks-preserved
@@ -19,4 +20,11 @@ chunks-preserved c =
           fit_push fields c.chunks.chunks all c.in_ok-chunk.field-0 c.in-Some.chunk c.in-Some.is pushed (is.fit fields fits)
           (c.in_ok-chunk.ensures.fits fields (subst P (sym is.header) fits));
       header = c.next_over.ensures.header ∙ is.header;
+      chunk = c.next_over.ensures.chunk ∙ is.chunk;
+      rows =
+          rows_push c.chunks.cutter c.next_over.new.self c.chunks._number c.args.cutter.now.chunk c.chunks.chunks all c.in_ok-chunk.field-0 c.in-Some.chunk c.in-Some.is pushed
+          is.chunk is.rows c.in_ok-chunk.ensures.cuts;
+      full =
+          full_push c.chunks.cutter c.next_over.new.self c.chunks._number c.args.cutter.now.chunk c.chunks.chunks all c.in_ok-chunk.field-0 c.in-Some.chunk c.in-Some.is pushed
+          is.chunk is.full c.in_ok-chunk.ensures.cuts;
     }

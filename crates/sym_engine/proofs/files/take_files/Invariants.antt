@@ -1,10 +1,14 @@
--- The files so far are taken; the numbers stay small, and the store is as it was.
-use Rattle.std.proofs.Common.{◌≡◌, ◌≤◌, ◌+◌, ◌*◌, ℕ, List, map}
+-- The files so far are taken and told of; the numbers stay small, and the store is as it was.
+use Rattle.std.proofs.Common.{◌≡◌, ◌≤◌, ◌+◌, ◌*◌, ℕ, List, [], map}
 use Rattle.std.specs.String.{string_bytes}
 use Rattle.sym_check.specs.Checking.CheckedScripts.{checked_plan}
 use Rattle.sym_engine.specs.FileRecords.{rules_of}
 use Rattle.sym_engine.specs.Rounds.{stands_by}
+use Rattle.sym_engine.specs.Partials.{watched_files}
+use Rattle.sym_engine.specs.Watching.{Start, tells_by}
+use Rattle.sym_engine.specs.Watching as point
 use Rattle.sym_engine.proofs.FileByFile.{IsPassing}
+use Rattle.sym_engine.proofs.ToldFiles.{IsToldFiles}
 use Rattle.sym_engine.proofs.files.take_files.Given as goal
 
 abbrev pub invariant-files : goal.invariant-files
@@ -13,6 +17,11 @@ invariant-files g l =
     record {
       passing : IsPassing (stands_by g.W.Way.stands p l.options.limit) p (rules_of l.options.max_bytes (g.W.Way.shown l.fn.rounds)) (g.F.Store.holds l.fn.files)
           (map string_bytes l.names) l.first l.file l.course.next_no l.fn.rounds l.rounds;
+      told :
+          (start : Start) → g.W.Way.told l.fn.rounds p start point.between []
+          → IsToldFiles (tells_by g.W.Way.told p start)
+          (watched_files p (rules_of l.options.max_bytes (g.W.Way.shown l.fn.rounds)) l.options.chunk (g.F.Store.holds l.fn.files) (map string_bytes l.names) l.first)
+          l.file l.course.next_no l.rounds;
       few : l.course.next_no ≤ l.first + l.file * 268435456;
       chunk : l.course.chunk ≡ l.options.chunk;
       checked : checked_plan l.work.checked ≡ p;

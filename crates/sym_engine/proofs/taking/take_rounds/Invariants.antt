@@ -1,9 +1,13 @@
--- The rounds so far are taken, and the next one is cut off; the script, the path limit and what is
+-- The rounds so far are taken and told of, and the next one is cut off; the script, the path limit and what is
 -- shown are as they were.
-use Rattle.std.proofs.Common.{◌≡◌, ◌+◌, length}
+use Rattle.std.proofs.Common.{◌≡◌, ◌+◌, List, length}
+use Rattle.sym_base.specs.declared.values.record.Record.{Record}
 use Rattle.sym_check.specs.Checking.CheckedScripts.{checked_plan}
 use Rattle.sym_engine.specs.Rounds.{stands_by}
-use Rattle.sym_engine.specs.Taking.{rows_left, rows_of}
+use Rattle.sym_engine.specs.Taking.{full_round, rows_left, rows_of}
+use Rattle.sym_engine.specs.Watching.{Start, tells_by}
+use Rattle.sym_engine.specs.Watching as point
+use Rattle.sym_engine.proofs.ToldRows.{IsToldAhead}
 use Rattle.sym_engine.proofs.Walks.{IsAhead}
 use Rattle.sym_engine.proofs.taking.take_rounds.Given as goal
 
@@ -16,6 +20,10 @@ invariant-rounds g l =
       limit : l.work.limit ≡ l.fn.work.limit;
       shown : g.W.Way.shown l.rounds ≡ g.W.Way.shown l.fn.rounds;
       ahead : IsAhead (stands_by g.W.Way.stands p l.fn.work.limit) p old.header (g.W.Way.shown l.fn.rounds) old.next_no (rows_left old) l.fn.rounds l.rounds l.cutter l.work.chunks;
+      told :
+          (start : Start) (before : List (List Record))
+          → g.W.Way.told l.fn.rounds p start point.between before
+          → IsToldAhead (tells_by g.W.Way.told p start) p old.header (g.W.Way.shown l.fn.rounds) (full_round old.chunk) old.next_no (rows_left old) before l.rounds l.cutter l.work.chunks;
     }
 
 abbrev pub decreases-rounds : goal.decreases-rounds

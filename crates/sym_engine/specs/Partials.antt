@@ -1,0 +1,182 @@
+-- What a watched pass tells its observers: a partial at the border of each round.
+use Rattle.std.specs.Prelude.{◌≡◌, ◌≤◌, ◌<◌, ℕ, ◌+◌, List, [], ◌∷◌, ◌++◌, length, map, take, slice_get, Some, ◌⊎◌}
+use Rattle.std.specs.List.{All, AllZip, flat_map}
+use mathlib.Core.List.{IsPrefix}
+use Rattle.sym_base.specs.Trees.{ScriptTree}
+use Rattle.sym_base.specs.declared.values.record.Record.{Record}
+use Rattle.sym_check.specs.Meaning.Groups.{pass}
+use Rattle.sym_check.specs.Plan.ScriptPlans.{ScriptPlan}
+use Rattle.sym_table.specs.declared.header.Header.{Header}
+use Rattle.sym_table.specs.Reading.{Row}
+use Rattle.sym_table.specs.RowRecords.{HaveRecords}
+use Rattle.sym_report.specs.ReportRows.{row_of}
+use Rattle.sym_watch.specs.declared.partial.Partial.{Partial}
+use Rattle.sym_watch.specs.Logs.{Log, grown}
+use Rattle.sym_engine.specs.declared.error.PassErr.{PassErr}
+use Rattle.sym_engine.specs.declared.error.PassErr.TheVariants as pass_err
+use Rattle.sym_engine.specs.FileRecords.{FileRules, IsFine, IsHeader, rows_by}
+use Rattle.sym_engine.specs.Passing.{Holds, May, MayAll}
+use Rattle.sym_engine.specs.Taking.{full_round}
+
+-- The partial after the first records of a pass, which are numbered from 1: the number of the last
+-- of them, and the report rows of the groups of one sequential pass over them.
+abbrev pub partial_after : ScriptTree → ScriptPlan → List Record → Partial
+partial_after tree p records =
+    record { upto = length records; rows = map (row_of tree p) (pass p records) }
+
+-- The partials at the borders of rounds, in order, that follow some records.
+abbrev pub partials_after : ScriptTree → ScriptPlan → List Record → List (List Record)
+    → List Partial
+partials_after tree p before [] = []
+partials_after tree p before (round ∷ rounds) =
+    partial_after tree p (before ++ round) ∷ partials_after tree p (before ++ round) rounds
+
+-- The partials at the borders of the first rounds of a pass.
+abbrev pub partials_of : ScriptTree → ScriptPlan → List (List Record) → List Partial
+partials_of tree p rounds = partials_after tree p [] rounds
+
+-- The records of rounds, in order.
+abbrev pub rounds_records : List (List Record) → List Record
+rounds_records rounds = flat_map (λ (round : List Record). round) rounds
+
+-- Rounds that have `per` records each.
+abbrev pub AreFull : ℕ → List (List Record) → Type 0
+AreFull per rounds = All (λ (round : List Record). length round ≡ per) rounds
+
+-- The rounds of a file: each has `per` records, but the last one may have fewer; none is empty.
+pub data AreRounds (per : ℕ) : List (List Record) → Type 0 where
+  no_round : AreRounds per []
+  last_one : (round : List Record) → 1 ≤ length round → length round ≤ per
+      → AreRounds per (round ∷ [])
+  one_more : (round : List Record) (rounds : List (List Record)) → length round ≡ per
+      → AreRounds per rounds → AreRounds per (round ∷ rounds)
+
+-- Files without a problem and the rounds of all of them, whose records' numbers run on from
+-- `first`. No round has records of two files.
+pub data AreFilesRounds (p : ScriptPlan) (rules : FileRules) (per : ℕ)
+    : ℕ → List (List ℕ) → List (List Record) → Type 0 where
+  no_file : (first : ℕ) → AreFilesRounds p rules per first [] []
+  one_more : (first : ℕ) (bytes : List ℕ) (files : List (List ℕ))
+      (rounds others : List (List Record))
+      → IsFine p rules first bytes (rounds_records rounds)
+      → AreRounds per rounds
+      → AreFilesRounds p rules per (first + length (rounds_records rounds)) files others
+      → AreFilesRounds p rules per first (bytes ∷ files) (rounds ++ others)
+
+-- The first of these rows is a header, and the next ones are these records, numbered from `first`
+-- on.
+pub record FileBegins (p : ScriptPlan) (first : ℕ) (rows : List Row) (records : List Record)
+    : Type 0 where
+  pub row : Row
+  pub header : Header
+  pub taken : List Row
+  pub rest : List Row
+  pub reads : rows ≡ row ∷ (taken ++ rest)
+  pub is_header : IsHeader p row header
+  pub have : HaveRecords p header first taken records
+
+-- A full round, whose first record has the number `first`, would hold the one with this number.
+pub record IsWithin (first per number : ℕ) : Type 0 where
+  pub low : first ≤ number
+  pub high : number < first + per
+
+-- Named files of which a pass may tell partials: the script's plan, how files are read, how many
+-- records a full round has, what the files hold, and the number of the first record.
+pub record WatchedFiles : Type 0 where
+  pub plan : ScriptPlan
+  pub rules : FileRules
+  pub per : ℕ
+  pub holds : Holds
+  pub names : List (List ℕ)
+  pub first : ℕ
+
+abbrev pub watched_files : ScriptPlan → FileRules → ℕ → Holds → List (List ℕ) → ℕ → WatchedFiles
+watched_files p rules chunk holds names first = record {
+  plan = p;
+  rules = rules;
+  per = full_round chunk;
+  holds = holds;
+  names = names;
+  first = first;
+}
+
+-- These are all rounds of the first `file` files, which have no problem.
+pub record DoneFiles (w : WatchedFiles) (file : ℕ) (rounds : List (List Record)) : Type 0 where
+  pub files : List (List ℕ)
+  pub may : MayAll w.holds (take file w.names) files
+  pub are : AreFilesRounds w.plan w.rules w.per w.first files rounds
+
+-- These are the first rounds of the file with the number `file`, whose first record has the number
+-- `first`.
+pub record FirstRounds (w : WatchedFiles) (file first : ℕ) (rounds : List (List Record))
+    : Type 0 where
+  pub name : List ℕ
+  pub named : slice_get w.names file ≡ Some name
+  pub bytes : List ℕ
+  pub may : May (w.holds name) bytes
+  pub begins : FileBegins w.plan first (rows_by w.rules bytes) (rounds_records rounds)
+
+-- All rounds of the first `file` files are so.
+pub record OfFiles (w : WatchedFiles) (file : ℕ) (So : List (List Record) → Type 0) : Type 0 where
+  pub rounds : List (List Record)
+  pub done : DoneFiles w file rounds
+  pub so : So rounds
+
+-- All rounds of the files before this one, and then those of this file before the one that holds the
+-- record with this number, are so.
+pub record OfBefore (w : WatchedFiles) (file number : ℕ) (So : List (List Record) → Type 0)
+    : Type 0 where
+  pub rounds : List (List Record)
+  pub done : DoneFiles w file rounds
+  pub others : List (List Record)
+  pub full : AreFull w.per others
+  pub begins : FirstRounds w file (w.first + length (rounds_records rounds)) others
+  pub within : IsWithin (w.first + length (rounds_records (rounds ++ others))) w.per number
+  pub so : So (rounds ++ others)
+
+-- Some rounds that were done, all of the files before one and then the first of that file, are so.
+pub record OfSome (w : WatchedFiles) (So : List (List Record) → Type 0) : Type 0 where
+  pub file : ℕ
+  pub rounds : List (List Record)
+  pub done : DoneFiles w file rounds
+  pub others : List (List Record)
+  pub are : AreRounds w.per others
+  pub begins :
+      (others ≡ []) ⊎ FirstRounds w file (w.first + length (rounds_records rounds)) others
+  pub so : So (rounds ++ others)
+
+-- The rounds that were done where files weren't taken, by why they weren't: those of all files
+-- before, and of a file with a row that is no record those before that row. Where an allocation
+-- failed, they are some rounds.
+abbrev pub UntilStop : (w : WatchedFiles) → (AtFile AtBad AtRefusal : List (List Record) → Type 0)
+    → PassErr → Type 0
+UntilStop w AtFile AtBad AtRefusal (pass_err.Read file) = OfFiles w file AtFile
+UntilStop w AtFile AtBad AtRefusal (pass_err.TooLarge file) = OfFiles w file AtFile
+UntilStop w AtFile AtBad AtRefusal (pass_err.Head file fault) = OfFiles w file AtFile
+UntilStop w AtFile AtBad AtRefusal (pass_err.Bad file bad) = OfBefore w file bad.no AtBad
+UntilStop w AtFile AtBad AtRefusal pass_err.NoMemory = OfSome w AtRefusal
+
+-- Each log grew by all of these partials.
+abbrev pub AllGrew : List Log → List Log → List Partial → Type 0
+AllGrew olds news partials = news ≡ map (grown partials) olds
+
+-- The log grew by a prefix of these partials.
+abbrev pub GrewPart : List Partial → Log → Log → Type 0
+GrewPart partials old new =
+    (part : List Partial) × IsPrefix part partials × (new ≡ grown part old)
+
+-- Each log grew by a prefix of these partials.
+abbrev pub AllGrewPart : List Log → List Log → List Partial → Type 0
+AllGrewPart olds news partials = AllZip (GrewPart partials) olds news
+
+-- Where all files were taken, observers were told of the partials of all rounds.
+abbrev pub ToldAll : ScriptTree → WatchedFiles → List Log → List Log → Type 0
+ToldAll tree w olds news =
+    OfFiles w (length w.names) (λ rounds. AllGrew olds news (partials_of tree w.plan rounds))
+
+-- Else of those of the rounds that were done; where an allocation failed, of a prefix of them.
+abbrev pub ToldUntil : ScriptTree → WatchedFiles → List Log → List Log → PassErr → Type 0
+ToldUntil tree w olds news why =
+    UntilStop w (λ rounds. AllGrew olds news (partials_of tree w.plan rounds))
+    (λ rounds. AllGrew olds news (partials_of tree w.plan rounds))
+    (λ rounds. AllGrewPart olds news (partials_of tree w.plan rounds)) why

@@ -1,0 +1,194 @@
+-- What the parts of a watched pass come to.
+use Rattle.std.specs.Prelude.{◌≡◌, ◌≤◌, ℕ, ◌+◌, List, [], ◌∷◌, ◌++◌, length, map, Option, ◌⊎◌, Result, Ok, Err}
+use Rattle.std.specs.Option.{ForSome}
+use Rattle.sym_base.specs.Trees.{ScriptTree}
+use Rattle.sym_base.specs.declared.values.memory.NoMemory.{NoMemory}
+use Rattle.sym_base.specs.declared.values.record.Record.{Record}
+use Rattle.sym_base.specs.declared.values.value.Key.{Key}
+use Rattle.sym_base.specs.declared.values.state.Outcome.{Outcome}
+use Rattle.sym_check.specs.Plan.ScriptPlans.{ScriptPlan}
+use Rattle.sym_plain.specs.Shown.{last}
+use Rattle.sym_report.specs.Appending.{listed}
+use Rattle.sym_table.specs.declared.bad.Bad.{Bad}
+use Rattle.sym_table.specs.declared.header.Header.{Header}
+use Rattle.sym_table.specs.Reading.{Row}
+use Rattle.sym_table.specs.RowRecords.{records_or_bad}
+use Rattle.sym_watch.specs.declared.partial.Partial.{Partial}
+use Rattle.sym_watch.specs.Logs.{Log}
+use Rattle.sym_engine.specs.declared.error.PassErr.{PassErr}
+use Rattle.sym_engine.specs.declared.error.PassErr.TheVariants as pass_err
+use Rattle.sym_engine.specs.declared.rounds.Took.{Took}
+use Rattle.sym_engine.specs.declared.rounds.Took.TheVariants as took
+use Rattle.sym_engine.specs.FileRecords.{row_records}
+use Rattle.sym_engine.specs.Rounds.{AreWorkers}
+use Rattle.sym_engine.specs.Taking.{AreLedBy, ArePassed}
+use Rattle.sym_engine.specs.Partials.{AllGrew, AllGrewPart, AreFull, AreRounds, FileBegins, IsWithin, partials_of, rounds_records}
+
+-- Where a pass stands: between two rounds, at a row that is no record, or where an allocation
+-- failed.
+pub data Point : Type 0 where
+  between : Point
+  at_bad : Point
+  at_refusal : Point
+
+-- What was told of rounds, by where a pass stands.
+abbrev pub Tells : Type 0 → Type 1
+Tells S = S → Point → List (List Record) → Type 0
+
+-- How a watched pass began: the syntax tree of its script, and the observers' logs.
+pub record Start : Type 0 where
+  pub tree : ScriptTree
+  pub logs : List Log
+
+abbrev pub start_of : ScriptTree → List Log → Start
+start_of tree logs = record { tree = tree; logs = logs }
+
+-- What was told of rounds by a script, since a pass began so.
+abbrev pub tells_by : {S : Type 0}
+    → (S → ScriptPlan → Start → Point → List (List Record) → Type 0) → ScriptPlan → Start
+    → Tells S
+tells_by told p start x point rounds = told x p start point rounds
+
+-- What a round comes to, by what its rows are read as, after other rounds. Where an allocation
+-- failed, its records may be taken or not.
+abbrev pub TellsRound : {S : Type 0} → Tells S → Result (List Record) Bad → List (List Record) → S
+    → Result Took NoMemory → Type 0
+TellsRound told read rounds new (Ok took.Done) =
+    (records : List Record) × (read ≡ Ok records) × told new between (rounds ++ records ∷ [])
+TellsRound told read rounds new (Ok (took.Bad bad)) = (read ≡ Err bad) × told new at_bad rounds
+TellsRound told read rounds new (Err e) =
+    told new at_refusal rounds
+    ⊎ ((records : List Record) × (read ≡ Ok records) × told new between (rounds ++ records ∷ []))
+
+-- The first of some rows are the records of rounds.
+pub record BeginWith (p : ScriptPlan) (header : Header) (shown : Row → Row) (first : ℕ)
+    (rows : List Row) (rounds : List (List Record)) : Type 0 where
+  pub taken : List Row
+  pub rest : List Row
+  pub are : rows ≡ taken ++ rest
+  pub read : records_or_bad p header first (map shown taken) ≡ Ok (rounds_records rounds)
+
+-- The rows of a file are rounds, which are told of.
+pub record TellsAllRows {S : Type 0} (told : Tells S) (per : ℕ)
+    (read : Result (List Record) Bad) (before : List (List Record)) (new : S) : Type 0 where
+  pub rounds : List (List Record)
+  pub are : AreRounds per rounds
+  pub read_as : read ≡ Ok (rounds_records rounds)
+  pub told_of : told new between (before ++ rounds)
+
+-- A row of a file is no record, and the rounds before it are told of.
+pub record TellsBefore {S : Type 0} (told : Tells S) (per first : ℕ)
+    (Begins : List (List Record) → Type 0) (number : ℕ) (before : List (List Record)) (new : S)
+    : Type 0 where
+  pub rounds : List (List Record)
+  pub full : AreFull per rounds
+  pub begins : Begins rounds
+  pub within : IsWithin (first + length (rounds_records rounds)) per number
+  pub told_of : told new at_bad (before ++ rounds)
+
+-- An allocation failed, and so some rounds of a file are told of.
+pub record TellsSome {S : Type 0} (told : Tells S) (per : ℕ)
+    (Begins : List (List Record) → Type 0) (before : List (List Record)) (new : S) : Type 0 where
+  pub rounds : List (List Record)
+  pub are : AreRounds per rounds
+  pub begins : Begins rounds
+  pub point : Point
+  pub told_of : told new point (before ++ rounds)
+
+-- What the rows of a file come to, after other rounds.
+abbrev pub TellsRows : {S : Type 0} → Tells S → ScriptPlan → Header → (Row → Row) → ℕ → ℕ
+    → List Row → List (List Record) → S → Result Took NoMemory → Type 0
+TellsRows told p header shown per first rows before new (Ok took.Done) =
+    TellsAllRows told per (records_or_bad p header first (map shown rows)) before new
+TellsRows told p header shown per first rows before new (Ok (took.Bad bad)) =
+    TellsBefore told per first (BeginWith p header shown first rows) bad.no before new
+TellsRows told p header shown per first rows before new (Err e) =
+    TellsSome told per (BeginWith p header shown first rows) before new
+
+-- The file's rows are rounds, which are told of.
+pub record TellsAllFile {S : Type 0} (told : Tells S) (per : ℕ)
+    (read : Result (List Record) PassErr) (before : List (List Record)) (new : S) : Type 0 where
+  pub rounds : List (List Record)
+  pub are : AreRounds per rounds
+  pub read_as : read ≡ Ok (rounds_records rounds)
+  pub told_of : told new between (before ++ rounds)
+
+-- The rows of a file begin with rounds, or there is none.
+abbrev pub MayBegin : ScriptPlan → ℕ → List Row → List (List Record) → Type 0
+MayBegin p first rows rounds = (rounds ≡ []) ⊎ FileBegins p first rows (rounds_records rounds)
+
+-- What a file with these rows comes to, after other rounds.
+abbrev pub TellsFile : {S A : Type 0} → Tells S → ScriptPlan → ℕ → ℕ → ℕ → List Row
+    → List (List Record) → S → Result A PassErr → Type 0
+TellsFile told p per file first rows before new (Ok x) =
+    TellsAllFile told per (row_records p file first rows) before new
+TellsFile told p per file first rows before new (Err (pass_err.Read n)) = ⊥
+TellsFile told p per file first rows before new (Err (pass_err.TooLarge n)) = ⊥
+TellsFile told p per file first rows before new (Err (pass_err.Head n fault)) =
+    (n ≡ file) × told new between before
+TellsFile told p per file first rows before new (Err (pass_err.Bad n bad)) =
+    (n ≡ file)
+    × TellsBefore told per first (λ rounds. FileBegins p first rows (rounds_records rounds)) bad.no
+    before new
+TellsFile told p per file first rows before new (Err pass_err.NoMemory) =
+    TellsSome told per (MayBegin p first rows) before new
+
+-- Some rounds are told of, wherever the pass stands.
+abbrev pub TellsAnywhere : {S : Type 0} → Tells S → S → List (List Record) → Type 0
+TellsAnywhere told new rounds = (point : Point) × told new point rounds
+
+-- ---- what observers were told
+-- The syntax tree of the script, the groups, the border of the last round, what was published, the
+-- partial that isn't told yet, and the observers' logs.
+pub record Watching : Type 0 where
+  pub tree : ScriptTree
+  pub groups : List (Key × Outcome)
+  pub border : ℕ
+  pub list : List Partial
+  pub untold : Option Partial
+  pub logs : List Log
+
+abbrev pub watching : ScriptTree → List (Key × Outcome) → ℕ → List Partial → Option Partial
+    → List Log → Watching
+watching tree groups border list untold logs = record {
+  tree = tree;
+  groups = groups;
+  border = border;
+  list = list;
+  untold = untold;
+  logs = logs;
+}
+
+-- Observers who had the old logs were told of these partials but what isn't told yet.
+abbrev pub AreTold : List Log → Watching → List Partial → Type 0
+AreTold olds now partials =
+    (told : List Partial) × (partials ≡ told ++ listed now.untold) × AllGrew olds now.logs told
+
+-- The partials of these rounds were published, and the groups are those after them.
+pub record ArePublished (p : ScriptPlan) (start : Start) (now : Watching)
+    (rounds : List (List Record)) : Type 0 where
+  pub script : now.tree ≡ start.tree
+  pub passed : ArePassed p now.groups (rounds_records rounds)
+  pub border : now.border ≡ length (rounds_records rounds)
+  pub list : now.list ≡ partials_of start.tree p rounds
+
+-- What observers were told of rounds, by where a pass stands.
+abbrev pub ToldAt : ScriptPlan → Start → Tells Watching
+ToldAt p start now between rounds =
+    ArePublished p start now rounds × AreTold start.logs now (partials_of start.tree p rounds)
+ToldAt p start now at_bad rounds = AreTold start.logs now (partials_of start.tree p rounds)
+ToldAt p start now at_refusal rounds =
+    AllGrewPart start.logs now.logs (partials_of start.tree p rounds)
+
+-- No border that was published is over this one.
+abbrev pub IsAbove : List Partial → ℕ → Type 0
+IsAbove list border = ForSome (last list) (λ q. q.upto ≤ border)
+
+-- A watched pass over these records: the groups of one sequential pass over them, by a script with
+-- this plan and workers in their range; and no border that was published is over the last one.
+pub record IsWatched (p plan : ScriptPlan) (groups : List (Key × Outcome)) (workers border : ℕ)
+    (list : List Partial) (records : List Record) : Type 0 where
+  pub passed : AreLedBy p groups records
+  pub in_range : AreWorkers workers
+  pub script : plan ≡ p
+  pub above : IsAbove list border

@@ -1,0 +1,308 @@
+//! Passes that are watched: what observers were told of.
+ghost use Rattle.std.specs.Prelude.{◌≤◌};
+ghost use Rattle.sym_engine.specs.Options.{InRange};
+
+use std::alloc::{AllocError, Global};
+use std::sync::atomic::{AtomicU64, Ordering};
+use std::sync::{Arc, Wait};
+use std::test::Fail;
+use std::thread::Threads;
+use sym_base::{Column, FILE_MAX_DEFAULT, MemStore, NoMemory};
+use sym_check::{Checked, check};
+use sym_engine::{Free, LIMIT_DEFAULT, OpenGate, Options, PassErr, pass_watched};
+use sym_parse::parse;
+use sym_report::{Row, RowBody};
+use sym_watch::{Observer, Partial};
+
+// A count of all records.
+const COUNTER: &str = "field user: word; group user; state n: int [0..1000000] = 0; \
+    update { n = n + 1; } report { n = n; }";
+
+// Notes the borders that it is told of, with three digits each, and refuses those from one on.
+#[derive(Drop)]
+struct Noter {
+    told: Arc<AtomicU64>,
+    last: Option<u64>,
+    refused: u64,
+}
+
+// Whether it is the one row of a group of so many records.
+fn is_count(rows: &[Row], count: u64) -> bool {
+    match rows {
+        [row] => match &row.body {
+            RowBody::Columns(columns) => columns.as_slice()
+                == [Column::Num(i128::from(count))].as_slice(),
+            RowBody::Over { .. } | RowBody::Arith { .. } => false,
+        },
+        _ => false,
+    }
+}
+
+impl Observer for Noter {
+    ghost use Rattle.std.specs.Prelude.{None};
+
+    ghost log = { λ _. None };
+
+    ghost last = { λ o. o.last };
+
+    fn tell(&mut self, _alloc: Global, partial: &Partial) -> Result<(), NoMemory> {
+        if partial.upto >= self.refused {
+            return Err(NoMemory);
+        }
+        let shown = if is_count(partial.rows.as_slice(), partial.upto) {
+            partial.upto
+        } else {
+            0
+        };
+        let before = self.told.load(Ordering::SeqCst);
+        let after = before.wrapping_mul(1_000).wrapping_add(shown);
+        self.told.store(after, Ordering::SeqCst);
+        self.last = Some(partial.upto);
+        Ok(())
+    }
+
+    fn last(&self) -> Option<u64> {
+        self.last
+    }
+}
+
+// A pass over two files: how many records each has, which of the second one is none, if one is,
+// and from which border on its first observer refuses.
+#[derive(Clone, Copy, Debug, PartialEq, Eq)]
+struct Course {
+    first: usize,
+    second: usize,
+    bad: Option<usize>,
+    refused: u64,
+}
+
+// What a course came to: the borders that each of two observers was told of, and the last ones.
+#[derive(Clone, Copy, Debug, PartialEq, Eq)]
+struct Came {
+    told: (u64, u64),
+    last: (Option<u64>, Option<u64>),
+    answer: Result<usize, Stopped>,
+}
+
+// Why a pass gave no groups.
+#[derive(Clone, Copy, Debug, PartialEq, Eq)]
+enum Stopped {
+    Bad(u64),
+    NoMemory,
+    Other,
+}
+
+// The script of a text; `None` if the text is refused.
+fn accepted(alloc: Global, text: &str) -> Option<Checked> {
+    if text.len() >= 10_000 {
+        return None;
+    }
+    match parse(alloc, text.as_bytes()) {
+        Ok(script) => check(alloc, script).ok(),
+        Err(_) => None,
+    }
+}
+
+// A file of so many records of one user, one of which has two fields.
+fn log_of(alloc: Global, records: usize, bad: Option<usize>) -> Result<String, AllocError> {
+    let mut log = String::from_str(alloc, "user\n")?;
+    'records: for record in 0..records {
+        let row = if bad == Some(record) { "a,b\n" } else { "a\n" };
+        log.push_str(row)?;
+    }
+    Ok(log)
+}
+
+fn store_of(alloc: Global, course: &Course) -> Result<MemStore, NoMemory> {
+    let mut store = MemStore::new(alloc);
+    store.add(
+        alloc,
+        "first",
+        log_of(alloc, course.first, None)?.as_bytes(),
+    )?;
+    store.add(
+        alloc,
+        "second",
+        log_of(alloc, course.second, course.bad)?.as_bytes(),
+    )?;
+    Ok(store)
+}
+
+fn names_of(alloc: Global) -> Result<Vec<String>, NoMemory> {
+    let mut names = Vec::new(alloc);
+    names.push(String::from_str(alloc, "first")?)?;
+    names.push(String::from_str(alloc, "second")?)?;
+    Ok(names)
+}
+
+fn stopped(why: PassErr) -> Stopped {
+    match why {
+        PassErr::Bad { bad, .. } => Stopped::Bad(bad.no),
+        PassErr::NoMemory => Stopped::NoMemory,
+        PassErr::Read { .. } | PassErr::TooLarge { .. } | PassErr::Head { .. } => Stopped::Other,
+    }
+}
+
+// An observer that notes into this number.
+fn noter(told: &Arc<AtomicU64>, refused: u64) -> Result<Noter, AllocError> {
+    Ok(Noter {
+        told: Arc::clone(told)?,
+        last: None,
+        refused,
+    })
+}
+
+// Watches the pass of a course, where there are 1 to 64 workers and few names.
+fn watched<T: Threads + Wait + Sync>(
+    rt: &T,
+    alloc: Global,
+    course: &Course,
+    workers: u32,
+) -> Result<Came, NoMemory> {
+    let checked = accepted(alloc, COUNTER).ok_or(NoMemory)?;
+    let mut files = store_of(alloc, course)?;
+    let names = names_of(alloc)?;
+    let first = Arc::new(alloc, AtomicU64::new(0))?;
+    let second = Arc::new(alloc, AtomicU64::new(0))?;
+    let mut observers: Vec<Box<dyn Observer + Send>> = Vec::new(alloc);
+    observers.push(Box::new(alloc, noter(&first, 1_000_000)?)?)?;
+    observers.push(Box::new(alloc, noter(&second, course.refused)?)?)?;
+    let options = Options {
+        chunk: 1,
+        limit: LIMIT_DEFAULT,
+        workers,
+        max_bytes: FILE_MAX_DEFAULT,
+    };
+    if workers < 1 || workers > 64 || names.len() > 3 {
+        return Err(NoMemory);
+    }
+    let gate = OpenGate { hold: Free };
+    let names = names.as_slice();
+    let answer = pass_watched(
+        rt,
+        alloc,
+        &checked,
+        &mut files,
+        names,
+        &options,
+        &mut observers,
+        &gate,
+    );
+    let last = match observers.as_slice() {
+        [one, other] => (one.last(), other.last()),
+        _ => (None, None),
+    };
+    Ok(Came {
+        told: (first.load(Ordering::SeqCst), second.load(Ordering::SeqCst)),
+        last,
+        answer: match answer {
+            Ok(groups) => Ok(groups.len()),
+            Err(why) => Err(stopped(why)),
+        },
+    })
+}
+
+// Courses with what they come to, at whatever number of workers.
+const COURSES: [(Course, Came); 6] = [
+    (
+        Course {
+            first: 130,
+            second: 0,
+            bad: None,
+            refused: 1_000_000,
+        },
+        Came {
+            told: (64_128_130, 64_128_130),
+            last: (Some(130), Some(130)),
+            answer: Ok(1),
+        },
+    ),
+    (
+        Course {
+            first: 70,
+            second: 70,
+            bad: None,
+            refused: 1_000_000,
+        },
+        Came {
+            told: (64_070_134_140, 64_070_134_140),
+            last: (Some(140), Some(140)),
+            answer: Ok(1),
+        },
+    ),
+    (
+        Course {
+            first: 0,
+            second: 130,
+            bad: Some(99),
+            refused: 1_000_000,
+        },
+        Came {
+            told: (64, 64),
+            last: (Some(64), Some(64)),
+            answer: Err(Stopped::Bad(100)),
+        },
+    ),
+    (
+        Course {
+            first: 130,
+            second: 100,
+            bad: Some(70),
+            refused: 1_000_000,
+        },
+        Came {
+            told: (64_128_130_194, 64_128_130_194),
+            last: (Some(194), Some(194)),
+            answer: Err(Stopped::Bad(201)),
+        },
+    ),
+    (
+        Course {
+            first: 130,
+            second: 0,
+            bad: None,
+            refused: 128,
+        },
+        Came {
+            told: (64_128, 64),
+            last: (Some(128), Some(64)),
+            answer: Err(Stopped::NoMemory),
+        },
+    ),
+    (
+        Course {
+            first: 130,
+            second: 0,
+            bad: None,
+            refused: 130,
+        },
+        Came {
+            told: (64_128_130, 64_128),
+            last: (Some(130), Some(128)),
+            answer: Err(Stopped::NoMemory),
+        },
+    ),
+];
+
+// The first of the courses that came to something else, and what it came to.
+fn first_wrong<T: Threads + Wait + Sync>(
+    rt: &T,
+    alloc: Global,
+    workers: u32,
+) -> Result<Option<(Course, Came)>, NoMemory> {
+    'courses: for (course, came) in &COURSES {
+        let found = watched(rt, alloc, course, workers)?;
+        if found != *came {
+            return Ok(Some((*course, found)));
+        }
+    }
+    Ok(None)
+}
+
+#[test]
+fn observers_are_told_of_each_round_that_is_done(rt: HostRuntime) -> Result<(), Fail> {
+    let alloc = rt.alloc();
+    assert_eq!(rt; first_wrong(&rt, alloc, 1)?, None);
+    assert_eq!(rt; first_wrong(&rt, alloc, 4)?, None);
+    Ok(())
+}
