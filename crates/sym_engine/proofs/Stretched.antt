@@ -1,5 +1,5 @@
 -- The stretches of a round, and what their runs stand for.
-use Rattle.std.proofs.Common.{◌≡◌, ◌∙◌, ℕ, ◌+◌, ◌*◌, ◌≤◌, List, None, length, sym, subst, arith}
+use Rattle.std.proofs.Common.{◌≡◌, ◌∙◌, ℕ, ◌+◌, ◌*◌, ◌≤◌, ◌<◌, List, None, length, min, sym, subst, arith}
 use Rattle.std.specs.Int.{div_ceil}
 use Rattle.std.proofs.lemmas.Grind.{div_ceil_times}
 use Rattle.std.proofs.Math.Nat.{mul-le-mul_right}
@@ -24,6 +24,20 @@ stretched chunks each count some is =
           omega (arith, bounds.1, most);
       all = bounds.0;
     })
+
+-- The run of a stretch's chunks, where the work is an equal one.
+pub of_stretch : (work lent : Work) (each size len count number end : ℕ) (run : Run) → work ≡ lent → each ≡ size → len ≡ length work.chunks → AreStretches (length lent.chunks) size count → number < count
+    → end ≡ min len (number * each + each) → StandsFrom work (number * each) end run → StandsBetween lent size number (number + 1) run
+of_stretch work lent each size len count number end run same sized long are near ends h =
+    let filled = are.filled number near in
+    let n : len ≡ length lent.chunks = subst (λ (w : Work). len ≡ length w.chunks) same long in
+    let until : end ≡ min (length lent.chunks) (number * size + size) =
+    subst (λ (e : ℕ). end ≡ min (length lent.chunks) (number * e + e)) sized (subst (λ (k : ℕ). end ≡ min k (number * each + each)) n ends) in
+    let own : StandsFrom lent (number * size) end run =
+    subst (λ (w : Work). StandsFrom w (number * size) end run) same (subst (λ (e : ℕ). StandsFrom work (number * e) end run) sized h) in
+    let from : number * size ≡ start_of (length lent.chunks) size number = omega (arith, filled) in
+    let to : end ≡ start_of (length lent.chunks) size (number + 1) = omega (arith, filled, until) in
+    record { ends = record { from = own.ends.from ∙ from; to = own.ends.to ∙ to }; stands = own.stands }
 
 -- The run of all stretches.
 pub of_all : (work : Work) (each count : ℕ) (run : Run) → AreStretches (length work.chunks) each count → StandsBetween work each 0 count run → StandsForAll (checked_plan work.checked) work.limit work.chunks run
