@@ -135,7 +135,7 @@ fn names_of(alloc: Global) -> Result<Vec<String>, NoMemory> {
     Ok(names)
 }
 
-fn stopped(why: PassErr) -> Stopped {
+fn why_stopped(why: PassErr) -> Stopped {
     match why {
         PassErr::Bad { bad, .. } => Stopped::Bad(bad.no),
         PassErr::NoMemory => Stopped::NoMemory,
@@ -144,7 +144,7 @@ fn stopped(why: PassErr) -> Stopped {
 }
 
 // An observer that notes into this number.
-fn noter(told: &Arc<AtomicU64>, refused: u64) -> Result<Noter, AllocError> {
+fn noter_into(told: &Arc<AtomicU64>, refused: u64) -> Result<Noter, AllocError> {
     Ok(Noter {
         told: Arc::clone(told)?,
         last: None,
@@ -165,8 +165,8 @@ fn watched<T: Threads + Wait + Sync>(
     let first = Arc::new(alloc, AtomicU64::new(0))?;
     let second = Arc::new(alloc, AtomicU64::new(0))?;
     let mut observers: Vec<Box<dyn Observer + Send>> = Vec::new(alloc);
-    observers.push(Box::new(alloc, noter(&first, 1_000_000)?)?)?;
-    observers.push(Box::new(alloc, noter(&second, course.refused)?)?)?;
+    observers.push(Box::new(alloc, noter_into(&first, 1_000_000)?)?)?;
+    observers.push(Box::new(alloc, noter_into(&second, course.refused)?)?)?;
     let options = Options {
         chunk: 1,
         limit: LIMIT_DEFAULT,
@@ -197,7 +197,7 @@ fn watched<T: Threads + Wait + Sync>(
         last,
         answer: match answer {
             Ok(groups) => Ok(groups.len()),
-            Err(why) => Err(stopped(why)),
+            Err(why) => Err(why_stopped(why)),
         },
     })
 }
