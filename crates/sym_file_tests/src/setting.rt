@@ -1,0 +1,121 @@
+//! Scripts, files of saved runs, and what reading them answers.
+use itoa::Buffer;
+use std::alloc::Global;
+use std::process::Abort;
+use std::test::Fail;
+use sym_base::NoMemory;
+use sym_check::{Checked, check};
+use sym_file::{SavedErr, read_saved, write_saved};
+use sym_parse::{parse, print};
+use sym_run::Saved;
+
+/// A test under a script.
+pub(crate) trait Case {
+    fn script(&self) -> &str;
+
+    fn holds(&self, alloc: Global, checked: &Checked) -> Result<bool, NoMemory>;
+}
+
+/// The script of a text; `None` if the text is refused.
+pub(crate) fn accepted(alloc: Global, text: &str) -> Option<Checked> {
+    if text.len() >= 10_000 {
+        return None;
+    }
+    match parse(alloc, text.as_bytes()) {
+        Ok(script) => check(alloc, script).ok(),
+        Err(_) => None,
+    }
+}
+
+fn case_holds<C: Case>(alloc: Global, case: &C) -> Result<bool, NoMemory> {
+    match accepted(alloc, case.script()) {
+        Some(checked) => case.holds(alloc, &checked),
+        None => Ok(false),
+    }
+}
+
+/// Fails the test at the first case that doesn't hold.
+pub(crate) fn check_cases<C: Case>(
+    rt: &impl Abort,
+    alloc: Global,
+    cases: &[C],
+) -> Result<(), Fail> {
+    'cases: for (place, case) in cases.iter().enumerate() {
+        if !case_holds(alloc, case)? {
+            panic!(rt; "case {place}");
+        }
+    }
+    Ok(())
+}
+
+/// The file of the script that goes on with these bytes.
+pub(crate) fn file_of(alloc: Global, checked: &Checked, body: &[u8]) -> Result<Vec<u8>, NoMemory> {
+    let own = print(alloc, checked.script())?;
+    let mut text = Vec::new(alloc);
+    text.extend_from_slice(b"symple run 1\nscript ")?;
+    let mut buffer = Buffer::new();
+    text.extend_from_slice(buffer.format(own.len()).as_bytes())?;
+    text.extend_from_slice(b"\n")?;
+    text.extend_from_slice(&own)?;
+    text.extend_from_slice(body)?;
+    Ok(text)
+}
+
+/// What reading comes to.
+#[derive(Clone, Copy, Debug, PartialEq, Eq)]
+pub(crate) enum Answer {
+    /// A lawful saved run, whose text these bytes are.
+    Read,
+    /// Another saved run.
+    Wrong,
+    OtherScript,
+    Malformed,
+}
+
+fn answer_to(
+    alloc: Global,
+    checked: &Checked,
+    bytes: &[u8],
+    saved: &Saved,
+) -> Result<Answer, NoMemory> {
+    let again = write_saved(alloc, checked, saved)?;
+    if saved.is_lawful(checked) && again.as_slice() == bytes {
+        Ok(Answer::Read)
+    } else {
+        Ok(Answer::Wrong)
+    }
+}
+
+/// What reading these bytes comes to.
+pub(crate) fn answer_of(
+    alloc: Global,
+    checked: &Checked,
+    bytes: &[u8],
+) -> Result<Answer, NoMemory> {
+    if bytes.len() > 100_000 {
+        return Ok(Answer::Wrong);
+    }
+    match read_saved(alloc, checked, bytes) {
+        Ok(saved) => answer_to(alloc, checked, bytes, &saved),
+        Err(SavedErr::OtherScript) => Ok(Answer::OtherScript),
+        Err(SavedErr::Malformed) => Ok(Answer::Malformed),
+        Err(SavedErr::NoMemory) => Err(NoMemory),
+    }
+}
+
+/// The saved run of the script's file that goes on with these bytes; `None` where it is refused.
+pub(crate) fn saved_of(
+    alloc: Global,
+    checked: &Checked,
+    body: &[u8],
+) -> Result<Option<Saved>, NoMemory> {
+    let bytes = file_of(alloc, checked, body)?;
+    if bytes.len() > 100_000 {
+        return Ok(None);
+    }
+    match read_saved(alloc, checked, &bytes) {
+        Ok(saved) => Ok(Some(saved)),
+        Err(SavedErr::OtherScript | SavedErr::Malformed) => Ok(None),
+        Err(SavedErr::NoMemory) => Err(NoMemory),
+    }
+}
