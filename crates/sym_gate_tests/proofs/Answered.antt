@@ -19,15 +19,16 @@ use Rattle.sym_run.proofs.FoundRecords.{run_tight}
 use Rattle.sym_engine.specs.declared.rounds.Work.{Work}
 use Rattle.sym_engine.specs.Rounds.{StandsForAll, round_records}
 use Rattle.sym_engine.proofs.Folds.{plain_chunks}
-use Rattle.sym_engine.proofs.RoundRuns.{IsApplied, groups_led, round_bad}
+use Rattle.sym_engine.proofs.RoundRuns.{IsApplied, next_pending, none_pending, round_bad}
 use Rattle.sym_engine.specs.Pieces.{StandsFrom}
 use Rattle.sym_gate_tests.specs.Comparing.{ComesTo}
 
 came_to : (p : ScriptPlan) (limit : ℕ) (cuts : List Chunk) (run : Run) (given : List (Key × Outcome)) (found : Applied)
     → StandsForAll p limit cuts run → IsApplied p run given found → ComesTo (all_records p cuts) found
 came_to p limit cuts run given (applied.Done new) h is =
-    let led = groups_led p limit 1 cuts run given given new (applied.Done new) h is refl refl in (led.0, led.1)
-came_to p limit cuts run given (applied.Bad bad) h is = round_bad p limit cuts run given (applied.Bad bad) bad h is refl
+    let led = next_pending p limit 1 cuts run given given None h (sym is.bad) (λ records stood. none_pending p given None records stood refl) in
+    (led.0, led.1)
+came_to p limit cuts run given (applied.Bad bad) h is = round_bad p limit cuts run bad h (sym is.bad)
 
 pub comes_to : (p : ScriptPlan) (limit : ℕ) (cuts : List Chunk) (run : Run) (given : List (Key × Outcome)) (found : Result Applied NoMemory)
     → StandsForAll p limit cuts run → IfOk found (λ a. bad_of a ≡ run.bad) → IfOk found (λ a. IfDone a (AreValid p))
