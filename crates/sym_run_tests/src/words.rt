@@ -242,7 +242,27 @@ fn a_file_has_no_more_bytes_than_asked(rt: HostRuntime) -> Result<(), Fail> {
     all_hold(&rt, wrong_list(&rt, rt.alloc(), &TOO_SMALL, LARGE))
 }
 
-const NONE: [&[&str]; 116] = [
+const NO_TRACES: [&[&str]; 12] = [
+    &["trace"],
+    &["trace", "s"],
+    &["trace", "--every", "0", "s", "f"],
+    &["trace", "--every", "1000001", "s", "f"],
+    &["trace", "--every", "-1", "s", "f"],
+    &["trace", "--every=", "s", "f"],
+    &["trace", "--every", "00000000001", "s", "f"],
+    &["trace", "--every", "1", "--every", "1", "s", "f"],
+    &["trace", "--print", "s", "f"],
+    &["trace", "--form", "html", "s", "f"],
+    &["run", "--every", "1", "s", "f"],
+    &["make", "--every", "1", "5", "1"],
+];
+
+#[test]
+fn other_lists_are_no_trace(rt: HostRuntime) -> Result<(), Fail> {
+    all_hold(&rt, wrong_list(&rt, rt.alloc(), &NO_TRACES, USAGE))
+}
+
+const NONE: [&[&str]; 104] = [
     &[],
     &[""],
     &["run"],
@@ -283,18 +303,6 @@ const NONE: [&[&str]; 116] = [
     &["make", "--print", "5", "1"],
     &["map", "s", "f"],
     &["reduce", "s", "f"],
-    &["trace"],
-    &["trace", "s"],
-    &["trace", "--every", "0", "s", "f"],
-    &["trace", "--every", "1000001", "s", "f"],
-    &["trace", "--every", "-1", "s", "f"],
-    &["trace", "--every=", "s", "f"],
-    &["trace", "--every", "00000000001", "s", "f"],
-    &["trace", "--every", "1", "--every", "1", "s", "f"],
-    &["trace", "--print", "s", "f"],
-    &["trace", "--form", "html", "s", "f"],
-    &["run", "--every", "1", "s", "f"],
-    &["make", "--every", "1", "5", "1"],
     &["help"],
     &["help", "run"],
     &["-h"],
