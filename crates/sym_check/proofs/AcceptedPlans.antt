@@ -20,7 +20,7 @@ use Rattle.sym_check.specs.declared.plan.script.FieldPlan.{FieldPlan}
 use Rattle.sym_check.specs.declared.plan.script.KindPlan.{KindPlan}
 use Rattle.sym_check.specs.declared.plan.script.CellPlan.{CellPlan}
 use Rattle.sym_check.specs.Plan.ShowPlans.{ShowPlan}
-use Rattle.sym_check.specs.Meaning.Columns.{ShownAs, Shows, IsColumn}
+use Rattle.sym_check.specs.Meaning.Columns.{ShownAs, Shows, IsColumnOf}
 use Rattle.sym_check.specs.Meaning.Columns as columns
 use Rattle.sym_check.specs.Plan.ScriptPlans.{ScriptPlan, TestOf}
 use Rattle.sym_check.specs.declared.elaborate.scope.Variable.TheVariants as var
@@ -202,7 +202,7 @@ module _ (p : ScriptPlan) where
       let b = both_true (has_lawful_leaves l) (has_lawful_leaves r) h in
       columns.calculated a x y (shown_well s l _ x there b.0 i) (shown_well s r _ y there b.1 j)
 
-  column_keeps : (s : Scope) → There s → Keeps (IsColumnDecl s) is_lawful_column (λ (c : Scope). Unit {0}) (IsColumn p.cells) p.columns
+  column_keeps : (s : Scope) → There s → Keeps (IsColumnDecl s) is_lawful_column (λ (c : Scope). Unit {0}) (IsColumnOf p.cells) p.columns
   column_keeps s there _ _ _ _ _ (report.column before n d g o free i) h stands begun =
       let (first, depth) = both_true (is_lawful_name d.name && is_lawful_expr d.value) (nat_le (expr_depth d.value) max_depth) h in
       let (named, lawful) = both_true (is_lawful_name d.name) (is_lawful_expr d.value) first in
@@ -218,7 +218,7 @@ accepted_well t p lawful i =
     let (scope, tests) = each_keeps (IsTestDecl (names t)) is_lawful_test (There p) (IsTest p) p.tests (test_keeps p (names t)) d.cell_scope h.scope t.tests d.tests lawful.tests cell_scope in
     let updated : There p (in_update h.scope) = there_seen p p (known_kinds p) (known_kinds p) view.Update h.scope (λ m e x. x) scope in
     let reported : There p (in_report h.scope) = there_seen p p (known_kinds p) (known_kinds p) view.Report h.scope (λ m e x. x) scope in
-    let (named, columns_are) = each_keeps (IsColumnDecl (in_report h.scope)) is_lawful_column (λ (c : Scope). Unit {0}) (IsColumn p.cells) p.columns (column_keeps p (in_report h.scope) reported) [] h.names t.columns h.columns lawful.columns tt in
+    let (named, columns_are) = each_keeps (IsColumnDecl (in_report h.scope)) is_lawful_column (λ (c : Scope). Unit {0}) (IsColumnOf p.cells) p.columns (column_keeps p (in_report h.scope) reported) [] h.names t.columns h.columns lawful.columns tt in
     let (line, group) = each_keeps (IsGroupField d.field_scope) is_lawful_name (λ (named : Scope). Unit {0}) (λ (g : ℕ). g < length p.fields) p.group (group_keeps p d.field_scope field_scope) [] d.fields.group.named t.group d.fields.group.each lawful.group tt in
     let grouped : length p.group ≡ length t.group = each_long (IsGroupField d.field_scope) [] d.fields.group.named 0 t.group p.group d.fields.group.each in
     let long : length p.cells ≡ length t.states = each_long IsStateDecl d.field_scope d.cell_scope 0 t.states p.cells d.cells in

@@ -41,7 +41,7 @@ use Rattle.sym_explore.specs.Faulting.{EndAmong, HasNumber}
 use Rattle.sym_explore.specs.Growing.{GivesAfter}
 use Rattle.sym_explore.specs.Knowing.{DosAreKnown}
 use Rattle.sym_explore.specs.Parting.{AllGoOn, AreFewRun, AreRun, at_state, those_ended, those_going}
-use Rattle.sym_explore.specs.Stepping.{after_dos, after_record}
+use Rattle.sym_explore.specs.Stepping.{after_dos, step_by}
 use Rattle.sym_explore.proofs.CountedPaths.{bound_is_count, updates_go_on}
 use Rattle.sym_explore.proofs.EndedLists.{moved_away, moved_count, moved_stay, outcomes_append, run_exact}
 use Rattle.sym_explore.proofs.KnownParts.{update_known}
@@ -82,7 +82,7 @@ module _ (p : ScriptPlan) (rec : Record) (old going none ended new after now : L
   pub explored_gives : (locals : List Value) → locals ≡ [] → AreRun p (after_dos p (environment rec locals) rec.no p.update) going new ended after → GivesAfter p rec old now
   explored_gives locals fresh run s once =
       let tests = test_truth p.tests in
-      let f = after_record p rec in
+      let f = step_by p rec in
       let update : Outcome → Outcome = after_dos p (environment rec []) rec.no p.update in
       let step : AreRun p update going new ended after = subst (λ (xs : List Value). AreRun p (after_dos p (environment rec xs) rec.no p.update) going new ended after) fresh run in
       let all : AreRun p f old new none after = run_then (λ o. o) update f (λ fault. refl) (after_update p rec) p old going new none ended after (apart p old going none ended empty moves on) step in
@@ -178,7 +178,7 @@ explored_stand p rec records old new h stand = record {
     gives s valid =
         let one : outcomes (test_truth p.tests) old s ≡ after p records (Going s) ∷ [] = (only_outcome (test_truth p.tests) old s (after p records (Going s))).1 (stand.exact s valid) in
         h.exact s (omega (arith, ap length one))
-        ∙ ap (map (after_record p rec)) one
+        ∙ ap (map (step_by p rec)) one
         ∙ ap (λ (o : Outcome). o ∷ []) (sym (after_more p records rec (Going s)))
 
 -- ---- the first record
@@ -225,7 +225,7 @@ pub settled_gives : (p : ScriptPlan) (rec : Record) (old new segment : List Path
 settled_gives p rec old new segment h settling s once =
     let tests : Truth = test_truth p.tests in
     let gives = h.exact s once in
-    let few : length (outcomes tests new s) ≤ 1 = omega (arith, ap length gives, length-map (outcomes tests old s) (after_record p rec), once) in
+    let few : length (outcomes tests new s) ≤ 1 = omega (arith, ap length gives, length-map (outcomes tests old s) (step_by p rec), once) in
     settling.reduced.same tests s few ∙ gives
 
 -- ---- how many

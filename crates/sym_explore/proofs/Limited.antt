@@ -31,7 +31,7 @@ use Rattle.sym_explore.specs.Ending.{AreMoved}
 use Rattle.sym_explore.specs.Growing.{GivesAfter}
 use Rattle.sym_explore.specs.Limiting.{chosen, is_chosen, IsExtended, IsExtendedBy, IsLonger}
 use Rattle.sym_explore.specs.Parting.{AllGoOn, AreFewRun, at_state, those_ended, those_going}
-use Rattle.sym_explore.specs.Stepping.{after_record}
+use Rattle.sym_explore.specs.Stepping.{step_by}
 use Rattle.sym_explore.proofs.CountedPaths.{bound_is_count, updates_go_on}
 use Rattle.sym_explore.proofs.EndedLists.{outcomes_append}
 use Rattle.sym_explore.proofs.Extended.{apart, few_counted, IsExplored, settled_explored, settled_few, settled_gives}
@@ -84,7 +84,7 @@ moved_apart old = record {
 -- ---- what they give
 
 module _ (p : ScriptPlan) (rec : Record) where
-  stepped : (os : List Outcome) → length os ≤ 1 → those_ended os ++ map (after_record p rec) (those_going os) ≡ map (after_record p rec) os
+  stepped : (os : List Outcome) → length os ≤ 1 → those_ended os ++ map (step_by p rec) (those_going os) ≡ map (step_by p rec) os
   stepped [] once = refl
   stepped (Going s ∷ []) once = refl
   stepped (outcome.Ended fault ∷ []) once = refl
@@ -98,7 +98,7 @@ module _ (p : ScriptPlan) (rec : Record) where
 
   chosen_give : (old grown : List Path) → GivesAfter p rec (chosen false old) grown → GivesAfter p rec old (chosen true old ++ grown)
   chosen_give old grown gives s once =
-      let f = after_record p rec in
+      let f = step_by p rec in
       let os : List Outcome = at_state p old s in
       let at = apart p old (chosen false old) [] (chosen true old) refl (moved_apart old) (chosen_go_on old) s once in
       let same : map (λ (o : Outcome). o) os ≡ os = map_same (λ o. o) os (λ o. refl) in

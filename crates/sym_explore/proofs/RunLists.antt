@@ -20,7 +20,7 @@ use Rattle.sym_check.specs.Meaning.Updates.{at_record, do_step, dos_step, enviro
 use Rattle.sym_path.specs.declared.path.Path.{Path}
 use Rattle.sym_explore.specs.Branches.{with_answer, tried}
 use Rattle.sym_explore.specs.Parting.{AllGoOn, those_going, those_ended, those_true, those_false, those_failed, at_state, AreParts, AreRun}
-use Rattle.sym_explore.specs.Stepping.{going_on, after_do, after_dos, after_record}
+use Rattle.sym_explore.specs.Stepping.{going_on, after_do, after_dos, step_by}
 use Rattle.sym_explore.proofs.EndedLists.{all_going, outcomes_append}
 
 -- What a function that changes nothing makes of the items.
@@ -199,6 +199,6 @@ runs_if p k n c a b = run_sides (after_dos p k n a) (after_dos p k n b) (tried p
 
 -- ---- one record
 
-pub after_update : (p : ScriptPlan) (rec : Record) (o : Outcome) → after_dos p (environment rec []) rec.no p.update o ≡ after_record p rec o
+pub after_update : (p : ScriptPlan) (rec : Record) (o : Outcome) → after_dos p (environment rec []) rec.no p.update o ≡ step_by p rec o
 after_update p rec (Going s) = refl
 after_update p rec (outcome.Ended fault) = refl

@@ -64,7 +64,7 @@ use Rattle.sym_explore.specs.Knowing.{DoIsKnown}
 use Rattle.sym_explore.specs.Parting.{at_state}
 use Rattle.sym_explore.specs.Placing.{TargetFits}
 use Rattle.sym_explore.specs.Ranging.{KnownRanges, ranged}
-use Rattle.sym_explore.specs.Stepping.{Becomes, after_do, after_dos, after_record}
+use Rattle.sym_explore.specs.Stepping.{Becomes, after_do, after_dos, step_by}
 use Rattle.sym_explore.specs.Storing.{IsParted, ReadyStores, after_store, store_do}
 use Rattle.sym_explore.specs.Sure.{EndsAt, HoldsAfter, IsStepped, IsSteppedOn, IsSure, IsSureEnd, IsSurePath}
 use Rattle.sym_explore.specs.Terms.{IsReadyOver, ready_number, ready_of}
@@ -273,27 +273,27 @@ update_stepped p rec locals old new none h =
     let T = test_truth p.tests in
     let own : IsStepped p (after_dos p (environment rec []) rec.no p.update) rec.no old new = subst (λ (xs : List Value). IsStepped p (after_dos p (environment rec xs) rec.no p.update) rec.no old new) none h in
     record {
-      becomes = λ s. own.becomes s ∙ same_maps (after_dos p (environment rec []) rec.no p.update) (after_record p rec) (given T old s) (after_update p rec);
+      becomes = λ s. own.becomes s ∙ same_maps (after_dos p (environment rec []) rec.no p.update) (step_by p rec) (given T old s) (after_update p rec);
       fits = own.fits;
       faults = λ records has ends. ends_among rec.no records new.end own.ends has;
     }
 
 pub over_stepped : (p : ScriptPlan) (rec : Record) (path : Path) → PathFits p path → ¬ (GoesOn path.end) → IsSteppedOn p rec path path
 over_stepped p rec path fits over = record {
-  becomes = ended_stays p (after_record p rec) path (λ fault. refl) over;
+  becomes = ended_stays p (step_by p rec) path (λ fault. refl) over;
   fits = fits;
   faults = λ records has ends. ends;
 }
 
 -- ---- all paths
 
-pub all_stepped : (p : ScriptPlan) (rec : Record) (old new : List Path) → AllZip (IsSteppedOn p rec) old new → (s : State) → at_state p new s ≡ map (after_record p rec) (at_state p old s)
+pub all_stepped : (p : ScriptPlan) (rec : Record) (old new : List Path) → AllZip (IsSteppedOn p rec) old new → (s : State) → at_state p new s ≡ map (step_by p rec) (at_state p old s)
 all_stepped p rec [] [] h s = refl
 all_stepped p rec [] (y ∷ new) h s = absurd h
 all_stepped p rec (x ∷ old) [] h s = absurd h
 all_stepped p rec (x ∷ old) (y ∷ new) h s =
     let T = test_truth p.tests in
-    (λ i. h.0.becomes s i ++ all_stepped p rec old new h.1 s i) ∙ sym (map-append (after_record p rec) (given T x s) (outcomes T old s))
+    (λ i. h.0.becomes s i ++ all_stepped p rec old new h.1 s i) ∙ sym (map-append (step_by p rec) (given T x s) (outcomes T old s))
 
 pub all_fit : (p : ScriptPlan) (rec : Record) (old new : List Path) → AllZip (IsSteppedOn p rec) old new → All (PathFits p) new
 all_fit p rec [] [] h = All-nil (PathFits p)

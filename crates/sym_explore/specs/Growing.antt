@@ -6,7 +6,7 @@ use Rattle.sym_check.specs.Meaning.Conditions.{test_truth}
 use Rattle.sym_check.specs.Plan.ScriptPlans.{ScriptPlan}
 use Rattle.sym_path.specs.declared.path.Path.{Path}
 use Rattle.sym_path.specs.Giving.{outcomes}
-use Rattle.sym_explore.specs.Stepping.{after_record}
+use Rattle.sym_explore.specs.Stepping.{step_by}
 use Rattle.sym_explore.specs.declared.extending.Grown.{Grown}
 use Rattle.sym_explore.specs.declared.extending.Grown.TheVariants.{Fits, Over}
 
@@ -24,4 +24,4 @@ IsToldBy limit (Over segment) = limit < length segment
 abbrev pub GivesAfter : ScriptPlan → Record → List Path → List Path → Type 0
 GivesAfter p rec old new = (s : State) → length (outcomes (test_truth p.tests) old s) ≤ 1 →
     outcomes (test_truth p.tests) new s
-    ≡ map (after_record p rec) (outcomes (test_truth p.tests) old s)
+    ≡ map (step_by p rec) (outcomes (test_truth p.tests) old s)

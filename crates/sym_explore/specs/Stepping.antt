@@ -27,8 +27,8 @@ after_do p k n d = going_on n (do_step p k d)
 abbrev pub after_dos : ScriptPlan → Environment → ℕ → DosPlan → Outcome → Outcome
 after_dos p k n ds = going_on n (dos_step p k ds)
 
-abbrev pub after_record : ScriptPlan → Record → Outcome → Outcome
-after_record p rec o = step p o rec
+abbrev pub step_by : ScriptPlan → Record → Outcome → Outcome
+step_by p rec o = step p o rec
 
 -- The second path gives, at each state, what the step makes of what the first one gives. Here the
 -- tests answer as those of the script do.

@@ -26,7 +26,7 @@ use Rattle.sym_path.specs.Giving.{given}
 use Rattle.sym_path.specs.Standing.{EndsAmong}
 use Rattle.sym_explore.specs.Faulting.{HasNumber}
 use Rattle.sym_explore.specs.Running.{HasValue}
-use Rattle.sym_explore.specs.Stepping.{Becomes, after_record}
+use Rattle.sym_explore.specs.Stepping.{Becomes, step_by}
 
 -- The parts are known.
 abbrev pub AreConst : HoldForm → Type 0
@@ -78,7 +78,7 @@ IsNamedOn rec k d locals path =
 
 -- The path made the step of the record; one that had ended is as it was.
 pub record IsSteppedOn (p : ScriptPlan) (rec : Record) (old new : Path) : Type 0 where
-  pub becomes : Becomes p (after_record p rec) old new
+  pub becomes : Becomes p (step_by p rec) old new
   pub fits : PathFits p new
   pub faults : (records : List Record) → HasNumber rec.no records → EndsAmong records old.end →
       EndsAmong records new.end

@@ -22,7 +22,7 @@ use std::alloc::Global;
 use sym_base::{NoMemory, Record};
 use sym_check::{Checked, Plan};
 use sym_path::{Path, Segment, settle};
-use sym_plain::{Buffers, shorten};
+use sym_plain::Buffers;
 
 /// A segment that was taken a record further.
 #[derive(PartialEq, Eq, Drop)]
@@ -69,7 +69,7 @@ pub(crate) fn explore_going(
 {
     let mut ended = paths;
     let mut going = take_going(alloc, &mut ended)?;
-    shorten(alloc, &mut buffers.locals, 0);
+    buffers.locals.truncate(0);
     run_block(
         alloc,
         plan,

@@ -24,7 +24,7 @@ use std::alloc::Global;
 use sym_base::{Fault, NoMemory, Record};
 use sym_check::{Cond, Do, Dos, Fixed, Plan, known_in};
 use sym_path::Path;
-use sym_plain::{Buffers, Stop, fixed_value, name_local, shorten};
+use sym_plain::{Buffers, Stop, fixed_value, name_local};
 
 /// Gives a local its value, which is evaluated once; arithmetic that fails ends all of the paths.
 fn name(
@@ -152,7 +152,7 @@ pub(crate) fn run_block(
     let count = buffers.locals.len();
     run_all(alloc, plan, rec, statements, buffers, paths, ended)?;
     if count < buffers.locals.len() {
-        shorten(alloc, &mut buffers.locals, count);
+        buffers.locals.truncate(count);
     }
     Ok(())
 }

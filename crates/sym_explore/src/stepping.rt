@@ -35,7 +35,7 @@ use sym_base::{NoMemory, Record, Values};
 use sym_check::{Cond, Do, Dos, Fixed, FixedList, Known, Plan, Term, known_in};
 use sym_int::{IntForm, WideNumber};
 use sym_path::Path;
-use sym_plain::{Buffers, Stop, fixed_value, name_local, set_values, shorten};
+use sym_plain::{Buffers, Stop, fixed_value, name_local, set_values};
 
 /// The number that is to be stored at the target for a ready term; where the target's range keeps
 /// none, the path ends.
@@ -251,7 +251,7 @@ fn step_block(
     let count = buffers.locals.len();
     step_all(alloc, plan, rec, statements, buffers, path)?;
     if count < buffers.locals.len() {
-        shorten(alloc, &mut buffers.locals, count);
+        buffers.locals.truncate(count);
     }
     Ok(())
 }
@@ -348,7 +348,7 @@ fn step_path(
     ensures { OnOk result (IsSteppedOn (script_plan plan.now) rec.now path.old path.new) }
 {
     if path.goes_on() {
-        shorten(alloc, &mut buffers.locals, 0);
+        buffers.locals.truncate(0);
         step_block(alloc, plan, rec, &plan.update, buffers, path)
     } else {
         Ok(())

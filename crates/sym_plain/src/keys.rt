@@ -4,7 +4,6 @@ ghost use Rattle.sym_check.specs.Meaning.Groups.{field_at, field_value, key_of};
 ghost use Rattle.sym_check.specs.Plan.ScriptPlans.{script_plan};
 
 use crate::putting::{put_copy, put_num};
-use crate::update::buffers::shorten;
 use std::alloc::Global;
 use sym_base::{Key, NoMemory, Record, Value, Values};
 use sym_check::Plan;
@@ -40,7 +39,7 @@ fn set_fields(
         put_field(alloc, values, index, rec.fields.get(usize::from(*field)))?;
     }
     if fields.len() < values.len() {
-        shorten(alloc, values, fields.len());
+        values.truncate(fields.len());
     }
     Ok(())
 }

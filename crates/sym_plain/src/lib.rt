@@ -15,7 +15,7 @@ mod update;
 pub use calls::{columns, fold, fold_into, initial, key_into, key_of, step};
 pub use groups::Groups;
 pub use report::shown::{kind_labels, value_column};
-pub use update::buffers::{Buffers, shorten};
+pub use update::buffers::Buffers;
 pub use update::conditions::{fixed_value, set_values};
 pub use update::statements::name_local;
 pub use update::stop::Stop;

@@ -8,7 +8,7 @@ ghost use Rattle.sym_check.specs.Plan.ScriptPlans.{script_plan};
 ghost use Rattle.sym_check.specs.Meaning.Updates.{environment, dos_step, step};
 ghost use Rattle.sym_plain.specs.Running.{ComesTo};
 
-use crate::update::buffers::{Buffers, shorten};
+use crate::update::buffers::Buffers;
 use crate::update::statements::run_all;
 use crate::update::stop::Stop;
 use std::alloc::Global;
@@ -30,7 +30,7 @@ fn update(
         ComesTo kind state.new (dos_step p (environment rec.now []) p.update state.old)) }
 {
     if !buffers.locals.is_empty() {
-        shorten(alloc, &mut buffers.locals, 0);
+        buffers.locals.truncate(0);
     }
     match run_all(alloc, plan, rec, &plan.update, buffers, state) {
         Ok(()) => Ok(None),

@@ -15,7 +15,7 @@ use Rattle.sym_top.specs.declared.numbers.NumberOption.{NumberOption}
 use Rattle.sym_top.specs.declared.numbers.NumberRange.{NumberRange}
 use Rattle.sym_top.specs.declared.arguments.TheConstants as own
 use Rattle.sym_top.specs.CommandLines.{run_app, trace_app, check_app, make_app, matched}
-use Rattle.sym_top.specs.Numbers.{number_in, option_number}
+use Rattle.sym_top.specs.Numbers.{number_in_range, option_number}
 
 -- A form of reports: what it is called, and its texts.
 pub record Form : Type 0 where
@@ -79,7 +79,7 @@ number_found option name rows = option_number option (first_of name rows)
 
 -- The number of a word, by what was found.
 abbrev pub word_number : NumberRange → List ℕ → List Row → Option ℕ
-word_number range name rows = option_and_then (number_in range) (first_of name rows)
+word_number range name rows = option_and_then (number_in_range range) (first_of name rows)
 
 abbrev pub is_given : Option (List ℕ) → Bool
 is_given None = false

@@ -23,10 +23,10 @@ ranged range number =
     if nat_le range.least number && nat_le number range.most then Some number else None
 
 -- The number that a text says, where it lies in the range.
-abbrev pub number_in : NumberRange → List ℕ → Option ℕ
-number_in range text = option_and_then (ranged range) (number_of text)
+abbrev pub number_in_range : NumberRange → List ℕ → Option ℕ
+number_in_range range text = option_and_then (ranged range) (number_of text)
 
 -- The number of an option: by its value, or the default if it isn't given.
 abbrev pub option_number : NumberOption → Option (List ℕ) → Option ℕ
 option_number option None = Some option.default
-option_number option (Some text) = number_in option.range text
+option_number option (Some text) = number_in_range option.range text

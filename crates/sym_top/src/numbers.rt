@@ -2,7 +2,7 @@
 ghost use Rattle.std.specs.Prelude.{◌≡◌, ◌≤◌, IfSome, option_map};
 ghost use Rattle.std.specs.Char.{is_ascii_digit};
 ghost use Rattle.std.specs.List.{list_all};
-ghost use Rattle.sym_top.specs.Numbers.{is_numeral as is_numeral_of, number_of, number_in, option_number};
+ghost use Rattle.sym_top.specs.Numbers.{is_numeral as is_numeral_of, number_of, number_in_range, option_number};
 
 /// The most digits of a number.
 pub const DIGITS_MAX: usize = 10;
@@ -48,7 +48,7 @@ fn read_number(text: &str) -> Option<u64>
 
 /// The number that the text says, where it lies in the range.
 pub fn number_within(text: &str, range: NumberRange) -> Option<u64>
-    ensures read { result ≡ number_in range text.now }
+    ensures read { result ≡ number_in_range range text.now }
     ensures least { IfSome result (λ number. range.least ≤ number) }
     ensures most { IfSome result (λ number. number ≤ range.most) }
 {

@@ -65,6 +65,6 @@ pub data Shows (cells : List CellPlan) : ShowPlan → ShownAs → Type 0 where
       → Shows cells r as_number
       → Shows cells (show.Bin operator l r) as_number
 
-pub record IsColumn (cells : List CellPlan) (c : ColumnOf) : Type 0 where
+pub record IsColumnOf (cells : List CellPlan) (c : ColumnOf) : Type 0 where
   pub gives : ShownAs
   pub shows : Shows cells c.value gives

@@ -23,7 +23,7 @@ use Rattle.sym_check.specs.Plan.CondPlans.{CondPlan, Compared, Words, CellIs, La
 use Rattle.sym_check.specs.Plan.DoPlans.{DoPlan, Let, SetInt, SetEnum, CopyEnum, Keep, KeepFrom, PushNum, PushWord, If, DosPlan, End, Then}
 use Rattle.sym_check.specs.Plan.ScriptPlans.{ScriptPlan, TestOf}
 use Rattle.sym_check.specs.Plan.CellKinds.{IsIntCell, IsNumsCell, IsWordsCell, IsHoldCell, IsEnumCell}
-use Rattle.sym_check.specs.Meaning.Columns.{IsColumn}
+use Rattle.sym_check.specs.Meaning.Columns.{IsColumnOf}
 use Rattle.sym_check.specs.Plan.Ranges.{InRange}
 use Rattle.sym_check.specs.Meaning.Validity.{label_count, IsOfKind, AreOfKinds, field_kinds}
 
@@ -220,4 +220,4 @@ pub record IsWellFormed (p : ScriptPlan) : Type 0 where
   pub cells : All (IsCell p.enums) p.cells
   pub tests : All (IsTest p) p.tests
   pub update : IsDos p (known_kinds p) p.update
-  pub columns : All (IsColumn p.cells) p.columns
+  pub columns : All (IsColumnOf p.cells) p.columns

@@ -11,7 +11,6 @@ ghost use Rattle.sym_check.specs.Meaning.Updates.{or_fault};
 ghost use Rattle.sym_plain.specs.Running.{Gives, Makes, with_value};
 
 use crate::putting::{put_at, put_num, put_word};
-use crate::update::buffers::shorten;
 use crate::update::stop::Stop;
 use crate::update::terms::term_number;
 use std::alloc::Global;
@@ -73,7 +72,7 @@ pub fn set_values(
         put_value(alloc, known, expression, values, index)?;
     }
     if expressions.len() < values.len() {
-        shorten(alloc, values, expressions.len());
+        values.truncate(expressions.len());
     }
     Ok(())
 }

@@ -11,7 +11,7 @@ ghost use Rattle.sym_base.specs.States.{cell_nums, parts_at, cell_parts, cell_wo
 ghost use Rattle.sym_plain.specs.Running.{IsAssignment, Makes, kept, kept_cell};
 
 use crate::putting::put_copy;
-use crate::update::buffers::{Buffers, shorten};
+use crate::update::buffers::Buffers;
 use crate::update::conditions::{fixed_value, set_values, truth_of};
 use crate::update::stop::Stop;
 use crate::update::terms::term_number;
@@ -72,7 +72,7 @@ fn set_parts(alloc: Global, parts: &[Value], values: &mut Values) -> Result<(), 
         put_copy(alloc, values, index, part)?;
     }
     if parts.len() < values.len() {
-        shorten(alloc, values, parts.len());
+        values.truncate(parts.len());
     }
     Ok(())
 }
@@ -245,7 +245,7 @@ fn run_block(
     let count = buffers.locals.len();
     run_all(alloc, plan, rec, statements, buffers, state)?;
     if count < buffers.locals.len() {
-        shorten(alloc, &mut buffers.locals, count);
+        buffers.locals.truncate(count);
     }
     Ok(())
 }
