@@ -48,13 +48,16 @@ Admits truth when s = AllZip (PartAdmits truth) when s.cells
 abbrev pub has_point : Span → ℤ → Bool
 has_point span x = int_le span.lo x && int_le x span.hi
 
+-- Whether two truth values are equal.
 abbrev pub same_truth : Bool → Bool → Bool
 same_truth a b = if a then b else not b
 
+-- Whether the literal's test, by the tests' truth, has the literal's outcome for these parts.
 abbrev pub gives_outcome : Truth → List Value → Literal → Bool
 gives_outcome truth parts literal =
     same_truth literal.outcome (truth literal.test literal.args parts)
 
+-- Whether a cell is as the part says.
 abbrev pub part_admits : Truth → Part → Cell → Bool
 part_admits truth (part.Set set) (cell.Enum label) = has_label set label
 part_admits truth (part.Set set) (cell.Int x) = false
@@ -78,6 +81,7 @@ part_admits truth part.Free (cell.Hold parts) = false
 part_admits truth part.Free (cell.Nums xs) = true
 part_admits truth part.Free (cell.Words ts) = true
 
+-- Whether there are as many cells as parts, and each cell is as its part says.
 abbrev pub admits : Truth → List Part → List Cell → Bool
 admits truth [] [] = true
 admits truth [] (c ∷ cells) = false

@@ -42,6 +42,7 @@ abbrev pub end_with_form : ℕ → Form → PathEnd → PathEnd
 end_with_form c f (Next forms) = Next (slice_set forms c f)
 end_with_form c f (Ended fault) = Ended fault
 
+-- The path in which a cell has another form; one that has ended stays as it is.
 abbrev pub with_form : Path → ℕ → Form → Path
 with_form path c f = record path { end = end_with_form c f path.end }
 
@@ -50,6 +51,7 @@ abbrev pub end_by : Fault → PathEnd → PathEnd
 end_by fault (Next forms) = Ended fault
 end_by fault (Ended old) = Ended old
 
+-- The path ended by this fault; one that has ended already stays as it is.
 abbrev pub with_fault : Path → Fault → Path
 with_fault path fault = record path { end = end_by fault path.end }
 

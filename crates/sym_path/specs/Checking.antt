@@ -36,10 +36,14 @@ FitsPart p (plan.Hold kinds first) now =
 FitsPart p (plan.Nums lo hi clamp) now = IsFreePart (Unit {0}) now
 FitsPart p plan.Words now = IsFreePart (Unit {0}) now
 
+-- A label form fits an enum: its constant is a label of the enum, or it copies a cell of the same
+-- enum.
 abbrev pub FitsLabelForm : ScriptPlan → ℕ → EnumForm → Type 0
 FitsLabelForm p of (label.Const l) = l < label_count p.enums of
 FitsLabelForm p of (label.Copy c) = IsEnumCell p.cells c of
 
+-- A hold form fits the kinds of a cell's parts: its constants are of these kinds, or it copies a
+-- hold cell with the same kinds.
 abbrev pub FitsHoldForm : ScriptPlan → List KindPlan → HoldForm → Type 0
 FitsHoldForm p kinds (hold.Const parts) = AreOfKinds p.enums kinds parts
 FitsHoldForm p kinds (hold.Copy c) = IsHoldCell p.cells c kinds

@@ -116,5 +116,6 @@ pub record PathFits (p : ScriptPlan) (path : Path) : Type 0 where
   pub parts : AllZip (PartFits p) p.cells path.when
   pub end : EndFits p path.when path.end
 
+-- A segment fits a script: each of its paths fits it.
 abbrev pub SegmentFits : ScriptPlan → List Path → Type 0
 SegmentFits p paths = All (PathFits p) paths

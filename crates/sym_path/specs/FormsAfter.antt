@@ -48,6 +48,8 @@ AddsConstants (form.Words added) = Unit {0}
 abbrev pub number_forms : List Form → ℕ → Option IntForm
 number_forms forms c = number_form_in (slice_get forms c)
 
+-- The span of the integer cell with this number; none where the number is not that of an integer
+-- cell.
 abbrev pub part_spans : List Part → ℕ → Option Span
 part_spans parts c = span_in (slice_get parts c)
 
@@ -113,6 +115,7 @@ IsNums (Some (form.Hold f)) = ⊥
 IsNums (Some (form.Words added)) = ⊥
 IsNums None = ⊥
 
+-- A list form of words that is there.
 abbrev pub IsWords : Option Form → Type 0
 IsWords (Some (form.Words added)) = Unit {0}
 IsWords (Some (form.Enum f)) = ⊥
@@ -155,6 +158,7 @@ NumsAfter context added (Some (form.Nums first)) after =
     IsNumsForm (AddsNums context added first) after
 NumsAfter context added (Some (form.Words words)) after = ⊥
 
+-- The form of a list of words after its own form: the words are added after those of that form.
 abbrev pub WordsAfter : List (List ℕ) → Option Form → Form → Type 0
 WordsAfter added None after = ⊥
 WordsAfter added (Some (form.Enum f)) after = ⊥
@@ -196,6 +200,8 @@ abbrev pub AllCanComeAfter : List Form → List Part → IntForms → List Form 
 AllCanComeAfter forms lefts context gs =
     (c : ℕ) (g : Form) → slice_get gs c ≡ Some g → CanComeAfter forms lefts context c g
 
+-- The last list has as many forms as the second one, each of them what the second list's form of
+-- the same cell becomes after the first forms.
 pub record AreAfter (forms : List Form) (lefts : List Part) (context : IntForms)
     (gs rs : List Form) : Type 0 where
   pub lengths : length rs ≡ length gs
@@ -219,6 +225,8 @@ pub record AreNext (forms : List Form) (lefts : List Part) (gs : List Form) (end
   pub known : IsContext forms lefts context
   pub become : AreAfter forms lefts context gs after
 
+-- What the second path's end becomes after the forms: it goes on by what its forms become, and a
+-- fault stays.
 abbrev pub EndsAfter : List Form → List Part → PathEnd → PathEnd → Type 0
 EndsAfter forms lefts (Next gs) end = AreNext forms lefts gs end
 EndsAfter forms lefts (Ended fault) end = end ≡ Ended fault

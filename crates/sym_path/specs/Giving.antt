@@ -26,6 +26,7 @@ use Rattle.sym_path.specs.Admitting.{Admits, admits}
 abbrev pub nums_after : List IntForm → State → Cell → List ℤ
 nums_after added s old = cell_nums (Some old) ++ map (λ f. form_value f s) added
 
+-- The old list of a cell with the added words after it.
 abbrev pub words_after : List (List ℕ) → Cell → List (List ℕ)
 words_after added old = cell_words (Some old) ++ added
 
@@ -52,6 +53,7 @@ cells_at [] s cells = []
 cells_at (f ∷ forms) s [] = []
 cells_at (f ∷ forms) s (c ∷ cells) = cell_at f s c ∷ cells_at forms s cells
 
+-- The state in which each cell holds what its form gives at the old state.
 abbrev pub state_at : List Form → State → State
 state_at forms s = record { cells = cells_at forms s s.cells }
 

@@ -32,6 +32,8 @@ abbrev pub IsOwnLabel : ℕ → LabelSet → EnumForm → Type 0
 IsOwnLabel c set (label.Const l) = IsOnlyLabel set l
 IsOwnLabel c set (label.Copy d) = (d ≡ c) × ((l : ℕ) → IsOnlyLabel set l → ⊥)
 
+-- The form of the integer cell with this number gives the cell's own number: as a constant if the
+-- span has only one number, else as the line that is equal to the cell.
 abbrev pub IsOwnNumber : ℕ → Span → IntForm → Type 0
 IsOwnNumber c span (number.Const n) = (span.lo ≡ n.value) × (span.hi ≡ n.value)
 IsOwnNumber c span (number.Line line) =
@@ -77,6 +79,7 @@ abbrev pub IsWholeEnd : ScriptPlan → List Part → PathEnd → Type 0
 IsWholeEnd p when (Next forms) = AreWhole p (length p.cells) when forms
 IsWholeEnd p when (Ended fault) = ⊥
 
+-- The path admits all that each cell of the script may hold, and leaves the cell as it is.
 abbrev pub IsWholePath : ScriptPlan → Path → Type 0
 IsWholePath p path = IsWholeEnd p path.when path.end
 

@@ -57,6 +57,7 @@ EndsAgree p q = EndAgrees p.end q.end
     EndAgrees (Ended a) (Next gs) = ⊥
     EndAgrees (Ended a) (Ended b) = a ≡ b
 
+-- Two paths can be joined: their constraints unite, and their ends agree.
 pub record Joinable (p q : Path) : Type 0 where
   pub constraints : ConstraintsUnite p.when q.when
   pub ends : EndsAgree p q

@@ -18,18 +18,21 @@ IsSetPart property (part.Span span) = ⊥
 IsSetPart property (part.Facts known) = ⊥
 IsSetPart property part.Free = ⊥
 
+-- The part is a span with a property.
 abbrev pub IsSpanPart : (Span → Type 0) → Part → Type 0
 IsSpanPart property (part.Set set) = ⊥
 IsSpanPart property (part.Span span) = property span
 IsSpanPart property (part.Facts known) = ⊥
 IsSpanPart property part.Free = ⊥
 
+-- The part is a map of facts with a property.
 abbrev pub IsFactsPart : (FactMap → Type 0) → Part → Type 0
 IsFactsPart property (part.Set set) = ⊥
 IsFactsPart property (part.Span span) = ⊥
 IsFactsPart property (part.Facts known) = property known
 IsFactsPart property part.Free = ⊥
 
+-- The part is that of a list cell, which may hold anything, and the statement holds.
 abbrev pub IsFreePart : Type 0 → Part → Type 0
 IsFreePart property (part.Set set) = ⊥
 IsFreePart property (part.Span span) = ⊥
@@ -52,6 +55,7 @@ IsEnumForm property (form.Hold f) = ⊥
 IsEnumForm property (form.Nums added) = ⊥
 IsEnumForm property (form.Words added) = ⊥
 
+-- The form is that of an integer cell, and has a property.
 abbrev pub IsIntForm : (IntForm → Type 0) → Form → Type 0
 IsIntForm property (form.Enum f) = ⊥
 IsIntForm property (form.Int f) = property f
@@ -59,6 +63,7 @@ IsIntForm property (form.Hold f) = ⊥
 IsIntForm property (form.Nums added) = ⊥
 IsIntForm property (form.Words added) = ⊥
 
+-- The form is that of a hold cell, and has a property.
 abbrev pub IsHoldForm : (HoldForm → Type 0) → Form → Type 0
 IsHoldForm property (form.Enum f) = ⊥
 IsHoldForm property (form.Int f) = ⊥
@@ -66,6 +71,7 @@ IsHoldForm property (form.Hold f) = property f
 IsHoldForm property (form.Nums added) = ⊥
 IsHoldForm property (form.Words added) = ⊥
 
+-- The form is that of a list of numbers, and the numbers that it adds have a property.
 abbrev pub IsNumsForm : (List IntForm → Type 0) → Form → Type 0
 IsNumsForm property (form.Enum f) = ⊥
 IsNumsForm property (form.Int f) = ⊥
@@ -73,6 +79,7 @@ IsNumsForm property (form.Hold f) = ⊥
 IsNumsForm property (form.Nums added) = property added
 IsNumsForm property (form.Words added) = ⊥
 
+-- The form is that of a list of words, and the words that it adds have a property.
 abbrev pub IsWordsForm : (List (List ℕ) → Type 0) → Form → Type 0
 IsWordsForm property (form.Enum f) = ⊥
 IsWordsForm property (form.Int f) = ⊥

@@ -49,6 +49,7 @@ NarrowsLabels new (Some (part.Span old)) = ⊥
 NarrowsLabels new (Some (part.Facts old)) = ⊥
 NarrowsLabels new (Some part.Free) = ⊥
 
+-- The part of the cell is a span, and this span is within it.
 abbrev pub NarrowsNumbers : Span → Option Part → Type 0
 NarrowsNumbers new None = ⊥
 NarrowsNumbers new (Some (part.Set old)) = ⊥
@@ -61,6 +62,8 @@ abbrev pub label_put : ℕ → ℕ → EnumForm → EnumForm
 label_put c l (label.Const m) = label.Const m
 label_put c l (label.Copy d) = if d == c then label.Const l else label.Copy d
 
+-- A form of any kind in which a label is put in the place of an enum cell; only an enum form can
+-- change.
 abbrev pub with_label : ℕ → ℕ → Form → Form
 with_label c l (form.Enum f) = form.Enum (label_put c l f)
 with_label c l (form.Int f) = form.Int f
@@ -89,10 +92,13 @@ abbrev pub end_with_label : ℕ → ℕ → PathEnd → PathEnd
 end_with_label c l (Next forms) = Next (map (with_label c l) forms)
 end_with_label c l (Ended fault) = Ended fault
 
+-- The condition under which a number may be put in the place of an integer cell in all forms of an
+-- end.
 abbrev pub CanPutAtEnd : ℕ → ℤ → PathEnd → Type 0
 CanPutAtEnd c x (Next forms) = All (CanPutNumber c x) forms
 CanPutAtEnd c x (Ended fault) = Unit {0}
 
+-- The second end is the first one with a number in the place of an integer cell; a fault stays.
 abbrev pub NumberIsPutAtEnd : ℕ → ℤ → PathEnd → PathEnd → Type 0
 NumberIsPutAtEnd c x (Next fs) (Next gs) = AllZip (NumberIsPut c x) fs gs
 NumberIsPutAtEnd c x (Next fs) (Ended b) = ⊥

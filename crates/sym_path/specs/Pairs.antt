@@ -17,6 +17,7 @@ abbrev pub is_ended : PathEnd → Bool
 is_ended (Next forms) = false
 is_ended (Ended fault) = true
 
+-- Whether the path ends in a fault.
 abbrev pub has_ended : Path → Bool
 has_ended path = is_ended path.end
 

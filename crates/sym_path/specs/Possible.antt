@@ -75,6 +75,7 @@ IsLeft forms needs c (part.Facts known) =
     IsSaid known forms needs c atom (not outcome) → ⊥
 IsLeft forms needs c part.Free = Unit {0}
 
+-- Something is left of each cell by its part in the constraint and by what is needed of it.
 abbrev pub AllLeft : List Part → List Form → List Part → Type 0
 AllLeft when forms needs = (c : ℕ) (p : Part) → slice_get when c ≡ Some p → IsLeft forms needs c p
 

@@ -36,12 +36,15 @@ constant_meets truth (form.Hold (hold.Copy c)) need = true
 constant_meets truth (form.Nums added) need = true
 constant_meets truth (form.Words added) need = true
 
+-- Whether a label is in the needed set; true where the need is no set.
 abbrev pub in_set : Part → ℕ → Bool
 in_set (part.Set need) l = has_label need l
 in_set (part.Span need) l = true
 in_set (part.Facts need) l = true
 in_set part.Free l = true
 
+-- Whether the label l of the enum cell c is in the set needed of a label form; true where the form
+-- does not copy this cell.
 abbrev pub enum_passes : ℕ → ℕ → Part → EnumForm → Bool
 enum_passes c l need (label.Const m) = true
 enum_passes c l need (label.Copy d) = if d == c then in_set need l else true
@@ -54,12 +57,15 @@ label_passes c l (form.Hold f) need = true
 label_passes c l (form.Nums added) need = true
 label_passes c l (form.Words added) need = true
 
+-- Whether a number is in the needed span; true where the need is no span.
 abbrev pub in_span : Part → ℤ → Bool
 in_span (part.Set need) x = true
 in_span (part.Span need) x = has_point need x
 in_span (part.Facts need) x = true
 in_span part.Free x = true
 
+-- Whether an integer form has a number in the needed span where the integer cell c holds x; true
+-- where the form does not name this cell.
 abbrev pub int_passes : ℕ → ℤ → Part → IntForm → Bool
 int_passes c x need (number.Const n) = true
 int_passes c x need (number.Line line) =
@@ -80,6 +86,7 @@ FactsAgree known (part.Span need) = Unit {0}
 FactsAgree known (part.Facts need) = Clash known need → ⊥
 FactsAgree known part.Free = Unit {0}
 
+-- If a hold form copies the hold cell c, the facts agree with what is needed of it.
 abbrev pub HoldAgrees : ℕ → FactMap → Part → HoldForm → Type 0
 HoldAgrees c known need (hold.Const parts) = Unit {0}
 HoldAgrees c known need (hold.Copy d) = d ≡ c → FactsAgree known need
@@ -98,12 +105,15 @@ AllAgree c known forms needs =
     (d : ℕ) (f : Form) (need : Part) → slice_get forms d ≡ Some f → slice_get needs d ≡ Some need →
     Agrees c known f need
 
+-- If the need is facts, they agree with what is needed of each form that copies the hold cell c.
 abbrev pub NeedAgrees : ℕ → List Form → List Part → Part → Type 0
 NeedAgrees c forms needs (part.Set need) = Unit {0}
 NeedAgrees c forms needs (part.Span need) = Unit {0}
 NeedAgrees c forms needs (part.Facts need) = AllAgree c need forms needs
 NeedAgrees c forms needs part.Free = Unit {0}
 
+-- If a hold form copies the hold cell c, what is needed of it agrees with what is needed of each
+-- form that copies this cell.
 abbrev pub CopyAgrees : ℕ → List Form → List Part → Part → HoldForm → Type 0
 CopyAgrees c forms needs need (hold.Const parts) = Unit {0}
 CopyAgrees c forms needs need (hold.Copy d) = d ≡ c → NeedAgrees c forms needs need
@@ -116,6 +126,7 @@ OthersAgree c forms needs (form.Hold f) need = CopyAgrees c forms needs need f
 OthersAgree c forms needs (form.Nums added) need = Unit {0}
 OthersAgree c forms needs (form.Words added) need = Unit {0}
 
+-- What is needed of any two forms that copy the hold cell c agrees.
 abbrev pub NeedsAgree : ℕ → List Form → List Part → Type 0
 NeedsAgree c forms needs =
     (d : ℕ) (f : Form) (need : Part) → slice_get forms d ≡ Some f → slice_get needs d ≡ Some need →

@@ -25,6 +25,7 @@ abbrev pub CanJoin : List Path → ℕ → ℕ → Type 0
 CanJoin paths i k =
     (p q : Path) → slice_get paths i ≡ Some p → slice_get paths k ≡ Some q → Joinable p q
 
+-- The paths at two indices can't be joined.
 abbrev pub CannotJoin : List Path → ℕ → ℕ → Type 0
 CannotJoin paths i k =
     (p q : Path) → slice_get paths i ≡ Some p → slice_get paths k ≡ Some q → Joinable p q → ⊥

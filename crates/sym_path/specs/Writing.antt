@@ -39,6 +39,7 @@ abbrev pub finished : ℕ → Form → Cell → Option Cell → Cell
 finished c f draft old =
     if is_written_over c f then cell.Hold (parts_over f old) else draft
 
+-- The state in which the cell with this number is finished, by its draft or by parts written over.
 abbrev pub finished_at : ℕ → Form → Cell → State → State
 finished_at c f draft s = record {
   cells = slice_set s.cells c (finished c f draft (slice_get s.cells c));
