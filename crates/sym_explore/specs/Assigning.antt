@@ -22,6 +22,7 @@ added_numbers (Some (form.Hold f)) = []
 added_numbers (Some (form.Nums added)) = added
 added_numbers (Some (form.Words added)) = []
 
+-- The words that a form adds to the list of a cell; none of any other form, and of none.
 abbrev pub added_words : Option Form → List (List ℕ)
 added_words None = []
 added_words (Some (form.Enum f)) = []
@@ -34,6 +35,7 @@ added_words (Some (form.Words added)) = added
 abbrev pub one_number_more : Option Form → IntForm → Form
 one_number_more old f = form.Nums (added_numbers old ++ f ∷ [])
 
+-- The form of a list of words with one more word; of any other form it is the only one.
 abbrev pub one_word_more : Option Form → List ℕ → Form
 one_word_more old w = form.Words (added_words old ++ w ∷ [])
 
@@ -46,6 +48,8 @@ hold_form (Some (form.Hold f)) = Some f
 hold_form (Some (form.Nums added)) = None
 hold_form (Some (form.Words added)) = None
 
+-- The form that the path has of the hold cell with this number; none of any other cell, and after a
+-- fault.
 abbrev pub parts_form : Path → ℕ → Option HoldForm
 parts_form path c = hold_form (form_of path.end c)
 

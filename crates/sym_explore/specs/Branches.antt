@@ -40,6 +40,7 @@ abbrev pub answered : ℕ → (State → Result Bool Arith) → Outcome → Outc
 answered n meaning (Going s) = with_answer n s (meaning s)
 answered n meaning (Ended fault) = (Ended fault, None)
 
+-- What a condition of the script makes of an outcome at the record with this number.
 abbrev pub tried : ScriptPlan → Environment → ℕ → CondPlan → Outcome → Outcome × Option Bool
 tried p k n c = answered n (truth (test_truth p.tests) k c)
 
@@ -59,9 +60,11 @@ pub record IsGoing (p : ScriptPlan) (path : Path) : Type 0 where
   pub fits : PathFits p path
   pub goes_on : GoesOn path.end
 
+-- Each of the paths fits the script and goes on.
 abbrev pub AreGoing : ScriptPlan → List Path → Type 0
 AreGoing p paths = All (IsGoing p) paths
 
+-- The path of each branch fits the script and goes on.
 abbrev pub BranchesGo : ScriptPlan → List Branch → Type 0
 BranchesGo p branches = All (λ (b : Branch). IsGoing p b.path) branches
 
@@ -81,6 +84,7 @@ abbrev pub paths_true : List Branch → List Path
 paths_true [] = []
 paths_true (b ∷ branches) = if b.truth then b.path ∷ paths_true branches else paths_true branches
 
+-- The paths of the branches on which the condition is false, in order.
 abbrev pub paths_false : List Branch → List Path
 paths_false [] = []
 paths_false (b ∷ branches) = if b.truth then paths_false branches else b.path ∷ paths_false branches

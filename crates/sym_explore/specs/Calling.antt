@@ -42,6 +42,8 @@ outcome_in (Some (part.Span span)) atom = None
 outcome_in (Some (part.Facts known)) atom = get known atom
 outcome_in (Some part.Free) atom = None
 
+-- The outcome of an atom, if the path's constraint has one for the hold cell with this number; none
+-- for any other cell.
 abbrev pub known_outcome : Path → ℕ → Atom → Option Bool
 known_outcome path c atom = outcome_in (slice_get path.when c) atom
 

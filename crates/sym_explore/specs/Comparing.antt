@@ -43,6 +43,7 @@ ArePiecesOf when pieces = IsSpanOf (span_in when)
 abbrev pub PieceTells : (ℤ → Bool) → Cut → Type 0
 PieceTells truth piece = (x : ℤ) → HasPoint piece.span x → piece.truth ≡ truth x
 
+-- The truth of each of the pieces is that of each of its points.
 pub record PiecesTell (truth : ℤ → Bool) (pieces : Pieces) : Type 0 where
   pub first : PieceTells truth pieces.first
   pub second : IfSome pieces.second (PieceTells truth)

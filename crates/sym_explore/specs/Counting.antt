@@ -15,6 +15,8 @@ use Rattle.sym_path.specs.declared.path.PathEnd.{PathEnd}
 use Rattle.sym_path.specs.declared.path.PathEnd.TheVariants.{Next, Ended}
 use Rattle.sym_path.specs.declared.path.Path.{Path}
 
+-- At most how many branches with this truth a comparison of a term makes of a path: one if the term
+-- names no cell.
 abbrev pub term_branches : Compare → TermPlan → Bool → ℕ
 term_branches compare (OfNum n) x = 1
 term_branches compare (OfLine l) x = most_with compare x
@@ -42,6 +44,8 @@ if_paths c a b = if is_fixed c then max a b else branches_of c true * a + branch
 abbrev pub store_going : List CellPlan → ℕ → ℕ
 store_going cells c = if is_clamped cells c then 3 else 1
 
+-- At most how many paths that end a stored number makes of one: none if the range of the cell
+-- clamps, else one below the range and one above it.
 abbrev pub store_ended : List CellPlan → ℕ → ℕ
 store_ended cells c = if is_clamped cells c then 0 else 2
 
@@ -58,6 +62,7 @@ abbrev mutual
   do_going cells (PushWord c w) = 1
   do_going cells (If c a b) = if_paths c (dos_going cells a) (dos_going cells b)
 
+  -- At most how many paths that go on statements in order make of one.
   pub dos_going : List CellPlan → DosPlan → ℕ
   dos_going cells End = 1
   dos_going cells (Then d rest) = do_going cells d * dos_going cells rest
@@ -76,6 +81,7 @@ abbrev mutual
   do_ended cells (PushWord c w) = 0
   do_ended cells (If c a b) = if_paths c (dos_ended cells a) (dos_ended cells b)
 
+  -- How many more there can be of statements in order.
   pub dos_ended : List CellPlan → DosPlan → ℕ
   dos_ended cells End = 0
   dos_ended cells (Then d rest) = do_ended cells d + do_going cells d * dos_ended cells rest

@@ -31,6 +31,7 @@ pub record ArePartedAt (p : ScriptPlan) (clamps : Bool) (step : Outcome → Outc
   pub over : clamps ≡ false → those_going added ≡ []
   pub gives : added ++ at_state p new s ≡ map step (at_state p old s)
 
+-- Paths were changed where they stand, at each state that at most one of the old ones admits.
 abbrev pub AreParted :
     ScriptPlan → Bool → (Outcome → Outcome) →
     List Path → List Path → List Path → List Path → Type 0

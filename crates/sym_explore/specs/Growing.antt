@@ -10,6 +10,7 @@ use Rattle.sym_explore.specs.Stepping.{step_by}
 use Rattle.sym_explore.specs.declared.extending.Grown.{Grown}
 use Rattle.sym_explore.specs.declared.extending.Grown.TheVariants.{Fits, Over}
 
+-- The paths of a grown segment, within the limit or over it.
 abbrev pub grown_paths : Grown → List Path
 grown_paths (Fits segment) = segment
 grown_paths (Over segment) = segment

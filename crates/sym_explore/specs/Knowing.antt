@@ -13,17 +13,20 @@ pub record CondIsKnown (p : ScriptPlan) (k : Environment) (c : CondPlan) : Type 
   pub known : IsKnown p.enums kinds k
   pub well : IsCond p kinds c
 
+-- There are kinds of what is known with which the term is well formed.
 pub record TermIsKnown (p : ScriptPlan) (k : Environment) (t : TermPlan) : Type 0 where
   pub kinds : Kinds
   pub known : IsKnown p.enums kinds k
   pub well : IsTerm p.cells kinds t
 
+-- There are kinds of what is known with which the statement is well formed, and kinds after it.
 pub record DoIsKnown (p : ScriptPlan) (k : Environment) (d : DoPlan) : Type 0 where
   pub kinds : Kinds
   pub later : Kinds
   pub known : IsKnown p.enums kinds k
   pub well : IsDo p kinds d later
 
+-- There are kinds of what is known with which the statements are well formed.
 pub record DosAreKnown (p : ScriptPlan) (k : Environment) (ds : DosPlan) : Type 0 where
   pub kinds : Kinds
   pub known : IsKnown p.enums kinds k

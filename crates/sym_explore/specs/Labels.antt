@@ -26,6 +26,8 @@ enum_form (Some (form.Hold f)) = None
 enum_form (Some (form.Nums added)) = None
 enum_form (Some (form.Words added)) = None
 
+-- The form that the path has of the enum cell with this number; none of any other cell, and after a
+-- fault.
 abbrev pub label_form : Path → ℕ → Option EnumForm
 label_form path c = enum_form (form_of path.end c)
 
@@ -37,6 +39,8 @@ set_in (Some (part.Span span)) = None
 set_in (Some (part.Facts known)) = None
 set_in (Some part.Free) = None
 
+-- The labels that the path's constraint has for the enum cell with this number; none for any other
+-- cell.
 abbrev pub set_of : Path → ℕ → Option LabelSet
 set_of path c = set_in (slice_get path.when c)
 

@@ -22,6 +22,7 @@ abbrev pub is_chosen : Bool → Path → Bool
 is_chosen true path = has_ended path
 is_chosen false path = not (has_ended path)
 
+-- Those of the paths that have ended, or those that go on, in order.
 abbrev pub chosen : Bool → List Path → List Path
 chosen ended paths = filter (is_chosen ended) paths
 
@@ -66,6 +67,8 @@ pub record IsOver (old others : List Path) (limit : ℕ) : Type 0 where
   pub settling : IsSettling (chosen true old ++ others) new
   pub over : limit < length new
 
+-- What the old paths that have ended and others are settled to is the segment, within the limit, or
+-- the old segment is as it was, since the settled one is over the limit.
 abbrev pub IsExtendedBy : List Path → List Path → ℕ → Extension → Type 0
 IsExtendedBy old others limit (Fits new) =
     IsSettling (chosen true old ++ others) new × (length new ≤ limit)

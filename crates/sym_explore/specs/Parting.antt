@@ -18,6 +18,7 @@ those_going [] = []
 those_going (Going s ∷ os) = Going s ∷ those_going os
 those_going (outcome.Ended fault ∷ os) = those_going os
 
+-- The outcomes that have ended, in order.
 abbrev pub those_ended : List Outcome → List Outcome
 those_ended [] = []
 those_ended (Going s ∷ os) = those_ended os
@@ -30,12 +31,14 @@ those_true ((o, Some true) ∷ os) = o ∷ those_true os
 those_true ((o, Some false) ∷ os) = those_true os
 those_true ((o, None) ∷ os) = those_true os
 
+-- The outcomes on which a condition is false, in order.
 abbrev pub those_false : List (Outcome × Option Bool) → List Outcome
 those_false [] = []
 those_false ((o, Some true) ∷ os) = those_false os
 those_false ((o, Some false) ∷ os) = o ∷ those_false os
 those_false ((o, None) ∷ os) = those_false os
 
+-- The outcomes on which a condition has no truth, in order.
 abbrev pub those_failed : List (Outcome × Option Bool) → List Outcome
 those_failed [] = []
 those_failed ((o, Some true) ∷ os) = those_failed os
@@ -46,6 +49,7 @@ those_failed ((o, None) ∷ os) = o ∷ those_failed os
 abbrev pub at_state : ScriptPlan → List Path → State → List Outcome
 at_state p paths s = outcomes (test_truth p.tests) paths s
 
+-- Each of the paths goes on.
 abbrev pub AllGoOn : List Path → Type 0
 AllGoOn paths = All (λ (path : Path). GoesOn path.end) paths
 
@@ -56,6 +60,7 @@ pub record ArePartsAt (p : ScriptPlan) (meaning : Outcome → Outcome × Option 
   pub falses : at_state p falses_after s ≡ at_state p falses_before s ++ those_false (map meaning (at_state p old s))
   pub ended : at_state p ended_after s ≡ at_state p ended_before s ++ those_failed (map meaning (at_state p old s))
 
+-- A condition was tried on the old paths, at each state that at most one of them admits.
 abbrev pub AreParts :
     ScriptPlan → (Outcome → Outcome × Option Bool) → List Path → List Path → List Path → List Path →
     List Path → List Path → Type 0
@@ -69,6 +74,7 @@ pub record AreRunAt (p : ScriptPlan) (step : Outcome → Outcome) (old new ended
   pub going : at_state p new s ≡ those_going (map step (at_state p old s))
   pub ended : at_state p ended_after s ≡ at_state p ended_before s ++ those_ended (map step (at_state p old s))
 
+-- A step was run on the old paths, at each state that at most one of them admits.
 abbrev pub AreRun :
     ScriptPlan → (Outcome → Outcome) → List Path → List Path → List Path → List Path → Type 0
 AreRun p step old new ended_before ended_after = (s : State) →

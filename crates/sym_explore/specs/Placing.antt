@@ -26,6 +26,7 @@ use Rattle.sym_explore.specs.declared.placing.Place.{Place}
 use Rattle.sym_explore.specs.declared.placing.Place.TheVariants as place
 use Rattle.sym_explore.specs.declared.placing.Target.{Target}
 
+-- The number of the cell of a place: the cell itself, or the list cell whose end it is.
 abbrev pub place_cell : Place → ℕ
 place_cell (place.Cell c) = c
 place_cell (place.End c) = c
@@ -35,6 +36,7 @@ abbrev pub put_at : Place → ℤ → State → State
 put_at (place.Cell c) = with_int c
 put_at (place.End c) = with_pushed c
 
+-- The place is an integer cell of the script, or the end of one of its lists of numbers.
 abbrev pub PlaceFits : ScriptPlan → Place → Type 0
 PlaceFits p (place.Cell c) = IsIntCell p.cells c
 PlaceFits p (place.End c) = IsNumsCell p.cells c
@@ -73,6 +75,7 @@ abbrev pub IsConstant : IntForm → ℤ → Type 0
 IsConstant (number.Const n) x = n.value ≡ x
 IsConstant (number.Line line) x = ⊥
 
+-- The form is a constant in this span.
 abbrev pub IsConstantIn : Span → IntForm → Type 0
 IsConstantIn ends (number.Const n) = HasPoint ends n.value
 IsConstantIn ends (number.Line line) = ⊥

@@ -21,12 +21,17 @@ abbrev pub going_on : ℕ → (State → Result State FaultKind) → Outcome →
 going_on n part (Going s) = at_record n (part s)
 going_on n part (outcome.Ended fault) = outcome.Ended fault
 
+-- What an outcome becomes by a statement at the record with this number; one that has ended stays
+-- so.
 abbrev pub after_do : ScriptPlan → Environment → ℕ → DoPlan → Outcome → Outcome
 after_do p k n d = going_on n (do_step p k d)
 
+-- What an outcome becomes by statements, in order, at the record with this number; one that has
+-- ended stays so.
 abbrev pub after_dos : ScriptPlan → Environment → ℕ → DosPlan → Outcome → Outcome
 after_dos p k n ds = going_on n (dos_step p k ds)
 
+-- What an outcome becomes by a record: the step of the script, with its arguments in another order.
 abbrev pub step_by : ScriptPlan → Record → Outcome → Outcome
 step_by p rec o = step p o rec
 

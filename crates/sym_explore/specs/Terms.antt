@@ -61,6 +61,8 @@ int_form (Some (form.Hold f)) = None
 int_form (Some (form.Nums added)) = None
 int_form (Some (form.Words added)) = None
 
+-- The form that the path has of the integer cell with this number; none of any other cell, and
+-- after a fault.
 abbrev pub number_form : Path → ℕ → Option IntForm
 number_form path c = int_form (form_of path.end c)
 
@@ -72,6 +74,8 @@ span_in (Some (part.Span span)) = Some span
 span_in (Some (part.Facts known)) = None
 span_in (Some part.Free) = None
 
+-- The span that the path's constraint has for the integer cell with this number; none for any other
+-- cell.
 abbrev pub span_of : Path → ℕ → Option Span
 span_of path c = span_in (slice_get path.when c)
 
