@@ -262,7 +262,31 @@ fn other_lists_are_no_trace(rt: HostRuntime) -> Result<(), Fail> {
     all_hold(&rt, wrong_list(&rt, rt.alloc(), &NO_TRACES, USAGE))
 }
 
-const NONE: [&[&str]; 104] = [
+const NO_PARTS: [&[&str]; 16] = [
+    &["map"],
+    &["map", "s"],
+    &["map", "--first", "0", "s", "f"],
+    &["map", "--first", "10000000000", "s", "f"],
+    &["map", "--first", "-1", "s", "f"],
+    &["map", "--first", "1", "--first", "1", "s", "f"],
+    &["map", "--form", "table", "s", "f"],
+    &["map", "--every", "1", "s", "f"],
+    &["reduce"],
+    &["reduce", "s"],
+    &["reduce", "--first", "1", "s", "f"],
+    &["reduce", "--chunk", "1", "s", "f"],
+    &["reduce", "--workers", "1", "s", "f"],
+    &["reduce", "--max-bytes", "0", "s", "f"],
+    &["reduce", "--form", "html", "s", "f"],
+    &["run", "--first", "1", "s", "f"],
+];
+
+#[test]
+fn other_lists_are_no_map_or_reduce(rt: HostRuntime) -> Result<(), Fail> {
+    all_hold(&rt, wrong_list(&rt, rt.alloc(), &NO_PARTS, USAGE))
+}
+
+const NONE: [&[&str]; 102] = [
     &[],
     &[""],
     &["run"],
@@ -301,8 +325,6 @@ const NONE: [&[&str]; 104] = [
     &["make", "--form", "table", "5", "1"],
     &["make", "--max-bytes", "7", "5", "1"],
     &["make", "--print", "5", "1"],
-    &["map", "s", "f"],
-    &["reduce", "s", "f"],
     &["help"],
     &["help", "run"],
     &["-h"],

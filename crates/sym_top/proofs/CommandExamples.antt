@@ -1,8 +1,8 @@
 -- Lists of arguments, and the commands that they ask for.
 use Rattle.std.proofs.Common.{◌≡◌, [], ◌∷◌, Some, None, true, refl, codes}
 use Rattle.clap.proofs.OnLiterals.{clap_on_literals}
-use Rattle.sym_top.specs.CommandLines.{run_app, trace_app, check_app, make_app, matched}
-use Rattle.sym_top.specs.Commands.{Runs, Traces, Checks, Makes, command_in, run_of, trace_of, check_of, make_of, run_found, trace_found, check_found, make_found, run_options, options_found, files_found}
+use Rattle.sym_top.specs.CommandLines.{run_app, trace_app, check_app, make_app, map_app, reduce_app, matched}
+use Rattle.sym_top.specs.Commands.{Runs, Traces, Checks, Makes, Maps, Reduces, command_in, run_of, trace_of, check_of, make_of, map_of, reduce_of, run_found, trace_found, check_found, make_found, map_found, reduce_found, run_options, options_found, files_found}
 use Rattle.sym_top.specs.Numbers.{number_of}
 
 -- `run s f`
@@ -89,3 +89,28 @@ made = refl
 no_records : command_in (codes "make" ∷ codes "0" ∷ codes "1" ∷ []) ≡ None
 unfolding command_in make_of matched make_app make_found options_found number_of clap_on_literals
 no_records = refl
+
+-- `map s f --first 1001`
+summarised : command_in (codes "map" ∷ codes "s" ∷ codes "f" ∷ codes "--first" ∷ codes "1001" ∷ []) ≡ Some (Maps (record {
+  first = 1001;
+  options = record { chunk = 1024; limit = 16; workers = 4; max_bytes = 67108864 };
+  script = codes "s";
+  files = codes "f" ∷ [];
+}))
+unfolding command_in map_of matched map_app map_found run_options options_found files_found number_of clap_on_literals
+summarised = refl
+
+-- `map --first 0 s f`
+from_zero : command_in (codes "map" ∷ codes "--first" ∷ codes "0" ∷ codes "s" ∷ codes "f" ∷ []) ≡ None
+unfolding command_in map_of matched map_app map_found run_options options_found files_found number_of clap_on_literals
+from_zero = refl
+
+-- `reduce s f g`
+reported_on : command_in (codes "reduce" ∷ codes "s" ∷ codes "f" ∷ codes "g" ∷ []) ≡ Some (Reduces (record {
+  form = codes "table";
+  max_bytes = 67108864;
+  script = codes "s";
+  files = codes "f" ∷ codes "g" ∷ [];
+}))
+unfolding command_in reduce_of matched reduce_app reduce_found files_found number_of clap_on_literals
+reported_on = refl

@@ -6,6 +6,8 @@ use Rattle.sym_check.specs.declared.elaborate.error.CheckErr.{CheckErr}
 use Rattle.sym_engine.specs.declared.error.PassErr.{PassErr}
 use Rattle.sym_engine.specs.declared.error.PassErr.TheVariants as pass_error
 use Rattle.sym_engine.specs.Passing.{Holds, May, MayAll}
+use Rattle.sym_reduce.specs.declared.error.ReduceErr.{ReduceErr}
+use Rattle.sym_reduce.specs.declared.error.ReduceErr.TheVariants as reduce_error
 use Rattle.sym_lex.specs.declared.error.LexFault.{LexFault}
 use Rattle.sym_lex.specs.declared.error.LexFault.TheVariants as lex_fault
 use Rattle.sym_parse.specs.declared.error.ParseErr.{ParseErr}
@@ -18,14 +20,14 @@ use Rattle.sym_top.specs.declared.refusal.Refusal.{Refusal}
 use Rattle.sym_top.specs.declared.refusal.Refusal.TheVariants as refusal
 use Rattle.sym_top.specs.declared.status.Status.{Status}
 use Rattle.sym_top.specs.declared.status.Status.TheVariants as status
-use Rattle.sym_top.specs.Commands.{Command, Runs, Traces, Checks, Makes, FileNames, name_at, names_of}
-use Rattle.sym_top.specs.Ends.{End, whole_end, Refused, Reported, Said, Summed, Held, IsEnd, usage, no_program, problem, finished, IsWhole, script_of, status_of}
+use Rattle.sym_top.specs.Commands.{Command, ReadsNoRuns, Runs, Traces, Checks, Makes, Maps, Reduces, FileNames, name_at, names_of}
+use Rattle.sym_top.specs.Ends.{End, whole_end, Refused, Reported, Said, Summed, Mapped, Held, IsEnd, usage, no_program, problem, finished, run_problem, reduced, IsWhole, script_of, status_of}
 use Rattle.sym_top.specs.EndReading.{command_end}
 use Rattle.sym_top.specs.Loading.{Ready, Stops, failure_line}
 use Rattle.sym_top.specs.Messages.{line_of}
 use Rattle.sym_top.specs.Programs.{Program, IsNoProgram, too_large, unparsed, broken}
-use Rattle.sym_top.specs.Promises.{Call, Says, Leaves, IsUsage, call_line, call_names, MayScript, MayHold, TellsScript, Told, ReadFailed, IsStop, at_end, script_unread, file_unread, no_memory, IsUntouched, WriteFails, failed, short, IsCause, stopped, cut, Refuses, Wrote, line_told, text_written, Answers, Unless, IsReported, IsRefused, IsUnwritten, MustReport}
-use Rattle.sym_top.specs.Refusals.{status_of_refusal, parse_refusal, check_refusal, pass_refusal}
+use Rattle.sym_top.specs.Promises.{Call, Says, Leaves, IsUsage, call_line, call_names, MayScript, MayHold, TellsScript, Told, ReadFailed, IsStop, at_end, script_unread, file_unread, run_unread, no_memory, IsUntouched, WriteFails, failed, short, IsCause, stopped, cut, Refuses, Wrote, line_told, text_written, Answers, Unless, IsReported, IsRefused, IsUnwritten, MustReport}
+use Rattle.sym_top.specs.Refusals.{status_of_refusal, parse_refusal, check_refusal, pass_refusal, reduce_refusal}
 use Rattle.sym_top.specs.Telling.{Sunk, Has, Short, Tells}
 use Rattle.sym_top.proofs.EndsFound.{found, one_end}
 
@@ -37,6 +39,10 @@ refusal-refused (refusal.Script what at) = λ h. h
 refusal-refused (refusal.Branchy paths) = λ h. h
 refusal-refused (refusal.Head file what) = λ h. h
 refusal-refused (refusal.Bad file bad) = λ h. h
+refusal-refused (refusal.OtherScript file) = λ h. h
+refusal-refused (refusal.Malformed file) = λ h. h
+refusal-refused (refusal.Apart file) = λ h. h
+refusal-refused (refusal.Gap file group) = λ h. h
 refusal-refused (refusal.Read at) = λ h. h
 refusal-refused refusal.Write = λ h. h
 refusal-refused (refusal.TooLarge at) = λ h. h
@@ -51,6 +57,7 @@ whole-reported (Refused why) whole = absurd whole
 whole-reported (Reported form heads rows) whole = faulty-reported (some_faulty rows)
 whole-reported (Said text) whole = tt
 whole-reported (Summed records rows) whole = faulty-reported (some_faulty rows)
+whole-reported (Mapped program from limit records) whole = tt
 
 decided : (result : Status) → IsReported result ⊎ IsRefused result
 decided status.Done = inl tt
@@ -237,7 +244,9 @@ module _ (call : Call) (out err : Sunk) (result : Status) where
       (record { status_is = status_is; sinks = line_told why untouched line }))
   stop-expected held end _ is (script_unread unread) status_is untouched line =
       subst (λ s. Unless s (Answers call held end out err result)) (sym status_is) tt
-  stop-expected held end _ is (file_unread command program records number asked prog fine unread) status_is untouched line =
+  stop-expected held end _ is (file_unread command program records number asked prog own fine unread) status_is untouched line =
+      subst (λ s. Unless s (Answers call held end out err result)) (sym status_is) tt
+  stop-expected held end _ is (run_unread reduce program stop totals number asked prog are unread) status_is untouched line =
       subst (λ s. Unless s (Answers call held end out err result)) (sym status_is) tt
   stop-expected held end _ is no_memory status_is untouched line =
       subst (λ s. Unless s (Answers call held end out err result)) (sym status_is) tt
@@ -289,7 +298,9 @@ module _ (call : Call) (out err : Sunk) (result : Status) where
       result ≡ status.NoMemory
   stop-complete m _ (at_end why stop) status_is = absurd (never-whole m.held m.end why m.is_end m.whole stop)
   stop-complete m _ (script_unread unread) status_is = absurd (m.read place.Script unread)
-  stop-complete m _ (file_unread command program records number asked prog fine unread) status_is =
+  stop-complete m _ (file_unread command program records number asked prog own fine unread) status_is =
+      absurd (m.read (place.File number) unread)
+  stop-complete m _ (run_unread reduce program stop totals number asked prog are unread) status_is =
       absurd (m.read (place.File number) unread)
   stop-complete m _ no_memory status_is = status_is
 
@@ -312,7 +323,8 @@ module _ (call : Call) (out err : Sunk) (result : Status) where
   -- ---- arguments of no command
 
   usage-end : (held : Held) (end : End) → IsUsage call → IsEnd call.asked held end → Refused refusal.Usage ≡ end
-  usage-end held end none is = sym (ap (λ o. command_end call.asked o held) none) ∙ found call.asked held end is
+  usage-end held end none is =
+      sym (ap (λ o. command_end call.asked o held) none) ∙ found call.asked held end (subst ReadsNoRuns (sym none) tt) is
 
   usage-whole : {A : Type 0} (held : Held) (end : End) → IsUsage call → IsEnd call.asked held end → IsWhole end → A
   usage-whole held end none is whole = absurd (subst IsWhole (sym (usage-end held end none is)) whole)
@@ -330,7 +342,9 @@ module _ (call : Call) (out err : Sunk) (result : Status) where
       let cause : why ≡ refusal.Usage = cc in
       inl (status_is ∙ ap status_of_refusal cause)
   usage-stop held _ none (script_unread unread) status_is = absurd (unnamed place.Script none unread)
-  usage-stop held _ none (file_unread command program records number asked prog fine unread) status_is =
+  usage-stop held _ none (file_unread command program records number asked prog own fine unread) status_is =
+      absurd (unnamed (place.File number) none unread)
+  usage-stop held _ none (run_unread reduce program stop totals number asked prog are unread) status_is =
       absurd (unnamed (place.File number) none unread)
   usage-stop held _ none no_memory status_is = inr status_is
 
@@ -381,6 +395,15 @@ module _ (call : Call) (out err : Sunk) (result : Status) where
   pass-words (pass_error.Bad file bad) e = cc
   pass-words pass_error.NoMemory e = cc
 
+  reduce-words : (why : ReduceErr) → status_of_refusal (reduce_refusal why) ≡ status.Usage → ⊥
+  reduce-words (reduce_error.Read file) e = cc
+  reduce-words (reduce_error.TooLarge file) e = cc
+  reduce-words (reduce_error.OtherScript file) e = cc
+  reduce-words (reduce_error.Malformed file) e = cc
+  reduce-words (reduce_error.Apart file) e = cc
+  reduce-words (reduce_error.Gap file group) e = cc
+  reduce-words reduce_error.NoMemory e = cc
+
   program-words : (text : List ℕ) (why : Refusal) → IsNoProgram text why → status_of_refusal why ≡ status.Usage → ⊥
   program-words text _ (too_large large) e = cc
   program-words text _ (unparsed why small is) e = parse-words why e
@@ -391,17 +414,22 @@ module _ (call : Call) (out err : Sunk) (result : Status) where
   whole-words (Traces trace) program records e = fault-words _ e
   whole-words (Checks check) program records e = cc
   whole-words (Makes make) program records e = fault-words _ e
+  whole-words (Maps part) program records e = cc
+  whole-words (Reduces reduce) program records e = fault-words _ e
 
   end-words : (held : Held) (end : End) → IsEnd call.asked held end → status_of end ≡ status.Usage → IsUsage call
   end-words held _ (usage none) e = none
   end-words held _ (no_program command why asked is) e = absurd (program-words (script_of command held) why is e)
   end-words held _ (problem command program why asked is first) e = absurd (pass-words why e)
-  end-words held _ (finished command program records asked is fine) e = absurd (whole-words command program records e)
+  end-words held _ (finished command program records asked is own fine) e = absurd (whole-words command program records e)
+  end-words held _ (run_problem reduce program why asked is first) e = absurd (reduce-words why e)
+  end-words held _ (reduced reduce program stop totals asked is are) e = absurd (fault-words _ e)
 
   stop-words : (held : Held) (why : Refusal) → IsStop call held why → status_of_refusal why ≡ status.Usage → IsUsage call
   stop-words held _ (at_end why stop) e = end-words held (Refused why) stop e
   stop-words held _ (script_unread unread) e = cc
-  stop-words held _ (file_unread command program records number asked prog fine unread) e = cc
+  stop-words held _ (file_unread command program records number asked prog own fine unread) e = cc
+  stop-words held _ (run_unread reduce program stop totals number asked prog are unread) e = cc
   stop-words held _ no_memory e = cc
 
   cut-words : (text : List ℕ) (why : Refusal) → WriteFails out text why → status_of_refusal why ≡ status.Usage → ⊥

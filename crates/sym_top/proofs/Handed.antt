@@ -6,7 +6,7 @@ use Rattle.std.specs.Str.{bytes_eq}
 use Rattle.std.proofs.lemmas.List.Elements.{All-head, All-tail}
 use Rattle.sym_report.specs.Forms.{FormTexts, form_named}
 use Rattle.sym_table.specs.Reading.{Row}
-use Rattle.sym_top.specs.Commands.{asks, Command, Form, Run, Runs, Trace, Traces, command_in, command_of, form_of, forms_of, handed, is_handed, no_texts, texts_of}
+use Rattle.sym_top.specs.Commands.{asks, Command, Form, Reduce, Reduces, Run, Runs, Trace, Traces, command_in, command_of, form_of, forms_of, handed, is_handed, no_texts, texts_of}
 
 module _ {F : Type 0} (called : F → List ℕ) (texts : F → FormTexts) where
   abbrev form_seen : F → Form
@@ -57,6 +57,14 @@ module _ {F : Type 0} (called : F → List ℕ) (texts : F → FormTexts) where
   pub trace-unhanded : (words : List (List ℕ)) (forms : List F) (shown : Row → Row) (trace : Trace) → command_in words ≡ Some (Traces trace) →
       form_named called trace.form forms ≡ None → command_of (asks words (forms_of called texts forms) shown) ≡ None
   trace-unhanded words forms shown trace asked named = form-asked words forms shown (Traces trace) trace.form None asked refl named
+
+  pub reduce-handed : (words : List (List ℕ)) (forms : List F) (shown : Row → Row) (reduce : Reduce) (form : F) → command_in words ≡ Some (Reduces reduce) →
+      form_named called reduce.form forms ≡ Some form → command_of (asks words (forms_of called texts forms) shown) ≡ Some (Reduces reduce)
+  reduce-handed words forms shown reduce form asked named = form-asked words forms shown (Reduces reduce) reduce.form (Some form) asked refl named
+
+  pub reduce-unhanded : (words : List (List ℕ)) (forms : List F) (shown : Row → Row) (reduce : Reduce) → command_in words ≡ Some (Reduces reduce) →
+      form_named called reduce.form forms ≡ None → command_of (asks words (forms_of called texts forms) shown) ≡ None
+  reduce-unhanded words forms shown reduce asked named = form-asked words forms shown (Reduces reduce) reduce.form None asked refl named
 
 here-or-later : {F : Type 0} (P : F → Type 0) (first form : F) (later : Option F) (b : Bool) → P first →
     (later ≡ Some form → P form) → cond b (Some first) later ≡ Some form → P form

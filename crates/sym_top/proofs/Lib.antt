@@ -1,3 +1,4 @@
+pub mod Bounds
 mod CommandExamples
 pub mod Consequences
 pub mod EndsFound
@@ -5,11 +6,14 @@ pub mod Handed
 mod MadeExamples
 pub mod MadeLines
 pub mod Matching
+pub mod MappedTexts
 mod MessageExamples
 pub mod Numerals
+pub mod PartsReported
 pub mod PassKeys
 pub mod Preparing
 pub mod ProgramsFound
+pub mod ReducedEnds
 pub mod Rows
 mod SummaryExamples
 pub mod TellingLemmas

@@ -6,7 +6,7 @@ use Rattle.clap.specs.Faults.{is_simple_and_free}
 use Rattle.clap.specs.declared.error.Error.{Error}
 use Rattle.clap.specs.declared.error.kind.ErrorKind.{ErrorKind}
 use Rattle.clap.specs.declared.error.kind.ErrorKind.TheVariants as kind
-use Rattle.sym_top.specs.CommandLines.{run_app, trace_app, check_app, make_app, matched}
+use Rattle.sym_top.specs.CommandLines.{run_app, trace_app, check_app, make_app, map_app, reduce_app, matched}
 use Rattle.sym_top.specs.Commands.{command_in, command_by}
 
 pub run-free : is_simple_and_free run_app ≡ true
@@ -24,6 +24,14 @@ check-free = refl
 pub make-free : is_simple_and_free make_app ≡ true
 unfolding make_app
 make-free = refl
+
+pub map-free : is_simple_and_free map_app ≡ true
+unfolding map_app
+map-free = refl
+
+pub reduce-free : is_simple_and_free reduce_app ≡ true
+unfolding reduce_app
+reduce-free = refl
 
 left : (a b : Bool) → (a && b) ≡ true → a ≡ true
 left true b e = refl

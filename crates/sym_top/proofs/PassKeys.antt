@@ -19,7 +19,7 @@ file-records : (p : ScriptPlan) (rules : FileRules) (first_no : ℕ) (bytes : Li
 file-records p rules first_no bytes _ well (empty small none) = All-nil (IsRecord p)
 file-records p rules first_no bytes _ well (filled row rows header records small are is have) = records_are p header first_no rows records well have
 
-fine-records : (p : ScriptPlan) (rules : FileRules) (first_no : ℕ) (files : List (List ℕ)) (records : List Record) → IsWellFormed p →
+pub fine-records : (p : ScriptPlan) (rules : FileRules) (first_no : ℕ) (files : List (List ℕ)) (records : List Record) → IsWellFormed p →
     AllFine p rules first_no files records → All (IsRecord p) records
 fine-records p rules first_no _ _ well (no_file n) = All-nil (IsRecord p)
 fine-records p rules first_no _ _ well (one_more n bytes files records others is rest) =

@@ -22,7 +22,11 @@ use Rattle.sym_engine.specs.declared.error.PassErr.{PassErr}
 use Rattle.sym_engine.specs.declared.error.PassErr.TheVariants as pass_error
 use Rattle.sym_engine.specs.FileRecords.{FileRules, rules_of}
 use Rattle.sym_engine.specs.FirstProblems.{AllFine, FirstProblem, no_file}
-use Rattle.sym_engine.specs.Passing.{AllRead, Holds, Counts, May, MayAll, PassedAll, HasFirstProblem, StopsPass}
+use Rattle.sym_engine.specs.Passing.{AllRead, Holds, Counts, May, MayAll, PassedAll, HasFirstProblem, StopsFrom, StopsPass}
+use Rattle.sym_parse.specs.Printed.{script_text}
+use Rattle.sym_reduce.specs.declared.error.ReduceErr.{ReduceErr}
+use Rattle.sym_reduce.specs.declared.error.ReduceErr.TheVariants as reduce_error
+use Rattle.sym_reduce.specs.Reducing.{HasFirstRunProblem, Pairs, ReducedAll, StopsReduce}
 use Rattle.sym_report.specs.Forms.{FormTexts, report_text}
 use Rattle.sym_report.specs.ReportRows.{heads_of, row_of, some_faulty}
 use Rattle.sym_table.specs.Reading.{Row}
@@ -34,23 +38,25 @@ use Rattle.sym_top.specs.declared.status.Status.TheVariants as status
 use Rattle.sym_top.specs.declared.commands.Command.{Command as CommandRead}
 use Rattle.sym_trace.specs.TraceReports.{trace_heads, trace_rows}
 use Rattle.sym_trace.specs.Tracing.{IsTraceReport}
-use Rattle.sym_top.specs.Commands.{Runs, Traces, Checks, Makes, FileNames, command_of, file_rules, name_at, names_of, shown_names, texts_of}
-use Rattle.sym_top.specs.Ends.{End, Held, IsWhole, status_of, IsTextOf, report_in, said, summed, usage, no_program, problem, finished, script_of, files_of, report_of, trace_report_of, rows_of, rows_status, said_of, whole_end}
-use Rattle.sym_top.specs.Loading.{MayRefuse, Loads, Unloads, refused, unread, no_memory, Passed, StopsRecords, first, no_more, Reports, StopsFiles, stops, Ready, Stops}
+use Rattle.sym_top.specs.Commands.{Runs, Traces, Checks, Makes, Maps, Reduces, FileNames, ReadsRecords, command_of, file_rules, first_no, name_at, names_of, shown_names, texts_of}
+use Rattle.sym_top.specs.Ends.{End, Held, IsWhole, status_of, IsTextOf, report_in, said, summed, mapped, usage, no_program, problem, finished, run_problem, reduced, script_of, files_of, group_rows, groups_end, report_of, trace_report_of, rows_of, rows_status, said_of, whole_end}
+use Rattle.sym_top.specs.Loading.{MayRefuse, Loads, Unloads, refused, unread, no_memory, Passed, StopsRecords, first, no_more, Reports, MapsFiles, StopsFiles, stops, ReportsRuns, StopsRuns, stops_runs, Ready, Stops}
 use Rattle.sym_top.specs.Making.{made_file, made_script}
 use Rattle.sym_top.specs.Messages.{headers_of, line_of}
 use Rattle.sym_top.specs.Programs.{Program, IsProgram, IsNoProgram, checked_program, program_headers, headers_in}
 use Rattle.sym_top.specs.Programs as programs
 use Rattle.sym_top.specs.Promises.{Call, MayHold, MayScript, ReadFailed, IsStop, WriteFails, call_line, call_names, call_script}
 use Rattle.sym_top.specs.Promises as promise
-use Rattle.sym_top.specs.Refusals.{parse_refusal, check_refusal, read_refusal, pass_refusal, write_refusal}
+use Rattle.sym_top.specs.Refusals.{parse_refusal, check_refusal, read_refusal, pass_refusal, reduce_refusal, write_refusal}
 use Rattle.sym_top.specs.Summaries.{summary_text}
 use Rattle.sym_top.specs.declared.commands.Command.TheVariants as command
 use Rattle.sym_top.specs.declared.commands.Run.{Run as RunRead}
 use Rattle.sym_top.specs.declared.commands.Trace.{Trace as TraceRead}
 use Rattle.sym_top.specs.declared.commands.Check.{Check as CheckRead}
 use Rattle.sym_top.specs.declared.commands.Make.{Make as MakeRead}
-use Rattle.sym_top.specs.Words.{command_seen, run_seen, trace_seen, check_seen, make_seen}
+use Rattle.sym_top.specs.declared.commands.Map.{Map as MapRead}
+use Rattle.sym_top.specs.declared.commands.Reduce.{Reduce as ReduceRead}
+use Rattle.sym_top.specs.Words.{command_seen, run_seen, trace_seen, check_seen, make_seen, map_seen, reduce_seen}
 use Rattle.sym_top.specs.Telling.{Sunk, HasPrefix, Failed, Short}
 use Rattle.sym_top.proofs.ProgramsFound.{parsed-unparsed, program-found, none-found}
 
@@ -270,14 +276,15 @@ module _ (call : Call) (read : CommandRead) (asked : command_of call.asked ≡ S
 
   pub whole-ready : (held : Held) (program : Program) (records : List Record) (status : Status) (text : List ℕ) → MayHold call held →
       IsProgram (script_of (command_seen read) held) program →
-      AllFine program.plan (file_rules call.asked (command_seen read)) 1 (files_of (command_seen read) held) records →
+      ReadsRecords (command_seen read) →
+      AllFine program.plan (file_rules call.asked (command_seen read)) (first_no (command_seen read)) (files_of (command_seen read) held) records →
       IsWholeEnd (whole_end call.asked (command_seen read) program records) status text → Ready call status text
-  whole-ready held program records status text may is fine end = record {
+  whole-ready held program records status text may is reads fine end = record {
     held = held;
     may = may;
     has = record {
       end = whole_end call.asked (command_seen read) program records;
-      is_end = finished (command_seen read) program records asked is fine;
+      is_end = finished (command_seen read) program records asked is reads fine;
       whole = end.whole;
       status_is = end.status_is;
       text_is = end.text_is;
@@ -322,7 +329,7 @@ module _ (call : Call) (read : CommandRead) (asked : command_of call.asked ≡ S
 
 module _ (call : Call) (read : CommandRead) (asked : command_of call.asked ≡ Some (command_seen read)) (name : List ℕ) (names : List (List ℕ))
     (named : names_of (Some (command_seen read)) ≡ record { script = Some name; files = names })
-    (own : (held : Held) → script_of (command_seen read) held ≡ held.script) (its : (held : Held) → files_of (command_seen read) held ≡ held.files) where
+    (own : (held : Held) → script_of (command_seen read) held ≡ held.script) where
   script-named : (names_of (Some (command_seen read))).script ≡ Some name
   script-named = ap (λ (ns : FileNames). ns.script) named
 
@@ -346,17 +353,6 @@ module _ (call : Call) (read : CommandRead) (asked : command_of call.asked ≡ S
   own-program : (held : Held) (program : Program) → IsProgram held.script program → IsProgram (script_of (command_seen read) held) program
   own-program held program is = subst (λ (text : List ℕ). IsProgram text program) (sym (own held)) is
 
-  pub reading-ready : (program : Program) (status : Status) (text : List ℕ) → Loads (call.holds name) program →
-      ((records : List Record) → IsWhole (whole_end call.asked (command_seen read) program records)) →
-      Reports (whole_end call.asked (command_seen read) program) program (file_rules call.asked (command_seen read)) call.holds names status text →
-      Ready call status text
-  reading-ready program status text loads whole reports =
-      let held : Held = record { script = loads.text; files = reports.files } in
-      whole-ready call read asked held program reports.records status text (reading-may held loads.may reports.may)
-      (own-program held program loads.is_program)
-      (subst (λ (fs : List (List ℕ)). AllFine program.plan (file_rules call.asked (command_seen read)) 1 fs reports.records) (sym (its held)) reports.fine)
-      (record { whole = whole reports.records; status_is = reports.status_is; text_is = reports.text_is })
-
   -- What stops it after its script was accepted.
   module _ (checked : Checked) (middle : Counts) (lower : (file : List ℕ) → call.before file ≤ middle file)
       (loads : Loads (call.holds name) (checked_program checked)) where
@@ -367,25 +363,46 @@ module _ (call : Call) (read : CommandRead) (asked : command_of call.asked ≡ S
         let held : Held = record { script = loads.text; files = files } in
         known-stops call read asked held checked why (reading-may held loads.may may) (own-program held (checked_program checked) loads.is_program) stop
 
+-- ---- a command that reads files of records
+
+module _ (call : Call) (read : CommandRead) (asked : command_of call.asked ≡ Some (command_seen read)) (name : List ℕ) (names : List (List ℕ))
+    (named : names_of (Some (command_seen read)) ≡ record { script = Some name; files = names })
+    (own : (held : Held) → script_of (command_seen read) held ≡ held.script) (reads : ReadsRecords (command_seen read))
+    (its : (held : Held) → files_of (command_seen read) held ≡ held.files) where
+  pub reading-ready : first_no (command_seen read) ≡ 1 → (program : Program) (status : Status) (text : List ℕ) → Loads (call.holds name) program →
+      ((records : List Record) → IsWhole (whole_end call.asked (command_seen read) program records)) →
+      Reports (whole_end call.asked (command_seen read) program) program (file_rules call.asked (command_seen read)) call.holds names status text →
+      Ready call status text
+  reading-ready one program status text loads whole reports =
+      let held : Held = record { script = loads.text; files = reports.files } in
+      whole-ready call read asked held program reports.records status text (reading-may call read asked name names named own held loads.may reports.may)
+      (own-program call read asked name names named own held program loads.is_program) reads
+      (subst (λ (no : ℕ). AllFine program.plan (file_rules call.asked (command_seen read)) no (files_of (command_seen read) held) reports.records) (sym one)
+      (subst (λ (fs : List (List ℕ)). AllFine program.plan (file_rules call.asked (command_seen read)) 1 fs reports.records) (sym (its held)) reports.fine))
+      (record { whole = whole reports.records; status_is = reports.status_is; text_is = reports.text_is })
+
+  -- What stops it after its script was accepted.
+  module _ (checked : Checked) (middle : Counts) (lower : (file : List ℕ) → call.before file ≤ middle file)
+      (loads : Loads (call.holds name) (checked_program checked)) where
     problem-stops : (why : PassErr) →
-        HasFirstProblem (checked_program checked).plan (file_rules call.asked (command_seen read)) call.holds names 1 why →
+        HasFirstProblem (checked_program checked).plan (file_rules call.asked (command_seen read)) call.holds names (first_no (command_seen read)) why →
         Stops call (record { why = pass_refusal why; command = Some read; checked = Some checked })
     problem-stops why s =
         let held : Held = record { script = loads.text; files = s.files } in
-        known (pass_refusal why) s.files s.may
+        known call read asked name names named own checked middle lower loads (pass_refusal why) s.files s.may
         (promise.at_end (pass_refusal why)
-        (problem (command_seen read) (checked_program checked) why asked (own-program held (checked_program checked) loads.is_program)
-        (subst (λ (fs : List (List ℕ)). FirstProblem (checked_program checked).plan (file_rules call.asked (command_seen read)) 0 1 fs why) (sym (its held)) s.problem)))
+        (problem (command_seen read) (checked_program checked) why asked (own-program call read asked name names named own held (checked_program checked) loads.is_program)
+        (subst (λ (fs : List (List ℕ)). FirstProblem (checked_program checked).plan (file_rules call.asked (command_seen read)) 0 (first_no (command_seen read)) fs why) (sym (its held)) s.problem)))
 
     pub reading-error-stops : (why : PassErr) →
-        StopsPass (checked_program checked).plan (file_rules call.asked (command_seen read)) call.holds names middle call.after why →
+        StopsFrom (first_no (command_seen read)) (checked_program checked).plan (file_rules call.asked (command_seen read)) call.holds names middle call.after why →
         Stops call (record { why = pass_refusal why; command = Some read; checked = Some checked })
     reading-error-stops (pass_error.Read file) s =
         let held : Held = record { script = loads.text; files = s.files } in
-        known (refusal.Read (place.File file)) s.files s.may
+        known call read asked name names named own checked middle lower loads (refusal.Read (place.File file)) s.files s.may
         (promise.file_unread (command_seen read) (checked_program checked) s.records file asked
-        (own-program held (checked_program checked) loads.is_program) s.fine
-        (file-failed file s.name s.named (omega (arith, lower s.name, s.rose))))
+        (own-program call read asked name names named own held (checked_program checked) loads.is_program) reads s.fine
+        (file-failed call read asked name names named own file s.name s.named (omega (arith, lower s.name, s.rose))))
     reading-error-stops (pass_error.TooLarge file) s = problem-stops (pass_error.TooLarge file) s
     reading-error-stops (pass_error.Head file fault) s = problem-stops (pass_error.Head file fault) s
     reading-error-stops (pass_error.Bad file bad) s = problem-stops (pass_error.Bad file bad) s
@@ -397,23 +414,23 @@ module _ (call : Call) (read : RunRead) (asked : command_of call.asked ≡ Some 
   pub run-load-stops : (why : Refusal) → Unloads (call.holds read.script.now) (call.before read.script.now) (call.after read.script.now) why →
       Stops call (record { why = why; command = Some (command.Run read); checked = None })
   run-load-stops =
-      reading-load-stops call (command.Run read) asked read.script.now (run_seen read).files refl (λ held. refl) (λ held. refl)
+      reading-load-stops call (command.Run read) asked read.script.now (run_seen read).files refl (λ held. refl)
 
   pub run-ready : (program : Program) (status : Status) (text : List ℕ) → Loads (call.holds read.script.now) program →
       Reports (report_of (texts_of call.asked.forms read.form.now) program) program (file_rules call.asked (Runs (run_seen read))) call.holds (run_seen read).files status text →
       Ready call status text
   run-ready program status text loads reports =
-      reading-ready call (command.Run read) asked read.script.now (run_seen read).files refl (λ held. refl) (λ held. refl)
+      reading-ready call (command.Run read) asked read.script.now (run_seen read).files refl (λ held. refl) tt (λ held. refl) refl
       program status text loads (λ records. tt) reports
 
   -- What stops it after its script was accepted.
   module _ (checked : Checked) (middle : Counts) (lower : (name : List ℕ) → call.before name ≤ middle name)
       (loads : Loads (call.holds read.script.now) (checked_program checked)) where
     pub run-files-stop : (why : Refusal) →
-        StopsFiles (checked_program checked) (file_rules call.asked (Runs (run_seen read))) call.holds (run_seen read).files middle call.after why →
+        StopsFiles 1 (checked_program checked) (file_rules call.asked (Runs (run_seen read))) call.holds (run_seen read).files middle call.after why →
         Stops call (record { why = why; command = Some (command.Run read); checked = Some checked })
     run-files-stop _ (stops why s) =
-        reading-error-stops call (command.Run read) asked read.script.now (run_seen read).files refl (λ held. refl) (λ held. refl)
+        reading-error-stops call (command.Run read) asked read.script.now (run_seen read).files refl (λ held. refl) tt (λ held. refl)
         checked middle lower loads why s
 
 -- ---- a trace
@@ -422,13 +439,13 @@ module _ (call : Call) (read : TraceRead) (asked : command_of call.asked ≡ Som
   pub trace-load-stops : (why : Refusal) → Unloads (call.holds read.script.now) (call.before read.script.now) (call.after read.script.now) why →
       Stops call (record { why = why; command = Some (command.Trace read); checked = None })
   trace-load-stops =
-      reading-load-stops call (command.Trace read) asked read.script.now (trace_seen read).files refl (λ held. refl) (λ held. refl)
+      reading-load-stops call (command.Trace read) asked read.script.now (trace_seen read).files refl (λ held. refl)
 
   pub trace-ready : (program : Program) (status : Status) (text : List ℕ) → Loads (call.holds read.script.now) program →
       Reports (trace_report_of (texts_of call.asked.forms read.form.now) program read.every) program (file_rules call.asked (Traces (trace_seen read))) call.holds (trace_seen read).files status text →
       Ready call status text
   trace-ready program status text loads reports =
-      reading-ready call (command.Trace read) asked read.script.now (trace_seen read).files refl (λ held. refl) (λ held. refl)
+      reading-ready call (command.Trace read) asked read.script.now (trace_seen read).files refl (λ held. refl) tt (λ held. refl) refl
       program status text loads (λ records. tt) reports
 
   -- What stops it after its script was accepted.
@@ -439,8 +456,126 @@ module _ (call : Call) (read : TraceRead) (asked : command_of call.asked ≡ Som
         Stops call (record { why = why; command = Some (command.Trace read); checked = Some checked })
     trace-files-stop why cause is s =
         subst (λ (w : Refusal). Stops call (record { why = w; command = Some (command.Trace read); checked = Some checked })) (sym is)
-        (reading-error-stops call (command.Trace read) asked read.script.now (trace_seen read).files refl (λ held. refl) (λ held. refl)
+        (reading-error-stops call (command.Trace read) asked read.script.now (trace_seen read).files refl (λ held. refl) tt (λ held. refl)
         checked middle lower loads cause s)
+
+-- ---- a summary
+
+module _ (call : Call) (read : MapRead) (asked : command_of call.asked ≡ Some (Maps (map_seen read))) where
+  pub map-load-stops : (why : Refusal) → Unloads (call.holds read.script.now) (call.before read.script.now) (call.after read.script.now) why →
+      Stops call (record { why = why; command = Some (command.Map read); checked = None })
+  map-load-stops = reading-load-stops call (command.Map read) asked read.script.now (map_seen read).files refl (λ held. refl)
+
+  pub map-ready : (program : Program) (text : List ℕ) → Loads (call.holds read.script.now) program →
+      MapsFiles program (file_rules call.asked (Maps (map_seen read))) call.holds (map_seen read).files read.first read.options.limit text →
+      Ready call status.Done text
+  map-ready program text loads maps =
+      let held : Held = record { script = loads.text; files = maps.files } in
+      whole-ready call (command.Map read) asked held program maps.records status.Done text
+      (reading-may call (command.Map read) asked read.script.now (map_seen read).files refl (λ h. refl) held loads.may maps.may) loads.is_program tt maps.fine
+      (record { whole = tt; status_is = refl; text_is = mapped program read.first read.options.limit maps.records text maps.stands })
+
+  -- What stops it after its script was accepted.
+  module _ (checked : Checked) (middle : Counts) (lower : (name : List ℕ) → call.before name ≤ middle name)
+      (loads : Loads (call.holds read.script.now) (checked_program checked)) where
+    pub map-files-stop : (why : Refusal) →
+        StopsFiles read.first (checked_program checked) (file_rules call.asked (Maps (map_seen read))) call.holds (map_seen read).files middle call.after why →
+        Stops call (record { why = why; command = Some (command.Map read); checked = Some checked })
+    map-files-stop _ (stops why s) =
+        reading-error-stops call (command.Map read) asked read.script.now (map_seen read).files refl (λ held. refl) tt (λ held. refl)
+        checked middle lower loads why s
+
+-- The same of equal names, by equal rules, over a store that tells the same.
+pub maps-along : (program : Program) (rules likewise : FileRules) (holds told : Holds) (names words : List (List ℕ)) (from limit : ℕ) (text : List ℕ) →
+    likewise ≡ rules → holds ≡ told → names ≡ words → MapsFiles program rules holds names from limit text → MapsFiles program likewise told words from limit text
+maps-along program rules likewise holds told names words from limit text ruled stores same m =
+    subst (λ rs. MapsFiles program rs told words from limit text) (sym ruled)
+    (subst (λ h. MapsFiles program rules h words from limit text) stores
+    (subst (λ ns. MapsFiles program rules holds ns from limit text) same m))
+
+-- ---- a report on saved runs
+
+module _ (call : Call) (read : ReduceRead) (asked : command_of call.asked ≡ Some (Reduces (reduce_seen read))) where
+  pub reduce-load-stops : (why : Refusal) → Unloads (call.holds read.script.now) (call.before read.script.now) (call.after read.script.now) why →
+      Stops call (record { why = why; command = Some (command.Reduce read); checked = None })
+  reduce-load-stops = reading-load-stops call (command.Reduce read) asked read.script.now (reduce_seen read).files refl (λ held. refl)
+
+  pub reduce-ready : (program : Program) (status : Status) (text : List ℕ) → Loads (call.holds read.script.now) program →
+      ReportsRuns (texts_of call.asked.forms read.form.now) program read.max_bytes call.holds (reduce_seen read).files status text →
+      Ready call status text
+  reduce-ready program status text loads reports =
+      let held : Held = record { script = loads.text; files = reports.files } in
+      record {
+        held = held;
+        may = reading-may call (command.Reduce read) asked read.script.now (reduce_seen read).files refl (λ h. refl) held loads.may reports.may;
+        has = record {
+          end = groups_end (texts_of call.asked.forms read.form.now) program reports.totals;
+          is_end = reduced (reduce_seen read) program reports.end reports.totals asked loads.is_program reports.reduced;
+          whole = tt;
+          status_is = reports.status_is;
+          text_is = reports.text_is;
+        };
+      }
+
+  -- What stops it after its script was accepted.
+  module _ (checked : Checked) (middle : Counts) (lower : (name : List ℕ) → call.before name ≤ middle name)
+      (loads : Loads (call.holds read.script.now) (checked_program checked)) where
+    runs-known : (why : Refusal) (files : List (List ℕ)) → MayAll call.holds (reduce_seen read).files files →
+        IsStop call (record { script = loads.text; files = files }) why →
+        Stops call (record { why = why; command = Some (command.Reduce read); checked = Some checked })
+    runs-known = known call (command.Reduce read) asked read.script.now (reduce_seen read).files refl (λ held. refl) checked middle lower loads
+
+    run-problem-stops : (why : ReduceErr) →
+        HasFirstRunProblem (script_text (checked_program checked).tree) (checked_program checked).plan read.max_bytes call.holds (reduce_seen read).files why →
+        Stops call (record { why = reduce_refusal why; command = Some (command.Reduce read); checked = Some checked })
+    run-problem-stops why s =
+        runs-known (reduce_refusal why) s.files s.may
+        (promise.at_end (reduce_refusal why) (run_problem (reduce_seen read) (checked_program checked) why asked loads.is_program s.problem))
+
+    run-error-stops : (why : ReduceErr) →
+        StopsReduce (script_text (checked_program checked).tree) (checked_program checked).plan read.max_bytes call.holds (reduce_seen read).files middle call.after why →
+        Stops call (record { why = reduce_refusal why; command = Some (command.Reduce read); checked = Some checked })
+    run-error-stops (reduce_error.Read file) s =
+        runs-known (refusal.Read (place.File file)) s.files s.may
+        (promise.run_unread (reduce_seen read) (checked_program checked) s.end s.totals file asked loads.is_program s.reduced
+        (file-failed call (command.Reduce read) asked read.script.now (reduce_seen read).files refl (λ held. refl) file s.name s.named (omega (arith, lower s.name, s.rose))))
+    run-error-stops (reduce_error.TooLarge file) s = run-problem-stops (reduce_error.TooLarge file) s
+    run-error-stops (reduce_error.OtherScript file) s = run-problem-stops (reduce_error.OtherScript file) s
+    run-error-stops (reduce_error.Malformed file) s = run-problem-stops (reduce_error.Malformed file) s
+    run-error-stops (reduce_error.Apart file) s = run-problem-stops (reduce_error.Apart file) s
+    run-error-stops (reduce_error.Gap file group) s = run-problem-stops (reduce_error.Gap file group) s
+    run-error-stops reduce_error.NoMemory s = memory-out call (command.Reduce read) asked (Some checked)
+
+    pub reduce-files-stop : (why : Refusal) →
+        StopsRuns (checked_program checked) read.max_bytes call.holds (reduce_seen read).files middle call.after why →
+        Stops call (record { why = why; command = Some (command.Reduce read); checked = Some checked })
+    reduce-files-stop _ (stops_runs why s) = run-error-stops why s
+
+-- What is written of totals.
+pub runs-by : (form : FormTexts) (program : Program) (max_bytes : ℕ) (holds : Holds) (names : List (List ℕ)) (totals : Pairs) (faulty : Bool) (made : Status) (text : List ℕ) →
+    ReducedAll (script_text program.tree) program.plan max_bytes holds names totals →
+    text ≡ report_text form (heads_of program.tree program.plan) (map (row_of program.tree program.plan) totals) →
+    faulty ≡ some_faulty (map (row_of program.tree program.plan) totals) →
+    made ≡ (if faulty then status.Faulted else status.Done) →
+    ReportsRuns form program max_bytes holds names made text
+runs-by form program max_bytes holds names totals faulty made text all text_is faulty_is made_is = record {
+  files = all.files;
+  may = all.may;
+  end = all.end;
+  totals = totals;
+  reduced = all.reduced;
+  status_is = made_is ∙ ap (λ b. if b then status.Faulted else status.Done) faulty_is;
+  text_is = subst (IsTextOf (groups_end form program totals)) (sym text_is)
+      (report_in form (heads_of program.tree program.plan) (group_rows program totals));
+}
+
+-- The same of equal names, in an equal form, over a store that tells the same.
+pub runs-along : (form other : FormTexts) (program : Program) (max_bytes : ℕ) (holds told : Holds) (names words : List (List ℕ)) (made : Status) (text : List ℕ) →
+    other ≡ form → holds ≡ told → names ≡ words → ReportsRuns form program max_bytes holds names made text → ReportsRuns other program max_bytes told words made text
+runs-along form other program max_bytes holds told names words made text forms stores same r =
+    subst (λ f. ReportsRuns f program max_bytes told words made text) (sym forms)
+    (subst (λ h. ReportsRuns form program max_bytes h words made text) stores
+    (subst (λ ns. ReportsRuns form program max_bytes holds ns made text) same r))
 
 -- ---- a check
 
@@ -454,7 +589,7 @@ module _ (call : Call) (read : CheckRead) (asked : command_of call.asked ≡ Som
   check-ready program text loads text_is =
       let held : Held = record { script = loads.text; files = [] } in
       whole-ready call (command.Check read) asked held program [] status.Done text
-      (may-by call (command.Check read) asked read.script.now refl (λ h. refl) held loads.may tt) loads.is_program (no_file 1)
+      (may-by call (command.Check read) asked read.script.now refl (λ h. refl) held loads.may tt) loads.is_program tt (no_file 1)
       (record { whole = tt; status_is = refl; text_is = subst (IsTextOf (whole_end call.asked (Checks (check_seen read)) program [])) (sym text_is) (said (said_of read.print program)) })
 
 -- ---- a making
@@ -499,7 +634,7 @@ module _ (call : Call) (read : MakeRead) (asked : command_of call.asked ≡ Some
         let program = checked_program checked in
         let rows = map (row_of program.tree program.plan) in
         let fine = subst (λ rules. AllFine program.plan rules 1 (made_file read.records read.seed ∷ []) passed.records) made-rules passed.fine in
-        whole-ready call (command.Make read) asked (record { script = []; files = [] }) program passed.records status text make-may is fine
+        whole-ready call (command.Make read) asked (record { script = []; files = [] }) program passed.records status text make-may is tt fine
         (record {
           whole = tt;
           status_is = status_is ∙ ap (λ gs. rows_status (rows gs)) passed.stands;

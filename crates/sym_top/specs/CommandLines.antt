@@ -62,6 +62,20 @@ make_app =
     let counted = with_rule (with_pass_options (bare_app own.MAKE_NAME.now)) (word_rule own.RECORDS_NAME.now) in
     with_rule counted (word_rule own.SEED_NAME.now)
 
+-- `map [--first N] [--chunk N] [--limit N] [--workers N] [--max-bytes N] SCRIPT FILE...`
+unfoldable pub map_app : App
+map_app =
+    let numbered = with_rule (bare_app own.MAP_NAME.now) (option_rule own.FIRST_NAME.now) in
+    let sized = with_rule (with_pass_options numbered) (option_rule own.MAX_BYTES_NAME.now) in
+    with_rule (with_rule sized (word_rule own.SCRIPT_NAME.now)) (words_rule own.FILES_NAME.now)
+
+-- `reduce [--form NAME] [--max-bytes N] SCRIPT FILE...`
+unfoldable pub reduce_app : App
+reduce_app =
+    let formed = with_rule (bare_app own.REDUCE_NAME.now) (option_rule own.FORM_NAME.now) in
+    let sized = with_rule formed (option_rule own.MAX_BYTES_NAME.now) in
+    with_rule (with_rule sized (word_rule own.SCRIPT_NAME.now)) (words_rule own.FILES_NAME.now)
+
 -- What `clap` finds for each argument of a command, where it takes the words.
 unfoldable pub matched : App → List Text → Option (List Row)
 matched app words =

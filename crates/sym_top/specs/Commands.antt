@@ -14,7 +14,7 @@ use Rattle.sym_report.specs.Forms.{FormTexts, form_named}
 use Rattle.sym_top.specs.declared.numbers.NumberOption.{NumberOption}
 use Rattle.sym_top.specs.declared.numbers.NumberRange.{NumberRange}
 use Rattle.sym_top.specs.declared.arguments.TheConstants as own
-use Rattle.sym_top.specs.CommandLines.{run_app, trace_app, check_app, make_app, matched}
+use Rattle.sym_top.specs.CommandLines.{run_app, trace_app, check_app, make_app, map_app, reduce_app, matched}
 use Rattle.sym_top.specs.Numbers.{number_in_range, option_number}
 
 -- A form of reports: what it is called, and its texts.
@@ -62,12 +62,29 @@ pub record Make : Type 0 where
   pub records : ℕ
   pub seed : ℕ
 
+-- `map`: the number of the first record, how files are cut and worked on, the script and the files.
+pub record Map : Type 0 where
+  pub first : ℕ
+  pub options : Options
+  pub script : List ℕ
+  pub files : List (List ℕ)
+
+-- `reduce`: the form of the report, the most bytes of each file, the script, and the files of saved
+-- runs.
+pub record Reduce : Type 0 where
+  pub form : List ℕ
+  pub max_bytes : ℕ
+  pub script : List ℕ
+  pub files : List (List ℕ)
+
 -- What is asked for.
 pub data Command : Type 0 where
   Runs : Run → Command
   Traces : Trace → Command
   Checks : Check → Command
   Makes : Make → Command
+  Maps : Map → Command
+  Reduces : Reduce → Command
 
 infixl 10 ◌>>=◌
 abbrev pub ◌>>=◌ : {A B : Type 0} → Option A → (A → Option B) → Option B
@@ -97,7 +114,7 @@ options_found rows max_bytes = do
   workers ← number_found own.WORKERS own.WORKERS_NAME.now rows
   Some (record { chunk = chunk; limit = limit; workers = workers; max_bytes = max_bytes })
 
--- The options of a command that reads files.
+-- The options of a command that reads files of records.
 unfoldable pub run_options : List Row → Option Options
 run_options rows = do
   max_bytes ← number_found own.MAX_BYTES own.MAX_BYTES_NAME.now rows
@@ -152,6 +169,28 @@ make_found rows = do
   seed ← word_number own.SEEDS own.SEED_NAME.now rows
   Some (record { options = options; records = records; seed = seed })
 
+-- The summary that was found.
+unfoldable pub map_found : List Row → Option Map
+map_found rows = do
+  first ← number_found own.FIRSTS own.FIRST_NAME.now rows
+  options ← run_options rows
+  script ← first_of own.SCRIPT_NAME.now rows
+  files ← files_found rows
+  Some (record { first = first; options = options; script = script; files = files })
+
+-- The report on saved runs that was found.
+unfoldable pub reduce_found : List Row → Option Reduce
+reduce_found rows = do
+  max_bytes ← number_found own.MAX_BYTES own.MAX_BYTES_NAME.now rows
+  script ← first_of own.SCRIPT_NAME.now rows
+  files ← files_found rows
+  Some (record {
+    form = form_found rows;
+    max_bytes = max_bytes;
+    script = script;
+    files = files;
+  })
+
 -- What words ask for by the command that is the first of them.
 unfoldable pub run_of : List (List ℕ) → Option Run
 run_of words = option_and_then run_found (matched run_app words)
@@ -165,6 +204,12 @@ check_of words = option_and_then check_found (matched check_app words)
 unfoldable pub make_of : List (List ℕ) → Option Make
 make_of words = option_and_then make_found (matched make_app words)
 
+unfoldable pub map_of : List (List ℕ) → Option Map
+map_of words = option_and_then map_found (matched map_app words)
+
+unfoldable pub reduce_of : List (List ℕ) → Option Reduce
+reduce_of words = option_and_then reduce_found (matched reduce_app words)
+
 -- The same as a command, by its name.
 abbrev pub command_by : List ℕ → List (List ℕ) → Option Command
 command_by name words =
@@ -173,6 +218,9 @@ command_by name words =
     then option_map (λ trace. Traces trace) (trace_of words)
     else if bytes_eq name own.CHECK_NAME.now then option_map (λ check. Checks check) (check_of words)
     else if bytes_eq name own.MAKE_NAME.now then option_map (λ make. Makes make) (make_of words)
+    else if bytes_eq name own.MAP_NAME.now then option_map (λ part. Maps part) (map_of words)
+    else if bytes_eq name own.REDUCE_NAME.now then
+    option_map (λ reduce. Reduces reduce) (reduce_of words)
     else None
 
 -- The command of a list of words.
@@ -197,6 +245,8 @@ is_handed forms (Runs run) = is_some (form_of forms run.form)
 is_handed forms (Traces trace) = is_some (form_of forms trace.form)
 is_handed forms (Checks check) = true
 is_handed forms (Makes make) = true
+is_handed forms (Maps part) = true
+is_handed forms (Reduces reduce) = is_some (form_of forms reduce.form)
 
 abbrev pub handed : List Form → Option Command → Option Command
 handed forms None = None
@@ -218,6 +268,8 @@ names_of (Some (Runs run)) = record { script = Some run.script; files = run.file
 names_of (Some (Traces trace)) = record { script = Some trace.script; files = trace.files }
 names_of (Some (Checks check)) = record { script = Some check.script; files = [] }
 names_of (Some (Makes make)) = record { script = None; files = [] }
+names_of (Some (Maps part)) = record { script = Some part.script; files = part.files }
+names_of (Some (Reduces reduce)) = record { script = Some reduce.script; files = reduce.files }
 
 -- The names by which a line speaks of a command's files: the same, and that of the log that is made.
 abbrev pub shown_names : Option Command → FileNames
@@ -226,6 +278,8 @@ shown_names (Some (Runs run)) = record { script = Some run.script; files = run.f
 shown_names (Some (Traces trace)) = record { script = Some trace.script; files = trace.files }
 shown_names (Some (Checks check)) = record { script = Some check.script; files = [] }
 shown_names (Some (Makes make)) = record { script = None; files = own.MADE_NAME.now ∷ [] }
+shown_names (Some (Maps part)) = record { script = Some part.script; files = part.files }
+shown_names (Some (Reduces reduce)) = record { script = Some reduce.script; files = reduce.files }
 
 -- The name of the file at this place.
 abbrev pub name_at : FileNames → Place → Option (List ℕ)
@@ -243,3 +297,28 @@ file_rules asked (Runs run) = rules_of run.options.max_bytes asked.shown
 file_rules asked (Traces trace) = plain_rules trace.options.max_bytes
 file_rules asked (Checks check) = rules_of limit.FILE_MAX_DEFAULT asked.shown
 file_rules asked (Makes make) = rules_of make.options.max_bytes asked.shown
+file_rules asked (Maps part) = rules_of part.options.max_bytes asked.shown
+file_rules asked (Reduces reduce) = rules_of reduce.max_bytes asked.shown
+
+-- The files of the command have records; those of `reduce` have saved runs.
+abbrev pub ReadsRecords : Command → Type 0
+ReadsRecords (Runs run) = Unit {0}
+ReadsRecords (Traces trace) = Unit {0}
+ReadsRecords (Checks check) = Unit {0}
+ReadsRecords (Makes make) = Unit {0}
+ReadsRecords (Maps part) = Unit {0}
+ReadsRecords (Reduces reduce) = ⊥
+
+-- The same where there may be no command.
+abbrev pub ReadsNoRuns : Option Command → Type 0
+ReadsNoRuns None = Unit {0}
+ReadsNoRuns (Some command) = ReadsRecords command
+
+-- The number of the first record of a command's files.
+abbrev pub first_no : Command → ℕ
+first_no (Runs run) = 1
+first_no (Traces trace) = 1
+first_no (Checks check) = 1
+first_no (Makes make) = 1
+first_no (Maps part) = part.first
+first_no (Reduces reduce) = 1

@@ -1,11 +1,11 @@
--- The end of a run, as the function that the code is proved against.
+-- The end of a call whose files have records, as the function that the code is proved against.
 use Rattle.std.specs.Prelude.{ℕ, List, Option, None, Some, Result, Ok, Err}
 use Rattle.sym_base.specs.declared.values.record.Record.{Record}
 use Rattle.sym_engine.specs.declared.error.PassErr.{PassErr}
 use Rattle.sym_engine.specs.FirstProblems.{records_in}
 use Rattle.sym_top.specs.declared.refusal.Refusal.{Refusal}
 use Rattle.sym_top.specs.declared.refusal.Refusal.TheVariants as refusal
-use Rattle.sym_top.specs.Commands.{Asked, Command, command_of, file_rules}
+use Rattle.sym_top.specs.Commands.{Asked, Command, command_of, file_rules, first_no}
 use Rattle.sym_top.specs.Ends.{End, Refused, Held, script_of, files_of, whole_end}
 use Rattle.sym_top.specs.Programs.{Program, program_in}
 use Rattle.sym_top.specs.Refusals.{pass_refusal}
@@ -16,7 +16,8 @@ files_end asked command program (Err why) = Refused (pass_refusal why)
 
 abbrev pub program_end : Asked → Command → Result Program Refusal → List (List ℕ) → End
 program_end asked command (Ok program) files =
-    files_end asked command program (records_in program.plan (file_rules asked command) 0 1 files)
+    files_end asked command program
+    (records_in program.plan (file_rules asked command) 0 (first_no command) files)
 program_end asked command (Err why) files = Refused why
 
 abbrev pub command_end : Asked → Option Command → Held → End

@@ -6,6 +6,8 @@ use Rattle.sym_base.specs.declared.values.record.Record.{Record}
 use Rattle.sym_check.specs.Meaning.Groups.{pass}
 use Rattle.sym_engine.specs.declared.error.PassErr.{PassErr}
 use Rattle.sym_engine.specs.FirstProblems.{AllFine, FirstProblem}
+use Rattle.sym_reduce.specs.declared.error.ReduceErr.{ReduceErr}
+use Rattle.sym_reduce.specs.Reducing.{AreReduced, FirstRunProblem, Pairs}
 use Rattle.sym_report.specs.declared.rows.Heads.{Heads}
 use Rattle.sym_report.specs.declared.rows.Row.{Row}
 use Rattle.sym_report.specs.ReportRows.{heads_of, row_of, some_faulty}
@@ -16,21 +18,24 @@ use Rattle.sym_top.specs.declared.refusal.Refusal.TheVariants as refusal
 use Rattle.sym_top.specs.declared.status.Status.{Status}
 use Rattle.sym_top.specs.declared.status.Status.TheVariants as status
 use Rattle.sym_trace.specs.TraceReports.{trace_heads, trace_rows}
-use Rattle.sym_top.specs.Commands.{Asked, Command, Runs, Traces, Checks, Makes, command_of, file_rules, texts_of}
+use Rattle.sym_top.specs.Commands.{Asked, Command, Reduce, Runs, Traces, Checks, Makes, Maps, Reduces, ReadsRecords, command_of, file_rules, first_no, texts_of}
 use Rattle.sym_top.specs.CheckLines.{check_line}
 use Rattle.sym_top.specs.Making.{made_file, made_script}
 use Rattle.sym_top.specs.Programs.{Program, IsProgram, IsNoProgram}
+use Rattle.sym_top.specs.SavedFiles.{IsMapped}
 use Rattle.sym_top.specs.Summaries.{summary_text}
-use Rattle.sym_top.specs.Refusals.{pass_refusal, status_of_refusal}
+use Rattle.sym_top.specs.Refusals.{pass_refusal, reduce_refusal, status_of_refusal}
 
 -- How a call ends: refused for a cause; with a report, which is shown in this form and has these
--- names and rows; with a text of a script; or with the summary of so many records, which have these
--- report rows.
+-- names and rows; with a text of a script; with the summary of so many records, which have these
+-- report rows; or with a saved run of records, the first of which has this number, whose chains are
+-- tight for a limit.
 pub data End : Type 0 where
   Refused : Refusal → End
   Reported : FormTexts → Heads → List Row → End
   Said : List ℕ → End
   Summed : ℕ → List Row → End
+  Mapped : Program → ℕ → ℕ → List Record → End
 
 -- An end with a text: no refusal.
 abbrev pub IsWhole : End → Type 0
@@ -38,6 +43,7 @@ IsWhole (Refused why) = ⊥
 IsWhole (Reported form heads rows) = Unit {0}
 IsWhole (Said text) = Unit {0}
 IsWhole (Summed records rows) = Unit {0}
+IsWhole (Mapped program first limit records) = Unit {0}
 
 -- The status of rows: Faulted if one of them is faulty.
 abbrev pub rows_status : List Row → Status
@@ -49,9 +55,10 @@ status_of (Refused why) = status_of_refusal why
 status_of (Reported form heads rows) = rows_status rows
 status_of (Said text) = status.Done
 status_of (Summed records rows) = rows_status rows
+status_of (Mapped program first limit records) = status.Done
 
 -- The text of an end: nothing if the call is refused, else the report in its form, what is said of
--- the script, or the summary.
+-- the script, the summary, or the text of a saved run, of which there may be several.
 pub data IsTextOf : End → List ℕ → Type 0 where
   nothing : (why : Refusal) → IsTextOf (Refused why) []
   report_in : (form : FormTexts) (heads : Heads) (rows : List Row)
@@ -59,6 +66,9 @@ pub data IsTextOf : End → List ℕ → Type 0 where
   said : (text : List ℕ) → IsTextOf (Said text) text
   summed : (records : ℕ) (rows : List Row)
       → IsTextOf (Summed records rows) (summary_text records rows)
+  mapped : (program : Program) (first limit : ℕ) (records : List Record) (text : List ℕ)
+      → IsMapped program first limit records text
+      → IsTextOf (Mapped program first limit records) text
 
 -- The bytes of the files of the store that a command reads: the script, and the files in order, as
 -- many as are named (`MayHold` says so of a call's store).
@@ -72,23 +82,34 @@ script_of (Runs run) held = held.script
 script_of (Traces trace) held = held.script
 script_of (Checks check) held = held.script
 script_of (Makes make) held = made_script
+script_of (Maps part) held = held.script
+script_of (Reduces reduce) held = held.script
 
--- The bytes of a command's files of records.
+-- The bytes of a command's files of records. `reduce` has none: its files are of saved runs.
 abbrev pub files_of : Command → Held → List (List ℕ)
 files_of (Runs run) held = held.files
 files_of (Traces trace) held = held.files
 files_of (Checks check) held = []
 files_of (Makes make) held = made_file make.records make.seed ∷ []
+files_of (Maps part) held = held.files
+files_of (Reduces reduce) held = []
+
+-- The report rows of groups.
+abbrev pub group_rows : Program → Pairs → List Row
+group_rows program groups = map (row_of program.tree program.plan) groups
 
 -- The report rows of one sequential pass over records.
 abbrev pub rows_of : Program → List Record → List Row
-rows_of program records =
-    map (row_of program.tree program.plan) (pass program.plan records)
+rows_of program records = group_rows program (pass program.plan records)
+
+-- The report of groups.
+abbrev pub groups_end : FormTexts → Program → Pairs → End
+groups_end form program groups =
+    Reported form (heads_of program.tree program.plan) (group_rows program groups)
 
 -- The report of one sequential pass over records.
 abbrev pub report_of : FormTexts → Program → List Record → End
-report_of form program records =
-    Reported form (heads_of program.tree program.plan) (rows_of program records)
+report_of form program records = groups_end form program (pass program.plan records)
 
 -- The report of the trace of records: a row for each record whose number `every` divides.
 abbrev pub trace_report_of : FormTexts → Program → ℕ → List Record → End
@@ -101,7 +122,8 @@ abbrev pub said_of : Bool → Program → List ℕ
 said_of true program = script_text program.tree
 said_of false program = check_line program.plan
 
--- The end of a command whose script is accepted, and whose files are fine.
+-- The end of a command whose script is accepted, and whose files are fine and have these records. Of
+-- `reduce`, whose files are of saved runs, these are the records that the saved runs stand for.
 abbrev pub whole_end : Asked → Command → Program → List Record → End
 whole_end asked (Runs run) program records =
     report_of (texts_of asked.forms run.form) program records
@@ -109,8 +131,13 @@ whole_end asked (Traces trace) program records =
     trace_report_of (texts_of asked.forms trace.form) program trace.every records
 whole_end asked (Checks check) program records = Said (said_of check.print program)
 whole_end asked (Makes make) program records = Summed make.records (rows_of program records)
+whole_end asked (Maps part) program records =
+    Mapped program part.first part.options.limit records
+whole_end asked (Reduces reduce) program records =
+    report_of (texts_of asked.forms reduce.form) program records
 
--- The end of a call. The stages stand in the order in which they are tried.
+-- The end of a call. The stages stand in the order in which they are tried; the last two are those
+-- of `reduce`, in place of the two before them.
 pub data IsEnd (asked : Asked) (held : Held) : End → Type 0 where
   usage : command_of asked ≡ None
       → IsEnd asked held (Refused refusal.Usage)
@@ -121,10 +148,25 @@ pub data IsEnd (asked : Asked) (held : Held) : End → Type 0 where
   problem : (command : Command) (program : Program) (why : PassErr)
       → command_of asked ≡ Some command
       → IsProgram (script_of command held) program
-      → FirstProblem program.plan (file_rules asked command) 0 1 (files_of command held) why
+      → FirstProblem program.plan (file_rules asked command) 0 (first_no command)
+      (files_of command held) why
       → IsEnd asked held (Refused (pass_refusal why))
   finished : (command : Command) (program : Program) (records : List Record)
       → command_of asked ≡ Some command
       → IsProgram (script_of command held) program
-      → AllFine program.plan (file_rules asked command) 1 (files_of command held) records
+      → ReadsRecords command
+      → AllFine program.plan (file_rules asked command) (first_no command)
+      (files_of command held) records
       → IsEnd asked held (whole_end asked command program records)
+  run_problem : (reduce : Reduce) (program : Program) (why : ReduceErr)
+      → command_of asked ≡ Some (Reduces reduce)
+      → IsProgram held.script program
+      → FirstRunProblem (script_text program.tree) program.plan reduce.max_bytes 0 1 []
+      held.files why
+      → IsEnd asked held (Refused (reduce_refusal why))
+  reduced : (reduce : Reduce) (program : Program) (end : ℕ) (totals : Pairs)
+      → command_of asked ≡ Some (Reduces reduce)
+      → IsProgram held.script program
+      → AreReduced (script_text program.tree) program.plan reduce.max_bytes 1 [] held.files
+      end totals
+      → IsEnd asked held (groups_end (texts_of asked.forms reduce.form) program totals)

@@ -7,9 +7,11 @@ pub mod Loading
 pub mod Making
 pub mod Messages
 pub mod Numbers
+pub mod Parts
 pub mod Programs
 pub mod Promises
 pub mod Refusals
+pub mod SavedFiles
 pub mod Statuses
 pub mod Summaries
 pub mod Telling

@@ -11,7 +11,11 @@ use Rattle.sym_check.specs.declared.checking.accepted.Checked.{Checked}
 use Rattle.sym_engine.specs.declared.error.PassErr.{PassErr}
 use Rattle.sym_engine.specs.FileRecords.{FileRules}
 use Rattle.sym_engine.specs.FirstProblems.{AllFine, FirstProblem}
-use Rattle.sym_engine.specs.Passing.{Holds, Counts, May, MayAll, StopsPass}
+use Rattle.sym_engine.specs.Passing.{AllRead, Holds, Counts, May, MayAll, StopsFrom}
+use Rattle.sym_parse.specs.Printed.{script_text}
+use Rattle.sym_reduce.specs.declared.error.ReduceErr.{ReduceErr}
+use Rattle.sym_reduce.specs.Reducing.{AreReduced, Pairs, StopsReduce}
+use Rattle.sym_report.specs.Forms.{FormTexts}
 use Rattle.sym_top.specs.declared.refusal.Place.TheVariants as place
 use Rattle.sym_top.specs.declared.refusal.Refusal.{Refusal}
 use Rattle.sym_top.specs.declared.refusal.Refusal.TheVariants as refusal
@@ -19,11 +23,12 @@ use Rattle.sym_top.specs.declared.status.Status.{Status}
 use Rattle.sym_top.specs.declared.commands.Command.{Command as CommandRead}
 use Rattle.sym_top.specs.declared.load.Failure.{Failure}
 use Rattle.sym_top.specs.Commands.{FileNames, shown_names}
-use Rattle.sym_top.specs.Ends.{End, Held, IsTextOf, status_of}
+use Rattle.sym_top.specs.Ends.{End, Held, IsTextOf, groups_end, status_of}
 use Rattle.sym_top.specs.Messages.{headers_of, line_of}
 use Rattle.sym_top.specs.Programs.{Program, IsProgram, IsNoProgram}
 use Rattle.sym_top.specs.Promises.{Call, MayHold, IsStop, HasReport, call_line}
-use Rattle.sym_top.specs.Refusals.{pass_refusal}
+use Rattle.sym_top.specs.Refusals.{pass_refusal, reduce_refusal}
+use Rattle.sym_top.specs.SavedFiles.{IsMapped}
 use Rattle.sym_top.specs.Words.{command_seen}
 
 -- A text that isn't too large is refused for its own sake, or memory ran out.
@@ -77,12 +82,38 @@ pub record Reports (end : List Record → End) (program : Program) (rules : File
   pub status_is : status ≡ status_of (end records)
   pub text_is : IsTextOf (end records) text
 
--- Why there is no report: the pass over the files was stopped, or memory ran out.
-pub data StopsFiles (program : Program) (rules : FileRules) (holds : Holds)
+-- This text is that of a saved run of the records of files which the names may hold.
+abbrev pub MapsFiles : Program → FileRules → Holds → List (List ℕ) → ℕ → ℕ → List ℕ → Type 0
+MapsFiles program rules holds names from limit text =
+    AllRead program.plan rules holds names from
+    (λ records. IsMapped program from limit records text)
+
+-- Why there is no report, and no saved run: the loop over the files was stopped, or memory ran out.
+-- Records are numbered from `from` on.
+pub data StopsFiles (from : ℕ) (program : Program) (rules : FileRules) (holds : Holds)
     (names : List (List ℕ)) (before after : Counts) : Refusal → Type 0 where
   stops : (why : PassErr)
-      → StopsPass program.plan rules holds names before after why
-      → StopsFiles program rules holds names before after (pass_refusal why)
+      → StopsFrom from program.plan rules holds names before after why
+      → StopsFiles from program rules holds names before after (pass_refusal why)
+
+-- This status and this text are those of the report, in this form, of the totals of files of saved
+-- runs which the names may hold.
+pub record ReportsRuns (form : FormTexts) (program : Program) (max_bytes : ℕ) (holds : Holds)
+    (names : List (List ℕ)) (status : Status) (text : List ℕ) : Type 0 where
+  pub files : List (List ℕ)
+  pub may : MayAll holds names files
+  pub end : ℕ
+  pub totals : Pairs
+  pub reduced : AreReduced (script_text program.tree) program.plan max_bytes 1 [] files end totals
+  pub status_is : status ≡ status_of (groups_end form program totals)
+  pub text_is : IsTextOf (groups_end form program totals) text
+
+-- Why there is none: the files have no totals, or memory ran out.
+pub data StopsRuns (program : Program) (max_bytes : ℕ) (holds : Holds)
+    (names : List (List ℕ)) (before after : Counts) : Refusal → Type 0 where
+  stops_runs : (why : ReduceErr)
+      → StopsReduce (script_text program.tree) program.plan max_bytes holds names before after why
+      → StopsRuns program max_bytes holds names before after (reduce_refusal why)
 
 -- A call that is ready to write this text, and then to end with this status.
 pub record Ready (call : Call) (status : Status) (text : List ℕ) : Type 0 where

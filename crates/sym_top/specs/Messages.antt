@@ -78,6 +78,14 @@ refusal_text names headers (refusal.Head file what) =
 refusal_text names headers (refusal.Bad file bad) =
     file_name names (place.File file) ++ codes ": record " ++ decimal bad.no ++ codes ": "
     ++ cause_text headers bad.cause
+refusal_text names headers (refusal.OtherScript file) =
+    file_name names (place.File file) ++ codes ": run of another script"
+refusal_text names headers (refusal.Malformed file) =
+    file_name names (place.File file) ++ codes ": not a run file"
+refusal_text names headers (refusal.Apart file) =
+    file_name names (place.File file) ++ codes ": records do not follow"
+refusal_text names headers (refusal.Gap file group) =
+    file_name names (place.File file) ++ codes ": no path for group " ++ decimal group
 refusal_text names headers (refusal.Read at) = file_name names at ++ codes ": read fault"
 refusal_text names headers refusal.Write = codes "write fault"
 refusal_text names headers (refusal.TooLarge at) = file_name names at ++ codes ": too large"

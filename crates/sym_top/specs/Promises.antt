@@ -4,6 +4,8 @@ use Rattle.std.specs.Prelude.{◌≡◌, ◌⊎◌, ℕ, List, [], take, map, Op
 use Rattle.sym_base.specs.Counts.{Rose}
 use Rattle.sym_base.specs.declared.values.record.Record.{Record}
 use Rattle.sym_engine.specs.FirstProblems.{AllFine}
+use Rattle.sym_parse.specs.Printed.{script_text}
+use Rattle.sym_reduce.specs.Reducing.{AreReduced, Pairs}
 use Rattle.sym_engine.specs.Passing.{Holds, Counts, May, MayAll}
 use Rattle.sym_top.specs.declared.refusal.Place.{Place}
 use Rattle.sym_top.specs.declared.refusal.Place.TheVariants as place
@@ -11,7 +13,7 @@ use Rattle.sym_top.specs.declared.refusal.Refusal.{Refusal}
 use Rattle.sym_top.specs.declared.refusal.Refusal.TheVariants as refusal
 use Rattle.sym_top.specs.declared.status.Status.{Status}
 use Rattle.sym_top.specs.declared.status.Status.TheVariants as status
-use Rattle.sym_top.specs.Commands.{Asked, Command, FileNames, command_of, file_rules, name_at, names_of, shown_names}
+use Rattle.sym_top.specs.Commands.{Asked, Command, FileNames, ReadsRecords, Reduce, Reduces, command_of, file_rules, first_no, name_at, names_of, shown_names}
 use Rattle.sym_top.specs.Ends.{End, Refused, Held, IsEnd, IsTextOf, IsWhole, script_of, status_of}
 use Rattle.sym_top.specs.Messages.{line_of}
 use Rattle.sym_top.specs.Programs.{Program, IsProgram, headers_in}
@@ -94,7 +96,16 @@ pub data IsStop (call : Call) (held : Held) : Refusal → Type 0 where
   file_unread : (command : Command) (program : Program) (records : List Record) (number : ℕ)
       → command_of call.asked ≡ Some command
       → IsProgram (script_of command held) program
-      → AllFine program.plan (file_rules call.asked command) 1 (take number held.files) records
+      → ReadsRecords command
+      → AllFine program.plan (file_rules call.asked command) (first_no command)
+      (take number held.files) records
+      → ReadFailed call (place.File number)
+      → IsStop call held (refusal.Read (place.File number))
+  run_unread : (reduce : Reduce) (program : Program) (end : ℕ) (totals : Pairs) (number : ℕ)
+      → command_of call.asked ≡ Some (Reduces reduce)
+      → IsProgram held.script program
+      → AreReduced (script_text program.tree) program.plan reduce.max_bytes 1 []
+      (take number held.files) end totals
       → ReadFailed call (place.File number)
       → IsStop call held (refusal.Read (place.File number))
   no_memory : IsStop call held refusal.NoMemory

@@ -12,6 +12,8 @@ use Rattle.sym_check.specs.declared.elaborate.error.CheckErr.{CheckErr}
 use Rattle.sym_check.specs.declared.elaborate.error.CheckErr.TheVariants as check_error
 use Rattle.sym_engine.specs.declared.error.PassErr.{PassErr}
 use Rattle.sym_engine.specs.declared.error.PassErr.TheVariants as pass_error
+use Rattle.sym_reduce.specs.declared.error.ReduceErr.{ReduceErr}
+use Rattle.sym_reduce.specs.declared.error.ReduceErr.TheVariants as reduce_error
 use Rattle.sym_top.specs.declared.refusal.Place.{Place}
 use Rattle.sym_top.specs.declared.refusal.Place.TheVariants as place
 use Rattle.sym_top.specs.declared.refusal.Refusal.{Refusal}
@@ -29,6 +31,10 @@ status_of_refusal (refusal.Script what at) = status.Script
 status_of_refusal (refusal.Branchy paths) = status.Script
 status_of_refusal (refusal.Head file what) = status.Input
 status_of_refusal (refusal.Bad file bad) = status.Input
+status_of_refusal (refusal.OtherScript file) = status.Input
+status_of_refusal (refusal.Malformed file) = status.Input
+status_of_refusal (refusal.Apart file) = status.Input
+status_of_refusal (refusal.Gap file group) = status.Input
 status_of_refusal (refusal.Read place) = status.ReadFault
 status_of_refusal refusal.Write = status.WriteFault
 status_of_refusal (refusal.TooLarge place) = status.TooLarge
@@ -76,6 +82,16 @@ pass_refusal (pass_error.TooLarge file) = refusal.TooLarge (place.File file)
 pass_refusal (pass_error.Head file what) = refusal.Head file what
 pass_refusal (pass_error.Bad file bad) = refusal.Bad file bad
 pass_refusal pass_error.NoMemory = refusal.NoMemory
+
+-- Files of saved runs that have no totals.
+abbrev pub reduce_refusal : ReduceErr → Refusal
+reduce_refusal (reduce_error.Read file) = refusal.Read (place.File file)
+reduce_refusal (reduce_error.TooLarge file) = refusal.TooLarge (place.File file)
+reduce_refusal (reduce_error.OtherScript file) = refusal.OtherScript file
+reduce_refusal (reduce_error.Malformed file) = refusal.Malformed file
+reduce_refusal (reduce_error.Apart file) = refusal.Apart file
+reduce_refusal (reduce_error.Gap file group) = refusal.Gap file group
+reduce_refusal reduce_error.NoMemory = refusal.NoMemory
 
 -- A report that isn't written whole.
 abbrev pub write_refusal : SinkErr → Refusal

@@ -9,12 +9,14 @@ use Rattle.sym_top.specs.declared.commands.Run.{Run as RunRead}
 use Rattle.sym_top.specs.declared.commands.Trace.{Trace as TraceRead}
 use Rattle.sym_top.specs.declared.commands.Check.{Check as CheckRead}
 use Rattle.sym_top.specs.declared.commands.Make.{Make as MakeRead}
+use Rattle.sym_top.specs.declared.commands.Map.{Map as MapRead}
+use Rattle.sym_top.specs.declared.commands.Reduce.{Reduce as ReduceRead}
 use Rattle.sym_top.specs.declared.commands.Command.{Command as CommandRead}
 use Rattle.sym_top.specs.declared.commands.Command.TheVariants as read
 use Rattle.sym_top.specs.declared.commands.NamedFiles.{NamedFiles}
 use Rattle.sym_top.specs.declared.commands.NamedFiles.TheVariants as named
 use Rattle.sym_top.specs.declared.commands.FileNames.{FileNames as NamesRead}
-use Rattle.sym_top.specs.Commands.{Run, Trace, Check, Make, Command, Runs, Traces, Checks, Makes, FileNames}
+use Rattle.sym_top.specs.Commands.{Run, Trace, Check, Make, Map, Reduce, Command, Runs, Traces, Checks, Makes, Maps, Reduces, FileNames}
 
 abbrev pub run_seen : RunRead → Run
 run_seen run = record {
@@ -39,11 +41,29 @@ check_seen check = record { script = check.script.now; print = check.print }
 abbrev pub make_seen : MakeRead → Make
 make_seen make = record { options = make.options; records = make.records; seed = make.seed }
 
+abbrev pub map_seen : MapRead → Map
+map_seen part = record {
+  first = part.first;
+  options = part.options;
+  script = part.script.now;
+  files = map string_bytes part.files.items;
+}
+
+abbrev pub reduce_seen : ReduceRead → Reduce
+reduce_seen reduce = record {
+  form = reduce.form.now;
+  max_bytes = reduce.max_bytes;
+  script = reduce.script.now;
+  files = map string_bytes reduce.files.items;
+}
+
 abbrev pub command_seen : CommandRead → Command
 command_seen (read.Run run) = Runs (run_seen run)
 command_seen (read.Trace trace) = Traces (trace_seen trace)
 command_seen (read.Check check) = Checks (check_seen check)
 command_seen (read.Make make) = Makes (make_seen make)
+command_seen (read.Map part) = Maps (map_seen part)
+command_seen (read.Reduce reduce) = Reduces (reduce_seen reduce)
 
 abbrev pub files_seen : NamedFiles → List (List ℕ)
 files_seen named.None = []
@@ -67,8 +87,22 @@ pub record IsTrace (trace : TraceRead) : Type 0 where
   pub few : length trace.files.items ≤ limit.FILES_MAX
   pub some : 1 ≤ trace.every
 
+-- The number of the first record and the options are in their ranges, and the files aren't too many.
+pub record IsMap (part : MapRead) : Type 0 where
+  pub some : 1 ≤ part.first
+  pub first : part.first ≤ own.FIRST_MAX
+  pub range : InRange part.options
+  pub few : length part.files.items ≤ limit.FILES_MAX
+
+-- The size of a file is in its range, and the files aren't too many.
+pub record IsReduce (reduce : ReduceRead) : Type 0 where
+  pub size : reduce.max_bytes ≤ limit.FILE_MAX
+  pub few : length reduce.files.items ≤ limit.FILES_MAX
+
 abbrev pub IsInRange : CommandRead → Type 0
 IsInRange (read.Run run) = IsRun run
 IsInRange (read.Trace trace) = IsTrace trace
 IsInRange (read.Check check) = Unit {0}
 IsInRange (read.Make make) = InRange make.options
+IsInRange (read.Map part) = IsMap part
+IsInRange (read.Reduce reduce) = IsReduce reduce

@@ -15,6 +15,12 @@ pub const CHECK_NAME: &str = "check";
 /// The command that runs a script of its own over a log that it makes.
 pub const MAKE_NAME: &str = "make";
 
+/// The command that summarises a part of a log.
+pub const MAP_NAME: &str = "map";
+
+/// The command that reports on summaries of parts.
+pub const REDUCE_NAME: &str = "reduce";
+
 /// The log that is made, as messages name it.
 pub const MADE_NAME: &str = "made";
 
@@ -38,6 +44,20 @@ pub const EVERY: NumberOption = NumberOption {
     range: NumberRange {
         least: 1,
         most: 1_000_000,
+    },
+};
+
+/// The number of the first record.
+pub const FIRST_NAME: &str = "first";
+
+/// The most that it may be.
+pub const FIRST_MAX: u64 = 9_999_999_999;
+
+pub const FIRSTS: NumberOption = NumberOption {
+    default: 1,
+    range: NumberRange {
+        least: 1,
+        most: FIRST_MAX,
     },
 };
 

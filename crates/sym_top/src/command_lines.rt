@@ -1,12 +1,12 @@
 //! The command lines, as `clap` reads them.
 ghost use Rattle.std.specs.Prelude.{◌≡◌, IfOk};
 ghost use Rattle.clap.specs.Words.{app_of, with_rule};
-ghost use Rattle.sym_top.specs.CommandLines.{option_rule, flag_rule, word_rule, words_rule, bare_app, with_pass_options, run_app, trace_app, check_app, make_app};
+ghost use Rattle.sym_top.specs.CommandLines.{option_rule, flag_rule, word_rule, words_rule, bare_app, with_pass_options, run_app, trace_app, check_app, make_app, map_app, reduce_app};
 
 use crate::arguments::{
-    CHECK_NAME, CHUNK_NAME, EVERY_NAME, FILES_NAME, FORM_NAME, LIMIT_NAME, MAKE_NAME,
-    MAX_BYTES_NAME, PRINT_NAME, RECORDS_NAME, RUN_NAME, SCRIPT_NAME, SEED_NAME, TRACE_NAME,
-    WORKERS_NAME,
+    CHECK_NAME, CHUNK_NAME, EVERY_NAME, FILES_NAME, FIRST_NAME, FORM_NAME, LIMIT_NAME, MAKE_NAME,
+    MAP_NAME, MAX_BYTES_NAME, PRINT_NAME, RECORDS_NAME, REDUCE_NAME, RUN_NAME, SCRIPT_NAME,
+    SEED_NAME, TRACE_NAME, WORKERS_NAME,
 };
 use clap::{Arg, ArgAction, Command};
 use std::alloc::{AllocError, Global};
@@ -120,4 +120,25 @@ pub fn make_command<'a>(alloc: Global) -> Result<Command<'a>, AllocError>
     let optional = with_pass_options(alloc, bare_command(alloc, MAKE_NAME))?;
     let counted = with_word(alloc, optional, RECORDS_NAME)?;
     with_word(alloc, counted, SEED_NAME)
+}
+
+/// `map [--first N] [--chunk N] [--limit N] [--workers N] [--max-bytes N] SCRIPT FILE...`
+pub fn map_command<'a>(alloc: Global) -> Result<Command<'a>, AllocError>
+    ensures { IfOk result (λ c. app_of c ≡ map_app) }
+{
+    let numbered = with_option(alloc, bare_command(alloc, MAP_NAME), FIRST_NAME)?;
+    let optional = with_pass_options(alloc, numbered)?;
+    let sized = with_option(alloc, optional, MAX_BYTES_NAME)?;
+    let scripted = with_word(alloc, sized, SCRIPT_NAME)?;
+    with_words(alloc, scripted, FILES_NAME)
+}
+
+/// `reduce [--form NAME] [--max-bytes N] SCRIPT FILE...`
+pub fn reduce_command<'a>(alloc: Global) -> Result<Command<'a>, AllocError>
+    ensures { IfOk result (λ c. app_of c ≡ reduce_app) }
+{
+    let formed = with_option(alloc, bare_command(alloc, REDUCE_NAME), FORM_NAME)?;
+    let sized = with_option(alloc, formed, MAX_BYTES_NAME)?;
+    let scripted = with_word(alloc, sized, SCRIPT_NAME)?;
+    with_words(alloc, scripted, FILES_NAME)
 }

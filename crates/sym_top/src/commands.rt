@@ -43,6 +43,26 @@ pub struct Make {
     pub seed: u32,
 }
 
+/// `map`: the number of the first record, how files are cut and worked on, and the names of the
+/// script and of the files of records.
+#[derive(Drop)]
+pub struct Map<'a> {
+    pub first: u64,
+    pub options: Options,
+    pub script: &'a str,
+    pub files: Vec<String>,
+}
+
+/// `reduce`: the form of the report, the most bytes of each file, and the names of the script and of
+/// the files of saved runs.
+#[derive(Drop)]
+pub struct Reduce<'a> {
+    pub form: &'a str,
+    pub max_bytes: u64,
+    pub script: &'a str,
+    pub files: Vec<String>,
+}
+
 /// What is asked for.
 #[derive(Drop)]
 pub enum Command<'a> {
@@ -50,9 +70,12 @@ pub enum Command<'a> {
     Trace(Trace<'a>),
     Check(Check<'a>),
     Make(Make),
+    Map(Map<'a>),
+    Reduce(Reduce<'a>),
 }
 
-/// The files of records of a command: none, those that the arguments name, or the log that is made.
+/// The files of records, or of saved runs, of a command: none, those that the arguments name, or the
+/// log that is made.
 #[derive(Clone, Copy)]
 pub enum NamedFiles<'a> {
     None,
@@ -87,6 +110,14 @@ pub fn shown_names<'m>(command: &'m Option<Command<'_>>) -> FileNames<'m>
         Some(Command::Make(_)) => FileNames {
             script: None,
             files: NamedFiles::Made,
+        },
+        Some(Command::Map(part)) => FileNames {
+            script: Some(part.script),
+            files: NamedFiles::Given(part.files.as_slice()),
+        },
+        Some(Command::Reduce(reduce)) => FileNames {
+            script: Some(reduce.script),
+            files: NamedFiles::Given(reduce.files.as_slice()),
         },
         None => FileNames {
             script: None,

@@ -1,14 +1,24 @@
 //! Laws of the definitions that contracts cite.
 ghost use Rattle.std.specs.Prelude.{◌≡◌, ◌↔◌};
-ghost use Rattle.sym_top.specs.Commands.{Asked};
-ghost use Rattle.sym_top.specs.Ends.{End, Held, IsEnd};
+ghost use Rattle.sym_top.specs.Commands.{Asked, ReadsNoRuns, command_of};
+ghost use Rattle.sym_top.specs.Ends.{End, Held, IsEnd, IsWhole};
 ghost use Rattle.sym_top.specs.EndReading.{end_of};
+ghost use Rattle.sym_top.specs.Parts.{IsReportedApart};
 
-/// Every call has one end: the one that the function finds.
+/// No call has two ends. One whose files have records has an end: the one that the function finds.
 pub fn ends_are_found()
     ensures found { (asked : Asked) (held : Held) (end : End) →
-        IsEnd asked held end ↔ (end_of asked held ≡ end) }
-    ensures some { (asked : Asked) (held : Held) → (end : End) × IsEnd asked held end }
+        ReadsNoRuns (command_of asked) → IsEnd asked held end ↔ (end_of asked held ≡ end) }
+    ensures some { (asked : Asked) (held : Held) → ReadsNoRuns (command_of asked) →
+        (end : End) × IsEnd asked held end }
     ensures one { (asked : Asked) (held : Held) (end other : End) →
         IsEnd asked held end → IsEnd asked held other → end ≡ other }
+{}
+
+/// `reduce` over the texts that `map` wrote of consecutive parts comes to what `run` comes to over
+/// all files.
+pub fn parts_are_reported_as_a_whole()
+    ensures { (whole : Asked) (held : Held) (apart : Asked) (runs : Held) (end : End) →
+        IsReportedApart whole held apart runs →
+        IsEnd whole held end → IsWhole end → IsEnd apart runs end }
 {}

@@ -224,6 +224,21 @@ fn tell_field<'a, E: Sink>(err: &mut E, file: &'a str, no: u64, name: &'a str, a
     );
 }
 
+// The line of a saved run with a group that has no path.
+fn tell_gap<E: Sink>(err: &mut E, file: &str, group: u64)
+    ensures told { Tells (sunk E.written E.faults E.short err.old err.new)
+        (codes "symple: " ++ (file.now ++ codes ": no path for group " ++ decimal group)
+        ++ codes "\n") }
+    ensures later { Later (sunk E.written E.faults E.short err.old err.new) }
+{
+    let mut buffer = Buffer::new();
+    let number = buffer.format(group);
+    write_pieces(
+        err,
+        &["symple: ", file, ": no path for group ", number, "\n"],
+    );
+}
+
 /// Writes the line of a refusal to `err`: of a command that reads the files of these names, and of
 /// a script with these fields, of which there are none where no script was accepted. It takes no
 /// memory, and a failure of `err` ends the line.
@@ -241,6 +256,26 @@ pub fn tell<E: Sink>(err: &mut E, names: &FileNames<'_>, fields: &[FieldPlan], w
         }
         Refusal::Bad { file, bad } => {
             tell_row(err, file_name(names, Place::File(file)), fields, bad);
+        }
+        Refusal::OtherScript { file } => {
+            tell_file(
+                err,
+                file_name(names, Place::File(file)),
+                ": run of another script",
+            );
+        }
+        Refusal::Malformed { file } => {
+            tell_file(err, file_name(names, Place::File(file)), ": not a run file");
+        }
+        Refusal::Apart { file } => {
+            tell_file(
+                err,
+                file_name(names, Place::File(file)),
+                ": records do not follow",
+            );
+        }
+        Refusal::Gap { file, group } => {
+            tell_gap(err, file_name(names, Place::File(file)), group);
         }
         Refusal::Read(place) => tell_file(err, file_name(names, place), ": read fault"),
         Refusal::Write => write_pieces(err, &["symple: write fault\n"]),

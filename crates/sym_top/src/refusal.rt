@@ -1,6 +1,6 @@
 //! Why a run writes no report.
 ghost use Rattle.std.specs.Prelude.{◌≡◌};
-ghost use Rattle.sym_top.specs.Refusals.{start_refusal as refusal_of_start, parse_refusal as refusal_of_parse, check_refusal as refusal_of_check, read_refusal as refusal_of_read, pass_refusal as refusal_of_pass, write_refusal as refusal_of_write};
+ghost use Rattle.sym_top.specs.Refusals.{start_refusal as refusal_of_start, parse_refusal as refusal_of_parse, check_refusal as refusal_of_check, read_refusal as refusal_of_read, pass_refusal as refusal_of_pass, reduce_refusal as refusal_of_reduce, write_refusal as refusal_of_write};
 
 use crate::status::Status;
 use sym_base::{ReadErr, SinkErr};
@@ -8,6 +8,7 @@ use sym_check::CheckErr;
 use sym_engine::PassErr;
 use sym_lex::LexFault;
 use sym_parse::{LimitKind, ParseErr};
+use sym_reduce::ReduceErr;
 use sym_table::{Bad, HeadFault};
 
 /// A file that the arguments name.
@@ -15,7 +16,7 @@ use sym_table::{Bad, HeadFault};
 pub enum Place {
     /// The script.
     Script,
-    /// A file of records, counted from 0.
+    /// A file of records or of a saved run, counted from 0.
     File(u64),
 }
 
@@ -59,6 +60,14 @@ pub enum Refusal {
     Head { file: u64, fault: HeadFault },
     /// A row of a file isn't a record. Files are counted from 0.
     Bad { file: u64, bad: Bad },
+    /// A file is that of a saved run of another script. Files are counted from 0.
+    OtherScript { file: u64 },
+    /// A file isn't that of a saved run.
+    Malformed { file: u64 },
+    /// The records of a saved run don't follow those before it.
+    Apart { file: u64 },
+    /// A group of a saved run, counted from 1, has no path for how the group stands before it.
+    Gap { file: u64, group: u64 },
     /// A read failed.
     Read(Place),
     /// A write failed.
@@ -82,6 +91,10 @@ impl Refusal {
             Refusal::Branchy { .. } => Status::Script,
             Refusal::Head { .. } => Status::Input,
             Refusal::Bad { .. } => Status::Input,
+            Refusal::OtherScript { .. } => Status::Input,
+            Refusal::Malformed { .. } => Status::Input,
+            Refusal::Apart { .. } => Status::Input,
+            Refusal::Gap { .. } => Status::Input,
             Refusal::Read(_) => Status::ReadFault,
             Refusal::Write => Status::WriteFault,
             Refusal::TooLarge(_) => Status::TooLarge,
@@ -176,6 +189,21 @@ pub fn pass_refusal(error: PassErr) -> Refusal
         PassErr::Head { file, fault } => Refusal::Head { file, fault },
         PassErr::Bad { file, bad } => Refusal::Bad { file, bad },
         PassErr::NoMemory => Refusal::NoMemory,
+    }
+}
+
+/// Why a call is refused whose files of saved runs have no totals.
+pub fn reduce_refusal(error: ReduceErr) -> Refusal
+    ensures { result ≡ refusal_of_reduce error }
+{
+    match error {
+        ReduceErr::Read { file } => Refusal::Read(Place::File(file)),
+        ReduceErr::TooLarge { file } => Refusal::TooLarge(Place::File(file)),
+        ReduceErr::OtherScript { file } => Refusal::OtherScript { file },
+        ReduceErr::Malformed { file } => Refusal::Malformed { file },
+        ReduceErr::Apart { file } => Refusal::Apart { file },
+        ReduceErr::Gap { file, group } => Refusal::Gap { file, group },
+        ReduceErr::NoMemory => Refusal::NoMemory,
     }
 }
 

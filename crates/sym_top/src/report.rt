@@ -65,7 +65,7 @@ pub fn report_files<T: Threads + Wait + Sync, F: Store, G: Gate + Sync>(
         let rules = rules_of options.now.max_bytes (G.shown gate.now) in
         let before = F.faults files.old in
         let after = F.faults files.new in
-        IfErr result (StopsFiles program rules (F.holds files.old) names before after) }
+        IfErr result (StopsFiles 1 program rules (F.holds files.old) names before after) }
     ensures same { F.holds files.new ≡ F.holds files.old }
     ensures later { (other : List ℕ) → F.faults files.old other ≤ F.faults files.new other }
 {

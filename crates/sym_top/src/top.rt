@@ -3,17 +3,20 @@ ghost use Rattle.std.specs.Prelude.{◌≡◌, ◌≤◌, ◌⊎◌, ℕ, List, 
 ghost use Rattle.std.specs.List.{All};
 ghost use Rattle.std.specs.String.{string_bytes};
 ghost use Rattle.sym_engine.specs.Options.{InRange};
-ghost use Rattle.sym_top.specs.Commands.{Asked, Runs, Checks, Makes, asks, command_in, command_of, forms_of};
+ghost use Rattle.sym_table.specs.Reading.{Row as OneRow};
+ghost use Rattle.sym_top.specs.Commands.{Asked, Runs, Checks, Makes, Maps, Reduces, asks, command_in, command_of, forms_of};
 ghost use Rattle.sym_top.specs.Ends.{End, Held, IsEnd};
 ghost use Rattle.sym_top.specs.Promises.{Call, call_of, IsUsage, Told, Answers, MustReport, Refuses, Says, Leaves, Unless, Wrote, IsRefused, IsReported, IsUnwritten};
 ghost use Rattle.sym_top.specs.Telling.{Later, Short, sunk};
-ghost use Rattle.sym_top.specs.Words.{run_seen, check_seen, make_seen, IsRun};
+ghost use Rattle.sym_top.specs.Words.{run_seen, check_seen, make_seen, map_seen, reduce_seen, IsRun, IsMap, IsReduce};
 
-use crate::commands::{Check, Command, Make, Run};
+use crate::commands::{Check, Command, Make, Map, Reduce, Run};
 use crate::finishing::{finish, refuse};
 use crate::load::no_command;
 use crate::made::prepare_make;
+use crate::mapping::prepare_map;
 use crate::prepare::{prepare_check, prepare_run};
+use crate::reducing::prepare_reduce;
 use crate::refusal::Refusal;
 use crate::status::Status;
 use crate::tracing::run_trace;
@@ -121,6 +124,77 @@ fn run_make<T: Threads + Wait + Sync, O: Sink, E: Sink, G: Gate + Sync>(
     }
 }
 
+// Summarises the records of files, through the gate, and writes the text of the saved run.
+fn run_map<T: Threads + Wait + Sync, F: Store, O: Sink, E: Sink, G: Gate + Sync>(
+    rt: &T,
+    alloc: Global,
+    part: Map<'_>,
+    files: &mut F,
+    out: &mut O,
+    err: &mut E,
+    gate: &G,
+) -> Status
+    requires { IsMap part }
+    ensures says { (asked : Asked) → command_of asked ≡ Some (Maps (map_seen part.entry)) →
+        asked.shown ≡ G.shown gate.now →
+        let call = call_of F.holds F.faults asked files.old files.new in
+        let out = sunk O.written O.faults O.short out.old out.new in
+        let err = sunk E.written E.faults E.short err.old err.new in
+        Says call out err result }
+    ensures leaves { (asked : Asked) → command_of asked ≡ Some (Maps (map_seen part.entry)) →
+        let call = call_of F.holds F.faults asked files.old files.new in
+        let sunk_out = sunk O.written O.faults O.short out.old out.new in
+        Leaves call sunk_out files.old files.new out.old out.new err.old err.new result }
+    ensures files { F.holds files.new ≡ F.holds files.old }
+    ensures later { (name : List ℕ) → F.faults files.old name ≤ F.faults files.new name }
+    ensures later_out { Later (sunk O.written O.faults O.short out.old out.new) }
+    ensures later_err { Later (sunk E.written E.faults E.short err.old err.new) }
+{
+    match prepare_map(rt, alloc, part, files, gate) {
+        Ok(text) => finish(out, err, Ok(Status::Done), text.as_slice()),
+        Err(failure) => finish(out, err, Err(failure), &[]),
+    }
+}
+
+// Takes saved runs of files, and writes the report through the form that the command names.
+fn run_reduce<F: Store, O: Sink, E: Sink>(
+    alloc: Global,
+    reduce: Reduce<'_>,
+    files: &mut F,
+    out: &mut O,
+    err: &mut E,
+    forms: Vec<Box<dyn ReportForm>>,
+) -> Status
+    requires reduce { IsReduce reduce }
+    requires empty { All (λ f. gathered f ≡ []) forms.items }
+    ensures says { (words : List (List ℕ)) (shown : OneRow → OneRow) →
+        command_in words ≡ Some (Reduces (reduce_seen reduce.entry)) →
+        let forms = forms_of (λ f. called f) (λ f. texts f) forms.items in
+        let asked = asks words forms shown in
+        let call = call_of F.holds F.faults asked files.old files.new in
+        let out = sunk O.written O.faults O.short out.old out.new in
+        let err = sunk E.written E.faults E.short err.old err.new in
+        Says call out err result }
+    ensures leaves { (words : List (List ℕ)) (shown : OneRow → OneRow) →
+        command_in words ≡ Some (Reduces (reduce_seen reduce.entry)) →
+        let forms = forms_of (λ f. called f) (λ f. texts f) forms.items in
+        let asked = asks words forms shown in
+        let call = call_of F.holds F.faults asked files.old files.new in
+        let sunk_out = sunk O.written O.faults O.short out.old out.new in
+        Leaves call sunk_out files.old files.new out.old out.new err.old err.new result }
+    ensures files { F.holds files.new ≡ F.holds files.old }
+    ensures later { (name : List ℕ) → F.faults files.old name ≤ F.faults files.new name }
+    ensures later_out { Later (sunk O.written O.faults O.short out.old out.new) }
+    ensures later_err { Later (sunk E.written E.faults E.short err.old err.new) }
+{
+    let mut form = match choose(forms, reduce.form) {
+        Some(form) => form,
+        None => return refuse(err, &no_command(Refusal::Usage)),
+    };
+    let reduced = prepare_reduce(alloc, reduce, files, &mut form);
+    finish(out, err, reduced, report_bytes(&form))
+}
+
 // Carries out the command that the arguments ask for.
 fn run<T: Threads + Wait + Sync, F: Store, O: Sink, E: Sink, G: Gate + Sync>(
     rt: &T,
@@ -156,6 +230,8 @@ fn run<T: Threads + Wait + Sync, F: Store, O: Sink, E: Sink, G: Gate + Sync>(
         Ok(Some(Command::Trace(trace))) => run_trace(rt, alloc, trace, files, out, err, forms),
         Ok(Some(Command::Check(check))) => run_check(alloc, check, files, out, err),
         Ok(Some(Command::Make(make))) => run_make(rt, alloc, make, out, err, gate),
+        Ok(Some(Command::Map(part))) => run_map(rt, alloc, part, files, out, err, gate),
+        Ok(Some(Command::Reduce(reduce))) => { run_reduce(alloc, reduce, files, out, err, forms) }
         Ok(None) => refuse(err, &no_command(Refusal::Usage)),
         Err(_) => refuse(err, &no_command(Refusal::NoMemory)),
     }
@@ -173,9 +249,15 @@ fn run<T: Threads + Wait + Sync, F: Store, O: Sink, E: Sink, G: Gate + Sync>(
 /// has it, with the record's number before it, under the name `record`. Its rows go to the form
 /// round by round.
 ///
+/// `map [--first N] [--chunk N] [--limit N] [--workers N] [--max-bytes N] SCRIPT FILE...` writes what
+/// the records of the files do to each group, as a text; they are numbered from N on, by default from
+/// 1. `reduce [--form NAME] [--max-bytes N] SCRIPT FILE...` takes files of such texts, whose records
+/// follow each other from 1 on, and writes the report of all of them.
+///
 /// Options may stand anywhere, each at most once. The form is `table`. A number is 1 to 10 digits:
 ///
 /// - `--every`, which records have a row: 1 to 1,000,000, by default 1;
+/// - `--first`, the number of the first record: 1 to 9,999,999,999, by default 1;
 /// - `--chunk`, the rows of a chunk: 1 to 65,536, by default 1,024;
 /// - `--limit`, the path limit: 1 to 256, by default 16;
 /// - `--workers`, the workers of a round: 1 to 64, by default 4;

@@ -6,13 +6,15 @@ ghost use Rattle.clap.specs.Words.{app_of, found_of, rows_of};
 ghost use Rattle.clap.specs.Faults.{is_simple_and_free};
 ghost use Rattle.sym_engine.specs.Options.{InRange};
 ghost use Rattle.sym_top.specs.CommandLines.{matched};
-ghost use Rattle.sym_top.specs.Commands.{run_of, trace_of, check_of, make_of, command_by, command_in};
-ghost use Rattle.sym_top.specs.Words.{run_seen, trace_seen, check_seen, make_seen, command_seen, IsRun, IsTrace, IsInRange};
+ghost use Rattle.sym_top.specs.Commands.{run_of, trace_of, check_of, make_of, map_of, reduce_of, command_by, command_in};
+ghost use Rattle.sym_top.specs.Words.{run_seen, trace_seen, check_seen, make_seen, map_seen, reduce_seen, command_seen, IsRun, IsTrace, IsMap, IsReduce, IsInRange};
 
-use crate::arguments::{CHECK_NAME, MAKE_NAME, RUN_NAME, TRACE_NAME};
-use crate::command_lines::{check_command, make_command, run_command, trace_command};
-use crate::commands::{Check, Command, Make, Run, Trace};
-use crate::matches::{read_check, read_make, read_run, read_trace};
+use crate::arguments::{CHECK_NAME, MAKE_NAME, MAP_NAME, REDUCE_NAME, RUN_NAME, TRACE_NAME};
+use crate::command_lines::{
+    check_command, make_command, map_command, reduce_command, run_command, trace_command,
+};
+use crate::commands::{Check, Command, Make, Map, Reduce, Run, Trace};
+use crate::matches::{read_check, read_make, read_map, read_reduce, read_run, read_trace};
 use clap::ArgMatches;
 use clap::error::ErrorKind;
 use std::alloc::Global;
@@ -91,6 +93,34 @@ fn read_make_words(alloc: Global, words: &[String]) -> Result<Option<Make>, NoMe
     }
 }
 
+// The summary that words ask for, the first of which is `map`.
+#[tactic(auto, unfolding(crate::specs::Commands::map_of))]
+fn read_map_words<'a>(alloc: Global, words: &'a [String]) -> Result<Option<Map<'a>>, NoMemory>
+    ensures read { IfOk result (λ part.
+        option_map map_seen part ≡ map_of (map string_bytes words.now)) }
+    ensures range { IfOk result (λ part. IfSome part IsMap) }
+{
+    let command = map_command(alloc)?;
+    match find_matches(command, words)? {
+        Some(matches) => read_map(alloc, &matches),
+        None => Ok(None),
+    }
+}
+
+// The report on saved runs that words ask for, the first of which is `reduce`.
+#[tactic(auto, unfolding(crate::specs::Commands::reduce_of))]
+fn read_reduce_words<'a>(alloc: Global, words: &'a [String]) -> Result<Option<Reduce<'a>>, NoMemory>
+    ensures read { IfOk result (λ reduce.
+        option_map reduce_seen reduce ≡ reduce_of (map string_bytes words.now)) }
+    ensures range { IfOk result (λ reduce. IfSome reduce IsReduce) }
+{
+    let command = reduce_command(alloc)?;
+    match find_matches(command, words)? {
+        Some(matches) => read_reduce(alloc, &matches),
+        None => Ok(None),
+    }
+}
+
 // The command of this name that words ask for.
 fn read_command<'a>(
     alloc: Global,
@@ -122,6 +152,18 @@ fn read_command<'a>(
     if name == MAKE_NAME {
         return match read_make_words(alloc, words)? {
             Some(make) => Ok(Some(Command::Make(make))),
+            None => Ok(None),
+        };
+    }
+    if name == MAP_NAME {
+        return match read_map_words(alloc, words)? {
+            Some(part) => Ok(Some(Command::Map(part))),
+            None => Ok(None),
+        };
+    }
+    if name == REDUCE_NAME {
+        return match read_reduce_words(alloc, words)? {
+            Some(reduce) => Ok(Some(Command::Reduce(reduce))),
             None => Ok(None),
         };
     }

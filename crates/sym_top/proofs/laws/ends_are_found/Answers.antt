@@ -6,7 +6,7 @@ pub returns-clause-found : goal.returns-clause-found
 returns-clause-found c = agree
 
 pub returns-clause-some : goal.returns-clause-some
-returns-clause-some c asked held = (end_of asked held, is_end asked held)
+returns-clause-some c asked held reads = (end_of asked held, is_end asked held reads)
 
 pub returns-clause-one : goal.returns-clause-one
 returns-clause-one c = one_end

@@ -27,7 +27,7 @@ returns-clause-stopped g c asked is shown =
     let after = g.F.Store.faults c.report_files.new.files in
     let why = c.in-Err-report_files.why in
     run-files-stop _ c.args.run is c.in-Ok.checked middle c.in-Ok.ensures.later c.in-Ok.ensures.loaded why
-    (subst (λ r. StopsFiles program (rules r) (g.F.Store.holds c.args.files.now) (map string_bytes c.args.run.files.items) middle after why) (sym shown)
-    (subst (λ h. StopsFiles program (rules (g.G.Gate.shown c.args.gate.now)) h (map string_bytes c.args.run.files.items) middle after why) c.in-Ok.ensures.same
-    (subst (λ names. StopsFiles program (rules (g.G.Gate.shown c.args.gate.now)) (g.F.Store.holds c.load_script.new.files) (map string_bytes names) middle after why)
+    (subst (λ r. StopsFiles 1 program (rules r) (g.F.Store.holds c.args.files.now) (map string_bytes c.args.run.files.items) middle after why) (sym shown)
+    (subst (λ h. StopsFiles 1 program (rules (g.G.Gate.shown c.args.gate.now)) h (map string_bytes c.args.run.files.items) middle after why) c.in-Ok.ensures.same
+    (subst (λ names. StopsFiles 1 program (rules (g.G.Gate.shown c.args.gate.now)) (g.F.Store.holds c.load_script.new.files) (map string_bytes names) middle after why)
     c.as_slice.ensures.value c.in-Err-report_files.ensures.stopped)))

@@ -25,7 +25,7 @@ returns-in-Ok-write_report-clause-reported g c =
 
 pub returns-in-Err-clause-stopped : goal.returns-in-Err-clause-stopped
 returns-in-Err-clause-stopped g c =
-    subst (StopsFiles _ _ _ _ _ _) (sym c.pass_refusal.ensures) (stops c.in-Err.error c.in-Err.ensures.stopped)
+    subst (StopsFiles 1 _ _ _ _ _ _) (sym c.pass_refusal.ensures) (stops c.in-Err.error c.in-Err.ensures.stopped)
 
 pub returns-in-Ok-write_report-clause-ready : goal.returns-in-Ok-write_report-clause-ready
 returns-in-Ok-write_report-clause-ready g c =

@@ -28,3 +28,13 @@ pub returns-in-Ok-Some-Trace-clause-leaves : goal.returns-in-Ok-Some-Trace-claus
 returns-in-Ok-Some-Trace-clause-leaves g c =
     c.run_trace.ensures.leaves _ (g.G.Gate.shown c.args.gate.now)
     (sym c.in-Ok-Some-Trace.ensures.read ∙ ap (option_map command_seen) (c.in-Ok-Some-Trace.field-0-is ∙ ap Some c.in-Ok-Some-Trace.field-0-0-is))
+
+pub returns-in-Ok-Some-Reduce-clause-says : goal.returns-in-Ok-Some-Reduce-clause-says
+returns-in-Ok-Some-Reduce-clause-says g c =
+    c.run_reduce.ensures.says _ (g.G.Gate.shown c.args.gate.now)
+    (sym c.in-Ok-Some-Reduce.ensures.read ∙ ap (option_map command_seen) (c.in-Ok-Some-Reduce.field-0-is ∙ ap Some c.in-Ok-Some-Reduce.field-0-0-is))
+
+pub returns-in-Ok-Some-Reduce-clause-leaves : goal.returns-in-Ok-Some-Reduce-clause-leaves
+returns-in-Ok-Some-Reduce-clause-leaves g c =
+    c.run_reduce.ensures.leaves _ (g.G.Gate.shown c.args.gate.now)
+    (sym c.in-Ok-Some-Reduce.ensures.read ∙ ap (option_map command_seen) (c.in-Ok-Some-Reduce.field-0-is ∙ ap Some c.in-Ok-Some-Reduce.field-0-0-is))
