@@ -48,15 +48,15 @@ check_paths() {
     done <"$work/paths"
 }
 
-# Whether a source defines the name: an item, or a definition or meaning that contracts use.
+# Whether a source defines the name: an item, a definition that contracts use, or a lemma.
 defines() {
     items='pub|ghost|data|record|fn|struct|enum|trait|const|type'
-    grep -qE "(^|[^A-Za-z0-9_])($items) $1(\$|[^A-Za-z0-9_-])" "$2"
+    grep -qE "(^|[^A-Za-z0-9_])($items) $1(\$|[^A-Za-z0-9_-])|^ *$1 :" "$2"
 }
 
 # Each definition that a document names with its file.
 check_definitions() {
-    entries "$1" | grep -oE '(`[A-Za-z0-9_:]+`(,| and)? )+in `[^`]*/[^`]*`' >"$work/groups"
+    entries "$1" | grep -oE '(`[A-Za-z0-9_:-]+`(,| and)? )+in `[^`]*/[^`]*`' >"$work/groups"
     while read -r group; do
         file=$(printf '%s\n' "$group" | sed 's/.* in `\(.*\)`/\1/')
         [ -e "$file" ] || file=$(dirname "$1")/$file
