@@ -15,8 +15,8 @@ use Rattle.sym_explore.proofs.extending.explore_going.Goals as goal
 
 pub run_block-requires-clause-well : goal.run_block-requires-clause-well
 run_block-requires-clause-well c =
-    let none : c.truncate.new ≡ [] = search rules in
-    known_update (script_plan c.args.plan.now) c.args.rec.now c.truncate.new none c.requires.known c.requires.rec
+    let none : c.truncate.new.self ≡ [] = search rules in
+    known_update (script_plan c.args.plan.now) c.args.rec.now c.truncate.new.self none c.requires.known c.requires.rec
 
 pub run_block-requires-clause-fits : goal.run_block-requires-clause-fits
 run_block-requires-clause-fits c =
@@ -28,8 +28,8 @@ run_block-requires-clause-ended_fit c =
 
 pub returns-clause-exact : goal.returns-clause-exact
 returns-clause-exact c =
-    let none : c.truncate.new ≡ [] = search rules in
-    explored_gives (script_plan c.args.plan.now) c.args.rec.now c.args.paths.items c.in_ok-going.going.items [] c.take_going.new.paths.items c.run_block.new.paths.items c.run_block.new.ended.items c.move_all.new.to.items refl c.in_ok-going.ensures.moved c.in_ok-going.ensures.going c.in_ok-move_all.ensures.to c.truncate.new none c.in_ok-run_block.ensures.exact
+    let none : c.truncate.new.self ≡ [] = search rules in
+    explored_gives (script_plan c.args.plan.now) c.args.rec.now c.args.paths.items c.in_ok-going.going.items [] c.take_going.new.paths.items c.run_block.new.paths.items c.run_block.new.ended.items c.move_all.new.to.items refl c.in_ok-going.ensures.moved c.in_ok-going.ensures.going c.in_ok-move_all.ensures.to c.truncate.new.self none c.in_ok-run_block.ensures.exact
 
 pub returns-clause-few : goal.returns-clause-few
 returns-clause-few c =
