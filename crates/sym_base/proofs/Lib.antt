@@ -4,4 +4,5 @@ mod Files
 mod LawfulExamples
 pub mod Numbers
 mod Reading
+mod SmallListLemmas
 pub mod ValueLemmas

@@ -8,6 +8,8 @@ pub mod Names
 pub mod Order
 pub mod Precedence
 pub mod Sizes
+pub mod SmallLending
+pub mod SmallLists
 pub mod States
 pub mod Tests
 pub mod Transfers

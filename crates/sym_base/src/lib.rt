@@ -36,6 +36,7 @@ pub use values::memory::NoMemory;
 pub use values::record::Record;
 pub use values::report::{Column, Columns, ReportFault};
 pub use values::sequence::{Plain, Sequence};
+pub use values::small_list::SmallList;
 pub use values::state::{Cell, Cells, Fault, FaultKind, Outcome, State};
 pub use values::text::{Text, Texts, Words};
 pub use values::value::{Key, Nums, Value, Values};

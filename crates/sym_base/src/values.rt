@@ -5,6 +5,7 @@ pub mod memory;
 pub mod record;
 pub mod report;
 pub mod sequence;
+pub mod small_list;
 pub mod state;
 pub mod text;
 pub mod value;

@@ -3,6 +3,7 @@ ghost use Rattle.std.specs.Prelude.{◌≡◌, ◌⊎◌, [], IfOk, OnOk, OnErr}
 
 use crate::values::memory::NoMemory;
 use crate::values::sequence::{Plain, Sequence};
+use crate::values::small_list::SmallList;
 use crate::values::text::Text;
 use std::alloc::Global;
 
@@ -28,8 +29,8 @@ impl Drop for Value {
     }
 }
 
-/// A list of values.
-pub type Values = Sequence<Value>;
+/// A list of values. One value alone, as most keys, arguments and hold cells have, lies inline.
+pub type Values = SmallList<Value>;
 
 /// The elements of a `nums` cell.
 pub type Nums = Sequence<i64>;
