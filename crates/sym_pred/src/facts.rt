@@ -2,7 +2,6 @@
 ghost use Rattle.std.specs.Prelude.{◌≡◌, ◌==◌, ◌<◌, ◌≤◌, ◌↔◌, ◌++◌, ◌⊎◌, Any, Bool, not, List, IfOk, OnOk, IfSome, IfNone, IsSome, IsNone, IsTrue, MatchOption, None, OnErr, length, slice_get, slice_index_or, option_copied};
 ghost use Rattle.sym_pred.specs.declared.literal.Literal.{Literal as OneLiteral};
 ghost use Rattle.sym_pred.specs.Facts.{Atom};
-ghost use Rattle.std.specs.List.{insert as insert_at};
 ghost use Rattle.std.specs.FinMap.{empty, get, insert, remove, len as count_of};
 ghost use Rattle.sym_pred.specs.Literals.{literals, atom_of};
 ghost use Rattle.sym_base.specs.Tests.{Truth};
@@ -17,14 +16,14 @@ use crate::literal::Literal;
 use std::alloc::Global;
 use std::cmp::Ordering;
 use std::marker::Model;
-use sym_base::{NoMemory, Sequence, Values};
+use sym_base::{NoMemory, SmallList, Values};
 
 /// Literals with no two of the same test and arguments, in order: by test, and then by arguments,
 /// numbers by size, then words by bytes, then labels by number. A contract sees the finite map from
 /// a test with its arguments to the outcome, so that equal facts are equal values.
 #[derive(Drop)]
 pub struct Facts {
-    literals: Sequence<Literal>,
+    literals: SmallList<Literal>,
 }
 
 impl Model for Facts {
@@ -192,7 +191,7 @@ impl Facts {
         ensures { result ≡ empty }
     {
         Facts {
-            literals: Sequence::new(alloc),
+            literals: SmallList::new(alloc),
         }
     }
 
@@ -204,7 +203,7 @@ impl Facts {
     {
         if is_in_order(items.as_slice()) {
             Some(Facts {
-                literals: Sequence::of(items),
+                literals: SmallList::of(items),
             })
         } else {
             None
@@ -212,10 +211,10 @@ impl Facts {
     }
 
     /// The literals in order. It takes no memory.
-    pub fn into_vec(self) -> Vec<Literal>
-        ensures { result.items ≡ literals self }
+    pub fn into_list(self) -> SmallList<Literal>
+        ensures { result ≡ literals self }
     {
-        self.literals.into_vec()
+        self.literals
     }
 
     /// The outcome that stands for this test and these arguments; `None` where none does.
@@ -289,11 +288,9 @@ impl Facts {
         requires { IsPlace (literals self) (atom_of literal) (Err index) }
         ensures { IfOk result (λ facts. facts ≡ insert self (atom_of literal) literal.outcome) }
     {
-        let mut items = self.literals.into_vec();
-        put_in(&mut items, index, literal)?;
-        Ok(Facts {
-            literals: Sequence::of(items),
-        })
+        let mut literals = self.literals;
+        literals.insert(index, literal)?;
+        Ok(Facts { literals })
     }
 
     /// Whether the literal stands with the other outcome. It takes no memory.
@@ -336,7 +333,7 @@ impl Facts {
         match merge(alloc, self.literals.as_slice(), other.literals.as_slice())? {
             None => Ok(None),
             Some(all) => Ok(Some(Facts {
-                literals: Sequence::of(all),
+                literals: SmallList::of(all),
             })),
         }
     }
@@ -436,11 +433,9 @@ impl Facts {
         ensures { (d : OneLiteral) →
             result ≡ remove self (atom_of (slice_index_or (literals self) index d)) }
     {
-        let mut items = self.literals.into_vec();
-        items.remove(index);
-        Facts {
-            literals: Sequence::of(items),
-        }
+        let mut literals = self.literals;
+        literals.remove(index);
+        Facts { literals }
     }
 
     /// Equal facts of their own.
@@ -451,19 +446,6 @@ impl Facts {
             literals: self.literals.copy(alloc)?,
         })
     }
-}
-
-/// Puts the literal in at this place. The first one takes memory for one alone: most facts that a
-/// path has are of one literal, and there are many paths.
-fn put_in(items: &mut Vec<Literal>, index: usize, literal: Literal) -> Result<(), NoMemory>
-    requires { index ≤ length items.old.items }
-    ensures { OnOk result (items.new.items ≡ insert_at items.old.items index literal) }
-{
-    if items.is_empty() {
-        items.reserve_exact(1)?;
-    }
-    items.insert(index, literal)?;
-    Ok(())
 }
 
 /// Whether the literals are in order, no two with the same test and arguments.

@@ -76,12 +76,15 @@ impl<E: Element> ListForm<E> {
         self.added.as_slice().get(index)
     }
 
-    /// The form with `element` after the others. After an `Err` both the form and the element are
-    /// dropped.
+    /// The form with `element` after the others. The first one takes memory for one alone: most
+    /// forms of a short run have one. After an `Err` both the form and the element are dropped.
     pub fn push(self, _alloc: Global, element: E) -> Result<ListForm<E>, NoMemory>
         ensures { IfOk result (λ form. form ≡ self ++ element ∷ []) }
     {
         let mut added = self.added;
+        if added.is_empty() {
+            added.reserve_exact(1)?;
+        }
         added.push(element)?;
         Ok(ListForm { added })
     }

@@ -1,4 +1,4 @@
-use Rattle.std.proofs.Common.{◌≡◌, ◌<◌, List, map, length, get_or, sym, ap, subst, ◌∙◌, arith}
+use Rattle.std.proofs.Common.{◌≡◌, ◌<◌, List, map, length, get_or, sym, ap, subst, ◌∙◌}
 use Rattle.std.specs.List.{remove}
 use Rattle.std.specs.FinMap.{from_sorted}
 use Rattle.std.specs.FinMap as finite
@@ -9,20 +9,15 @@ use Rattle.sym_pred.specs.Places.{IsInOrder}
 use Rattle.sym_pred.proofs.FactsLemmas.{literals_of_view, in_order-without, facts-without}
 use Rattle.sym_pred.proofs.facts.Facts.without.Goals as goal
 
-pub remove-requires : goal.remove-requires
-remove-requires c =
-    let inside : c.args.index < length c.into_vec-items.result.items = subst (λ (xs : List Literal). c.args.index < length xs) (literals_of_view _ _ c.self.invariant c.self.view_is ∙ sym c.into_vec-items.ensures) c.requires in
-    omega (arith, inside, c.into_vec-items.result.ok.0)
-
 pub invariant_of-result : goal.invariant_of-result
 invariant_of-result c =
-    let items : c.of.result ≡ remove c.self.inside.literals c.args.index = c.of.ensures ∙ c.remove.ensures.items ∙ ap (λ xs. remove xs c.args.index) c.into_vec-items.ensures in
+    let items : c.remove.new.self ≡ remove c.self.inside.literals c.args.index = c.remove.ensures in
     subst IsInOrder (sym items) (in_order-without _ c.args.index c.self.invariant)
 
 pub returns : goal.returns
 returns c d =
     let lits = literals_of_view _ _ c.self.invariant c.self.view_is in
-    let items : c.of.result ≡ remove c.self.inside.literals c.args.index = c.of.ensures ∙ c.remove.ensures.items ∙ ap (λ xs. remove xs c.args.index) c.into_vec-items.ensures in
+    let items : c.remove.new.self ≡ remove c.self.inside.literals c.args.index = c.remove.ensures in
     ap (λ (xs : List Literal). from_sorted {R = atom_cmp} (map entry_of xs)) items
     ∙ facts-without _ c.args.index d c.self.invariant (subst (λ xs. c.args.index < length xs) lits c.requires)
     ∙ ap (λ (m : FactMap). finite.remove m (atom_of (get_or c.self.inside.literals c.args.index d))) c.self.view_is
