@@ -1,11 +1,11 @@
 //! Worked rows of facts.
 use std::alloc::Global;
 use std::test::Fail;
-use sym_base::{NoMemory, Sequence, Text, Value};
+use sym_base::{NoMemory, Text, Value, Values};
 use sym_pred::{Added, Facts, Literal};
 
 fn literal(alloc: Global, test: u16, value: Value, outcome: bool) -> Result<Literal, NoMemory> {
-    let mut args = Sequence::new(alloc);
+    let mut args = Values::new(alloc);
     args.push(value)?;
     Ok(Literal {
         test,
@@ -271,7 +271,7 @@ fn facts_are_made_of_literals_in_order(rt: HostRuntime) -> Result<(), Fail> {
     let facts = Facts::of(pair(rt.alloc(), (0, 5, true), (1, 2, false))?);
     let wanted = Some([(1, 2, false), (0, 5, true)].as_slice());
     assert!(rt; is_known(rt.alloc(), &facts, wanted)?);
-    assert!(rt; facts.ok_or("in order")?.into_vec().len() == 2);
+    assert!(rt; facts.ok_or("in order")?.into_list().len() == 2);
     let twice = Facts::of(pair(rt.alloc(), (0, 5, true), (0, 5, false))?);
     assert!(rt; twice.is_none());
     Ok(())

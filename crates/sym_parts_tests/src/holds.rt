@@ -5,7 +5,7 @@ use sym_base::{Cell, NoMemory, Sequence, State, Value, Values};
 use sym_pred::HoldForm;
 
 fn parts(alloc: Global, value: i64) -> Result<Values, NoMemory> {
-    let mut parts = Sequence::new(alloc);
+    let mut parts = Values::new(alloc);
     parts.push(Value::Num(value))?;
     Ok(parts)
 }

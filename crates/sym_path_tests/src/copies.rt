@@ -1,7 +1,7 @@
 //! Copies of forms, paths and segments.
 use crate::setting::{number, span};
 use std::alloc::Global;
-use sym_base::{Fault, FaultKind, NoMemory, Sequence, Text, Value};
+use sym_base::{Fault, FaultKind, NoMemory, Sequence, Text, Value, Values};
 use sym_enum::{EnumForm, LabelSet};
 use sym_explore::Extension;
 use sym_int::IntForm;
@@ -10,7 +10,7 @@ use sym_pred::{Facts, HoldForm, Literal};
 use sym_vector::ListForm;
 
 fn literal(alloc: Global) -> Result<Literal, NoMemory> {
-    let mut args = Sequence::new(alloc);
+    let mut args = Values::new(alloc);
     args.push(Value::Num(60))?;
     Ok(Literal {
         test: 0,

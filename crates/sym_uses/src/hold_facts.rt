@@ -34,10 +34,10 @@ mod tests {
     use super::*;
     use std::alloc::Global;
     use std::test::Fail;
-    use sym_base::{Sequence, Value};
+    use sym_base::{Value, Values};
 
     fn gap(alloc: Global, value: i64, outcome: bool) -> Result<Literal, NoMemory> {
-        let mut args = Sequence::new(alloc);
+        let mut args = Values::new(alloc);
         args.push(Value::Num(value))?;
         Ok(Literal {
             test: 0,
