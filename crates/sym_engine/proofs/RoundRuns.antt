@@ -1,5 +1,5 @@
 -- The run of a round, and the groups that it is applied to.
-use Rattle.std.proofs.Common.{◌≡◌, ◌∙◌, refl, sym, ap, subst, arith, ℕ, ◌-◌, ◌<◌, List, [], ◌++◌, append-nil, length, get_or, Option, Some, None, Result, Ok, Err, slice_get}
+use Rattle.std.proofs.Common.{◌≡◌, ◌∙◌, refl, sym, ap, subst, arith, ℕ, ◌-◌, ◌<◌, List, [], ◌++◌, length, get_or, Option, Some, None, Result, Ok, Err, slice_get}
 use Rattle.std.specs.Prelude.{slice_range}
 use Rattle.std.proofs.lemmas.List.{take_all}
 use Rattle.std.proofs.lemmas.List.Elements.{All-nil}
@@ -7,7 +7,6 @@ use Rattle.std.proofs.lemmas.Option.{slice_get_read}
 use Rattle.sym_base.specs.declared.values.record.Record.{Record}
 use Rattle.sym_base.specs.declared.values.value.Key.{Key}
 use Rattle.sym_base.specs.declared.values.state.Outcome.{Outcome}
-use Rattle.sym_check.specs.Meaning.Groups.{pass}
 use Rattle.sym_check.specs.Meaning.Validity.{IsValidOutcome}
 use Rattle.sym_check.specs.Plan.ScriptPlans.{ScriptPlan}
 use Rattle.sym_plain.specs.Pairs.{after_records}
@@ -19,9 +18,9 @@ use Rattle.sym_run.specs.declared.runs.Applied.{Applied}
 use Rattle.sym_run.specs.declared.runs.Applied.TheVariants as applied
 use Rattle.sym_run.specs.declared.runs.Run.{Run}
 use Rattle.sym_run.specs.Applying.{AreValid, IfDone, bad_of}
-use Rattle.sym_run.specs.Runs.{GroupsFit, GroupsStandFor, HasFound}
+use Rattle.sym_run.specs.Runs.{GroupsStandFor, HasFound}
 use Rattle.sym_engine.specs.Rounds.{AreWorkers, StandsForAll}
-use Rattle.sym_engine.specs.Taking.{AreLedBy, ArePassedBy, IsPendingFor, StandsForRecords}
+use Rattle.sym_engine.specs.Taking.{AreLedBy}
 
 abbrev Pairs : Type 0
 Pairs = List (Key × Outcome)
@@ -45,12 +44,14 @@ found_in p limit cuts run h =
 pub record AreStoodFor (p : ScriptPlan) (found : Result (List Record) BadRow) (run : Run) : Type 0 where
   pub records : List Record
   pub are : found ≡ Ok records
-  pub stands : StandsForRecords p run records
+  pub stands : GroupsStandFor p records run.groups
 
-stood_for : (p : ScriptPlan) (limit : ℕ) (found : Result (List Record) BadRow) (run : Run) → GroupsFit p run.groups → HasFound p limit found run.bad run.groups → run.bad ≡ None → AreStoodFor p found run
-stood_for p limit (Ok records) run fits h fine =
-    record { records = records; are = refl; stands = record { fine = fine; fits = fits; stands = h.2 } }
-stood_for p limit (Err bad) run fits h fine = absurd (cc)
+stood_for : (p : ScriptPlan) (limit : ℕ) (found : Result (List Record) BadRow) (run : Run) → HasFound p limit found run.bad run.groups → run.bad ≡ None → AreStoodFor p found run
+stood_for p limit (Ok records) run h fine = record { records = records; are = refl; stands = h.2 }
+stood_for p limit (Err bad) run h fine = absurd (cc)
+
+pub round_fine : (p : ScriptPlan) (limit : ℕ) (cuts : List Chunk) (run : Run) → StandsForAll p limit cuts run → run.bad ≡ None → AreStoodFor p (all_records p cuts) run
+round_fine p limit cuts run h fine = stood_for p limit (all_records p cuts) run (found_in p limit cuts run h) fine
 
 bad_found : (p : ScriptPlan) (limit : ℕ) (found : Result (List Record) BadRow) (run : Run) (bad : BadRow) → HasFound p limit found run.bad run.groups → run.bad ≡ Some bad → found ≡ Err bad
 bad_found p limit (Ok records) run bad h is = let none = h.0 in absurd (cc)
@@ -59,18 +60,6 @@ bad_found p limit (Err first) run bad h is = let same : first ≡ bad = cc in ap
 pub round_bad : (p : ScriptPlan) (limit : ℕ) (cuts : List Chunk) (run : Run) (bad : BadRow) → StandsForAll p limit cuts run → run.bad ≡ Some bad → all_records p cuts ≡ Err bad
 round_bad p limit cuts run bad h is = bad_found p limit (all_records p cuts) run bad (found_in p limit cuts run h) is
 
--- The run before is applied, and that of the round is pending.
-pub next_pending : (p : ScriptPlan) (limit workers : ℕ) (cuts : List Chunk) (run : Run) (old new : Pairs) (pending : Option Run)
-    → StandsForAll p limit cuts run → run.bad ≡ None → ((records : List Record) → ArePassedBy p old pending records → AreLedBy p new records)
-    → (records : List Record) × (all_records p cuts ≡ Ok records)
-    × ((before : List Record) → AreWorkers workers × ArePassedBy p old pending before → AreWorkers workers × ArePassedBy p new (Some run) (before ++ records))
-next_pending p limit workers cuts run old new pending h fine led =
-    let next = stood_for p limit (all_records p cuts) run h.stands.fits (found_in p limit cuts run h) fine in (
-      next.records,
-      next.are,
-      λ before stood. (stood.0, record { done = before; rest = next.records; all = refl; led = led before stood.1; waits = next.stands }),
-    )
-
 -- ---- the groups after a run
 -- What a run comes to on groups.
 pub record IsApplied (p : ScriptPlan) (run : Run) (groups : Pairs) (found : Applied) : Type 0 where
@@ -78,49 +67,45 @@ pub record IsApplied (p : ScriptPlan) (run : Run) (groups : Pairs) (found : Appl
   pub valid : IfDone found (AreValid p)
   pub groups_are : (records : List Record) → GroupsStandFor p records run.groups → IfDone found (λ g. g ≡ after_records p records groups)
 
--- The pending run stands for some records.
-pub pending_run : (p : ScriptPlan) (groups : Pairs) (pending : Option Run) (run : Run) (records : List Record) (is : ArePassedBy p groups pending records)
-    → pending ≡ Some run → StandsForRecords p run is.rest
-pending_run p groups pending run records is some = subst (λ (o : Option Run). IsPendingFor p o is.rest) some is.waits
+-- What the groups come to where all rows of a round are records.
+abbrev pub Led : ScriptPlan → Result (List Record) BadRow → Pairs → Pairs → Type 0
+Led p read old new =
+    (records : List Record) × (read ≡ Ok records) × ((before : List Record) → AreLedBy p old before → AreLedBy p new (before ++ records))
 
-pub none_pending : (p : ScriptPlan) (groups : Pairs) (pending : Option Run) (records : List Record) → ArePassedBy p groups pending records → pending ≡ None → AreLedBy p groups records
-none_pending p groups pending records is none =
-    let empty : is.rest ≡ [] = subst (λ (o : Option Run). IsPendingFor p o is.rest) none is.waits in
-    let same : records ≡ is.done = is.all ∙ ap (λ rest. is.done ++ rest) empty ∙ append-nil is.done in
-    subst (λ (all : List Record). AreLedBy p groups all) (sym same) is.led
-
-pub pending_led : (p : ScriptPlan) (old given new : Pairs) (pending : Option Run) (run : Run) (found : Applied) (records : List Record)
-    → ArePassedBy p old pending records → pending ≡ Some run → given ≡ old → IsApplied p run given found → found ≡ applied.Done new → AreLedBy p new records
-pending_led p old given new pending run found records is some same by done =
-    let stood = pending_run p old pending run records is some in
-    let G : Applied → Type 0 = λ x. IfDone x (λ g. g ≡ after_records p is.rest given) in
+groups_led : (p : ScriptPlan) (old given new : Pairs) (run : Run) (found : Applied) (records before : List Record)
+    → GroupsStandFor p records run.groups → given ≡ old → IsApplied p run given found → found ≡ applied.Done new → AreLedBy p old before → AreLedBy p new (before ++ records)
+groups_led p old given new run found records before stands same by done led =
+    let G : Applied → Type 0 = λ x. IfDone x (λ g. g ≡ after_records p records given) in
     let V : Applied → Type 0 = λ x. IfDone x (AreValid p) in
-    let led : new ≡ after_records p is.rest given = subst G done (by.groups_are is.rest stood.stands) in
+    let on : new ≡ after_records p records given = subst G done (by.groups_are records stands) in
     record {
-      passed = led ∙ ap (after_records p is.rest) (same ∙ is.led.passed) ∙ pass_more p is.done is.rest ∙ ap (pass p) (sym is.all);
+      passed = on ∙ ap (after_records p records) (same ∙ led.passed) ∙ pass_more p before records;
       valid = subst V done by.valid;
     }
 
--- No pending run has a bad row.
-pub never_bad : (p : ScriptPlan) (groups given : Pairs) (pending : Option Run) (run : Run) (found : Applied) (bad : BadRow) (records : List Record)
-    → ArePassedBy p groups pending records → pending ≡ Some run → IsApplied p run given found → found ≡ applied.Bad bad → ⊥
-never_bad p groups given pending run found bad records is some by broken =
-    let fine = (pending_run p groups pending run records is some).fine in
-    let same = by.bad in
-    let none : bad_of (applied.Bad bad) ≡ None = ap bad_of (sym broken) ∙ same ∙ fine in
-    absurd (cc)
+pub round_led : (p : ScriptPlan) (limit : ℕ) (cuts : List Chunk) (run : Run) (old given new : Pairs) (found : Applied)
+    → StandsForAll p limit cuts run → given ≡ old → IsApplied p run given found → found ≡ applied.Done new → Led p (all_records p cuts) old new
+round_led p limit cuts run old given new found h same by done =
+    let fine : run.bad ≡ None = sym by.bad ∙ ap bad_of done in
+    let next = round_fine p limit cuts run h fine in (
+      next.records,
+      next.are,
+      λ before led. groups_led p old given new run found next.records before next.stands same by done led,
+    )
+
+pub round_broken : (p : ScriptPlan) (limit : ℕ) (cuts : List Chunk) (run : Run) (given : Pairs) (found : Applied) (bad : BadRow)
+    → StandsForAll p limit cuts run → IsApplied p run given found → found ≡ applied.Bad bad → all_records p cuts ≡ Err bad
+round_broken p limit cuts run given found bad h by broken = round_bad p limit cuts run bad h (sym by.bad ∙ ap bad_of broken)
+
+-- The same beside a number of workers, which stays.
+pub with_workers : (p : ScriptPlan) (workers : ℕ) (read : Result (List Record) BadRow) (old new : Pairs) → Led p read old new
+    → (records : List Record) × (read ≡ Ok records) × ((before : List Record) → AreWorkers workers × AreLedBy p old before → AreWorkers workers × AreLedBy p new (before ++ records))
+with_workers p workers read old new led = (led.0, led.1, λ before stood. (stood.0, led.2 before stood.1))
 
 -- ---- the beginning
--- There are no groups yet, and no run.
-pub begun : (p : ScriptPlan) (workers given : ℕ) (groups : Pairs) (pending : Option Run) → workers ≡ given → AreWorkers given → groups ≡ [] → pending ≡ None
-    → AreWorkers workers × ArePassedBy p groups pending []
-begun p workers given groups pending same range empty none = (
+-- There are no groups yet.
+pub begun : (p : ScriptPlan) (workers given : ℕ) (groups : Pairs) → workers ≡ given → AreWorkers given → groups ≡ [] → AreWorkers workers × AreLedBy p groups []
+begun p workers given groups same range empty = (
   subst (λ (n : ℕ). AreWorkers n) (sym same) range,
-  record {
-    done = [];
-    rest = [];
-    all = refl;
-    led = record { passed = empty; valid = subst (λ (gs : Pairs). AreValid p gs) (sym empty) (All-nil (λ (group : Key × Outcome). IsValidOutcome p group.1)) };
-    waits = subst (λ (o : Option Run). IsPendingFor p o []) (sym none) refl;
-  },
+  record { passed = empty; valid = subst (λ (gs : Pairs). AreValid p gs) (sym empty) (All-nil (λ (group : Key × Outcome). IsValidOutcome p group.1)) },
 )

@@ -23,14 +23,9 @@ use Rattle.sym_watch.proofs.Rising.{last_more}
 use Rattle.sym_engine.specs.declared.rounds.Took.{Took}
 use Rattle.sym_engine.specs.declared.rounds.Took.TheVariants as took
 use Rattle.sym_engine.specs.Partials.{AllGrew, AllGrewPart, partial_after, partials_of, rounds_records}
-use Rattle.sym_run.specs.declared.runs.Applied.{Applied}
-use Rattle.sym_run.specs.declared.runs.Applied.TheVariants as applied
-use Rattle.sym_run.specs.declared.runs.Run.{Run}
-use Rattle.sym_run.specs.Applying.{bad_of}
-use Rattle.sym_table.specs.ChunkRecords.{all_records}
-use Rattle.sym_engine.specs.Rounds.{AreWorkers, StandsForAll, round_records}
-use Rattle.sym_engine.specs.Taking.{AreLedBy, ArePassedBy, rows_of}
-use Rattle.sym_engine.proofs.RoundRuns.{IsApplied, next_pending, none_pending, pending_led, round_bad}
+use Rattle.sym_engine.specs.Rounds.{round_records}
+use Rattle.sym_engine.specs.Taking.{AreLedBy, rows_of}
+use Rattle.sym_engine.proofs.RoundRuns.{Led}
 use Rattle.sym_engine.specs.Watching.{AreTold, IsAbove, IsWatched, Start, Tells, TellsRound, ToldAt, Watching, watching}
 use Rattle.sym_engine.specs.Watching as point
 use Rattle.sym_engine.proofs.Logs.{part_longer, part_whole, told_part, told_rest}
@@ -54,30 +49,6 @@ above_new list now q border is upto x e =
     let same : q ≡ x = cc in omega (arith, upto, ap (λ (y : Partial). y.upto) same)
 
 -- ---- the round is done
--- What the groups come to where all rows of a round are records.
-abbrev pub Led : ScriptPlan → Result (List Record) Bad → Pairs → Pairs → Type 0
-Led p read old new =
-    (records : List Record) × (read ≡ Ok records) × ((before : List Record) → AreLedBy p old before → AreLedBy p new (before ++ records))
-
-one_worker : AreWorkers 1
-one_worker = record { some = omega arith; most = omega arith }
-
-pub round_led : (p : ScriptPlan) (limit : ℕ) (cuts : List Chunk) (run : Run) (old given new : Pairs) (found : Applied)
-    → StandsForAll p limit cuts run → given ≡ old → IsApplied p run given found → found ≡ applied.Done new → Led p (all_records p cuts) old new
-round_led p limit cuts run old given new found h same by done =
-    let fine : run.bad ≡ None = sym by.bad ∙ ap bad_of done in
-    let next = next_pending p limit 1 cuts run old old None h fine (λ records is. none_pending p old None records is refl) in (
-      next.0,
-      next.1,
-      λ before led.
-          let is : ArePassedBy p old None before = record { done = before; rest = []; all = sym (append-nil before); led = led; waits = refl } in
-          pending_led p old given new (Some run) run found (before ++ next.0) (next.2 before (one_worker, is)).1 refl same by done,
-    )
-
-pub round_broken : (p : ScriptPlan) (limit : ℕ) (cuts : List Chunk) (run : Run) (given : Pairs) (found : Applied) (bad : Bad)
-    → StandsForAll p limit cuts run → IsApplied p run given found → found ≡ applied.Bad bad → all_records p cuts ≡ Err bad
-round_broken p limit cuts run given found bad h by broken = round_bad p limit cuts run bad h (sym by.bad ∙ ap bad_of broken)
-
 pub watched_on : (p plan : ScriptPlan) (read : Result (List Record) Bad) (old new : Pairs) (workers border next : ℕ) (list now : List Partial) → Led p read old new → IsAbove now next
     → (records : List Record) × (read ≡ Ok records) × ((before : List Record) → IsWatched p plan old workers border list before → IsWatched p plan new workers next now (before ++ records))
 watched_on p plan read old new workers border next list now led above =

@@ -17,9 +17,7 @@ use Rattle.sym_table.specs.ChunkRecords.{RunOn}
 use Rattle.sym_table.specs.Reading.{Row}
 use Rattle.sym_table.specs.Rows.{FitsChunk, FitsHeader}
 use Rattle.sym_table.specs.RowRecords.{records_or_bad}
-use Rattle.sym_run.specs.declared.runs.Run.{Run}
 use Rattle.sym_run.specs.Applying.{AreValid}
-use Rattle.sym_run.specs.Runs.{GroupsFit, GroupsStandFor}
 use Rattle.sym_engine.specs.declared.error.PassErr.{PassErr}
 use Rattle.sym_engine.specs.declared.error.PassErr.TheVariants as pass_err
 use Rattle.sym_engine.specs.declared.rounds.Took.{Took}
@@ -67,27 +65,6 @@ pub record AreLedBy (p : ScriptPlan) (groups : List (Key × Outcome)) (records :
     : Type 0 where
   pub passed : ArePassed p groups records
   pub valid : AreValid p groups
-
--- A run without a bad row stands for these records.
-pub record StandsForRecords (p : ScriptPlan) (run : Run) (records : List Record) : Type 0 where
-  pub fine : run.bad ≡ None
-  pub fits : GroupsFit p run.groups
-  pub stands : GroupsStandFor p records run.groups
-
--- A run that is still to be applied stands for these records; where there is none, they are none.
-abbrev pub IsPendingFor : ScriptPlan → Option Run → List Record → Type 0
-IsPendingFor p None records = records ≡ []
-IsPendingFor p (Some run) records = StandsForRecords p run records
-
--- The groups are those of one sequential pass over the first of these records, and the pending run
--- stands for the others.
-pub record ArePassedBy (p : ScriptPlan) (groups : List (Key × Outcome)) (pending : Option Run)
-    (records : List Record) : Type 0 where
-  pub done : List Record
-  pub rest : List Record
-  pub all : records ≡ done ++ rest
-  pub led : AreLedBy p groups done
-  pub waits : IsPendingFor p pending rest
 
 -- The rows that a cutter has left; of one that was refused memory, none.
 abbrev pub rows_left : Cutting → List Row

@@ -61,5 +61,5 @@ pub fn pass<T: Threads + Wait + Sync, F: Store, G: Gate + Sync>(
 {
     let mut rounds = PassRounds::new(alloc, options.workers, gate);
     each_round(rt, alloc, checked, files, names, options, 1, &mut rounds)?;
-    Ok(rounds.passed.into_groups(alloc, checked)?)
+    Ok(rounds.groups)
 }

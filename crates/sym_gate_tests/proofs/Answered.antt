@@ -1,5 +1,5 @@
 -- What the run of a round comes to on no groups, and what that says of the round's rows.
-use Rattle.std.proofs.Common.{◌≡◌, refl, ℕ, List, IfOk, None, Result, Ok, Err, subst, sym}
+use Rattle.std.proofs.Common.{◌≡◌, ℕ, List, IfOk, None, Result, Ok, Err, subst, sym}
 use Rattle.sym_base.specs.declared.values.memory.NoMemory.{NoMemory}
 use Rattle.sym_base.specs.declared.values.record.Record.{Record}
 use Rattle.sym_base.specs.declared.values.state.Outcome.{Outcome}
@@ -19,15 +19,15 @@ use Rattle.sym_run.proofs.FoundRecords.{run_tight}
 use Rattle.sym_engine.specs.declared.rounds.Work.{Work}
 use Rattle.sym_engine.specs.Rounds.{StandsForAll, round_records}
 use Rattle.sym_engine.proofs.Folds.{plain_chunks}
-use Rattle.sym_engine.proofs.RoundRuns.{IsApplied, next_pending, none_pending, round_bad}
+use Rattle.sym_engine.proofs.RoundRuns.{IsApplied, round_bad, round_fine}
 use Rattle.sym_engine.specs.Pieces.{StandsFrom}
 use Rattle.sym_gate_tests.specs.Comparing.{ComesTo}
 
 came_to : (p : ScriptPlan) (limit : ℕ) (cuts : List Chunk) (run : Run) (given : List (Key × Outcome)) (found : Applied)
     → StandsForAll p limit cuts run → IsApplied p run given found → ComesTo (all_records p cuts) found
 came_to p limit cuts run given (applied.Done new) h is =
-    let led = next_pending p limit 1 cuts run given given None h (sym is.bad) (λ records stood. none_pending p given None records stood refl) in
-    (led.0, led.1)
+    let fine = round_fine p limit cuts run h (sym is.bad) in
+    (fine.records, fine.are)
 came_to p limit cuts run given (applied.Bad bad) h is = round_bad p limit cuts run bad h (sym is.bad)
 
 pub comes_to : (p : ScriptPlan) (limit : ℕ) (cuts : List Chunk) (run : Run) (given : List (Key × Outcome)) (found : Result Applied NoMemory)

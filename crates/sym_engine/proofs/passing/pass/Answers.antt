@@ -12,19 +12,7 @@ each_round-requires-clause-stands g c κs within =
     let is = c.new-rounds.ensures in
     let rounds = c.new-rounds.result in (
       [],
-      begun (checked_plan c.args.checked.now) rounds.workers c.args.options.now.workers rounds.passed.groups rounds.passed.pending
-          is.workers (record { some = options.some_workers; most = options.most_workers }) is.groups is.pending,
-    )
-
-pub into_groups-requires : goal.into_groups-requires
-into_groups-requires g c =
-    let options = c.requires.options in
-    let is = c.new-rounds.ensures in
-    let rounds = c.new-rounds.result in
-    let all = c.in_ok-each_round.ensures.taken in (
-      all.records,
-      (all.stands.1 [] (begun (checked_plan c.args.checked.now) rounds.workers c.args.options.now.workers rounds.passed.groups rounds.passed.pending
-          is.workers (record { some = options.some_workers; most = options.most_workers }) is.groups is.pending)).1,
+      begun (checked_plan c.args.checked.now) rounds.workers c.args.options.now.workers rounds.groups is.workers (record { some = options.some_workers; most = options.most_workers }) is.groups,
     )
 
 pub returns-clause-passed : goal.returns-clause-passed
@@ -38,7 +26,7 @@ returns-clause-passed g c =
       files = all.files;
       may = all.may;
       records = all.records;
-      fine = subst P (ap g.G.Gate.shown c.new-rounds.ensures.gate) all.fine;
-      stands = (c.in_ok-into_groups.ensures all.records (all.stands.1 [] (begun (checked_plan c.args.checked.now) rounds.workers c.args.options.now.workers rounds.passed.groups rounds.passed.pending
-          is.workers (record { some = options.some_workers; most = options.most_workers }) is.groups is.pending)).1).passed;
+      fine = subst P (ap g.G.Gate.shown is.gate) all.fine;
+      stands = (all.stands.1 [] (begun (checked_plan c.args.checked.now) rounds.workers c.args.options.now.workers rounds.groups
+          is.workers (record { some = options.some_workers; most = options.most_workers }) is.groups)).1.passed;
     }

@@ -6,7 +6,8 @@ use Rattle.sym_engine.specs.Rounds.{round_records, shown_chunks}
 use Rattle.sym_engine.specs.Taking.{rows_of}
 use Rattle.sym_engine.specs.Watching.{ToldAt, watching}
 use Rattle.sym_engine.proofs.Logs.{part_none, part_whole}
-use Rattle.sym_engine.proofs.WatchedRounds.{above_new, bad_of_round, done_of_round, part_of, partial_rows, round_broken, round_fails, round_led, watched_on}
+use Rattle.sym_engine.proofs.RoundRuns.{round_broken, round_led}
+use Rattle.sym_engine.proofs.WatchedRounds.{above_new, bad_of_round, done_of_round, part_of, partial_rows, round_fails, watched_on}
 use Rattle.sym_engine.proofs.watching.watched.WatchedTurns.take.Goals as goal
 
 pub returns-in_err-border-clause-tells : goal.returns-in_err-border-clause-tells
