@@ -119,7 +119,7 @@ zsh_file_words() {
 # Whether a command takes an option; the arguments beside it are right.
 takes() {
     case $1 in
-        run | trace) set -- "$1" "$2" "${3-}" "$script" "$log" ;;
+        run | trace | map | reduce) set -- "$1" "$2" "${3-}" "$script" "$log" ;;
         check) set -- check "$2" "${3-}" "$script" ;;
         make) set -- make "$2" "${3-}" 1 1 ;;
     esac
@@ -145,7 +145,7 @@ try_words() {
     same "$zsh_words: other words than the manual page" "$work/manual" "$work/zsh"
     same "$fish_words: other words than the manual page" "$work/manual" "$work/fish"
 
-    for command in run trace check make; do
+    for command in run trace map reduce check make; do
         grep -qx "$command" "$work/manual"
         note $? "$manual: no $command"
     done
@@ -163,7 +163,7 @@ try_words() {
     sed -n 's/.*_NAME: &str = "\(.*\)";/\1/p' crates/sym_top/src/arguments.rt >"$work/names"
     [ -s "$work/names" ]
     note $? "crates/sym_top/src/arguments.rt: no name of an argument"
-    for command in run trace check make; do
+    for command in run trace map reduce check make; do
         : >"$work/taken"
         { sed -n 's/^[a-z]* --//p' "$work/manual"; cat "$work/names"; } | sort -u >"$work/tried"
         while read -r name; do
@@ -193,11 +193,13 @@ try_ranges() {
     awk '
         /^\.It Fl -/ { option = "-" $3 }
         option != "" && /^From [0-9]+ to [0-9]+; the default is [0-9]+\.$/ {
-            print option, $2, $4 + 0, $NF + 0
+            sub(/;$/, "", $4)
+            sub(/\.$/, "", $NF)
+            print option, $2, $4, $NF
         }
     ' "$manual" >"$work/ranges"
-    [ "$(wc -l <"$work/ranges")" -eq 5 ]
-    note $? "$manual: not five ranges"
+    [ "$(wc -l <"$work/ranges")" -eq 6 ]
+    note $? "$manual: not six ranges"
     while read -r option least most default; do
         sed -n "s/^\([a-z]*\) $option\$/\1/p" "$work/manual" | grep -v make >"$work/commands"
         while read -r command; do
@@ -216,6 +218,7 @@ try_ranges() {
         done
         case $option in
             --every) name=EVERY ;;
+            --first) name=FIRSTS ;;
             --chunk) name=CHUNK_DEFAULT ;;
             --limit) name=LIMIT_DEFAULT ;;
             --workers) name=WORKERS_DEFAULT ;;

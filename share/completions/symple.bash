@@ -5,6 +5,8 @@ _symple_options() {
     case $1 in
         run) echo --form --chunk --limit --workers --max-bytes ;;
         trace) echo --form --every --chunk --limit --workers --max-bytes ;;
+        map) echo --first --chunk --limit --workers --max-bytes ;;
+        reduce) echo --form --max-bytes ;;
         check) echo --print ;;
         make) echo --chunk --limit --workers ;;
     esac
@@ -23,7 +25,7 @@ _symple() {
     local current=${COMP_WORDS[COMP_CWORD]} command=${COMP_WORDS[1]}
     COMPREPLY=()
     if [ "$COMP_CWORD" -eq 1 ]; then
-        mapfile -t COMPREPLY < <(compgen -W "run trace check make" -- "$current")
+        mapfile -t COMPREPLY < <(compgen -W "run trace map reduce check make" -- "$current")
         return
     fi
 
@@ -59,9 +61,9 @@ _symple() {
             [[ $given == *" $word "* ]] || left+=("$word")
         done
         mapfile -t COMPREPLY < <(compgen -W "${left[*]}" -- "$current")
-    elif [[ $command == @(run|trace|check) ]] && [ "$others" -eq 0 ]; then
+    elif [[ $command == @(run|trace|map|reduce|check) ]] && [ "$others" -eq 0 ]; then
         _symple_files "$current" .symple
-    elif [[ $command == @(run|trace) ]]; then
+    elif [[ $command == @(run|trace|map|reduce) ]]; then
         _symple_files "$current" ''
     fi
 }

@@ -12,7 +12,7 @@ end
 
 # How many arguments of the command stand before the word, options and their values aside.
 function __symple_place
-    set -l valued --form --every --chunk --limit --workers --max-bytes
+    set -l valued --form --every --first --chunk --limit --workers --max-bytes
     set -l place 0
     set -l is_value 0
     set -l ended 0
@@ -38,6 +38,8 @@ end
 complete -c symple -f
 complete -c symple -n __symple_command -a run -d 'Run a script over the records of files'
 complete -c symple -n __symple_command -a trace -d 'Write how the group of each record stands'
+complete -c symple -n __symple_command -a map -d 'Write the run file of a part of a log'
+complete -c symple -n __symple_command -a reduce -d 'Write the report on run files'
 complete -c symple -n __symple_command -a check -d 'Read a script, and write its numbers'
 complete -c symple -n __symple_command -a make -d 'Make a log, and write a summary of it'
 
@@ -59,6 +61,21 @@ complete -c symple -n $is_trace -l limit -x -d 'Paths of a summary: 1 to 256'
 complete -c symple -n $is_trace -l workers -x -d 'Threads that work at once: 1 to 64'
 complete -c symple -n "$is_trace; and test (__symple_place) -eq 0" -k -a '(__symple_scripts)'
 complete -c symple -n "$is_trace; and test (__symple_place) -gt 0" -F
+
+set -l is_map '__symple_command map'
+complete -c symple -n $is_map -l first -x -d 'Number of the first record: 1 to 9999999999'
+complete -c symple -n $is_map -l max-bytes -x -d 'Bytes of a file: 1 to 268435456'
+complete -c symple -n $is_map -l chunk -x -d 'Records of a chunk: 1 to 65536'
+complete -c symple -n $is_map -l limit -x -d 'Paths of a summary: 1 to 256'
+complete -c symple -n $is_map -l workers -x -d 'Threads that work at once: 1 to 64'
+complete -c symple -n "$is_map; and test (__symple_place) -eq 0" -k -a '(__symple_scripts)'
+complete -c symple -n "$is_map; and test (__symple_place) -gt 0" -F
+
+set -l is_reduce '__symple_command reduce'
+complete -c symple -n $is_reduce -l form -x -a 'table csv pairs' -d 'Form of the report'
+complete -c symple -n $is_reduce -l max-bytes -x -d 'Bytes of a file: 1 to 268435456'
+complete -c symple -n "$is_reduce; and test (__symple_place) -eq 0" -k -a '(__symple_scripts)'
+complete -c symple -n "$is_reduce; and test (__symple_place) -gt 0" -F
 
 set -l is_check '__symple_command check'
 complete -c symple -n $is_check -l print -d 'Write the script in one layout'
