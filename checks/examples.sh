@@ -3,8 +3,11 @@
 # writes with what the document shows below it, and its status. In an indented block a line that
 # begins with `$ ` is a command, and lines right after it that begin with `> ` continue it. The
 # lines up to the next command or the end of the block are all that it writes. `$ echo $?` shows the
-# status of the command before it; a command that isn't followed by one has to end with 0. The last
-# line counts what passed and failed.
+# status of the command before it; a command that isn't followed by one has to end with 0.
+#
+# Then a log in twelve parts is summarised apart and reported on by what examples/distributed has: by
+# a loop of the shell, by GNU parallel and by make. What isn't installed is named, and what it would
+# try is left out. The last line counts what passed and failed.
 set -u
 
 # shellcheck source=checks/common.sh
@@ -92,6 +95,101 @@ run_command() {
     fi
 }
 
+# Whether the report on the run files of the parts is that of a run over the whole log.
+reports_as_run() {
+    ./symple reduce "$script" "$parts"/part-*.csv.run >"$parts/report" &&
+        cmp "$parts/whole" "$parts/report" >&2
+}
+
+# Writes the run file of a part again.
+map_again() {
+    first=$(awk -v part="$1" '$2 == part { print $1 }' "$parts/numbers")
+    ./symple map --first "$first" "$script" "$1" >"$1.run"
+}
+
+# By a loop: all parts, without one of them, and with that one made again alone.
+try_loop() {
+    "$distributed/number.sh" "$distributed/count.symple" "$@" >"$parts/numbers"
+    note $? "number.sh ended with another status than 0"
+    for part in "$@"; do
+        map_again "$part"
+        note $? "map of $part ended with another status than 0"
+    done
+    reports_as_run
+    note $? "parts mapped by a loop: another report than that of a run"
+
+    rm "$parts/part-03.csv.run"
+    ./symple reduce "$script" "$parts"/part-*.csv.run >"$parts/report" 2>"$parts/said"
+    [ $? -eq 4 ] && [ ! -s "$parts/report" ] &&
+        [ "$(cat "$parts/said")" = "symple: $parts/part-04.csv.run: records do not follow" ]
+    note $? "a part is lost: $(cat "$parts/said")"
+    map_again "$parts/part-03.csv"
+    reports_as_run
+    note $? "a part made again: another report than that of a run"
+}
+
+# By GNU parallel.
+try_parallel() {
+    if ! command -v parallel >/dev/null; then
+        skipped "no parallel: examples/distributed/reduce.sh isn't tried"
+        return
+    fi
+    rm -f "$parts"/part-*.csv.run
+    "$distributed/reduce.sh" "$distributed/count.symple" "$script" "$@" >"$parts/report" &&
+        cmp "$parts/whole" "$parts/report" >&2
+    note $? "reduce.sh: another report than that of a run"
+    reports_as_run
+    note $? "the run files of reduce.sh: another report than that of a run"
+}
+
+# By make: all parts at once, and then the one that has changed.
+try_make() {
+    if ! command -v make >/dev/null; then
+        skipped "no make: examples/distributed/Makefile isn't tried"
+        return
+    fi
+    rm -f "$parts"/part-*.csv.run "$parts/numbers" "$parts/report"
+    make_report "$@" >"$parts/said"
+    note $? "make ended with another status than 0"
+    cmp "$parts/whole" "$parts/report" >&2
+    note $? "make: another report than that of a run"
+    touch "$parts/part-05.csv"
+    make_report "$@" >"$parts/said"
+    [ "$(grep -c ' map ' "$parts/said")" -eq 1 ]
+    note $? "make after a change of one part: not one map"
+    cmp "$parts/whole" "$parts/report" >&2
+    note $? "make after a change of one part: another report than that of a run"
+}
+
+make_report() {
+    make -j4 -C "$parts" -f "$distributed/Makefile" SCRIPT="$root/$script" \
+        COUNT="$distributed/count.symple" PARTS="$*"
+}
+
+# A log in twelve parts, and what each way makes of it.
+try_distributed() {
+    distributed=$root/examples/distributed
+    script=examples/sessions.symple
+    parts=$work/parts
+    SYMPLE=$root/symple
+    export SYMPLE
+    mkdir "$parts"
+    awk 'BEGIN {
+        print "second,user"
+        for (i = 1; i <= 1100; i++)
+            print i * 3 + i * i % 7 ",u" i * i % 13
+    }' >"$parts/log.csv"
+    awk -v records=97 -v name="$parts/part" -f "$distributed/split.awk" "$parts/log.csv"
+    set -- "$parts"/part-*.csv
+    [ $# -eq 12 ]
+    note $? "split.awk made $# parts in place of 12"
+    ./symple run "$script" "$parts/log.csv" >"$parts/whole"
+    note $? "a run over the whole log ended with another status than 0"
+    try_loop "$@"
+    try_parallel "$@"
+    try_make "$@"
+}
+
 # Builds the program where it has to be built, so that no command shows what a build says.
 ./symple run examples/counter.symple examples/counter.csv >/dev/null || exit 1
 
@@ -100,5 +198,6 @@ for document in README.md docs/LANGUAGE.md docs/FORMS.md docs/TOOLS.md; do
         run_document "$document"
     fi
 done
+try_distributed
 
 counted passed failed
