@@ -1,6 +1,6 @@
 #!/usr/bin/env python3
 """Compares the program with checks/reference.py over random scripts and logs, and the program's
-runs over chunks, limits and workers with each other.
+runs over chunks, limits and workers with each other, and with reports on files mapped apart.
 
     agree.py PROGRAM CASES SEED
 
@@ -12,6 +12,7 @@ differ, and what is left is printed. The last line counts what passed and failed
 
 import os
 import random
+import re
 import subprocess
 import sys
 import tempfile
@@ -471,6 +472,7 @@ class Program:
         self.takes_forms = False
         self.takes_check = False
         self.takes_trace = False
+        self.takes_map = False
 
     def probe(self):
         """Which commands and options the program takes."""
@@ -480,6 +482,7 @@ class Program:
         self.takes_forms = self.run(["--form", "csv", "probe.symple", "probe.csv"])[0] == 0
         self.takes_check = self.start(["check", "probe.symple"])[0] == 0
         self.takes_trace = self.start(["trace", "probe.symple", "probe.csv"])[0] == 0
+        self.takes_map = self.start(["map", "probe.symple", "probe.csv"])[0] == 0
 
     def write(self, name, content):
         with open(os.path.join(self.folder, name), "wb") as file:
@@ -520,6 +523,30 @@ def answers(program, script, files, number):
         yield from traces(program, names, number)
         if number <= PREFIXED:
             yield from prefixes(program, script, names, files)
+    if program.takes_map:
+        yield from parts(program, names, number)
+
+
+def parts(program, names, number):
+    """The report on the run files of all files, each of which is mapped alone; or, at the first file
+    that is refused, the refusal of its part."""
+    first = 1
+    runs = []
+    for place, name in enumerate(names):
+        chunk, limit, workers = SETTINGS[(number * 3 + place * 17) % len(SETTINGS)]
+        asked = ["--first", str(first), "--chunk", str(chunk), "--limit", str(limit)]
+        asked += ["--workers", str(workers)]
+        status, text, line = program.start(["map"] + asked + ["script", name])
+        if status != 0:
+            wanted = reference.run(b"script", [name.encode() for name in names])
+            yield "map " + " ".join(asked), wanted, (status, text, line)
+            return
+        runs.append(f"part{place}.run")
+        program.write(runs[-1], text)
+        first = int(re.search(rb"^next ([0-9]+)$", text, re.MULTILINE).group(1))
+    form = ("table", "csv", "pairs")[number % 3]
+    wanted = reference.run(b"script", [name.encode() for name in names], form)
+    yield "reduce --form " + form, wanted, program.start(["reduce", "--form", form, "script"] + runs)
 
 
 def traces(program, names, number):
@@ -606,6 +633,7 @@ def main(path, cases, seed):
             (program.takes_forms, "--form"),
             (program.takes_check, "check"),
             (program.takes_trace, "trace"),
+            (program.takes_map, "map"),
         ):
             if not taken:
                 print(f"checks/agree.sh: skipped: the program takes no {what}")

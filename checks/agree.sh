@@ -1,6 +1,7 @@
 #!/bin/sh
 # Compares the program with a second, independent reading of docs/LANGUAGE.md, checks/reference.py,
-# over random scripts and logs, and its runs over chunks, limits and workers with each other:
+# over random scripts and logs, and its runs over chunks, limits and workers with each other, and
+# with reports on the same files mapped apart:
 #
 #     checks/agree.sh [CASES [SEED]]
 #

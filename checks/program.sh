@@ -589,6 +589,49 @@ if takes make 5 1; then
     row "too many records to make" 2 usage make 1000001 1
 fi
 
+# A log in parts.
+if takes map counts.symple first.csv; then
+    changed 'n + 1' n
+    kept='symple run 1\nscript 79\nfield x: num;\nstate n: int [0..3] = 0;\nupdate {\n  n = n;\n}
+report {\n  n = n;\n}\n'
+    group='groups 1\nkey\nchain 1\nsegment 1\nwhen i0..3\nnext x0,1,0\nend\n'
+    printf 'x\n5\n5\n' >two.csv
+    printf 'x\n5\n5\n5\n' >three.csv
+    printf 'x\n5\ny\n' >bad.csv
+    row "a run file" 0 "${kept}first 1\nnext 3\n$group" map changed.symple two.csv
+    row "a run file of a later part" 0 "${kept}first 9999999999\nnext 10000000002\n$group" \
+        map --first 9999999999 --chunk 1 --workers 2 changed.symple two.csv
+    row "a run file without records" 0 "${kept}first 1\nnext 1\ngroups 0\nend\n" \
+        map changed.symple empty.csv
+    row "a bad record of a later part" 4 'bad.csv: record 8: field x is not a number' \
+        map --first 7 changed.symple bad.csv
+    row "no first record" 2 usage map --first 0 changed.symple two.csv
+    row "a map in a form" 2 usage map --form csv changed.symple two.csv
+    "$program" map changed.symple two.csv >a.run
+    "$program" map --first 3 changed.symple three.csv >b.run
+    "$program" map counts.symple first.csv >other.run
+    "$program" map capped.symple fives.csv >fives.run
+    head -c -1 a.run >cut.run
+    sed 's/^when i0/when i1/' a.run >gap.run
+    row "run files in order" 0 'n\n0\n--\n' reduce changed.symple a.run b.run
+    row "a run file of a group that has ended" 1 'n\nfault: n overflows at record 4\n--\n' \
+        reduce capped.symple fives.run
+    row "run files out of order" 4 'b.run: records do not follow' \
+        reduce changed.symple b.run a.run
+    row "a run file twice" 4 'a.run: records do not follow' reduce changed.symple a.run a.run
+    row "a run file that is cut off" 4 'cut.run: not a run file' reduce changed.symple cut.run b.run
+    row "a run of another script" 4 'other.run: run of another script' \
+        reduce changed.symple other.run b.run
+    row "a gap" 4 'gap.run: no path for group 1' reduce changed.symple gap.run b.run
+    row "a large run file" 7 'a.run: too large' reduce --max-bytes 9 changed.symple a.run
+    row "an absent run file" 5 'absent.run: read fault' reduce changed.symple a.run absent.run
+    row "a reduce from a record on" 2 usage reduce --first 1 changed.symple a.run
+    out=/dev/full
+    row "a run file on a full device" 6 'write fault' map changed.symple two.csv
+    row "a report on run files on a full device" 6 'write fault' reduce changed.symple a.run b.run
+    out=$work/out
+fi
+
 # Scripts that aren't read.
 row "an absent script" 5 'absent.symple: read fault' run absent.symple first.csv
 row "a folder as a script" 5 './: read fault' run ./ first.csv
