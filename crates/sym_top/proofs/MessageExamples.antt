@@ -171,6 +171,26 @@ not_utf8 : line_of names headers (refusal.Bad 1 (bad (cause.Utf8 1)))
 unfolding names headers bad digits
 not_utf8 = refl
 
+another_script : line_of names headers (refusal.OtherScript 0)
+    ≡ codes "symple: a.csv: run of another script\n"
+unfolding names
+another_script = refl
+
+no_run_file : line_of names headers (refusal.Malformed 1)
+    ≡ codes "symple: b.csv: not a run file\n"
+unfolding names
+no_run_file = refl
+
+records_apart : line_of names headers (refusal.Apart 1)
+    ≡ codes "symple: b.csv: records do not follow\n"
+unfolding names
+records_apart = refl
+
+no_path : line_of names headers (refusal.Gap 1 54)
+    ≡ codes "symple: b.csv: no path for group 54\n"
+unfolding names digits
+no_path = refl
+
 unread_script : line_of names headers (refusal.Read place.Script)
     ≡ codes "symple: s.symple: read fault\n"
 unfolding names
