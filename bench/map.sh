@@ -1,90 +1,160 @@
 #!/bin/sh
-# Measures `symple map` beside `symple run` over the same log, with 1 and 4 workers: the sessions
-# of 10 and of 98,304 users. Then `symple reduce` over 16 run files of 98,304 groups each, beside
-# a run with one worker over as many records as they have groups in sum. Each runs three times, in
-# turn (TURNS sets another number). Prints the least wall time of each in seconds, its ratio, and
-# the memory of that run; and the bytes of a run file for each group. `reduce` over the run file
-# of the whole log writes what `run` wrote.
-# Needs rt, to build the program, and mawk and GNU time (Debian's packages mawk and time).
+# Measures `symple map` beside `symple run` over the same log, with 1 and 4 workers: the sessions of
+# 10 and of 98,304 users. Then `symple reduce` over 16 run files of 98,304 groups each, beside the
+# sequential pass over as many records as they have groups in sum, and beside a run with one worker
+# over the logs of which they are. What reduce writes is what run writes.
+# Each runs three times, in turn (TURNS sets another number). Prints the least wall time of each in
+# seconds, the memory of that run, and ratios: of map to run with as many workers, and of reduce to
+# the sequential pass and to the run. Of the sequential pass, sym_bench's, it is the processor time
+# of the pass over a log in memory, without file and report.
+# Last, the bytes of a run file for each group, and for each group beside its key: of the 16 files,
+# and of a script by which each group has one path.
+# Needs rt, to build the programs, and mawk and GNU date and time (Debian's packages mawk, coreutils
+# and time).
 # Usage: bench/map.sh [RECORDS]
 set -eu
 
 here=$(CDPATH='' cd -P "$(dirname "$0")" && pwd)
-root=$(dirname "$here")
+# shellcheck source=bench/sym_bench.sh
+. "$here/sym_bench.sh"
+
 records=${1:-4000000}
-turns=${TURNS:-3}
-symple=$root/crates/symple/out/symple
-script=$here/sessions.symple
 parts=16
 users=98304
+most_bytes=268435456
+root=$(dirname "$here")
+symple=$root/crates/symple/out/symple
+script=$here/sessions.symple
 timer=/usr/bin/time
-
-stop() {
-    echo "map.sh: $1" >&2
-    exit 1
-}
 
 for tool in mawk "$timer"; do
     command -v "$tool" >/dev/null || stop "there is no $tool"
 done
-work=$(mktemp -d)
-trap 'rm -rf "$work"' EXIT
 # The launcher builds the program; its own few milliseconds are not measured.
 "$root/symple" run "$script" /dev/null >"$work/report"
 
-# least NAME COMMAND..: runs the command so many times, its output to NAME.out, and keeps the least
-# wall time and the memory of that turn, in KiB, in NAME.time.
-least() {
-    name=$work/$1
+# measure WAY ARGUMENTS..: runs symple, its output to $work/WAY.out, and notes its microseconds and
+# its kilobytes.
+measure() {
+    way=$1
     shift
-    : >"$name.turns"
-    turn=0
-    while [ "$turn" -lt "$turns" ]; do
-        "$timer" -f '%e %M' -a -o "$name.turns" "$@" >"$name.out"
-        turn=$((turn + 1))
-    done
-    sort -n "$name.turns" | head -n 1 >"$name.time"
+    begin=$(date +%s%N)
+    "$timer" -o "$work/used" -f '%M' "$symple" "$@" >"$work/$way.out" ||
+        stop "$* ended with another status than 0"
+    end=$(date +%s%N)
+    echo "$way $(((end - begin) / 1000)) $(tail -n 1 "$work/used")" >>"$work/turns"
 }
 
-# row NAME BESIDE: a line with both times, their ratio and the memory of the first.
-row() {
-    paste -d ' ' "$work/$1.time" "$work/$2.time" |
-        mawk -v name="$1" -v beside="$2" '{
-            printf "%-16s %7.2f s  %-16s %7.2f s  %5.2f  %d MiB\n", \
-                name, $1, beside, $3, $1 / $3, $2 / 1024 }'
+# The same of the sequential pass over as many records.
+measure_sequential() {
+    "$timer" -o "$work/used" -f '%M' "$program" pass fold users $((parts * users)) 16 \
+        >"$work/found" 2>"$work/said" || stop "the sequential pass failed"
+    echo "sequential $(($(cut -d' ' -f2 "$work/said") / 1000)) $(tail -n 1 "$work/used")" \
+        >>"$work/turns"
 }
 
-for size in 10 "$users"; do
-    log=$work/log-$size.csv
-    mawk -f "$here/visits.awk" -v records="$records" -v users="$size" >"$log"
+# Both commands over the log of so many users, with 1 and 4 workers.
+measure_map() {
     for workers in 1 4; do
-        least "run-$size-$workers" "$symple" run --workers "$workers" --max-bytes 268435456 \
-            "$script" "$log"
-        least "map-$size-$workers" "$symple" map --workers "$workers" --max-bytes 268435456 \
-            "$script" "$log"
-        row "map-$size-$workers" "run-$size-$workers"
+        for command in run map; do
+            measure "$command-$1-$workers" "$command" --workers "$workers" \
+                --max-bytes $most_bytes "$script" "$work/log-$1.csv"
+        done
     done
-    "$symple" reduce --max-bytes 268435456 "$script" "$work/map-$size-1.out" |
-        cmp - "$work/run-$size-1.out" || stop "reduce differs from run at $size users"
-done
+}
 
-# One record for each user in each part, so that a part has as many groups as records.
-first=1
-runs=
-part=1
-while [ "$part" -le "$parts" ]; do
-    mawk -v users="$users" -v part="$part" 'BEGIN {
+# The part of this number: one record of each user, at times that go on from part to part.
+write_part() {
+    mawk -v users=$users -v part="$1" 'BEGIN {
         print "ts,user"
-        for (user = 0; user < users; user++) print part * 1000 ",u" user }' >"$work/part-$part.csv"
-    "$symple" map --first "$first" "$script" "$work/part-$part.csv" >"$work/part-$part.run"
-    runs="$runs $work/part-$part.run"
-    first=$((first + users))
+        for (user = 0; user < users; user++)
+            print part * 20 ",u" user
+    }'
+}
+
+# bytes NAME FILE..: how many bytes the run files have for each group, and for each beside its key.
+bytes() {
+    name=$1
+    shift
+    mawk -v name="$name" '
+        { bytes += length($0) + 1 }
+        /^key/ { groups++; keys += length($0) + 1 }
+        END { printf "%s: %.1f bytes a group, %.1f beside its key\n", \
+            name, bytes / groups, (bytes - keys) / groups }
+    ' "$@"
+}
+
+for size in 10 $users; do
+    mawk -v records="$records" -v users="$size" -f "$here/visits.awk" >"$work/log-$size.csv"
+done
+part=1
+set --
+while [ $part -le $parts ]; do
+    write_part $part >"$work/part-$part.csv"
+    "$symple" map --first $(((part - 1) * users + 1)) "$script" "$work/part-$part.csv" \
+        >"$work/part-$part.run"
+    set -- "$@" "$work/part-$part"
     part=$((part + 1))
 done
-wc -c "$work/part-1.run" | mawk -v users="$users" '{ print $1 / users " bytes a group" }'
-# shellcheck disable=SC2046
-least run-parts "$symple" run --workers 1 "$script" $(ls -v "$work"/part-*.csv)
-# shellcheck disable=SC2086
-least reduce-parts "$symple" reduce "$script" $runs
-row reduce-parts run-parts
+
+turn=1
+while [ "$turn" -le "$turns" ]; do
+    for size in 10 $users; do
+        measure_map "$size"
+    done
+    measure_sequential
+    # The names have no blanks, unless TMPDIR has.
+    # shellcheck disable=SC2046 # so many names
+    measure run-parts run --workers 1 "$script" $(printf '%s.csv ' "$@")
+    # shellcheck disable=SC2046 # so many names
+    measure reduce-parts reduce "$script" $(printf '%s.run ' "$@")
+    turn=$((turn + 1))
+done
+
+# What is measured is right.
+for size in 10 $users; do
+    "$symple" reduce --max-bytes $most_bytes "$script" "$work/map-$size-1.out" |
+        cmp - "$work/run-$size-1.out" || stop "reduce differs from run at $size users"
+done
 cmp "$work/reduce-parts.out" "$work/run-parts.out" || stop "reduce differs from run over parts"
+
+# shellcheck disable=SC2016 # what is quoted is awk's
+mawk '
+    !($1 in least) || $2 < least[$1] { least[$1] = $2; memory[$1] = $3 }
+    function row(name, way, beside) {
+        printf "| %s | %.2f | %d |", name, least[way] / 1e6, memory[way] / 1024
+        if (beside != "")
+            printf " %.2f", least[way] / least[beside]
+        print " |"
+    }
+    END {
+        print "| Way | s | MiB | ratio |"
+        print "|---|---|---|---|"
+        count = split("10 98304", sizes, " ")
+        for (i = 1; i <= count; i++)
+            for (workers = 1; workers <= 4; workers += 3) {
+                name = sizes[i] " users, " workers (workers == 1 ? " worker" : " workers")
+                row("run, " name, "run-" sizes[i] "-" workers, "")
+                row("map, " name, "map-" sizes[i] "-" workers, "run-" sizes[i] "-" workers)
+            }
+        row("sequential pass over the parts", "sequential", "")
+        row("run over the parts, 1 worker", "run-parts", "sequential")
+        row("reduce over the parts", "reduce-parts", "sequential")
+        printf "reduce to the run over the parts: %.2f\n", \
+            least["reduce-parts"] / least["run-parts"]
+    }
+' "$work/turns"
+
+# shellcheck disable=SC2046 # so many names
+bytes "sessions" $(printf '%s.run ' "$@")
+cat >"$work/one.symple" <<'end'
+field ts: num;
+field user: word;
+group user;
+state last: hold(num = 0);
+state n: int [0..1000] = 0;
+update { n = 1; keep last(ts); }
+report { n = n; last = part(last, 1); }
+end
+"$symple" map "$work/one.symple" "$work/part-1.csv" >"$work/one.run"
+bytes "one path" "$work/one.run"
