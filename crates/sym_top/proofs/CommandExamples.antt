@@ -1,5 +1,5 @@
 -- Lists of arguments, and the commands that they ask for.
-use Rattle.std.proofs.Common.{◌≡◌, [], ◌∷◌, Some, None, true, refl, codes}
+use Rattle.std.proofs.Common.{◌≡◌, [], ◌∷◌, Some, None, true, false, refl, codes}
 use Rattle.clap.proofs.OnLiterals.{clap_on_literals}
 use Rattle.sym_top.specs.CommandLines.{run_app, trace_app, check_app, make_app, map_app, reduce_app, matched}
 use Rattle.sym_top.specs.Commands.{Runs, Traces, Checks, Makes, Maps, Reduces, command_in, run_of, trace_of, check_of, make_of, map_of, reduce_of, run_found, trace_found, check_found, make_found, map_found, reduce_found, run_options, options_found, files_found}
@@ -9,6 +9,7 @@ use Rattle.sym_top.specs.Numbers.{number_of}
 defaults : command_in (codes "run" ∷ codes "s" ∷ codes "f" ∷ []) ≡ Some (Runs (record {
   form = codes "table";
   options = record { chunk = 1024; limit = 16; workers = 4; max_bytes = 67108864 };
+  watch = false;
   script = codes "s";
   files = codes "f" ∷ [];
 }))
@@ -19,11 +20,33 @@ defaults = refl
 given : command_in (codes "run" ∷ codes "--chunk" ∷ codes "007" ∷ codes "s" ∷ codes "f" ∷ codes "--limit=1" ∷ codes "--" ∷ codes "-g" ∷ []) ≡ Some (Runs (record {
   form = codes "table";
   options = record { chunk = 7; limit = 1; workers = 4; max_bytes = 67108864 };
+  watch = false;
   script = codes "s";
   files = codes "f" ∷ codes "-g" ∷ [];
 }))
 unfolding command_in run_of matched run_app run_found run_options options_found files_found number_of clap_on_literals
 given = refl
+
+-- `run s --watch f`
+watched : command_in (codes "run" ∷ codes "s" ∷ codes "--watch" ∷ codes "f" ∷ []) ≡ Some (Runs (record {
+  form = codes "table";
+  options = record { chunk = 1024; limit = 16; workers = 4; max_bytes = 67108864 };
+  watch = true;
+  script = codes "s";
+  files = codes "f" ∷ [];
+}))
+unfolding command_in run_of matched run_app run_found run_options options_found files_found number_of clap_on_literals
+watched = refl
+
+-- `run --watch s f --watch`
+watched_twice : command_in (codes "run" ∷ codes "--watch" ∷ codes "s" ∷ codes "f" ∷ codes "--watch" ∷ []) ≡ None
+unfolding command_in run_of matched run_app clap_on_literals
+watched_twice = refl
+
+-- `trace --watch s f`
+watched_trace : command_in (codes "trace" ∷ codes "--watch" ∷ codes "s" ∷ codes "f" ∷ []) ≡ None
+unfolding command_in trace_of matched trace_app clap_on_literals
+watched_trace = refl
 
 -- `run --chunk 0 s f`
 zero_rows : command_in (codes "run" ∷ codes "--chunk" ∷ codes "0" ∷ codes "s" ∷ codes "f" ∷ []) ≡ None

@@ -9,6 +9,7 @@ pub mod Matching
 pub mod MappedTexts
 mod MessageExamples
 pub mod Numerals
+pub mod Observed
 pub mod PartsReported
 pub mod PassKeys
 pub mod Preparing

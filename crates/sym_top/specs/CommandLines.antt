@@ -34,12 +34,13 @@ with_pass_options app =
     let limited = with_rule chunked (option_rule own.LIMIT_NAME.now) in
     with_rule limited (option_rule own.WORKERS_NAME.now)
 
--- `run [--form NAME] [--chunk N] [--limit N] [--workers N] [--max-bytes N] SCRIPT FILE...`
+-- `run [--form NAME] [--chunk N] [--limit N] [--workers N] [--max-bytes N] [--watch] SCRIPT FILE...`
 unfoldable pub run_app : App
 run_app =
     let formed = with_rule (bare_app own.RUN_NAME.now) (option_rule own.FORM_NAME.now) in
     let sized = with_rule (with_pass_options formed) (option_rule own.MAX_BYTES_NAME.now) in
-    with_rule (with_rule sized (word_rule own.SCRIPT_NAME.now)) (words_rule own.FILES_NAME.now)
+    let watched = with_rule sized (flag_rule own.WATCH_NAME.now) in
+    with_rule (with_rule watched (word_rule own.SCRIPT_NAME.now)) (words_rule own.FILES_NAME.now)
 
 -- `trace [--form NAME] [--every N] [--chunk N] [--limit N] [--workers N] [--max-bytes N] SCRIPT
 -- FILE...`

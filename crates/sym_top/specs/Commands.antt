@@ -36,14 +36,17 @@ pub record Asked : Type 0 where
 abbrev pub asks : List (List ℕ) → List Form → (FileRow → FileRow) → Asked
 asks words forms shown = record { words = words; forms = forms; shown = shown }
 
--- `run`: the form of the report, how files are cut and worked on, the script and the files.
+-- `run`: the form of the report, how files are cut and worked on, whether observers are told, the
+-- script and the files.
 pub record Run : Type 0 where
   pub form : List ℕ
   pub options : Options
+  pub watch : Bool
   pub script : List ℕ
   pub files : List (List ℕ)
 
--- `trace`: the same, and which records' rows are shown: those whose numbers `every` divides.
+-- `trace`: the form of the report, which records' rows are shown, those whose numbers `every` divides,
+-- how files are cut and worked on, the script and the files.
 pub record Trace : Type 0 where
   pub form : List ℕ
   pub every : ℕ
@@ -138,7 +141,13 @@ run_found rows = do
   options ← run_options rows
   script ← first_of own.SCRIPT_NAME.now rows
   files ← files_found rows
-  Some (record { form = form_found rows; options = options; script = script; files = files })
+  Some (record {
+    form = form_found rows;
+    options = options;
+    watch = flag_found own.WATCH_NAME.now rows;
+    script = script;
+    files = files;
+  })
 
 -- The trace that was found.
 unfoldable pub trace_found : List Row → Option Trace

@@ -7,6 +7,7 @@ pub mod Loading
 pub mod Making
 pub mod Messages
 pub mod Numbers
+pub mod Observers
 pub mod Parts
 pub mod Programs
 pub mod Promises

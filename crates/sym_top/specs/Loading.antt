@@ -1,5 +1,5 @@
 -- What the steps before the writing of a report come to.
-use Rattle.std.specs.Prelude.{◌≡◌, ℕ, ◌⊎◌, List, [], ◌∷◌, Option, None, Some}
+use Rattle.std.specs.Prelude.{◌≡◌, ℕ, ◌⊎◌, List, [], ◌∷◌, Option, None, Some, Result, Ok, Err}
 use Rattle.std.specs.Option.{option_map}
 use Rattle.sym_base.specs.Counts.{Rose}
 use Rattle.sym_base.specs.declared.values.record.Record.{Record}
@@ -20,6 +20,7 @@ use Rattle.sym_top.specs.declared.refusal.Place.TheVariants as place
 use Rattle.sym_top.specs.declared.refusal.Refusal.{Refusal}
 use Rattle.sym_top.specs.declared.refusal.Refusal.TheVariants as refusal
 use Rattle.sym_top.specs.declared.status.Status.{Status}
+use Rattle.sym_top.specs.declared.status.Status.TheVariants as status
 use Rattle.sym_top.specs.declared.commands.Command.{Command as CommandRead}
 use Rattle.sym_top.specs.declared.load.Failure.{Failure}
 use Rattle.sym_top.specs.Commands.{FileNames, shown_names}
@@ -27,7 +28,7 @@ use Rattle.sym_top.specs.Ends.{End, Held, IsTextOf, groups_end, status_of}
 use Rattle.sym_top.specs.Messages.{headers_of, line_of}
 use Rattle.sym_top.specs.Programs.{Program, IsProgram, IsNoProgram}
 use Rattle.sym_top.specs.Promises.{Call, MayHold, IsStop, HasReport, call_line}
-use Rattle.sym_top.specs.Refusals.{pass_refusal, reduce_refusal}
+use Rattle.sym_top.specs.Refusals.{pass_refusal, reduce_refusal, status_of_refusal}
 use Rattle.sym_top.specs.SavedFiles.{IsMapped}
 use Rattle.sym_top.specs.Words.{command_seen}
 
@@ -128,6 +129,12 @@ known_headers (Some checked) = headers_of (checked_plan checked).fields
 -- The names by which a line speaks of the files of a command that was read.
 abbrev pub known_names : Option CommandRead → FileNames
 known_names command = shown_names (option_map command_seen command)
+
+-- How a call may end: with the status of what was to be written, if that was written whole, or with
+-- that of the failure.
+abbrev pub MayEnd : Result Status Failure → Status → Type 0
+MayEnd (Ok made) result = (result ≡ made) ⊎ ((result ≡ status.WriteFault) ⊎ (result ≡ status.NoMemory))
+MayEnd (Err failure) result = result ≡ status_of_refusal failure.why
 
 -- The line of a failure, by the command and the script that it carries.
 abbrev pub failure_line : Failure → List ℕ

@@ -22,6 +22,7 @@ abbrev pub run_seen : RunRead → Run
 run_seen run = record {
   form = run.form.now;
   options = run.options;
+  watch = run.watch;
   script = run.script.now;
   files = map string_bytes run.files.items;
 }

@@ -105,6 +105,9 @@ pub const MAX_BYTES: NumberOption = NumberOption {
     },
 };
 
+/// Whether observers are told of partial reports.
+pub const WATCH_NAME: &str = "watch";
+
 /// Whether the script is printed.
 pub const PRINT_NAME: &str = "print";
 

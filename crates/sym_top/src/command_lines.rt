@@ -6,7 +6,7 @@ ghost use Rattle.sym_top.specs.CommandLines.{option_rule, flag_rule, word_rule, 
 use crate::arguments::{
     CHECK_NAME, CHUNK_NAME, EVERY_NAME, FILES_NAME, FIRST_NAME, FORM_NAME, LIMIT_NAME, MAKE_NAME,
     MAP_NAME, MAX_BYTES_NAME, PRINT_NAME, RECORDS_NAME, REDUCE_NAME, RUN_NAME, SCRIPT_NAME,
-    SEED_NAME, TRACE_NAME, WORKERS_NAME,
+    SEED_NAME, TRACE_NAME, WATCH_NAME, WORKERS_NAME,
 };
 use clap::{Arg, ArgAction, Command};
 use std::alloc::{AllocError, Global};
@@ -81,14 +81,15 @@ fn with_pass_options<'a>(alloc: Global, command: Command<'a>) -> Result<Command<
     with_option(alloc, limited, WORKERS_NAME)
 }
 
-/// `run [--form NAME] [--chunk N] [--limit N] [--workers N] [--max-bytes N] SCRIPT FILE...`
+/// `run [--form NAME] [--chunk N] [--limit N] [--workers N] [--max-bytes N] [--watch] SCRIPT FILE...`
 pub fn run_command<'a>(alloc: Global) -> Result<Command<'a>, AllocError>
     ensures { IfOk result (λ c. app_of c ≡ run_app) }
 {
     let formed = with_option(alloc, bare_command(alloc, RUN_NAME), FORM_NAME)?;
     let optional = with_pass_options(alloc, formed)?;
     let sized = with_option(alloc, optional, MAX_BYTES_NAME)?;
-    let scripted = with_word(alloc, sized, SCRIPT_NAME)?;
+    let watched = with_flag(alloc, sized, WATCH_NAME)?;
+    let scripted = with_word(alloc, watched, SCRIPT_NAME)?;
     with_words(alloc, scripted, FILES_NAME)
 }
 

@@ -8,17 +8,19 @@ use crate::arguments::MADE_NAME;
 use crate::refusal::Place;
 use sym_engine::Options;
 
-/// `run`: the form of the report, how files are cut and worked on, and the names of the script and
-/// of the files of records.
+/// `run`: the form of the report, how files are cut and worked on, whether observers are told of
+/// partial reports, and the names of the script and of the files of records.
 #[derive(Drop)]
 pub struct Run<'a> {
     pub form: &'a str,
     pub options: Options,
+    pub watch: bool,
     pub script: &'a str,
     pub files: Vec<String>,
 }
 
-/// `trace`: the same, and which records' rows are shown: those whose numbers `every` divides.
+/// `trace`: the form of the report, which records' rows are shown, those whose numbers `every`
+/// divides, how files are cut and worked on, and the names of the script and of the files of records.
 #[derive(Drop)]
 pub struct Trace<'a> {
     pub form: &'a str,

@@ -1,6 +1,6 @@
 //! The end of a command: its text is written, or a line tells why there is none.
 ghost use Rattle.std.specs.Prelude.{◌≡◌, ◌⊎◌, MatchResult, IfOk, OnOk, IfErr};
-ghost use Rattle.sym_top.specs.Loading.{Ready, Stops, failure_line, known_headers};
+ghost use Rattle.sym_top.specs.Loading.{MayEnd, Ready, Stops, failure_line, known_headers};
 ghost use Rattle.sym_top.specs.Messages.{headers_of};
 ghost use Rattle.sym_top.specs.Promises.{Call, Says, WriteFails, IsReported, IsUnwritten};
 ghost use Rattle.sym_top.specs.Refusals.{status_of_refusal};
@@ -62,6 +62,7 @@ pub fn finish<O: Sink, E: Sink>(
         let out = sunk O.written O.faults O.short out.old out.new in
         let err = sunk E.written E.faults E.short err.old err.new in
         Says call out err result }
+    ensures status { MayEnd made.entry result }
     ensures unwritten { IsUnwritten result → out.new ≡ out.old }
     ensures memory { result ≡ Status.NoMemory →
         (out.new ≡ out.old) ⊎ Short (sunk O.written O.faults O.short out.old out.new) }

@@ -11,7 +11,7 @@ ghost use Rattle.sym_top.specs.Words.{run_seen, trace_seen, check_seen, make_see
 use crate::arguments::{
     CHUNK_NAME, CHUNKS, EVERY, EVERY_NAME, FILES_NAME, FIRST_NAME, FIRSTS, FORM_DEFAULT, FORM_NAME,
     GIVEN, LIMIT_NAME, LIMITS, MAX_BYTES, MAX_BYTES_NAME, PRINT_NAME, RECORDS, RECORDS_NAME,
-    SCRIPT_NAME, SEED_NAME, SEEDS, WORKERS, WORKERS_NAME,
+    SCRIPT_NAME, SEED_NAME, SEEDS, WATCH_NAME, WORKERS, WORKERS_NAME,
 };
 use crate::commands::{Check, Make, Map, Reduce, Run, Trace};
 use crate::numbers::{NumberOption, NumberRange, number_or_default, number_within};
@@ -148,6 +148,7 @@ pub fn read_run<'a>(alloc: Global, matches: &ArgMatches<'a>) -> Result<Option<Ru
     Ok(Some(Run {
         form: read_form(matches),
         options,
+        watch: read_flag(matches, WATCH_NAME),
         script,
         files: copy_names(alloc, names)?,
     }))

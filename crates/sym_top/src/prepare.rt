@@ -1,8 +1,9 @@
 //! Everything of a command but the writing.
-ghost use Rattle.std.specs.Prelude.{◌≡◌, ◌≤◌, ℕ, List, [], Some, IfOk, IfErr};
+ghost use Rattle.std.specs.Prelude.{◌≡◌, ◌≤◌, ℕ, true, false, List, [], Some, IfOk, IfErr};
 ghost use Rattle.sym_top.specs.Commands.{Asked, Runs, Checks, command_of, texts_of};
 ghost use Rattle.sym_top.specs.Ends.{said_of};
 ghost use Rattle.sym_top.specs.Loading.{Ready, Stops};
+ghost use Rattle.sym_top.specs.Observers.{AreToldBefore, logs_of};
 ghost use Rattle.sym_top.specs.Programs.{checked_program};
 ghost use Rattle.sym_top.specs.Promises.{call_of, IsReported};
 ghost use Rattle.sym_top.specs.Words.{run_seen, check_seen, IsRun};
@@ -11,7 +12,7 @@ use crate::check_line::check_line;
 use crate::commands::{Check, Command, Run};
 use crate::load::{Failure, load_script};
 use crate::refusal::Refusal;
-use crate::report::report_files;
+use crate::report::report_run;
 use crate::status::Status;
 use std::alloc::Global;
 use std::sync::Wait;
@@ -21,15 +22,17 @@ use sym_check::Checked;
 use sym_engine::Gate;
 use sym_parse::print;
 use sym_report::ReportForm;
+use sym_watch::Observer;
 
 /// Gathers the report of a run in a form without bytes, and gives its status. The files of records
-/// are worked on through the gate.
+/// are worked on through the gate, and the observers are told of them where the run is watched.
 pub fn prepare_run<'a, T: Threads + Wait + Sync, F: Store, G: Gate + Sync>(
     rt: &T,
     alloc: Global,
     run: Run<'a>,
     files: &mut F,
     form: &mut Box<dyn ReportForm>,
+    observers: &mut Vec<Box<dyn Observer + Send>>,
     gate: &G,
 ) -> Result<Status, Failure<'a>>
     requires run { IsRun run }
@@ -43,6 +46,11 @@ pub fn prepare_run<'a, T: Threads + Wait + Sync, F: Store, G: Gate + Sync>(
         asked.shown ≡ G.shown gate.now →
         let call = call_of F.holds F.faults asked files.old files.new in
         IfErr result (Stops call) }
+    ensures told { (asked : Asked) → asked.shown ≡ G.shown gate.now → run.entry.watch ≡ true →
+        let call = call_of F.holds F.faults asked files.old files.new in
+        let logs = logs_of (λ o. log o) observers.old.items observers.new.items in
+        AreToldBefore call (run_seen run.entry) logs result }
+    ensures unwatched { run.entry.watch ≡ false → observers.new ≡ observers.old }
     ensures same { F.holds files.new ≡ F.holds files.old }
     ensures later { (other : List ℕ) → F.faults files.old other ≤ F.faults files.new other }
 {
@@ -56,16 +64,7 @@ pub fn prepare_run<'a, T: Threads + Wait + Sync, F: Store, G: Gate + Sync>(
             });
         }
     };
-    match report_files(
-        rt,
-        alloc,
-        &checked,
-        files,
-        run.files.as_slice(),
-        &run.options,
-        form,
-        gate,
-    ) {
+    match report_run(rt, alloc, &checked, &run, files, form, observers, gate) {
         Ok(status) => Ok(status),
         Err(why) => Err(Failure {
             why,

@@ -6,6 +6,7 @@ ghost use Rattle.sym_engine.specs.Options.{InRange};
 ghost use Rattle.sym_table.specs.Reading.{Row as OneRow};
 ghost use Rattle.sym_top.specs.Commands.{Asked, Runs, Checks, Makes, Maps, Reduces, asks, command_in, command_of, forms_of};
 ghost use Rattle.sym_top.specs.Ends.{End, Held, IsEnd};
+ghost use Rattle.sym_top.specs.Observers.{AreTold, IsUnwatched, logs_of};
 ghost use Rattle.sym_top.specs.Promises.{Call, call_of, IsUsage, Told, Answers, MustReport, Refuses, Says, Leaves, Unless, Wrote, IsRefused, IsReported, IsUnwritten};
 ghost use Rattle.sym_top.specs.Telling.{Later, Short, sunk};
 ghost use Rattle.sym_top.specs.Words.{run_seen, check_seen, make_seen, map_seen, reduce_seen, IsRun, IsMap, IsReduce};
@@ -27,9 +28,10 @@ use std::thread::Threads;
 use sym_base::{Sink, Store};
 use sym_engine::Gate;
 use sym_report::{ReportForm, choose, report_bytes};
+use sym_watch::Observer;
 
 // Runs a script over files, through the gate, and writes the report through the form that the run
-// names.
+// names. The observers are told of partials where the run is watched.
 fn run_files<T: Threads + Wait + Sync, F: Store, O: Sink, E: Sink, G: Gate + Sync>(
     rt: &T,
     alloc: Global,
@@ -38,6 +40,7 @@ fn run_files<T: Threads + Wait + Sync, F: Store, O: Sink, E: Sink, G: Gate + Syn
     out: &mut O,
     err: &mut E,
     forms: Vec<Box<dyn ReportForm>>,
+    observers: &mut Vec<Box<dyn Observer + Send>>,
     gate: &G,
 ) -> Status
     requires run { IsRun run }
@@ -55,6 +58,17 @@ fn run_files<T: Threads + Wait + Sync, F: Store, O: Sink, E: Sink, G: Gate + Syn
         let call = call_of F.holds F.faults asked files.old files.new in
         let sunk_out = sunk O.written O.faults O.short out.old out.new in
         Leaves call sunk_out files.old files.new out.old out.new err.old err.new result }
+    ensures logs { (words : List (List ℕ)) → command_in words ≡ Some (Runs (run_seen run.entry)) →
+        let forms = forms_of (λ f. called f) (λ f. texts f) forms.items in
+        let asked = asks words forms (G.shown gate.now) in
+        let call = call_of F.holds F.faults asked files.old files.new in
+        let logs = logs_of (λ o. log o) observers.old.items observers.new.items in
+        AreTold call logs result }
+    ensures unwatched { (words : List (List ℕ)) → command_in words ≡ Some (Runs (run_seen run.entry)) →
+        let forms = forms_of (λ f. called f) (λ f. texts f) forms.items in
+        let asked = asks words forms (G.shown gate.now) in
+        let call = call_of F.holds F.faults asked files.old files.new in
+        IsUnwatched call → observers.new ≡ observers.old }
     ensures files { F.holds files.new ≡ F.holds files.old }
     ensures later { (name : List ℕ) → F.faults files.old name ≤ F.faults files.new name }
     ensures later_out { Later (sunk O.written O.faults O.short out.old out.new) }
@@ -64,7 +78,7 @@ fn run_files<T: Threads + Wait + Sync, F: Store, O: Sink, E: Sink, G: Gate + Syn
         Some(form) => form,
         None => return refuse(err, &no_command(Refusal::Usage)),
     };
-    let made = prepare_run(rt, alloc, run, files, &mut form, gate);
+    let made = prepare_run(rt, alloc, run, files, &mut form, observers, gate);
     finish(out, err, made, report_bytes(&form))
 }
 
@@ -204,6 +218,7 @@ fn run<T: Threads + Wait + Sync, F: Store, O: Sink, E: Sink, G: Gate + Sync>(
     out: &mut O,
     err: &mut E,
     forms: Vec<Box<dyn ReportForm>>,
+    observers: &mut Vec<Box<dyn Observer + Send>>,
     gate: &G,
 ) -> Status
     requires { All (λ f. gathered f ≡ []) forms.items }
@@ -220,13 +235,26 @@ fn run<T: Threads + Wait + Sync, F: Store, O: Sink, E: Sink, G: Gate + Sync>(
         let call = call_of F.holds F.faults asked files.old files.new in
         let sunk_out = sunk O.written O.faults O.short out.old out.new in
         Leaves call sunk_out files.old files.new out.old out.new err.old err.new result }
+    ensures logs { let words = map string_bytes words.now.items in
+        let forms = forms_of (λ f. called f) (λ f. texts f) forms.items in
+        let asked = asks words forms (G.shown gate.now) in
+        let call = call_of F.holds F.faults asked files.old files.new in
+        let logs = logs_of (λ o. log o) observers.old.items observers.new.items in
+        AreTold call logs result }
+    ensures unwatched { let words = map string_bytes words.now.items in
+        let forms = forms_of (λ f. called f) (λ f. texts f) forms.items in
+        let asked = asks words forms (G.shown gate.now) in
+        let call = call_of F.holds F.faults asked files.old files.new in
+        IsUnwatched call → observers.new ≡ observers.old }
     ensures files { F.holds files.new ≡ F.holds files.old }
     ensures later { (name : List ℕ) → F.faults files.old name ≤ F.faults files.new name }
     ensures later_out { Later (sunk O.written O.faults O.short out.old out.new) }
     ensures later_err { Later (sunk E.written E.faults E.short err.old err.new) }
 {
     match read_words(alloc, words) {
-        Ok(Some(Command::Run(run))) => run_files(rt, alloc, run, files, out, err, forms, gate),
+        Ok(Some(Command::Run(run))) => {
+            run_files(rt, alloc, run, files, out, err, forms, observers, gate)
+        }
         Ok(Some(Command::Trace(trace))) => run_trace(rt, alloc, trace, files, out, err, forms),
         Ok(Some(Command::Check(check))) => run_check(alloc, check, files, out, err),
         Ok(Some(Command::Make(make))) => run_make(rt, alloc, make, out, err, gate),
@@ -239,10 +267,11 @@ fn run<T: Threads + Wait + Sync, F: Store, O: Sink, E: Sink, G: Gate + Sync>(
 
 /// Runs the program on these arguments, `words`, which are those after its name.
 ///
-/// `run [--form NAME] [--chunk N] [--limit N] [--workers N] [--max-bytes N] SCRIPT FILE...` runs the
-/// script over the records of the files, in order, and writes the report to `out`. The script has
-/// at most 65,536 bytes, and there are at most 65,536 files. What is refused is told on `err`, in
-/// one line.
+/// `run [--form NAME] [--chunk N] [--limit N] [--workers N] [--max-bytes N] [--watch] SCRIPT FILE...`
+/// runs the script over the records of the files, in order, and writes the report to `out`. The script
+/// has at most 65,536 bytes, and there are at most 65,536 files. What is refused is told on `err`, in
+/// one line. With `--watch` the observers are told, after each round of records, of the report rows
+/// over all records so far; without it, and by all other commands, they aren't told of anything.
 ///
 /// `trace [--every N]`, with the options, the script and the files of `run`, writes how the group
 /// of a record stands after that record, for each record whose number N divides: a row as a report
@@ -280,6 +309,7 @@ pub fn symple<T: Threads + Wait + Sync, F: Store, O: Sink, E: Sink, G: Gate + Sy
     out: &mut O,
     err: &mut E,
     forms: Vec<Box<dyn ReportForm>>,
+    observers: &mut Vec<Box<dyn Observer + Send>>,
     gate: &G,
 ) -> Status
     requires { All (λ f. gathered f ≡ []) forms.items }
@@ -329,10 +359,21 @@ pub fn symple<T: Threads + Wait + Sync, F: Store, O: Sink, E: Sink, G: Gate + Sy
     ensures memory { result ≡ Status.NoMemory →
         (out.new ≡ out.old) ⊎ Short (sunk O.written O.faults O.short out.old out.new) }
     ensures quiet { IsReported result → err.new ≡ err.old }
+    ensures logs { let words = map string_bytes words.now.items in
+        let forms = forms_of (λ f. called f) (λ f. texts f) forms.items in
+        let asked = asks words forms (G.shown gate.now) in
+        let call = call_of F.holds F.faults asked files.old files.new in
+        let logs = logs_of (λ o. log o) observers.old.items observers.new.items in
+        AreTold call logs result }
+    ensures unwatched { let words = map string_bytes words.now.items in
+        let forms = forms_of (λ f. called f) (λ f. texts f) forms.items in
+        let asked = asks words forms (G.shown gate.now) in
+        let call = call_of F.holds F.faults asked files.old files.new in
+        IsUnwatched call → observers.new ≡ observers.old }
     ensures files { F.holds files.new ≡ F.holds files.old }
     ensures later { (name : List ℕ) → F.faults files.old name ≤ F.faults files.new name }
     ensures later_out { Later (sunk O.written O.faults O.short out.old out.new) }
     ensures later_err { Later (sunk E.written E.faults E.short err.old err.new) }
 {
-    run(rt, alloc, words, files, out, err, forms, gate)
+    run(rt, alloc, words, files, out, err, forms, observers, gate)
 }

@@ -1,6 +1,8 @@
-use Rattle.std.proofs.Common.{inl, refl, subst}
+use Rattle.std.proofs.Common.{inl, refl, subst, sym}
+use Rattle.sym_top.specs.Loading.{MayEnd}
 use Rattle.sym_top.specs.Promises.{IsReported}
 use Rattle.sym_top.proofs.Consequences.{refusal-refused, reported-written, stop-says, ready-says, cut-says}
+use Rattle.sym_top.proofs.Observed.{cut_ends}
 use Rattle.sym_top.proofs.finishing.finish.Goals as goal
 
 pub returns-in-Err-clause-says : goal.returns-in-Err-clause-says
@@ -44,3 +46,18 @@ returns-in-Ok-write_report-clause-memory g c short =
 pub returns-in-Err-write_report-clause-quiet : goal.returns-in-Err-write_report-clause-quiet
 returns-in-Err-write_report-clause-quiet g c done =
     absurd (refusal-refused c.in-Err-write_report.why (subst IsReported c.status.ensures done))
+
+-- How it may end.
+
+pub returns-in-Err-clause-status : goal.returns-in-Err-clause-status
+returns-in-Err-clause-status g c =
+    subst (λ made. MayEnd made c.refuse.result) (sym c.in-Err.is) c.refuse.ensures.status
+
+pub returns-in-Ok-write_report-clause-status : goal.returns-in-Ok-write_report-clause-status
+returns-in-Ok-write_report-clause-status g c =
+    subst (λ made. MayEnd made c.in-Ok.status) (sym c.in-Ok.is) (inl refl)
+
+pub returns-in-Err-write_report-clause-status : goal.returns-in-Err-write_report-clause-status
+returns-in-Err-write_report-clause-status g c =
+    subst (λ made. MayEnd made c.status.result) (sym c.in-Ok.is)
+    (cut_ends _ c.args.text.now c.in-Ok.status c.in-Err-write_report.why c.status.result c.in-Err-write_report.ensures.part c.status.ensures)

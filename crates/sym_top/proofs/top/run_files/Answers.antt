@@ -1,8 +1,9 @@
-use Rattle.std.proofs.Common.{◌≡◌, [], refl, sym, subst}
+use Rattle.std.proofs.Common.{◌≡◌, [], ap, map, refl, sym, subst}
 use Rattle.sym_top.specs.Loading.{Stops}
 use Rattle.sym_top.specs.Words.{run_seen}
 use Rattle.sym_top.proofs.Consequences.{asked-some, made-match, some-leaves, stop-leaves, stop-says}
 use Rattle.sym_top.proofs.Handed.{chosen-all, run-handed, run-unhanded, texts-named}
+use Rattle.sym_top.proofs.Observed.{no_command_told, run_told, run_unwatched}
 use Rattle.sym_top.proofs.Preparing.{usage-stops}
 use Rattle.sym_top.proofs.top.run_files.Goals as goal
 
@@ -34,3 +35,23 @@ pub returns-clause-leaves : goal.returns-clause-leaves
 returns-clause-leaves g c words is =
     let handed = run-handed _ _ words c.args.forms.items (g.G.Gate.shown c.args.gate.now) (run_seen c.args.run) c.in-Some.form is (sym c.in-Some.ensures) in
     some-leaves _ _ _ _ _ _ _ _ c.finish.result (asked-some _ _ handed) c.finish.ensures.unwritten c.finish.ensures.memory c.finish.ensures.quiet
+
+pub returns-in-None-clause-logs : goal.returns-in-None-clause-logs
+returns-in-None-clause-logs g c words is =
+    no_command_told _ _ c.refuse.result
+    (run-unhanded _ _ words c.args.forms.items (g.G.Gate.shown c.args.gate.now) (run_seen c.args.run) is (sym c.in-None.ensures)) refl
+
+pub returns-in-None-clause-unwatched : goal.returns-in-None-clause-unwatched
+returns-in-None-clause-unwatched g c words is none = refl
+
+pub returns-clause-logs : goal.returns-clause-logs
+returns-clause-logs g c words is =
+    let handed = run-handed _ _ words c.args.forms.items (g.G.Gate.shown c.args.gate.now) (run_seen c.args.run) c.in-Some.form is (sym c.in-Some.ensures) in
+    run_told _ (run_seen c.args.run) _ c.prepare_run-made.result c.finish.result handed c.prepare_run-made.ensures.reported c.finish.ensures.status
+    (λ watch. c.prepare_run-made.ensures.told _ refl watch)
+    (λ none. ap (map (λ o. (goal.Observer-dyn g (o.vtable, o.value)).log o.value)) (ap (λ os. os.items) (c.prepare_run-made.ensures.unwatched none)))
+
+pub returns-clause-unwatched : goal.returns-clause-unwatched
+returns-clause-unwatched g c words is none =
+    let handed = run-handed _ _ words c.args.forms.items (g.G.Gate.shown c.args.gate.now) (run_seen c.args.run) c.in-Some.form is (sym c.in-Some.ensures) in
+    c.prepare_run-made.ensures.unwatched (run_unwatched _ (run_seen c.args.run) handed none)

@@ -1,0 +1,236 @@
+-- What observers were told of, by what the steps of a call say of it.
+use Rattle.std.proofs.Common.{◌≡◌, ◌⊎◌, ℕ, ◌≤◌, inl, inr, Bool, true, false, if◌then◌else◌, List, [], ◌∷◌, ◌++◌, length, map, Option, None, Some, Result, Ok, Err, IfOk, OnOk, refl, sym, ap, subst, ◌∙◌, arith}
+use Rattle.std.proofs.lemmas.List.{append-nil}
+use Rattle.sym_base.specs.Trees.{ScriptTree}
+use Rattle.sym_base.specs.declared.values.record.Record.{Record}
+use Rattle.sym_check.specs.Plan.ScriptPlans.{ScriptPlan}
+use Rattle.sym_check.specs.declared.elaborate.error.CheckErr.{CheckErr}
+use Rattle.sym_check.specs.declared.elaborate.error.CheckErr.TheVariants as check_error
+use Rattle.sym_engine.specs.declared.error.PassErr.{PassErr}
+use Rattle.sym_engine.specs.declared.error.PassErr.TheVariants as pass_error
+use Rattle.sym_engine.specs.FileRecords.{FileRules}
+use Rattle.sym_engine.specs.Partials.{AllGrew, AreRounds, OfFiles, ToldAll, ToldUntil, WatchedFiles, partials_of, watched_files}
+use Rattle.sym_engine.specs.Partials as rounds
+use Rattle.sym_engine.specs.Passing.{Counts, Holds, May, StopsPass}
+use Rattle.sym_engine.proofs.Logs.{part_whole}
+use Rattle.sym_lex.specs.declared.error.LexFault.{LexFault}
+use Rattle.sym_lex.specs.declared.error.LexFault.TheVariants as lex_fault
+use Rattle.sym_parse.specs.declared.error.ParseErr.{ParseErr}
+use Rattle.sym_parse.specs.declared.error.ParseErr.TheVariants as parse_error
+use Rattle.sym_watch.specs.Logs.{Log}
+use Rattle.sym_top.specs.declared.load.Failure.{Failure}
+use Rattle.sym_top.specs.declared.refusal.Place.TheVariants as place
+use Rattle.sym_top.specs.declared.refusal.Refusal.{Refusal}
+use Rattle.sym_top.specs.declared.refusal.Refusal.TheVariants as refusal
+use Rattle.sym_top.specs.declared.status.Status.{Status}
+use Rattle.sym_top.specs.declared.status.Status.TheVariants as status
+use Rattle.sym_top.specs.Commands.{Asked, Command, Form, Run, Runs, Traces, Checks, Makes, Maps, Reduces, command_in, command_of, file_rules, handed, is_handed}
+use Rattle.sym_top.specs.Loading.{Loads, MayEnd, Unloads}
+use Rattle.sym_top.specs.Loading as loading
+use Rattle.sym_top.specs.Observers.{AreTold, AreToldAll, AreToldBefore, AreToldBy, AreToldOf, AreToldTo, AreToldUntil, AreUntold, at_files, at_script, FilesStop, IsUnwatched, Logs, run_files, StopsTold, stops_told, watched_run}
+use Rattle.sym_top.specs.Programs.{Program, IsNoProgram, checked_program}
+use Rattle.sym_top.specs.Programs as programs
+use Rattle.sym_top.specs.Promises.{Call, IsReported, WriteFails}
+use Rattle.sym_top.specs.Promises as promise
+use Rattle.sym_top.specs.Refusals.{check_refusal, parse_refusal, pass_refusal, status_of_refusal}
+use Rattle.sym_top.specs.Telling.{Sunk}
+
+-- ---- the files
+-- Where all rounds were told and an allocation fails after them, the partials told are a prefix of
+-- those of the rounds that were done.
+pub all_some : (tree : ScriptTree) (w : WatchedFiles) (olds news : List Log) → ToldAll tree w olds news →
+    ToldUntil tree w olds news pass_error.NoMemory
+all_some tree w olds news all = record {
+  file = length w.names;
+  rounds = all.rounds;
+  done = all.done;
+  others = [];
+  are = rounds.no_round;
+  begins = inl refl;
+  so = part_whole (partials_of tree w.plan (all.rounds ++ [])) olds news
+      (subst (λ (rs : List (List Record)). AllGrew olds news (partials_of tree w.plan rs)) (sym (append-nil all.rounds)) all.so);
+}
+
+-- The same by equal rules, over a store that tells the same.
+pub told_along : (tree : ScriptTree) (p : ScriptPlan) (rules likewise : FileRules) (chunk : ℕ) (holds told : Holds) (names : List (List ℕ))
+    (olds news : List Log) → likewise ≡ rules → holds ≡ told → ToldAll tree (watched_files p rules chunk holds names 1) olds news →
+    ToldAll tree (watched_files p likewise chunk told names 1) olds news
+told_along tree p rules likewise chunk holds told names olds news ruled stores all =
+    subst (λ (rs : FileRules). ToldAll tree (watched_files p rs chunk told names 1) olds news) (sym ruled)
+    (subst (λ (h : Holds). ToldAll tree (watched_files p rules chunk h names 1) olds news) stores all)
+
+pub stops_along : (tree : ScriptTree) (p : ScriptPlan) (rules likewise : FileRules) (chunk : ℕ) (holds told : Holds) (names : List (List ℕ))
+    (before after : Counts) (logs : Logs) (why : Refusal) → likewise ≡ rules → holds ≡ told →
+    StopsTold tree (watched_files p rules chunk holds names 1) before after logs why →
+    StopsTold tree (watched_files p likewise chunk told names 1) before after logs why
+stops_along tree p rules likewise chunk holds told names before after logs why ruled stores stop =
+    subst (λ (rs : FileRules). StopsTold tree (watched_files p rs chunk told names 1) before after logs why) (sym ruled)
+    (subst (λ (h : Holds). StopsTold tree (watched_files p rules chunk h names 1) before after logs why) stores stop)
+
+-- Faults are counted since an earlier moment.
+stops_earlier : (p : ScriptPlan) (rules : FileRules) (holds : Holds) (names : List (List ℕ)) (before middle after : Counts) →
+    ((name : List ℕ) → before name ≤ middle name) → (why : PassErr) → StopsPass p rules holds names middle after why →
+    StopsPass p rules holds names before after why
+stops_earlier p rules holds names before middle after lower (pass_error.Read file) s = record {
+  files = s.files;
+  may = s.may;
+  records = s.records;
+  fine = s.fine;
+  name = s.name;
+  named = s.named;
+  rose = omega (arith, lower s.name, s.rose);
+}
+stops_earlier p rules holds names before middle after lower (pass_error.TooLarge file) s = s
+stops_earlier p rules holds names before middle after lower (pass_error.Head file fault) s = s
+stops_earlier p rules holds names before middle after lower (pass_error.Bad file bad) s = s
+stops_earlier p rules holds names before middle after lower pass_error.NoMemory s = s
+
+-- ---- a run whose script was accepted
+module _ (call : Call) (run : Run) (logs : Logs) (program : Program) (loads : Loads (call.holds run.script) program) where
+  pub told_all : ToldAll program.tree (run_files call run program) logs.before logs.after → AreToldAll call run logs
+  told_all told = record { program = program; loads = loads; told = told }
+
+  pub told_to : (middle : Counts) → ((name : List ℕ) → call.before name ≤ middle name) → (why : Refusal) →
+      StopsTold program.tree (run_files call run program) middle call.after logs why → AreToldTo call run logs why
+  told_to middle lower _ (stops_told why stops told) =
+      at_files why
+      (record {
+        program = program;
+        loads = loads;
+        stops = stops_earlier program.plan (file_rules call.asked (Runs run)) call.holds run.files call.before middle call.after lower why stops;
+        told = told;
+      })
+
+-- ---- the status
+module _ (call : Call) (run : Run) (logs : Logs) where
+  all_until : AreToldAll call run logs → AreToldUntil call run logs pass_error.NoMemory
+  all_until all = record {
+    program = all.program;
+    loads = all.loads;
+    stops = tt;
+    told = all_some all.program.tree (run_files call run all.program) logs.before logs.after all.told;
+  }
+
+  lex_told : (fault : LexFault) → AreUntold logs → AreToldBy call run logs (status_of_refusal (parse_refusal (parse_error.Lex fault)))
+  lex_told (lex_fault.BadByte at) untold = untold
+  lex_told (lex_fault.BadNumber at) untold = untold
+  lex_told (lex_fault.LongName at) untold = untold
+  lex_told (lex_fault.BadText at) untold = untold
+
+  parse_told : (why : ParseErr) → AreUntold logs → AreToldBy call run logs (status_of_refusal (parse_refusal why))
+  parse_told (parse_error.Lex fault) untold = lex_told fault untold
+  parse_told (parse_error.Expected at) untold = untold
+  parse_told (parse_error.Limit at which) untold = untold
+  parse_told parse_error.NoMemory untold = inl untold
+
+  check_told : (why : CheckErr) → AreUntold logs → AreToldBy call run logs (status_of_refusal (check_refusal why))
+  check_told (check_error.Name at) untold = untold
+  check_told (check_error.Twice at) untold = untold
+  check_told (check_error.Kind at) untold = untold
+  check_told (check_error.Range at) untold = untold
+  check_told (check_error.NotLinear at) untold = untold
+  check_told (check_error.Branchy paths) untold = untold
+  check_told check_error.NoMemory untold = inl untold
+
+  no_program_told : (text : List ℕ) (why : Refusal) → May (call.holds run.script) text → IsNoProgram text why → AreUntold logs →
+      AreToldBy call run logs (status_of_refusal why)
+  no_program_told text _ may (programs.too_large large) untold =
+      inl (record { text = text; may = may; large = large; untold = untold })
+  no_program_told text _ may (programs.unparsed why small is) untold = parse_told why untold
+  no_program_told text _ may (programs.broken tree why small is breaks) untold = check_told why untold
+
+  script_told : (why : Refusal) → Unloads (call.holds run.script) (call.before run.script) (call.after run.script) why → AreUntold logs →
+      AreToldBy call run logs (status_of_refusal why)
+  script_told _ (loading.refused text why may is) untold = no_program_told text why may is untold
+  script_told _ (loading.unread rose) untold = inl (record { rose = rose; untold = untold })
+  script_told _ loading.no_memory untold = inl untold
+
+  files_told : (why : PassErr) → AreToldUntil call run logs why → AreToldBy call run logs (status_of_refusal (pass_refusal why))
+  files_told (pass_error.Read file) until = inr (record { why = pass_error.Read file; status_is = refl; until = until })
+  files_told (pass_error.TooLarge file) until = inr (record { why = pass_error.TooLarge file; status_is = refl; until = until })
+  files_told (pass_error.Head file fault) until = record { why = pass_error.Head file fault; status_is = refl; until = until }
+  files_told (pass_error.Bad file bad) until = record { why = pass_error.Bad file bad; status_is = refl; until = until }
+  files_told pass_error.NoMemory until = inr (record { why = pass_error.NoMemory; status_is = refl; until = until })
+
+  stop_told : (why : Refusal) → AreToldTo call run logs why → AreToldBy call run logs (status_of_refusal why)
+  stop_told _ (at_script why unloads untold) = script_told why unloads untold
+  stop_told _ (at_files why until) = files_told why until
+
+  whole_told : (made : Status) → IsReported made → AreToldAll call run logs → AreToldBy call run logs made
+  whole_told status.Done reported all = all
+  whole_told status.Faulted reported all = all
+  whole_told status.Usage reported all = absurd reported
+  whole_told status.Script reported all = absurd reported
+  whole_told status.Input reported all = absurd reported
+  whole_told status.ReadFault reported all = absurd reported
+  whole_told status.WriteFault reported all = absurd reported
+  whole_told status.TooLarge reported all = absurd reported
+  whole_told status.NoMemory reported all = absurd reported
+
+  end_told : (made : Result Status Failure) (result : Status) → IfOk made IsReported → MayEnd made result →
+      AreToldBefore call run logs made → AreToldBy call run logs result
+  end_told (Ok made) result reported (inl same) all =
+      subst (AreToldBy call run logs) (sym same) (whole_told made reported all)
+  end_told (Ok made) result reported (inr (inl same)) all = subst (AreToldBy call run logs) (sym same) all
+  end_told (Ok made) result reported (inr (inr same)) all =
+      let until : FilesStop call run logs status.NoMemory = record { why = pass_error.NoMemory; status_is = refl; until = all_until all } in
+      subst (AreToldBy call run logs) (sym same) (inr until)
+  end_told (Err failure) result reported same stop =
+      subst (AreToldBy call run logs) (sym same) (stop_told failure.why stop)
+
+  -- What the observers of a run were told of, watched or not.
+  pub run_told : (made : Result Status Failure) (result : Status) → command_of call.asked ≡ Some (Runs run) → IfOk made IsReported →
+      MayEnd made result → (run.watch ≡ true → AreToldBefore call run logs made) → (run.watch ≡ false → AreUntold logs) →
+      AreTold call logs result
+  run_told made result asked reported ends told untold =
+      subst (λ (o : Option Command). AreToldOf (watched_run o) call logs result) (sym asked) (go run.watch told untold)
+    where
+      go : (b : Bool) → (b ≡ true → AreToldBefore call run logs made) → (b ≡ false → AreUntold logs) →
+          AreToldOf (if b then Some run else None) call logs result
+      go true told untold = end_told made result reported ends (told refl)
+      go false told untold = untold refl
+
+-- A run that is asked for without `--watch`.
+pub run_unwatched : (asked : Asked) (run : Run) → command_of asked ≡ Some (Runs run) → watched_run (command_of asked) ≡ None → run.watch ≡ false
+run_unwatched asked run is none = go run.watch (sym (ap watched_run is) ∙ none)
+  where
+    go : (b : Bool) → (if b then Some run else None) ≡ None → b ≡ false
+    go true e = let wrong : Some run ≡ None = e in cc
+    go false e = refl
+
+-- ---- other commands
+-- Arguments whose command isn't watched ask for none that is.
+handed_unwatched : (forms : List Form) (command : Option Command) → watched_run command ≡ None → watched_run (handed forms command) ≡ None
+handed_unwatched forms None none = refl
+handed_unwatched forms (Some command) none = go (is_handed forms command)
+  where
+    go : (b : Bool) → watched_run (if b then Some command else None) ≡ None
+    go true = none
+    go false = refl
+
+-- No observer was told where there is no run that is watched.
+pub unwatched_told : (call : Call) (logs : Logs) (result : Status) (command : Option Command) → command_in call.asked.words ≡ command →
+    watched_run command ≡ None → AreUntold logs → AreTold call logs result
+unwatched_told call logs result command is none untold =
+    let nothing : watched_run (command_of call.asked) ≡ None =
+    ap (λ (o : Option Command). watched_run (handed call.asked.forms o)) is ∙ handed_unwatched call.asked.forms command none in
+    subst (λ (o : Option Run). AreToldOf o call logs result) (sym nothing) untold
+
+-- No command: nor were they told.
+pub no_command_told : (call : Call) (logs : Logs) (result : Status) → command_of call.asked ≡ None → AreUntold logs → AreTold call logs result
+no_command_told call logs result none untold =
+    subst (λ (o : Option Command). AreToldOf (watched_run o) call logs result) (sym none) untold
+
+-- ---- the writing
+pub cut_ends : (out : Sunk) (text : List ℕ) (made : Status) (why : Refusal) (result : Status) → WriteFails out text why →
+    result ≡ status_of_refusal why → (result ≡ made) ⊎ ((result ≡ status.WriteFault) ⊎ (result ≡ status.NoMemory))
+cut_ends out text made _ result (promise.failed prefix rose) same = inr (inl same)
+cut_ends out text made _ result (promise.short prefix rose) same = inr (inr same)
+
+-- ---- no memory for the arguments
+pub memory_told : (call : Call) (logs : Logs) (result : Status) → result ≡ status.NoMemory → AreUntold logs → AreTold call logs result
+memory_told call logs result same untold = subst (AreTold call logs) (sym same) (go (watched_run (command_of call.asked)))
+  where
+    go : (o : Option Run) → AreToldOf o call logs status.NoMemory
+    go None = untold
+    go (Some run) = inl untold
