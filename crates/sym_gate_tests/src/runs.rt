@@ -10,6 +10,7 @@ use sym_engine::{Gate, OpenGate, Work};
 use sym_report::{ReportForm, TableForm};
 use sym_run::Run;
 use sym_top::{Status, symple};
+use sym_watch::Observer;
 
 /// For how many turns a worker is held at most.
 const TURNS: u64 = 500_000_000;
@@ -68,7 +69,12 @@ fn store_of(alloc: Global, call: &Call) -> Result<MemStore, NoMemory> {
     Ok(store)
 }
 
-// The top call, with the form `table`.
+// No observers.
+fn no_observers(alloc: Global) -> Vec<Box<dyn Observer + Send>> {
+    Vec::new(alloc)
+}
+
+// The top call, with the form `table` and no observers.
 fn called<T: Threads + Wait + Sync, G: Gate + Sync>(
     rt: &T,
     alloc: Global,
@@ -80,7 +86,18 @@ fn called<T: Threads + Wait + Sync, G: Gate + Sync>(
 ) -> Result<Status, NoMemory> {
     let table: Box<dyn ReportForm> = Box::new(alloc, TableForm::new(alloc))?;
     let forms = Vec::from_array(alloc, [table])?;
-    Ok(symple(rt, alloc, words, store, out, err, forms, gate))
+    let mut observers = no_observers(alloc);
+    Ok(symple(
+        rt,
+        alloc,
+        words,
+        store,
+        out,
+        err,
+        forms,
+        &mut observers,
+        gate,
+    ))
 }
 
 fn is_end(call: &Call, status: Status, out: &MemSink, err: &MemSink) -> bool {

@@ -1,7 +1,7 @@
 //! Runs through forms of the tests' own.
 ghost use Rattle.std.specs.Prelude.{◌≡◌, [], ◌∷◌, codes};
 
-use crate::runs::BY_USER;
+use crate::runs::{BY_USER, no_observers};
 use crate::scripts::all_hold;
 use std::alloc::Global;
 use std::sync::Wait;
@@ -100,8 +100,19 @@ fn call_with<T: Threads + Wait + Sync>(
     let first: Box<dyn ReportForm> = Box::new(alloc, Marks::new(alloc, b'.', room))?;
     let second: Box<dyn ReportForm> = Box::new(alloc, Marks::new(alloc, b'!', 9))?;
     let forms = Vec::from_array(alloc, [first, second])?;
+    let mut observers = no_observers(alloc);
     let gate = OpenGate { hold: Free };
-    Ok(symple(rt, alloc, words, store, out, err, forms, &gate))
+    Ok(symple(
+        rt,
+        alloc,
+        words,
+        store,
+        out,
+        err,
+        forms,
+        &mut observers,
+        &gate,
+    ))
 }
 
 /// Arguments, for how many rows the first form finds memory, and the end of the run.

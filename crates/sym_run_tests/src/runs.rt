@@ -8,6 +8,7 @@ use sym_base::{MemSink, MemStore, NoMemory};
 use sym_engine::{Free, OpenGate};
 use sym_report::{CsvForm, PairsForm, ReportForm, TableForm};
 use sym_top::{StartErr, Status, refuse_start, symple};
+use sym_watch::Observer;
 
 // Counts records up to three.
 pub(crate) const COUNTER: &str =
@@ -217,7 +218,12 @@ fn sinks_of(alloc: Global, run: &Run) -> Result<(MemSink, MemSink), NoMemory> {
     Ok((out, err))
 }
 
-/// The top call, with the forms and the gate of the program. No other function makes it, since proofs
+/// No observers.
+pub(crate) fn no_observers(alloc: Global) -> Vec<Box<dyn Observer + Send>> {
+    Vec::new(alloc)
+}
+
+/// The top call, with the forms and the gate of the program, and no observers. No other function makes it, since proofs
 /// beside its long contract are slow.
 pub(crate) fn call<T: Threads + Wait + Sync>(
     rt: &T,
@@ -231,8 +237,19 @@ pub(crate) fn call<T: Threads + Wait + Sync>(
     let csv: Box<dyn ReportForm> = Box::new(alloc, CsvForm::new(alloc))?;
     let pairs: Box<dyn ReportForm> = Box::new(alloc, PairsForm::new(alloc))?;
     let forms = Vec::from_array(alloc, [table, csv, pairs])?;
+    let mut observers = no_observers(alloc);
     let gate = OpenGate { hold: Free };
-    Ok(symple(rt, alloc, words, store, out, err, forms, &gate))
+    Ok(symple(
+        rt,
+        alloc,
+        words,
+        store,
+        out,
+        err,
+        forms,
+        &mut observers,
+        &gate,
+    ))
 }
 
 fn is_end(run: &Run, status: Status, out: &MemSink, err: &MemSink) -> bool {

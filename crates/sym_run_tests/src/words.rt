@@ -118,7 +118,7 @@ fn wrong_list<T: Threads + Wait + Sync>(
 }
 
 /// A run over the file `f`.
-const RUNS: [&[&str]; 23] = [
+const RUNS: [&[&str]; 28] = [
     &["run", "s", "f"],
     &["run", "--chunk", "5", "s", "f"],
     &["run", "--chunk=5", "s", "f"],
@@ -162,6 +162,11 @@ const RUNS: [&[&str]; 23] = [
     &["run", "s", "--chunk", "5", "--", "f"],
     &["run", "--limit=1", "s", "--workers", "3", "f", "--chunk=9"],
     &["run", "--max-bytes=8", "--form=table", "--", "s", "f"],
+    &["run", "--watch", "s", "f"],
+    &["run", "s", "--watch", "f"],
+    &["run", "s", "f", "--watch"],
+    &["run", "--watch", "--", "s", "f"],
+    &["run", "--chunk=1", "--watch", "--workers", "2", "s", "f"],
 ];
 
 #[test]
@@ -286,7 +291,7 @@ fn other_lists_are_no_map_or_reduce(rt: HostRuntime) -> Result<(), Fail> {
     all_hold(&rt, wrong_list(&rt, rt.alloc(), &NO_PARTS, USAGE))
 }
 
-const NONE: [&[&str]; 102] = [
+const NONE: [&[&str]; 113] = [
     &[],
     &[""],
     &["run"],
@@ -377,7 +382,18 @@ const NONE: [&[&str]; 102] = [
     &["run", "--form", "-table", "s", "f"],
     &["run", "--verbose", "s", "f"],
     &["run", "--print", "s", "f"],
-    &["run", "--watch", "s", "f"],
+    &["run", "--watch", "--watch", "s", "f"],
+    &["run", "--watch", "s", "f", "--watch"],
+    &["run", "--watch=yes", "s", "f"],
+    &["run", "--watch=", "s", "f"],
+    &["run", "--Watch", "s", "f"],
+    &["run", "-w", "s", "f"],
+    &["--watch", "run", "s", "f"],
+    &["trace", "--watch", "s", "f"],
+    &["check", "--watch", "s"],
+    &["make", "--watch", "5", "1"],
+    &["map", "--watch", "s", "f"],
+    &["reduce", "--watch", "s", "f"],
     &["run", "--chunks", "5", "s", "f"],
     &["run", "--chun", "5", "s", "f"],
     &["run", "--Chunk", "5", "s", "f"],

@@ -1,12 +1,20 @@
-//! Tests of partial reports, over the public calls of `sym_watch`, and of passes
-//! that are watched.
+//! Tests of partial reports, over the public calls of `sym_watch`, of passes that are watched, and of
+//! whole runs with observers.
 #![tactic(auto)]
 
+#[cfg(test)]
+mod calls;
 #[cfg(test)]
 mod courses;
 #[cfg(test)]
 mod given;
 #[cfg(test)]
+mod meeting;
+#[cfg(test)]
+mod noter;
+#[cfg(test)]
 mod passes;
+#[cfg(test)]
+mod runs;
 #[cfg(test)]
 mod threads;

@@ -2,69 +2,21 @@
 ghost use Rattle.std.specs.Prelude.{◌≤◌};
 ghost use Rattle.sym_engine.specs.Options.{InRange};
 
+use crate::noter::noter_into;
 use std::alloc::{AllocError, Global};
 use std::sync::atomic::{AtomicU64, Ordering};
 use std::sync::{Arc, Wait};
 use std::test::Fail;
 use std::thread::Threads;
-use sym_base::{Column, FILE_MAX_DEFAULT, MemStore, NoMemory};
+use sym_base::{FILE_MAX_DEFAULT, MemStore, NoMemory};
 use sym_check::{Checked, check};
 use sym_engine::{Free, LIMIT_DEFAULT, OpenGate, Options, PassErr, pass_watched};
 use sym_parse::parse;
-use sym_report::{Row, RowBody};
-use sym_watch::{Observer, Partial};
+use sym_watch::Observer;
 
 // A count of all records.
 const COUNTER: &str = "field user: word; group user; state n: int [0..1000000] = 0; \
     update { n = n + 1; } report { n = n; }";
-
-// Notes the borders that it is told of, with three digits each, and refuses those from one on.
-#[derive(Drop)]
-struct Noter {
-    told: Arc<AtomicU64>,
-    last: Option<u64>,
-    refused: u64,
-}
-
-// Whether it is the one row of a group of so many records.
-fn is_count(rows: &[Row], count: u64) -> bool {
-    match rows {
-        [row] => match &row.body {
-            RowBody::Columns(columns) => columns.as_slice()
-                == [Column::Num(i128::from(count))].as_slice(),
-            RowBody::Over { .. } | RowBody::Arith { .. } => false,
-        },
-        _ => false,
-    }
-}
-
-impl Observer for Noter {
-    ghost use Rattle.std.specs.Prelude.{None};
-
-    ghost log = { λ _. None };
-
-    ghost last = { λ o. o.last };
-
-    fn tell(&mut self, _alloc: Global, partial: &Partial) -> Result<(), NoMemory> {
-        if partial.upto >= self.refused {
-            return Err(NoMemory);
-        }
-        let shown = if is_count(partial.rows.as_slice(), partial.upto) {
-            partial.upto
-        } else {
-            0
-        };
-        let before = self.told.load(Ordering::SeqCst);
-        let after = before.wrapping_mul(1_000).wrapping_add(shown);
-        self.told.store(after, Ordering::SeqCst);
-        self.last = Some(partial.upto);
-        Ok(())
-    }
-
-    fn last(&self) -> Option<u64> {
-        self.last
-    }
-}
 
 // A pass over two files: how many records each has, which of the second one is none, if one is,
 // and from which border on its first observer refuses.
@@ -141,15 +93,6 @@ fn why_stopped(why: PassErr) -> Stopped {
         PassErr::NoMemory => Stopped::NoMemory,
         PassErr::Read { .. } | PassErr::TooLarge { .. } | PassErr::Head { .. } => Stopped::Other,
     }
-}
-
-// An observer that notes into this number.
-fn noter_into(told: &Arc<AtomicU64>, refused: u64) -> Result<Noter, AllocError> {
-    Ok(Noter {
-        told: Arc::clone(told)?,
-        last: None,
-        refused,
-    })
 }
 
 // Watches the pass of a course, where there are 1 to 64 workers and few names.

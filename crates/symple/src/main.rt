@@ -3,9 +3,11 @@
 
 mod disk;
 mod interrupts;
+mod progress;
 mod stream;
 
 use crate::disk::DiskStore;
+use crate::progress::Progress;
 use crate::stream::StreamSink;
 use std::alloc::Global;
 use std::env;
@@ -18,17 +20,20 @@ use sym_base::{NoMemory, Sink, Store};
 use sym_engine::{Free, OpenGate};
 use sym_report::{CsvForm, PairsForm, ReportForm, TableForm};
 use sym_top::{StartErr, Status, refuse_start, symple};
+use sym_watch::Observer;
 
 fn main(rt: HostRuntime) -> ExitCode {
-    ExitCode::from(run(&rt, rt.stdout(), rt.stderr()).number())
+    ExitCode::from(run(&rt, rt.stdout(), rt.stderr(), rt.stderr()).number())
 }
 
-// Runs the command that the words of this process give, over the files that it reaches.
-fn run<R, O, E>(rt: &R, out: O, err: E) -> Status
+// Runs the command that the words of this process give, over the files that it reaches. How far a
+// run has come is shown on a stream of its own.
+fn run<R, O, E, P>(rt: &R, out: O, err: E, progress: P) -> Status
 where
     R: Files + Env + Threads + Wait + AllocGlobal + Sync + Drop,
     O: Write + Drop,
     E: Write + Drop,
+    P: Write + Drop + Send + 'static,
 {
     let mut err = StreamSink::new(err);
     let words = match words_of(rt) {
@@ -39,28 +44,57 @@ where
         return refuse_start(&mut err, StartErr::NoMemory);
     };
     let mut out = StreamSink::new(out);
-    match carry_out(rt, rt.alloc(), &words, &mut files, &mut out, &mut err) {
+    let progress = Progress::new(StreamSink::new(progress));
+    match carry_out(
+        rt,
+        rt.alloc(),
+        &words,
+        &mut files,
+        &mut out,
+        &mut err,
+        progress,
+    ) {
         Ok(status) => status,
         Err(_) => refuse_start(&mut err, StartErr::NoMemory),
     }
 }
 
-// Carries out the command of these arguments, with the forms `table`, `csv` and `pairs`, and a gate
-// that shows each row as it is and holds no worker up.
-fn carry_out<T: Threads + Wait + Sync, F: Store, O: Sink, E: Sink>(
+// Carries out the command of these arguments, with the forms `table`, `csv` and `pairs`, one observer,
+// and a gate that shows each row as it is and holds no worker up.
+fn carry_out<T, F, O, E, P>(
     rt: &T,
     alloc: Global,
     words: &Vec<String>,
     files: &mut F,
     out: &mut O,
     err: &mut E,
-) -> Result<Status, NoMemory> {
+    observer: P,
+) -> Result<Status, NoMemory>
+where
+    T: Threads + Wait + Sync,
+    F: Store,
+    O: Sink,
+    E: Sink,
+    P: Observer + Send + 'static,
+{
     let table: Box<dyn ReportForm> = Box::new(alloc, TableForm::new(alloc))?;
     let csv: Box<dyn ReportForm> = Box::new(alloc, CsvForm::new(alloc))?;
     let pairs: Box<dyn ReportForm> = Box::new(alloc, PairsForm::new(alloc))?;
     let forms = Vec::from_array(alloc, [table, csv, pairs])?;
+    let observer: Box<dyn Observer + Send> = Box::new(alloc, observer)?;
+    let mut observers = Vec::from_array(alloc, [observer])?;
     let gate = OpenGate { hold: Free };
-    Ok(symple(rt, alloc, words, files, out, err, forms, &gate))
+    Ok(symple(
+        rt,
+        alloc,
+        words,
+        files,
+        out,
+        err,
+        forms,
+        &mut observers,
+        &gate,
+    ))
 }
 
 // The arguments after the program's name. Where one of them isn't UTF-8 there is no such command.
