@@ -1,5 +1,5 @@
 //! Laws of the definitions that contracts cite.
-ghost use Rattle.std.specs.Prelude.{◌≡◌, ◌<◌, ◌^◌, ℕ, List};
+ghost use Rattle.std.specs.Prelude.{◌≡◌, ◌<◌, ◌⊎◌, ◌^◌, ℕ, List};
 ghost use Rattle.sym_check.specs.Plan.ScriptPlans.{ScriptPlan};
 ghost use Rattle.sym_check.specs.Plan.WellFormed.{IsWellFormed};
 ghost use Rattle.sym_reduce.specs.Reducing.{AreReduced, FirstRunProblem, Pairs};
@@ -7,6 +7,11 @@ ghost use Rattle.sym_reduce.specs.declared.error.ReduceErr.{ReduceErr as OneErr}
 
 /// Files of saved runs have one list of totals or one first problem, and never both.
 pub fn files_have_totals_or_a_problem()
+    ensures some { (script : List ℕ) (p : ScriptPlan) (max_bytes file next : ℕ)
+        (totals : Pairs) (files : List (List ℕ)) →
+        IsWellFormed p → max_bytes < 2 ^ 64 →
+        ((end : ℕ) × (all : Pairs) × AreReduced script p max_bytes next totals files end all)
+        ⊎ ((why : OneErr) × FirstRunProblem script p max_bytes file next totals files why) }
     ensures totals { (script : List ℕ) (p : ScriptPlan) (max_bytes next : ℕ) (totals : Pairs)
         (files : List (List ℕ)) (end last : ℕ) (all more : Pairs) →
         IsWellFormed p → max_bytes < 2 ^ 64 →

@@ -1,4 +1,4 @@
--- The end of a call whose files have records is the one that is found, and each call has one.
+-- Each call has one end, and that of a call whose files have records is the one that is found.
 use Rattle.std.proofs.Common.{◌≡◌, ◌↔◌, List, Option, None, Some, Result, Ok, Err, refl, sym, ap, subst, ◌∙◌}
 use Rattle.sym_base.specs.declared.values.record.Record.{Record}
 use Rattle.sym_engine.specs.declared.error.PassErr.{PassErr}
@@ -10,7 +10,7 @@ use Rattle.sym_top.specs.Ends.{End, Held, IsEnd, usage, no_program, problem, fin
 use Rattle.sym_top.specs.EndReading.{files_end, program_end, command_end, end_of}
 use Rattle.sym_top.specs.Programs.{Program, IsProgram, program_in}
 use Rattle.sym_top.proofs.ProgramsFound.{program-found, none-found, Reading, reading}
-use Rattle.sym_top.proofs.ReducedEnds.{reduced_once}
+use Rattle.sym_top.proofs.ReducedEnds.{reduced_once, reduced_some}
 
 pub found : (asked : Asked) (held : Held) (end : End) → ReadsNoRuns (command_of asked) → IsEnd asked held end → end_of asked held ≡ end
 found asked held _ reads (usage none) = ap (λ o. command_end asked o held) none
@@ -55,6 +55,22 @@ is_end asked held reads = command-is asked held (command_of asked) reads refl
 
 pub agree : (asked : Asked) (held : Held) (end : End) → ReadsNoRuns (command_of asked) → IsEnd asked held end ↔ (end_of asked held ≡ end)
 agree asked held end reads = (found asked held end reads, λ e. subst (IsEnd asked held) e (is_end asked held reads))
+
+-- Every call has an end.
+pub some_end : (asked : Asked) (held : Held) → (end : End) × IsEnd asked held end
+some_end asked held = by (command_of asked) refl
+  where
+    own : ReadsNoRuns (command_of asked) → (end : End) × IsEnd asked held end
+    own reads = (end_of asked held, is_end asked held reads)
+
+    by : (o : Option Command) → command_of asked ≡ o → (end : End) × IsEnd asked held end
+    by None e = own (subst ReadsNoRuns (sym e) tt)
+    by (Some (Runs run)) e = own (subst ReadsNoRuns (sym e) tt)
+    by (Some (Traces trace)) e = own (subst ReadsNoRuns (sym e) tt)
+    by (Some (Checks check)) e = own (subst ReadsNoRuns (sym e) tt)
+    by (Some (Makes make)) e = own (subst ReadsNoRuns (sym e) tt)
+    by (Some (Maps part)) e = own (subst ReadsNoRuns (sym e) tt)
+    by (Some (Reduces reduce)) e = reduced_some asked held reduce e
 
 two_found : (asked : Asked) (held : Held) (end other : End) → ReadsNoRuns (command_of asked) → IsEnd asked held end → IsEnd asked held other → end ≡ other
 two_found asked held end other reads is also = sym (found asked held end reads is) ∙ found asked held other reads also

@@ -1,4 +1,4 @@
--- A report on saved runs has one end.
+-- A report on saved runs has an end, and one alone.
 use Rattle.std.proofs.Common.{◌≡◌, ◌∙◌, ◌⊎◌, inl, inr, refl, sym, ap, subst, ℕ, ◌<◌, ◌^◌, arith, List, [], Some, None, Result, Ok, Err}
 use Rattle.sym_check.specs.Plan.ScriptPlans.{ScriptPlan}
 use Rattle.sym_check.specs.Plan.WellFormed.{IsWellFormed}
@@ -11,6 +11,7 @@ use Rattle.sym_parse.specs.Printed.{script_text}
 use Rattle.sym_parse.proofs.Answering.{text-lawful}
 use Rattle.sym_reduce.specs.declared.error.ReduceErr.{ReduceErr}
 use Rattle.sym_reduce.specs.Reducing.{AreReduced, FirstRunProblem, Pairs}
+use Rattle.sym_reduce.proofs.Found.{found as files_found}
 use Rattle.sym_reduce.proofs.Once.{first_once, no_problem, totals_once}
 use Rattle.sym_top.specs.declared.refusal.Refusal.{Refusal}
 use Rattle.sym_top.specs.Commands.{Asked, Command, ReadsRecords, Reduce, Reduces, command_of, file_rules, first_no, texts_of}
@@ -64,6 +65,16 @@ module _ (asked : Asked) (held : Held) (reduce : Reduce) (is : command_of asked 
 
   bound : reduce.max_bytes < 2 ^ 64
   bound = let few = asked_few reduce asked is in omega (arith, few)
+
+  some_of : (r : Result Program Refusal) → Reading held.script r → (end : End) × IsEnd asked held end
+  some_of (Err why) faulty = (Refused why, no_program (Reduces reduce) why is faulty)
+  some_of (Ok program) found = elim (files_found (script_text program.tree) program.plan (program-formed held.script program found) reduce.max_bytes bound 0 1 [] held.files) [
+    | inl (stop, totals, are) ↦ (groups_end (texts_of asked.forms reduce.form) program totals, reduced reduce program stop totals is found are)
+    | inr (why, first) ↦ (Refused (reduce_refusal why), run_problem reduce program why is found first)
+  ]
+
+  pub reduced_some : (end : End) × IsEnd asked held end
+  reduced_some = some_of (program_in held.script) (reading held.script)
 
   once : (r : Result Program Refusal) → Reading held.script r → (end other : End) → Ends r end → Ends r other → end ≡ other
   unfolding Ends

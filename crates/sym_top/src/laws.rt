@@ -5,12 +5,11 @@ ghost use Rattle.sym_top.specs.Ends.{End, Held, IsEnd, IsWhole};
 ghost use Rattle.sym_top.specs.EndReading.{end_of};
 ghost use Rattle.sym_top.specs.Parts.{IsReportedApart};
 
-/// No call has two ends. One whose files have records has an end: the one that the function finds.
+/// Each call has one end. That of a call whose files have records is the one that the function finds.
 pub fn ends_are_found()
     ensures found { (asked : Asked) (held : Held) (end : End) →
         ReadsNoRuns (command_of asked) → IsEnd asked held end ↔ (end_of asked held ≡ end) }
-    ensures some { (asked : Asked) (held : Held) → ReadsNoRuns (command_of asked) →
-        (end : End) × IsEnd asked held end }
+    ensures some { (asked : Asked) (held : Held) → (end : End) × IsEnd asked held end }
     ensures one { (asked : Asked) (held : Held) (end other : End) →
         IsEnd asked held end → IsEnd asked held other → end ≡ other }
 {}

@@ -1,5 +1,10 @@
+use Rattle.sym_reduce.proofs.Found.{found}
 use Rattle.sym_reduce.proofs.Once.{first_once, no_problem, totals_once}
 use Rattle.sym_reduce.proofs.laws.files_have_totals_or_a_problem.Goals as goal
+
+pub returns-clause-some : goal.returns-clause-some
+returns-clause-some c script p max_bytes file next totals files formed bound =
+    found script p formed max_bytes bound file next totals files
 
 pub returns-clause-totals : goal.returns-clause-totals
 returns-clause-totals c script p max_bytes next totals files end last all more formed bound a b =
