@@ -1,0 +1,331 @@
+//! Files of saved runs under a checked script, in order.
+use crate::calls::{all_hold, store_of};
+use crate::scripts::{
+    COUNTER, CUT_OFF, ENDS, FROM_ONE, KEPT, LATER_FROM_ONE, MORE_USERS, NONE, NOT_FIVE, SET, SIXTH,
+    THREE, TWO, USERS,
+};
+use std::alloc::Global;
+use std::test::Fail;
+use sym_base::{Cell, Key, MemStore, NoMemory, Outcome, Value};
+use sym_check::{Checked, check};
+use sym_file::Totals;
+use sym_parse::parse;
+use sym_reduce::{ReduceErr, reduce_files};
+
+/// How a group stands.
+#[derive(Clone, Copy)]
+enum Standing {
+    /// Its first cell has this number.
+    Is(i64),
+    /// It ended at the record of this number.
+    Left(u64),
+}
+
+use Standing::{Is, Left};
+
+/// What files come to: the first word of each group's key, empty where it has none, and how the
+/// group stands; or why there are no totals.
+#[derive(Clone, Copy)]
+enum Want {
+    Groups(&'static [(&'static str, Standing)]),
+    Stops(ReduceErr),
+}
+
+/// A script, the names of files, the size that each may have, the read that fails, and what they come
+/// to.
+#[derive(Clone, Copy)]
+struct Row(&'static str, &'static [&'static str], u64, u64, Want);
+
+/// The files and their names.
+const FILES: [(&str, &str); 12] = [
+    ("two", TWO),
+    ("three", THREE),
+    ("sixth", SIXTH),
+    ("none", NONE),
+    ("ends", ENDS),
+    ("from one", FROM_ONE),
+    ("later from one", LATER_FROM_ONE),
+    ("cut off", CUT_OFF),
+    ("users", USERS),
+    ("more users", MORE_USERS),
+    ("not five", NOT_FIVE),
+    ("empty", ""),
+];
+
+fn names_of(alloc: Global, given: &[&'static str]) -> Result<Vec<String>, NoMemory> {
+    let mut names = Vec::new(alloc);
+    'names: for name in given {
+        names.push(String::from_str(alloc, name)?)?;
+    }
+    Ok(names)
+}
+
+// The script of a text; `None` if the text is refused.
+fn accepted(alloc: Global, text: &str) -> Option<Checked> {
+    if text.len() >= 10_000 {
+        return None;
+    }
+    match parse(alloc, text.as_bytes()) {
+        Ok(script) => check(alloc, script).ok(),
+        Err(_) => None,
+    }
+}
+
+fn word_of(key: &Key) -> &str {
+    match key.values.get(0) {
+        Some(Value::Word(text)) => text.as_str(),
+        _ => "",
+    }
+}
+
+fn stands(outcome: &Outcome, wanted: Standing) -> bool {
+    match (outcome, wanted) {
+        (Outcome::Going(state), Is(number)) => match state.cells.get(0) {
+            Some(Cell::Int(found)) => *found == number,
+            _ => false,
+        },
+        (Outcome::Ended(fault), Left(record)) => fault.no == record,
+        _ => false,
+    }
+}
+
+fn group_is(totals: &Totals, place: usize, wanted: &(&'static str, Standing)) -> bool {
+    match totals.at(place) {
+        Some((key, outcome)) => word_of(key) == wanted.0 && stands(outcome, wanted.1),
+        None => false,
+    }
+}
+
+fn are_groups(totals: &Totals, wanted: &[(&'static str, Standing)]) -> bool {
+    'groups: for (place, group) in wanted.iter().enumerate() {
+        if !group_is(totals, place, group) {
+            return false;
+        }
+    }
+    totals.len() == wanted.len()
+}
+
+fn is_wanted(found: &Result<Totals, ReduceErr>, wanted: Want) -> bool {
+    match (found, wanted) {
+        (Ok(totals), Want::Groups(groups)) => are_groups(totals, groups),
+        (Err(why), Want::Stops(stop)) => *why == stop,
+        _ => false,
+    }
+}
+
+fn reduced_is(
+    alloc: Global,
+    checked: &Checked,
+    files: &mut MemStore,
+    names: &[String],
+    row: &Row,
+) -> bool {
+    let Row(_, _, max_bytes, _, wanted) = row;
+    if *max_bytes > 1_000 {
+        return false;
+    }
+    is_wanted(
+        &reduce_files(alloc, checked, files, names, *max_bytes),
+        *wanted,
+    )
+}
+
+fn holds_by(alloc: Global, checked: &Checked, row: &Row) -> Result<bool, NoMemory> {
+    let names = names_of(alloc, row.1)?;
+    let mut files = store_of(alloc, "", &FILES)?;
+    files.fail_at(alloc, row.3)?;
+    Ok(reduced_is(alloc, checked, &mut files, names.as_slice(), row))
+}
+
+fn holds(alloc: Global, row: &Row) -> Result<bool, NoMemory> {
+    match accepted(alloc, row.0) {
+        Some(checked) => holds_by(alloc, &checked, row),
+        None => Ok(false),
+    }
+}
+
+// The place of the first row that doesn't hold, counted from 0.
+fn wrong_row(alloc: Global, rows: &[Row]) -> Result<Option<usize>, NoMemory> {
+    'rows: for (place, row) in rows.iter().enumerate() {
+        if !holds(alloc, row)? {
+            return Ok(Some(place));
+        }
+    }
+    Ok(None)
+}
+
+const TAKEN: [Row; 8] = [
+    Row(KEPT, &[], 0, 1, Want::Groups(&[])),
+    Row(KEPT, &["none"], 1_000, 0, Want::Groups(&[])),
+    Row(KEPT, &["two"], 175, 0, Want::Groups(&[("", Is(0))])),
+    Row(
+        KEPT,
+        &["none", "two", "three", "sixth"],
+        175,
+        0,
+        Want::Groups(&[("", Is(0))]),
+    ),
+    Row(
+        KEPT,
+        &["ends", "later from one", "sixth"],
+        1_000,
+        0,
+        Want::Groups(&[("", Left(2))]),
+    ),
+    Row(
+        SET,
+        &["users"],
+        1_000,
+        0,
+        Want::Groups(&[("c", Is(5)), ("a", Is(5)), ("b", Is(5))]),
+    ),
+    Row(
+        SET,
+        &["users", "more users"],
+        1_000,
+        0,
+        Want::Groups(&[("c", Is(5)), ("a", Is(6)), ("b", Is(5)), ("d", Is(5))]),
+    ),
+    // A read that isn't made.
+    Row(KEPT, &["two"], 175, 3, Want::Groups(&[("", Is(0))])),
+];
+
+#[test]
+fn files_in_order_come_to_the_totals(rt: HostRuntime) -> Result<(), Fail> {
+    all_hold(&rt, wrong_row(rt.alloc(), &TAKEN))
+}
+
+const STOPS: [Row; 18] = [
+    Row(
+        KEPT,
+        &["two", "three"],
+        1_000,
+        1,
+        Want::Stops(ReduceErr::Read { file: 0 }),
+    ),
+    Row(
+        KEPT,
+        &["two", "three"],
+        1_000,
+        2,
+        Want::Stops(ReduceErr::Read { file: 0 }),
+    ),
+    Row(
+        KEPT,
+        &["two", "three"],
+        1_000,
+        3,
+        Want::Stops(ReduceErr::Read { file: 1 }),
+    ),
+    Row(
+        KEPT,
+        &["two", "absent", "three"],
+        1_000,
+        0,
+        Want::Stops(ReduceErr::Read { file: 1 }),
+    ),
+    Row(
+        KEPT,
+        &["two", "three"],
+        174,
+        0,
+        Want::Stops(ReduceErr::TooLarge { file: 0 }),
+    ),
+    Row(
+        KEPT,
+        &["none", "two"],
+        174,
+        0,
+        Want::Stops(ReduceErr::TooLarge { file: 1 }),
+    ),
+    Row(
+        COUNTER,
+        &["two"],
+        1_000,
+        0,
+        Want::Stops(ReduceErr::OtherScript { file: 0 }),
+    ),
+    Row(
+        KEPT,
+        &["two", "more users"],
+        1_000,
+        0,
+        Want::Stops(ReduceErr::OtherScript { file: 1 }),
+    ),
+    Row(
+        KEPT,
+        &["empty", "two"],
+        1_000,
+        0,
+        Want::Stops(ReduceErr::Malformed { file: 0 }),
+    ),
+    Row(
+        KEPT,
+        &["two", "three", "cut off"],
+        1_000,
+        0,
+        Want::Stops(ReduceErr::Malformed { file: 2 }),
+    ),
+    Row(
+        KEPT,
+        &["three"],
+        1_000,
+        0,
+        Want::Stops(ReduceErr::Apart { file: 0 }),
+    ),
+    Row(
+        KEPT,
+        &["two", "sixth"],
+        1_000,
+        0,
+        Want::Stops(ReduceErr::Apart { file: 1 }),
+    ),
+    Row(
+        KEPT,
+        &["two", "two"],
+        1_000,
+        0,
+        Want::Stops(ReduceErr::Apart { file: 1 }),
+    ),
+    // The numbers before the paths, and a file before the next one.
+    Row(
+        KEPT,
+        &["later from one", "cut off"],
+        1_000,
+        0,
+        Want::Stops(ReduceErr::Apart { file: 0 }),
+    ),
+    Row(
+        KEPT,
+        &["from one", "absent"],
+        1_000,
+        0,
+        Want::Stops(ReduceErr::Gap { file: 0, group: 1 }),
+    ),
+    Row(
+        KEPT,
+        &["two", "later from one"],
+        1_000,
+        0,
+        Want::Stops(ReduceErr::Gap { file: 1, group: 1 }),
+    ),
+    Row(
+        SET,
+        &["users", "not five", "empty"],
+        1_000,
+        0,
+        Want::Stops(ReduceErr::Gap { file: 1, group: 2 }),
+    ),
+    Row(
+        SET,
+        &["not five"],
+        1_000,
+        0,
+        Want::Stops(ReduceErr::Apart { file: 0 }),
+    ),
+];
+
+#[test]
+fn the_first_problem_of_files_is_answered(rt: HostRuntime) -> Result<(), Fail> {
+    all_hold(&rt, wrong_row(rt.alloc(), &STOPS))
+}

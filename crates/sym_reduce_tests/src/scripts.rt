@@ -1,0 +1,126 @@
+//! Scripts, and run files of two of them.
+
+/// A number that stays, in one group.
+pub(crate) const KEPT: &str =
+    "field x: num; state n: int [0..3] = 0; update { n = n; } report { n = n; }";
+
+/// The same script, written otherwise.
+pub(crate) const KEPT_OTHERWISE: &str = "# The number stays.\nfield x :num ;\n\n\
+    state n:int[ 0 .. 3 ]=0;update{n=n;}\treport {n = n;} # the end";
+
+/// Counts records up to three.
+pub(crate) const COUNTER: &str =
+    "field x: num; state n: int [0..3] = 0; update { n = n + 1; } report { n = n; }";
+
+/// Each user has 5 after a record.
+pub(crate) const SET: &str = "field user: word; group user; state n: int [0..9] = 0; \
+    update { n = 5; } report { n = n; }";
+
+/// How many records each user has.
+pub(crate) const BY_USER: &str =
+    "field user: word; group user; state n: int [0..1000000] = 0; update { n = n + 1; } \
+    report { n = n; }";
+
+/// Sessions of each user: a gap of more than 30 ends one.
+pub(crate) const SESSIONS: &str = "field ts: num; field user: word; group user; \
+    state last: hold(num = 0); state n: int [0..1000] = 0; state done: nums [0..1000]; \
+    test gap(h: num, t: num) = t - h > 30; update { if gap(last, ts) { push done n; \
+    n = 1; } else { n = n + 1; } keep last(ts); } report { sessions = count(done); \
+    open = n; longest = max(done); }";
+
+/// One group that is idle and busy in turn.
+pub(crate) const TOGGLE: &str = "enum mode { idle, busy } field x: num; state phase: mode = idle; \
+    update { if phase is idle { phase = busy; } else { phase = idle; } } report { phase = phase; }";
+
+/// A sum of each user in a range, which most users leave, and the greatest number that was added.
+pub(crate) const SUMS: &str = "field user: word; field x: num else 0; group user; \
+    state n: int [-9..9] = 0; state xs: nums [-20..20]; update { n = n + x; push xs x; } \
+    report { n = n; most = max(xs); }";
+
+/// A column whose divisor is 0.
+pub(crate) const SHOWN: &str =
+    "field user: word; group user; state n: int [0..9] = 7; update { } report { q = n / 0; n = n; }";
+
+pub(crate) const NO_SCRIPT: &str = "field x num;";
+
+// A run file of `KEPT`, with the script in its printed form.
+macro_rules! kept {
+    ($rest:literal) => {
+        concat!(
+            "symple run 1\nscript 79\nfield x: num;\nstate n: int [0..3] = 0;\nupdate {\n",
+            "  n = n;\n}\nreport {\n  n = n;\n}\n",
+            $rest
+        )
+    };
+}
+
+// The same of `SET`.
+macro_rules! set {
+    ($rest:literal) => {
+        concat!(
+            "symple run 1\nscript 95\nfield user: word;\ngroup user;\nstate n: int [0..9] = 0;\n",
+            "update {\n  n = 5;\n}\nreport {\n  n = n;\n}\n",
+            $rest
+        )
+    };
+}
+
+/// Two records, numbered from 1 on.
+pub(crate) const TWO: &str = kept!(
+    "first 1\nnext 3\ngroups 1\nkey\nchain 1\nsegment 1\nwhen i0..3\nnext x0,1,0\nend\n"
+);
+
+/// Three records, numbered from 3 on.
+pub(crate) const THREE: &str = kept!(
+    "first 3\nnext 6\ngroups 1\nkey\nchain 1\nsegment 1\nwhen i0..3\nnext x0,1,0\nend\n"
+);
+
+/// One record, of the number 6.
+pub(crate) const SIXTH: &str = kept!(
+    "first 6\nnext 7\ngroups 1\nkey\nchain 1\nsegment 1\nwhen i0..3\nnext x0,1,0\nend\n"
+);
+
+/// The first two records, by a path that the initial state isn't admitted by.
+pub(crate) const FROM_ONE: &str = kept!(
+    "first 1\nnext 3\ngroups 1\nkey\nchain 1\nsegment 1\nwhen i1..3\nnext x0,1,0\nend\n"
+);
+
+/// Three records from 3 on, by such a path.
+pub(crate) const LATER_FROM_ONE: &str = kept!(
+    "first 3\nnext 6\ngroups 1\nkey\nchain 1\nsegment 1\nwhen i1..3\nnext x0,1,0\nend\n"
+);
+
+/// The first two records, at the second of which the group ends.
+pub(crate) const ENDS: &str = kept!(
+    "first 1\nnext 3\ngroups 1\nkey\nchain 1\nsegment 1\nwhen i0..3\nover 0 2\nend\n"
+);
+
+/// No records.
+pub(crate) const NONE: &str = kept!("first 1\nnext 1\ngroups 0\nend\n");
+
+/// A run file without its last byte.
+pub(crate) const CUT_OFF: &str = kept!(
+    "first 1\nnext 3\ngroups 1\nkey\nchain 1\nsegment 1\nwhen i0..3\nnext x0,1,0\nend"
+);
+
+/// A run file whose last record comes before its first.
+pub(crate) const TURNED: &str = kept!("first 3\nnext 1\ngroups 0\nend\n");
+
+/// Four records of the users c, a, b and a.
+pub(crate) const USERS: &str = set!(
+    "first 1\nnext 5\ngroups 3\nkey w1:c\nchain 1\nsegment 1\nwhen i0..9\nnext n5\n\
+    key w1:a\nchain 1\nsegment 1\nwhen i0..9\nnext n5\n\
+    key w1:b\nchain 1\nsegment 1\nwhen i0..9\nnext n5\nend\n"
+);
+
+/// Two more of the users d and a.
+pub(crate) const MORE_USERS: &str = set!(
+    "first 5\nnext 7\ngroups 2\nkey w1:d\nchain 1\nsegment 1\nwhen i0..9\nnext n5\n\
+    key w1:a\nchain 1\nsegment 1\nwhen i0..9\nnext n6\nend\n"
+);
+
+/// The same, where the second group has no path for 5.
+pub(crate) const NOT_FIVE: &str = set!(
+    "first 5\nnext 7\ngroups 2\nkey w1:d\nchain 1\nsegment 1\nwhen i0..9\nnext n5\n\
+    key w1:a\nchain 1\nsegment 1\nwhen i0..4\nnext n6\nend\n"
+);
