@@ -235,7 +235,7 @@ const CALLS: [(Call, Came); 18] = [
         },
         Came {
             status: Status::Script,
-            err: "symple: s: byte 16: unexpected token\n",
+            err: "symple: script: unexpected token at byte 16\n",
             ..UNTOLD
         },
     ),
