@@ -436,6 +436,50 @@ row "an argument that isn't UTF-8" 2 usage run counts.symple "$(printf '\377')"
 row "an empty argument" 5 ': read fault' run '' first.csv
 row "faulty arguments before an absent script" 2 usage run absent.symple
 
+# watched NAME STATUS TEXT LINES ARGUMENTS..: the arguments, with --watch among them, give this answer,
+# after these lines on standard error. A standard error that is full or closed changes neither the
+# status nor the report; where an allocation fails, the last line says so.
+watched() {
+    name=$1
+    expect "$2" "$3"
+    # shellcheck disable=SC2059 # rows give formats
+    printf "$4" | cat - "$work/wanted.err" >"$work/lines"
+    mv "$work/lines" "$work/wanted.err"
+    shift 4
+    count_allocations "$@"
+    : >"$work/out"
+    "$program" "$@" >"$out" 2>/dev/full
+    status=$?
+    [ "$status" -eq "$wanted" ] && cmp -s "$work/wanted.out" "$work/out"
+    note $? "$name, with a full standard error: status $status in place of $wanted"
+    : >"$work/out"
+    "$program" "$@" >"$out" 2>&-
+    status=$?
+    [ "$status" -eq "$wanted" ] && cmp -s "$work/wanted.out" "$work/out"
+    note $? "$name, with a closed standard error: status $status in place of $wanted"
+    for failing in 1 $((total / 4)) $((total / 2)) $((total * 3 / 4)) "$total"; do
+        run_short "$failing" "$@"
+        answered || {
+            [ "$status" -eq "$no_memory" ] && [ ! -s "$work/out" ] &&
+                [ "$(tail -n 1 "$work/err")" = "symple: out of memory" ]
+        }
+        note $? "$name, allocation $failing of $total failing: status $status"
+    done
+}
+
+# Partials, at the border of each round.
+log "user\n$(many 'a\n' 130)"
+watched "a watched run" 0 'user | n\na | 130\n--\n' \
+    'symple: 64 records, 1 groups\nsymple: 128 records, 1 groups\nsymple: 130 records, 1 groups\n' \
+    run --chunk 1 --watch counts.symple log.csv
+watched "a watched run over two files" 0 'user | n\na | 260\n--\n' \
+    'symple: 128 records, 1 groups\nsymple: 130 records, 1 groups
+symple: 258 records, 1 groups\nsymple: 260 records, 1 groups\n' \
+    run --watch --chunk 2 counts.symple log.csv log.csv
+log "user\n$(many 'a\n' 99)a,b\n"
+watched "a watched run with a bad record" 4 'log.csv: record 100: 2 fields' \
+    'symple: 64 records, 1 groups\n' run --chunk 1 --watch counts.symple log.csv
+
 # Runs in chunks and by workers: each allocation of each worker fails too.
 printf 'ts,user\n10,a\n20,a\n60,a\n5,b\n61,a\n' >visits.csv
 visits='user | sessions | open | longest\na | 1 | 2 | 2\nb | 0 | 1 | none\n--\n'

@@ -169,7 +169,7 @@ try_words() {
         while read -r name; do
             case $name in
                 form) value=table ;;
-                print) value='' ;;
+                print | watch) value='' ;;
                 *) value=1 ;;
             esac
             ! takes "$command" "--$name" "$value" || echo "$command --$name" >>"$work/taken"

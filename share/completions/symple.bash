@@ -3,7 +3,7 @@
 # The options of a command.
 _symple_options() {
     case $1 in
-        run) echo --form --chunk --limit --workers --max-bytes ;;
+        run) echo --form --chunk --limit --workers --max-bytes --watch ;;
         trace) echo --form --every --chunk --limit --workers --max-bytes ;;
         map) echo --first --chunk --limit --workers --max-bytes ;;
         reduce) echo --form --max-bytes ;;
@@ -43,7 +43,7 @@ _symple() {
         else
             case $word in
                 --) ended=1 ;;
-                --print) given="$given$word " ;;
+                --print | --watch) given="$given$word " ;;
                 --?*) option=$word given="$given$word " ;;
                 *) others=$((others + 1)) ;;
             esac

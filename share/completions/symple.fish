@@ -49,6 +49,7 @@ complete -c symple -n $is_run -l max-bytes -x -d 'Bytes of a file: 1 to 26843545
 complete -c symple -n $is_run -l chunk -x -d 'Records of a chunk: 1 to 65536'
 complete -c symple -n $is_run -l limit -x -d 'Paths of a summary: 1 to 256'
 complete -c symple -n $is_run -l workers -x -d 'Threads that work at once: 1 to 64'
+complete -c symple -n $is_run -l watch -d 'Show how far the run has come'
 complete -c symple -n "$is_run; and test (__symple_place) -eq 0" -k -a '(__symple_scripts)'
 complete -c symple -n "$is_run; and test (__symple_place) -gt 0" -F
 
