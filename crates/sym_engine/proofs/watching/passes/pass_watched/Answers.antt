@@ -1,4 +1,5 @@
-use Rattle.std.proofs.Common.{[], map, refl}
+use Rattle.std.proofs.Common.{◌≡◌, [], Some, map, refl}
+use Rattle.std.proofs.lemmas.List.Elements.{All-pop}
 use Rattle.std.specs.Result.{IfErr}
 use Rattle.std.specs.String.{string_bytes}
 use Rattle.sym_check.specs.Checking.CheckedScripts.{checked_plan, checked_tree}
@@ -6,6 +7,7 @@ use Rattle.sym_engine.specs.declared.error.PassErr.TheVariants as pass_err
 use Rattle.sym_engine.specs.FileRecords.{rules_of}
 use Rattle.sym_engine.specs.Partials.{ToldUntil, watched_files}
 use Rattle.sym_engine.specs.Watching.{start_of}
+use Rattle.sym_watch.specs.Lists.{SeenList}
 use Rattle.sym_engine.proofs.Logs.{grew_none}
 use Rattle.sym_engine.proofs.Walks.{fails_as}
 use Rattle.sym_engine.proofs.WatchedFiles.{none_done}
@@ -24,3 +26,9 @@ watch_all-answer-requires-clause-begins g c κs within = (
   record { script = refl; passed = c.new.ensures; border = refl; list = c.in_ok-publisher.ensures.publisher.0 },
   ([], refl, grew_none _),
 )
+
+pub invariant_of-watched : goal.invariant_of-watched
+invariant_of-watched g c =
+    let opened = c.in_ok-publisher.field-0 in
+    let Of : SeenList → Type 0 = λ watcher. watcher.of ≡ opened.publisher.of in
+    record { same = (All-pop Of opened.watchers.items c.pop.new.self.items (Some c.in-Some.watcher) c.in-Some.ensures.items c.in_ok-publisher.ensures.of).1 }
