@@ -24,7 +24,7 @@ use Rattle.sym_top.specs.declared.refusal.Refusal.{Refusal}
 use Rattle.sym_top.specs.declared.refusal.Refusal.TheVariants as refusal
 use Rattle.sym_top.specs.declared.status.Status.{Status}
 use Rattle.sym_top.specs.declared.status.Status.TheVariants as status
-use Rattle.sym_top.specs.Commands.{Asked, Command, Form, Run, Runs, Traces, Checks, Makes, Maps, Reduces, command_in, command_of, file_rules, handed, is_handed}
+use Rattle.sym_top.specs.Commands.{Command, Form, Run, Runs, Traces, Checks, Makes, Maps, Reduces, command_in, command_of, file_rules, handed, is_handed}
 use Rattle.sym_top.specs.Loading.{Loads, MayEnd, Unloads}
 use Rattle.sym_top.specs.Loading as loading
 use Rattle.sym_top.specs.Observers.{AreTold, AreToldAll, AreToldBefore, AreToldBy, AreToldOf, AreToldTo, AreToldUntil, AreUntold, at_files, at_script, FilesStop, IsUnwatched, Logs, run_files, StopsTold, stops_told, watched_run}
@@ -191,8 +191,8 @@ module _ (call : Call) (run : Run) (logs : Logs) where
       go false told untold = untold refl
 
 -- A run that is asked for without `--watch`.
-pub run_unwatched : (asked : Asked) (run : Run) → command_of asked ≡ Some (Runs run) → watched_run (command_of asked) ≡ None → run.watch ≡ false
-run_unwatched asked run is none = go run.watch (sym (ap watched_run is) ∙ none)
+pub run_unwatched : (command : Option Command) (run : Run) → command ≡ Some (Runs run) → watched_run command ≡ None → run.watch ≡ false
+run_unwatched command run is none = go run.watch (sym (ap watched_run is) ∙ none)
   where
     go : (b : Bool) → (if b then Some run else None) ≡ None → b ≡ false
     go true e = let wrong : Some run ≡ None = e in cc

@@ -4,6 +4,7 @@ use Rattle.sym_check.specs.Checking.CheckedScripts.{checked_plan}
 use Rattle.sym_check.specs.Plan.WellFormed.{IsWellFormed}
 use Rattle.sym_engine.specs.declared.error.PassErr.TheVariants as pass_error
 use Rattle.sym_engine.specs.FileRecords.{rules_of}
+use Rattle.sym_engine.specs.Partials.{watched_files}
 use Rattle.sym_top.specs.Loading.{StopsFiles, stops}
 use Rattle.sym_top.specs.Observers.{StopsTold, stops_told}
 use Rattle.sym_top.specs.Programs.{checked_program}
@@ -45,4 +46,8 @@ returns-clause-stopped g c = stops pass_error.NoMemory tt
 
 pub returns-clause-told_until : goal.returns-clause-told_until
 returns-clause-told_until g c watch =
-    stops_told pass_error.NoMemory tt (all_some _ _ _ _ (c.in-Ok.ensures.told watch))
+    let program = checked_program c.args.checked.now in
+    let rules = rules_of c.args.run.now.options.max_bytes (g.G.Gate.shown c.args.gate.now) in
+    let names = map string_bytes c.args.run.now.files.items in
+    let watched = watched_files program.plan rules c.args.run.now.options.chunk (g.F.Store.holds c.args.files.now) names 1 in
+    stops_told pass_error.NoMemory tt (all_some program.tree watched _ _ (c.in-Ok.ensures.told watch))
