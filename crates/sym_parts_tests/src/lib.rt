@@ -19,6 +19,8 @@ mod lists;
 #[cfg(test)]
 mod numbers;
 #[cfg(test)]
+mod small_lists;
+#[cfg(test)]
 mod texts;
 #[cfg(test)]
 mod tokens;
