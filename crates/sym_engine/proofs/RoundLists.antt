@@ -3,7 +3,7 @@ use Rattle.std.proofs.Common.{◌≡◌, ◌∙◌, refl, ap, ℕ, ◌≤◌, �
 use Rattle.std.proofs.lemmas.Grind.{flat_map-append}
 use Rattle.std.proofs.lemmas.List.Elements.{All-head, All-push, All-tail}
 use Rattle.sym_base.specs.declared.values.record.Record.{Record}
-use Rattle.sym_engine.specs.Partials.{AreFull, AreRounds, rounds_records}
+use Rattle.sym_engine.specs.Partials.{AreDone, AreFull, AreRounds, rounds_records}
 use Rattle.sym_engine.specs.Partials as rounds
 
 abbrev pub Rounds : Type 0
@@ -38,15 +38,11 @@ none_of_none per _ some rounds.no_round e = refl
 none_of_none per _ some (rounds.last_one round has most) e = absurd (omega (arith, ap length e, length-append round [], has))
 none_of_none per _ some (rounds.one_more round rs has are) e = absurd (omega (arith, ap length e, length-append round (rounds_records rs), has, some))
 
--- All rounds are full, or they are all rounds of a file, of which nothing is left.
-abbrev pub FullSoFar : {A : Type 0} → ℕ → Rounds → List A → Type 0
-FullSoFar per rs left = AreFull per rs ⊎ (AreRounds per rs × (left ≡ []))
-
 -- While something is left, all rounds are full.
-pub still_full : {A : Type 0} (per : ℕ) (rs : Rounds) (left : List A) → FullSoFar per rs left → 1 ≤ length left → AreFull per rs
+pub still_full : {A : Type 0} (per : ℕ) (rs : Rounds) (left : List A) → AreDone per rs left → 1 ≤ length left → AreFull per rs
 still_full per rs left (inl full) some = full
 still_full per rs left (inr ends) some = absurd (omega (arith, some, ap length ends.1))
 
-pub are_rounds : {A : Type 0} (per : ℕ) (rs : Rounds) (left : List A) → FullSoFar per rs left → AreRounds per rs
+pub are_rounds : {A : Type 0} (per : ℕ) (rs : Rounds) (left : List A) → AreDone per rs left → AreRounds per rs
 are_rounds per rs left (inl full) = full_rounds per rs full
 are_rounds per rs left (inr ends) = ends.0

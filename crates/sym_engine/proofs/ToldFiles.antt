@@ -17,18 +17,18 @@ use Rattle.sym_engine.specs.declared.error.PassErr.{PassErr}
 use Rattle.sym_engine.specs.declared.error.PassErr.TheVariants as pass_err
 use Rattle.sym_engine.specs.declared.rounds.Took.TheVariants as took
 use Rattle.sym_engine.specs.FileRecords.{FileRules, IsFine, IsHeader, header_of, or_else, row_records, rows_by, shown_rows}
-use Rattle.sym_engine.specs.Partials.{AreFilesRounds, AreRounds, DoneFiles, FileBegins, FirstRounds, IsWithin, OfBefore, OfFiles, OfSome, UntilStop, WatchedFiles, rounds_records}
+use Rattle.sym_engine.specs.Partials.{AreDone, AreFilesRounds, AreRounds, DoneFiles, DoneRounds, FileBegins, FirstRounds, IsWithin, OfBefore, OfFiles, OfSome, UntilStop, WatchedFiles, rounds_records}
 use Rattle.sym_engine.specs.Partials as files_are
 use Rattle.sym_engine.specs.Passing.{May, MayAll}
 use Rattle.sym_engine.specs.Taking.{IsOpened, IsUnread, OpensFile}
-use Rattle.sym_engine.specs.Watching.{BeginWith, MayBegin, Point, Start, Tells, TellsAnywhere, TellsBefore, TellsFile, TellsRows, TellsSome, tells_by}
+use Rattle.sym_engine.specs.Watching.{BeginWith, DoneOf, DoneWith, MayBegin, Point, Start, Tells, TellsAnywhere, TellsBefore, TellsFile, TellsRows, TellsSome, tells_by}
 use Rattle.sym_engine.specs.Watching as point
 use Rattle.sym_engine.proofs.FileByFile.{file_fine, may_both, take_at}
-use Rattle.sym_engine.proofs.RoundLists.{Rounds, none_of_none, records_both}
+use Rattle.sym_engine.proofs.RoundLists.{Rounds, are_rounds, none_of_none, records_both}
 use Rattle.sym_engine.proofs.RowsAgree.{header_holds, places_count}
 
 -- ---- the rows of one file
-begins_here : (p : ScriptPlan) (shown : Row → Row) (first : ℕ) (row : Row) (left : List Row) (header : Header) (rs : Rounds)
+abbrev begins_here : (p : ScriptPlan) (shown : Row → Row) (first : ℕ) (row : Row) (left : List Row) (header : Header) (rs : Rounds)
     → columns_of row 0 p.fields ≡ Ok header.places → header.columns ≡ length row → BeginWith p header shown first left rs
     → FileBegins p first (shown_rows shown (row ∷ left)) (rounds_records rs)
 begins_here p shown first row left header rs places columns b =
@@ -55,6 +55,27 @@ file_begins p shown first (row ∷ rows) left c rs opens has b =
     let same : rows ≡ left = cc in
     inr (subst (λ (l : List Row). FileBegins p first (shown_rows shown (row ∷ l)) (rounds_records rs)) (sym same)
     (begins_here p shown first row left c.header rs opens.0 opens.1 b))
+
+-- What is left as it is shown.
+done_shown : (shown : Row → Row) (per : ℕ) (rs : Rounds) (rest : List Row) → AreDone per rs rest → AreDone per rs (map shown rest)
+done_shown shown per rs rest (inl full) = inl full
+done_shown shown per rs rest (inr ends) = inr (ends.0, ap (map shown) ends.1)
+
+-- The same of the rounds that were done.
+file_done : (p : ScriptPlan) (shown : Row → Row) (per first : ℕ) (rows left : List Row) (c : Cutting) (rs : Rounds)
+    → Opens p.fields rows (Ok c) → c.left ≡ Some left → DoneWith p c.header shown per first left rs
+    → (left ≡ []) ⊎ DoneOf p per first (shown_rows shown rows) rs
+file_done p shown per first [] left c rs opens has d =
+    let same : ◌≡◌ {A = Option (List Row)} (Some left) (Some []) = sym has ∙ opens in inl (cc)
+file_done p shown per first (row ∷ rows) left c rs opens has d =
+    let some : ◌≡◌ {A = Option (List Row)} (Some rows) (Some left) = sym opens.2 ∙ has in
+    let same : rows ≡ left = cc in
+    let here : DoneOf p per first (shown_rows shown (row ∷ left)) rs =
+    record {
+      begins = begins_here p shown first row left c.header rs opens.0 opens.1 d.begin;
+      done = done_shown shown per rs d.begin.rest d.done;
+    } in
+    inr (subst (λ (l : List Row). DoneOf p per first (shown_rows shown (row ∷ l)) rs) (sym same) here)
 
 no_rows_none : (p : ScriptPlan) (header : Header) (shown : Row → Row) (per first : ℕ) (left : List Row) (rs : Rounds)
     → 1 ≤ per → AreRounds per rs → left ≡ [] → BeginWith p header shown first left rs → rs ≡ []
@@ -118,15 +139,15 @@ pub file_told_refused : {S : Type 0} (told : Tells S) (p : ScriptPlan) (shown : 
     → TellsRows told p c.header shown per c.next_no left before now (Err e)
     → TellsFile {A = Unit {0}} told p per file first (shown_rows shown rows) before now (Err pass_err.NoMemory)
 file_told_refused told p shown per file first rows before now c left e is same some tells =
-    let at_first : BeginWith p c.header shown first left tells.rounds = subst (λ (n : ℕ). BeginWith p c.header shown n left tells.rounds) is.next tells.begins in
+    let at_first : DoneWith p c.header shown per first left tells.rounds = subst (λ (n : ℕ). DoneWith p c.header shown per n left tells.rounds) is.next tells.begins in
     let has : c.left ≡ Some left = is.has ∙ ap Some (sym same) in
+    let are : AreRounds per tells.rounds = are_rounds per tells.rounds at_first.begin.rest at_first.done in
     record {
       rounds = tells.rounds;
-      are = tells.are;
       begins =
-          ⊎_elim (λ (none : left ≡ []). inl (no_rows_none p c.header shown per first left tells.rounds some tells.are none at_first))
-          (λ (b : FileBegins p first (shown_rows shown rows) (rounds_records tells.rounds)). inr b)
-          (file_begins p shown first rows left c tells.rounds is.opens has at_first);
+          ⊎_elim (λ (none : left ≡ []). inl (no_rows_none p c.header shown per first left tells.rounds some are none at_first.begin))
+          (λ (d : DoneOf p per first (shown_rows shown rows) tells.rounds). inr d)
+          (file_done p shown per first rows left c tells.rounds is.opens has at_first);
       point = tells.point;
       told_of = tells.told_of;
     }
@@ -154,7 +175,6 @@ file_unopened told p shown per file first rows before now (pass_err.Head n fault
 file_unopened told p shown per file first rows before now (pass_err.Bad n bad) opens at = absurd opens
 file_unopened told p shown per file first rows before now pass_err.NoMemory opens at = record {
   rounds = [];
-  are = files_are.no_round;
   begins = inl refl;
   point = point.between;
   told_of = subst (λ (r : Rounds). told now point.between r) (sym (append-nil before)) at;
@@ -241,7 +261,6 @@ of_some told w k next now t = record {
   rounds = t.rounds;
   done = t.done;
   others = [];
-  are = files_are.no_round;
   begins = inl refl;
   so = (point.between, subst (λ (r : Rounds). told now point.between r) (sym (append-nil t.rounds)) t.told_of);
 }
@@ -259,25 +278,32 @@ unread_told told w k next max before after holds now (pass_err.Bad n bad) t unre
 unread_told told w k next max before after holds now pass_err.NoMemory t unread = of_some told w k next now t
 
 first_rounds : (w : WatchedFiles) (k n first : ℕ) (name bytes : List ℕ) (rs : Rounds) → slice_get w.names k ≡ Some name → May (w.holds name) bytes
-    → n ≡ first → FileBegins w.plan n (rows_by w.rules bytes) (rounds_records rs) → FirstRounds w k first rs
-first_rounds w k n first name bytes rs at may same b = record {
+    → length bytes ≤ w.rules.max_bytes → n ≡ first → FileBegins w.plan n (rows_by w.rules bytes) (rounds_records rs) → FirstRounds w k first rs
+first_rounds w k n first name bytes rs at may size same b = record {
   name = name;
   named = at;
   bytes = bytes;
   may = may;
+  small = size;
   begins = subst (λ (m : ℕ). FileBegins w.plan m (rows_by w.rules bytes) (rounds_records rs)) same b;
 }
 
+done_rounds : (w : WatchedFiles) (k n first : ℕ) (name bytes : List ℕ) (rs : Rounds) → slice_get w.names k ≡ Some name → May (w.holds name) bytes
+    → length bytes ≤ w.rules.max_bytes → n ≡ first → DoneOf w.plan w.per n (rows_by w.rules bytes) rs → DoneRounds w k first rs
+done_rounds w k n first name bytes rs at may size same d =
+    let here = subst (λ (m : ℕ). DoneOf w.plan w.per m (rows_by w.rules bytes) rs) same d in
+    record { begins = record { name = name; named = at; bytes = bytes; may = may; small = size; begins = here.begins }; done = here.done }
+
 -- The file isn't taken.
 pub untaken_told : {S : Type 0} (told : Tells S) (w : WatchedFiles) (k n : ℕ) (now later : S) (name bytes : List ℕ) (why : PassErr)
-    → (t : IsToldFiles told w k n now) → slice_get w.names k ≡ Some name → May (w.holds name) bytes
+    → (t : IsToldFiles told w k n now) → slice_get w.names k ≡ Some name → May (w.holds name) bytes → length bytes ≤ w.rules.max_bytes
     → TellsFile {A = Unit {0}} told w.plan w.per k n (rows_by w.rules bytes) t.rounds later (Err why)
     → UntilStop w (told later point.between) (told later point.at_bad) (TellsAnywhere told later) why
-untaken_told told w k n now later name bytes (pass_err.Read file) t at may f = absurd f
-untaken_told told w k n now later name bytes (pass_err.TooLarge file) t at may f = absurd f
-untaken_told told w k n now later name bytes (pass_err.Head file fault) t at may f =
+untaken_told told w k n now later name bytes (pass_err.Read file) t at may size f = absurd f
+untaken_told told w k n now later name bytes (pass_err.TooLarge file) t at may size f = absurd f
+untaken_told told w k n now later name bytes (pass_err.Head file fault) t at may size f =
     subst (λ (m : ℕ). OfFiles w m (told later point.between)) (sym f.0) (record { rounds = t.rounds; done = t.done; so = f.1 })
-untaken_told told w k n now later name bytes (pass_err.Bad file bad) t at may f =
+untaken_told told w k n now later name bytes (pass_err.Bad file bad) t at may size f =
     let b = f.1 in
     let count : n + length (rounds_records b.rounds) ≡ w.first + length (rounds_records (t.rounds ++ b.rounds)) =
     omega (arith, t.next_is, ap length (records_both t.rounds b.rounds), length-append (rounds_records t.rounds) (rounds_records b.rounds)) in
@@ -287,20 +313,18 @@ untaken_told told w k n now later name bytes (pass_err.Bad file bad) t at may f 
       done = t.done;
       others = b.rounds;
       full = b.full;
-      begins = first_rounds w k n (w.first + length (rounds_records t.rounds)) name bytes b.rounds at may t.next_is b.begins;
+      begins = first_rounds w k n (w.first + length (rounds_records t.rounds)) name bytes b.rounds at may size t.next_is b.begins;
       within = subst (λ (m : ℕ). IsWithin m w.per bad.no) count b.within;
       so = b.told_of;
     })
-untaken_told told w k n now later name bytes pass_err.NoMemory t at may f = record {
+untaken_told told w k n now later name bytes pass_err.NoMemory t at may size f = record {
   file = k;
   rounds = t.rounds;
   done = t.done;
   others = f.rounds;
-  are = f.are;
   begins =
       ⊎_elim (λ (none : f.rounds ≡ []). inl none)
-      (λ (b : FileBegins w.plan n (rows_by w.rules bytes) (rounds_records f.rounds)).
-      inr (first_rounds w k n (w.first + length (rounds_records t.rounds)) name bytes f.rounds at may t.next_is b))
+      (λ (d : DoneOf w.plan w.per n (rows_by w.rules bytes) f.rounds). inr (done_rounds w k n (w.first + length (rounds_records t.rounds)) name bytes f.rounds at may size t.next_is d))
       f.begins;
   so = (f.point, f.told_of);
 }

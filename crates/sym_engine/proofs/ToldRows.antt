@@ -21,12 +21,12 @@ use Rattle.sym_table.specs.Rows.{read_row}
 use Rattle.sym_table.proofs.RecordsAgree.{rows_append}
 use Rattle.sym_engine.specs.declared.rounds.Took.{Took}
 use Rattle.sym_engine.specs.declared.rounds.Took.TheVariants as took
-use Rattle.sym_engine.specs.Partials.{rounds_records}
+use Rattle.sym_engine.specs.Partials.{AreDone, rounds_records}
 use Rattle.sym_engine.specs.Rounds.{Takes, round_records}
 use Rattle.sym_engine.specs.Taking.{AreCut, CutsRound, full_round, rows_of}
 use Rattle.sym_engine.specs.Watching.{BeginWith, Point, Start, Tells, TellsRound, TellsRows, TellsSome, tells_by}
 use Rattle.sym_engine.specs.Watching as point
-use Rattle.sym_engine.proofs.RoundLists.{FullSoFar, Rounds, are_rounds, one_full_more, one_round_more, records_more, still_full}
+use Rattle.sym_engine.proofs.RoundLists.{Rounds, are_rounds, one_full_more, one_round_more, records_more, still_full}
 use Rattle.sym_engine.proofs.Walks.{alone, first_alone, left_is, records_many, round_next, some_rows, some_rows_of}
 
 -- ---- a round has as many records as rows
@@ -78,10 +78,10 @@ pub record IsToldTo {S : Type 0} (told : Tells S) (p : ScriptPlan) (header : Hea
   pub are : rows ≡ taken ++ left
   pub read : records_or_bad p header first (map shown taken) ≡ Ok (rounds_records rounds)
   pub next_is : c.next_no ≡ first + length taken
-  pub full : FullSoFar per rounds left
+  pub full : AreDone per rounds left
   pub told_of : told now point.between (before ++ rounds)
 
-begins : {S : Type 0} (told : Tells S) (p : ScriptPlan) (header : Header) (shown : Row → Row) (per first : ℕ) (rows : List Row) (before : Rounds) (now : S) (c : Cutting)
+abbrev begins : {S : Type 0} (told : Tells S) (p : ScriptPlan) (header : Header) (shown : Row → Row) (per first : ℕ) (rows : List Row) (before : Rounds) (now : S) (c : Cutting)
     → (t : IsToldTo told p header shown per first rows before now c) → BeginWith p header shown first rows t.rounds
 begins told p header shown per first rows before now c t = record { taken = t.taken; rest = t.left; are = t.are; read = t.read }
 
@@ -245,8 +245,7 @@ ahead_told_refused told p header shown per first rows before now new c cuts e is
     let t = is.to in
     record {
       rounds = t.rounds;
-      are = are_rounds per t.rounds t.left t.full;
-      begins = begins told p header shown per first rows before now is.from t;
+      begins = record { begin = begins told p header shown per first rows before now is.from t; done = t.full };
       point = point.at_refusal;
       told_of = stopped;
     }
@@ -256,8 +255,7 @@ ahead_told_refused told p header shown per first rows before now new c cuts e is
     (some_rows_of cuts is.cut.cut.filled many) done.1 done.2 in
     record {
       rounds = t.rounds;
-      are = are_rounds per t.rounds t.left t.full;
-      begins = begins told p header shown per first rows before new c t;
+      begins = record { begin = begins told p header shown per first rows before new c t; done = t.full };
       point = point.between;
       told_of = t.told_of;
     }
@@ -270,8 +268,7 @@ none_told told p shown per before now c e some stands =
     let t = told_begins told p shown per before now c some stands in
     record {
       rounds = t.rounds;
-      are = are_rounds per t.rounds t.left t.full;
-      begins = begins told p c.header shown per c.next_no (unwrap_or c.left []) before now c t;
+      begins = record { begin = begins told p c.header shown per c.next_no (unwrap_or c.left []) before now c t; done = t.full };
       point = point.between;
       told_of = t.told_of;
     }

@@ -11,7 +11,7 @@ use Rattle.sym_engine.specs.Partials as files_are
 use Rattle.sym_engine.specs.Watching.{AreTold, Point, Start, Tells, TellsAnywhere, ToldAt, Watching}
 use Rattle.sym_engine.specs.Watching as point
 use Rattle.sym_engine.proofs.Logs.{part_longer, part_none, part_whole, told_part, told_rest}
-use Rattle.sym_engine.proofs.RoundLists.{Rounds, full_rounds}
+use Rattle.sym_engine.proofs.RoundLists.{Rounds}
 
 -- ---- another fact of the same rounds
 of_files_as : (w : WatchedFiles) (k : ℕ) (So Such : Rounds → Type 0) → ((r : Rounds) → So r → Such r) → OfFiles w k So → OfFiles w k Such
@@ -34,7 +34,6 @@ of_some_as w So Such f o = record {
   rounds = o.rounds;
   done = o.done;
   others = o.others;
-  are = o.are;
   begins = o.begins;
   so = f (o.rounds ++ o.others) o.so;
 }
@@ -45,7 +44,6 @@ some_of_files w k So Such f o = record {
   rounds = o.rounds;
   done = o.done;
   others = [];
-  are = files_are.no_round;
   begins = inl refl;
   so = subst Such (sym (append-nil o.rounds)) (f o.rounds o.so);
 }
@@ -56,8 +54,7 @@ some_of_before w k n So Such f o = record {
   rounds = o.rounds;
   done = o.done;
   others = o.others;
-  are = full_rounds w.per o.others o.full;
-  begins = inr o.begins;
+  begins = inr (record { begins = o.begins; done = inl o.full });
   so = f (o.rounds ++ o.others) o.so;
 }
 
@@ -152,7 +149,6 @@ none_done w start news same = record {
   rounds = [];
   done = record { files = []; may = tt; are = files_are.no_file w.first };
   others = [];
-  are = files_are.no_round;
   begins = inl refl;
   so = subst (λ (l : List Log). AllGrewPart start.logs l []) (sym same) (part_none [] start.logs);
 }

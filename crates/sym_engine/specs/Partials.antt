@@ -51,6 +51,11 @@ pub data AreRounds (per : ℕ) : List (List Record) → Type 0 where
   one_more : (round : List Record) (rounds : List (List Record)) → length round ≡ per
       → AreRounds per rounds → AreRounds per (round ∷ rounds)
 
+-- Rounds that were done of a file, by what is left of it: full ones, or all of its rounds where
+-- nothing is left.
+abbrev pub AreDone : {A : Type 0} → ℕ → List (List Record) → List A → Type 0
+AreDone per rounds left = AreFull per rounds ⊎ (AreRounds per rounds × (left ≡ []))
+
 -- Files without a problem and the rounds of all of them, whose records' numbers run on from
 -- `first`. No round has records of two files.
 pub data AreFilesRounds (p : ScriptPlan) (rules : FileRules) (per : ℕ)
@@ -106,15 +111,22 @@ pub record DoneFiles (w : WatchedFiles) (file : ℕ) (rounds : List (List Record
   pub may : MayAll w.holds (take file w.names) files
   pub are : AreFilesRounds w.plan w.rules w.per w.first files rounds
 
--- These are the first rounds of the file with the number `file`, whose first record has the number
--- `first`.
+-- These are the first rounds of the file with the number `file`, which isn't too large. Its first
+-- record has the number `first`.
 pub record FirstRounds (w : WatchedFiles) (file first : ℕ) (rounds : List (List Record))
     : Type 0 where
   pub name : List ℕ
   pub named : slice_get w.names file ≡ Some name
   pub bytes : List ℕ
   pub may : May (w.holds name) bytes
+  pub small : length bytes ≤ w.rules.max_bytes
   pub begins : FileBegins w.plan first (rows_by w.rules bytes) (rounds_records rounds)
+
+-- These are the rounds that were done of that file.
+pub record DoneRounds (w : WatchedFiles) (file first : ℕ) (rounds : List (List Record))
+    : Type 0 where
+  pub begins : FirstRounds w file first rounds
+  pub done : AreDone w.per rounds begins.begins.rest
 
 -- All rounds of the first `file` files are so.
 pub record OfFiles (w : WatchedFiles) (file : ℕ) (So : List (List Record) → Type 0) : Type 0 where
@@ -134,15 +146,14 @@ pub record OfBefore (w : WatchedFiles) (file number : ℕ) (So : List (List Reco
   pub within : IsWithin (w.first + length (rounds_records (rounds ++ others))) w.per number
   pub so : So (rounds ++ others)
 
--- Some rounds that were done, all of the files before one and then the first of that file, are so.
+-- Some rounds that were done, all of the files before one and then those of that file, are so.
 pub record OfSome (w : WatchedFiles) (So : List (List Record) → Type 0) : Type 0 where
   pub file : ℕ
   pub rounds : List (List Record)
   pub done : DoneFiles w file rounds
   pub others : List (List Record)
-  pub are : AreRounds w.per others
   pub begins :
-      (others ≡ []) ⊎ FirstRounds w file (w.first + length (rounds_records rounds)) others
+      (others ≡ []) ⊎ DoneRounds w file (w.first + length (rounds_records rounds)) others
   pub so : So (rounds ++ others)
 
 -- The rounds that were done where files weren't taken, by why they weren't: those of all files

@@ -22,7 +22,7 @@ use Rattle.sym_engine.specs.declared.rounds.Took.TheVariants as took
 use Rattle.sym_engine.specs.FileRecords.{row_records}
 use Rattle.sym_engine.specs.Rounds.{AreWorkers}
 use Rattle.sym_engine.specs.Taking.{AreLedBy, ArePassed}
-use Rattle.sym_engine.specs.Partials.{AllGrew, AllGrewPart, AreFull, AreRounds, FileBegins, IsWithin, partials_of, rounds_records}
+use Rattle.sym_engine.specs.Partials.{AllGrew, AllGrewPart, AreDone, AreFull, AreRounds, FileBegins, IsWithin, partials_of, rounds_records}
 
 -- Where a pass stands: between two rounds, at a row that is no record, or where an allocation
 -- failed.
@@ -68,6 +68,12 @@ pub record BeginWith (p : ScriptPlan) (header : Header) (shown : Row → Row) (f
   pub are : rows ≡ taken ++ rest
   pub read : records_or_bad p header first (map shown taken) ≡ Ok (rounds_records rounds)
 
+-- The first of some rows are the records of the rounds that were done.
+pub record DoneWith (p : ScriptPlan) (header : Header) (shown : Row → Row) (per first : ℕ)
+    (rows : List Row) (rounds : List (List Record)) : Type 0 where
+  pub begin : BeginWith p header shown first rows rounds
+  pub done : AreDone per rounds begin.rest
+
 -- The rows of a file are rounds, which are told of.
 pub record TellsAllRows {S : Type 0} (told : Tells S) (per : ℕ)
     (read : Result (List Record) Bad) (before : List (List Record)) (new : S) : Type 0 where
@@ -87,10 +93,9 @@ pub record TellsBefore {S : Type 0} (told : Tells S) (per first : ℕ)
   pub told_of : told new at_bad (before ++ rounds)
 
 -- An allocation failed, and so some rounds of a file are told of.
-pub record TellsSome {S : Type 0} (told : Tells S) (per : ℕ)
-    (Begins : List (List Record) → Type 0) (before : List (List Record)) (new : S) : Type 0 where
+pub record TellsSome {S : Type 0} (told : Tells S) (Begins : List (List Record) → Type 0)
+    (before : List (List Record)) (new : S) : Type 0 where
   pub rounds : List (List Record)
-  pub are : AreRounds per rounds
   pub begins : Begins rounds
   pub point : Point
   pub told_of : told new point (before ++ rounds)
@@ -103,7 +108,7 @@ TellsRows told p header shown per first rows before new (Ok took.Done) =
 TellsRows told p header shown per first rows before new (Ok (took.Bad bad)) =
     TellsBefore told per first (BeginWith p header shown first rows) bad.no before new
 TellsRows told p header shown per first rows before new (Err e) =
-    TellsSome told per (BeginWith p header shown first rows) before new
+    TellsSome told (DoneWith p header shown per first rows) before new
 
 -- The file's rows are rounds, which are told of.
 pub record TellsAllFile {S : Type 0} (told : Tells S) (per : ℕ)
@@ -113,9 +118,15 @@ pub record TellsAllFile {S : Type 0} (told : Tells S) (per : ℕ)
   pub read_as : read ≡ Ok (rounds_records rounds)
   pub told_of : told new between (before ++ rounds)
 
--- The rows of a file begin with rounds, or there is none.
-abbrev pub MayBegin : ScriptPlan → ℕ → List Row → List (List Record) → Type 0
-MayBegin p first rows rounds = (rounds ≡ []) ⊎ FileBegins p first rows (rounds_records rounds)
+-- The rows of a file begin with the rounds that were done.
+pub record DoneOf (p : ScriptPlan) (per first : ℕ) (rows : List Row) (rounds : List (List Record))
+    : Type 0 where
+  pub begins : FileBegins p first rows (rounds_records rounds)
+  pub done : AreDone per rounds begins.rest
+
+-- The same, or no round was done.
+abbrev pub MayBegin : ScriptPlan → ℕ → ℕ → List Row → List (List Record) → Type 0
+MayBegin p per first rows rounds = (rounds ≡ []) ⊎ DoneOf p per first rows rounds
 
 -- What a file with these rows comes to, after other rounds.
 abbrev pub TellsFile : {S A : Type 0} → Tells S → ScriptPlan → ℕ → ℕ → ℕ → List Row
@@ -131,7 +142,7 @@ TellsFile told p per file first rows before new (Err (pass_err.Bad n bad)) =
     × TellsBefore told per first (λ rounds. FileBegins p first rows (rounds_records rounds)) bad.no
     before new
 TellsFile told p per file first rows before new (Err pass_err.NoMemory) =
-    TellsSome told per (MayBegin p first rows) before new
+    TellsSome told (MayBegin p per first rows) before new
 
 -- Some rounds are told of, wherever the pass stands.
 abbrev pub TellsAnywhere : {S : Type 0} → Tells S → S → List (List Record) → Type 0

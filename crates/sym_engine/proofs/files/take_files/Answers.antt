@@ -182,7 +182,7 @@ returns-in_err-take_file-clause-told_until g c = λ start stood_at.
     let later = c.take_file.new.rounds in
     let P : Result ℕ PassErr → Type 0 = λ r. IfErr r (UntilStop watched (told later point.between) (told later point.at_bad) (TellsAnywhere told later)) in
     fails_as c.from_residual-in_err-take_file.result why P c.from_residual-in_err-take_file.ensures.1
-    (untaken_told told watched k first c.files.rounds later name bytes why t at may told_file)
+    (untaken_told told watched k first c.files.rounds later name bytes why t at may size told_file)
 
 pub returns-clause-told : goal.returns-clause-told
 returns-clause-told g c = λ start at.
