@@ -14,14 +14,27 @@ pub(crate) struct Noter {
     refused: u64,
 }
 
-// Whether it is the one row of a group of so many records.
+// Whether it is the key of the group `a`.
+fn is_a(keys: &[Column]) -> bool {
+    match keys {
+        [Column::Word(text)] => text.as_bytes() == b"a".as_slice(),
+        _ => false,
+    }
+}
+
+// Whether they are so many records.
+fn is_body(body: &RowBody, count: u64) -> bool {
+    match body {
+        RowBody::Columns(columns) => columns.as_slice()
+            == [Column::Num(i128::from(count))].as_slice(),
+        RowBody::Over { .. } | RowBody::Arith { .. } => false,
+    }
+}
+
+// Whether it is the one row of the group `a`, of so many records.
 fn is_count(rows: &[Row], count: u64) -> bool {
     match rows {
-        [row] => match &row.body {
-            RowBody::Columns(columns) => columns.as_slice()
-                == [Column::Num(i128::from(count))].as_slice(),
-            RowBody::Over { .. } | RowBody::Arith { .. } => false,
-        },
+        [row] => is_a(row.keys.as_slice()) && is_body(&row.body, count),
         _ => false,
     }
 }

@@ -65,7 +65,7 @@ const UNTOLD: Came = Came {
     last: None,
 };
 
-const CALLS: [(Call, Came); 18] = [
+const CALLS: [(Call, Came); 20] = [
     (
         CALL,
         Came {
@@ -270,10 +270,32 @@ const CALLS: [(Call, Came); 18] = [
             ..UNTOLD
         },
     ),
-    // The option twice, and the option of another command.
+    // The option twice, with another command, and another command without it.
     (
         Call {
             words: &["run", "--chunk", "1", "--watch", "--watch", "s", "f"],
+            ..CALL
+        },
+        Came {
+            status: Status::Usage,
+            err: "symple: usage\n",
+            ..UNTOLD
+        },
+    ),
+    (
+        Call {
+            words: &["trace", "--chunk", "1", "--watch", "s", "f"],
+            ..CALL
+        },
+        Came {
+            status: Status::Usage,
+            err: "symple: usage\n",
+            ..UNTOLD
+        },
+    ),
+    (
+        Call {
+            words: &["map", "--chunk", "1", "--watch", "s", "f"],
             ..CALL
         },
         Came {
