@@ -69,7 +69,7 @@ fn no_observers(alloc: Global) -> Vec<Box<dyn Observer + Send>> {
 
 /// The top call, with the forms and the gate of the program, and no observers. No other function
 /// makes it, since proofs beside its long contract are slow.
-pub(crate) fn call<T: Threads + Wait + Sync>(
+pub(crate) fn make_call<T: Threads + Wait + Sync>(
     rt: &T,
     alloc: Global,
     words: &Vec<String>,
@@ -107,7 +107,7 @@ fn ends<T: Threads + Wait + Sync>(
     let mut out = MemSink::new(alloc, 16);
     out.fail_at(alloc, row.write)?;
     let mut err = MemSink::new(alloc, 100);
-    let status = call(rt, alloc, words, store, &mut out, &mut err)?;
+    let status = make_call(rt, alloc, words, store, &mut out, &mut err)?;
     Ok(
         status == row.status
             && out.bytes() == row.out.as_bytes()

@@ -1,5 +1,5 @@
 //! Logs that are summarised by parts and reported on together, beside `run` over the whole.
-use crate::calls::{all_hold, call, store_of, words_of};
+use crate::calls::{all_hold, make_call, store_of, words_of};
 use crate::scripts::{BY_USER, COUNTER, SESSIONS, SHOWN, SUMS, TOGGLE};
 use std::alloc::Global;
 use std::sync::Wait;
@@ -95,7 +95,7 @@ fn is_done<T: Threads + Wait + Sync>(
     status: Status,
 ) -> Result<bool, NoMemory> {
     let mut err = MemSink::new(alloc, 100);
-    let found = call(rt, alloc, words, store, out, &mut err)?;
+    let found = make_call(rt, alloc, words, store, out, &mut err)?;
     Ok(found == status && err.bytes().is_empty())
 }
 
