@@ -1,5 +1,5 @@
-//! Tests of partial reports, over the public calls of `sym_watch`, of passes that are watched, and of
-//! whole runs with observers.
+//! Tests of partial reports, over the public calls of `sym_watch`, of passes that are watched, and
+//! of whole runs with observers.
 #![tactic(auto)]
 
 #[cfg(test)]

@@ -23,8 +23,8 @@ const SECOND_TELL: u64 = 1;
 
 const THIRD_ROUND: u64 = 128;
 
-/// What an observer and the workers of a gate know of each other. A hold ends by itself after so many
-/// turns, and that is noted.
+/// What an observer and the workers of a gate know of each other. A hold ends by itself after so
+/// many turns, and that is noted.
 #[derive(Drop)]
 struct Meeting {
     turns: u64,
@@ -59,7 +59,7 @@ impl Meeting {
         }
     }
 
-    // An observer is told; the second time, it is held until a chunk of the third round has entered.
+    // An observer is told; the second time, it is held until a chunk of the third round has come.
     fn told(&self) {
         if self.tells.fetch_add(1, Ordering::SeqCst) == SECOND_TELL {
             self.begun.store(true, Ordering::SeqCst);
@@ -134,8 +134,8 @@ impl Hold for Gated {
     }
 }
 
-/// What a run of 130 records in rounds of 64 came to: its status and report, the last border that the
-/// observer was told of, how many chunks have entered, how often it was told, and whether a hold
+/// What a run of 130 records in rounds of 64 came to: its status and report, the last border that
+/// the observer was told of, how many chunks have entered, how often it was told, and whether a hold
 /// gave up.
 #[derive(Clone, Copy, Debug, PartialEq, Eq)]
 struct Came {

@@ -18,12 +18,12 @@ const WATCHED: &[&str] = &["run", "--chunk", "1", "--watch", "s", "f"];
 
 const TWICE: &[&str] = &["run", "--chunk", "1", "--watch", "s", "f", "f"];
 
-// 65,537 bytes are no script.
+// A script has no more bytes.
 const SCRIPT_MOST: usize = 65_536;
 
-/// A call over the script `s` and the log `f`: its arguments; how long the script is, if it isn't its
-/// own length; how many records the log has, and which of them, counted from 0, is none; which read
-/// fails, counted from 1, if one does; and from which border on the observer finds no memory.
+/// A call over the script `s` and the log `f`: its arguments; how many spaces follow the script; how
+/// many records the log has, and which of them, counted from 0, is none; which read fails, counted
+/// from 1, if one does; and from which border on the observer finds no memory.
 #[derive(Clone, Copy)]
 struct Call {
     words: &'static [&'static str],
@@ -35,8 +35,8 @@ struct Call {
     refused: u64,
 }
 
-/// What it comes to: its end, the borders that the observer was told of, each with the report of one
-/// group of as many records, as three digits each, and the last one.
+/// What it comes to: its end, the borders that the observer was told of, each with the report of
+/// one group of as many records, as three digits each, and the last one.
 #[derive(Clone, Copy)]
 struct Came {
     status: Status,

@@ -59,8 +59,8 @@ where
     }
 }
 
-// Carries out the command of these arguments, with the forms `table`, `csv` and `pairs`, one observer,
-// and a gate that shows each row as it is and holds no worker up.
+// Carries out the command of these arguments, with the forms `table`, `csv` and `pairs`, one
+// observer, and a gate that shows each row as it is and holds no worker up.
 fn carry_out<T, F, O, E, P>(
     rt: &T,
     alloc: Global,

@@ -6,8 +6,8 @@ use std::alloc::Global;
 use sym_base::{NoMemory, Sink, write_all};
 use sym_watch::{Observer, Partial};
 
-/// Writes a line on a sink for each partial that it is told of: how many records a run has taken, and
-/// how many groups they have. It passes over a sink that fails, and doesn't tell its log.
+/// Writes a line on a sink for each partial that it is told of: how many records a run has taken,
+/// and how many groups they have. It passes over a sink that fails, and doesn't tell its log.
 #[derive(Drop)]
 pub struct Progress<S: Sink> {
     sink: S,
