@@ -1,5 +1,5 @@
 -- What observers were told of, by what the steps of a call say of it.
-use Rattle.std.proofs.Common.{◌≡◌, ◌⊎◌, ℕ, ◌≤◌, inl, inr, Bool, true, false, if◌then◌else◌, List, [], ◌∷◌, ◌++◌, length, map, Option, None, Some, Result, Ok, Err, IfOk, OnOk, refl, sym, ap, subst, ◌∙◌, arith}
+use Rattle.std.proofs.Common.{◌≡◌, ◌⊎◌, ℕ, ◌≤◌, inl, inr, Bool, true, false, if◌then◌else◌, List, [], ◌∷◌, ◌++◌, length, Option, None, Some, Result, Ok, Err, IfOk, refl, sym, ap, subst, ◌∙◌, arith}
 use Rattle.std.proofs.lemmas.List.{append-nil}
 use Rattle.sym_base.specs.Trees.{ScriptTree}
 use Rattle.sym_base.specs.declared.values.record.Record.{Record}
@@ -9,8 +9,7 @@ use Rattle.sym_check.specs.declared.elaborate.error.CheckErr.TheVariants as chec
 use Rattle.sym_engine.specs.declared.error.PassErr.{PassErr}
 use Rattle.sym_engine.specs.declared.error.PassErr.TheVariants as pass_error
 use Rattle.sym_engine.specs.FileRecords.{FileRules}
-use Rattle.sym_engine.specs.Partials.{AllGrew, AreRounds, OfFiles, ToldAll, ToldUntil, WatchedFiles, partials_of, watched_files}
-use Rattle.sym_engine.specs.Partials as rounds
+use Rattle.sym_engine.specs.Partials.{AllGrew, ToldAll, ToldUntil, WatchedFiles, partials_of, watched_files}
 use Rattle.sym_engine.specs.Passing.{Counts, Holds, May, StopsPass}
 use Rattle.sym_engine.proofs.Logs.{part_whole}
 use Rattle.sym_lex.specs.declared.error.LexFault.{LexFault}
@@ -19,16 +18,14 @@ use Rattle.sym_parse.specs.declared.error.ParseErr.{ParseErr}
 use Rattle.sym_parse.specs.declared.error.ParseErr.TheVariants as parse_error
 use Rattle.sym_watch.specs.Logs.{Log}
 use Rattle.sym_top.specs.declared.load.Failure.{Failure}
-use Rattle.sym_top.specs.declared.refusal.Place.TheVariants as place
 use Rattle.sym_top.specs.declared.refusal.Refusal.{Refusal}
-use Rattle.sym_top.specs.declared.refusal.Refusal.TheVariants as refusal
 use Rattle.sym_top.specs.declared.status.Status.{Status}
 use Rattle.sym_top.specs.declared.status.Status.TheVariants as status
-use Rattle.sym_top.specs.Commands.{Command, Form, Run, Runs, Traces, Checks, Makes, Maps, Reduces, command_in, command_of, file_rules, handed, is_handed}
+use Rattle.sym_top.specs.Commands.{Command, Form, Run, Runs, command_in, command_of, file_rules, handed, is_handed}
 use Rattle.sym_top.specs.Loading.{Loads, MayEnd, Unloads}
 use Rattle.sym_top.specs.Loading as loading
-use Rattle.sym_top.specs.Observers.{AreTold, AreToldAll, AreToldBefore, AreToldBy, AreToldOf, AreToldTo, AreToldUntil, AreUntold, at_files, at_script, FilesStop, IsUnwatched, Logs, run_files, StopsTold, stops_told, watched_run}
-use Rattle.sym_top.specs.Programs.{Program, IsNoProgram, checked_program}
+use Rattle.sym_top.specs.Observers.{AreTold, AreToldAll, AreToldBefore, AreToldBy, AreToldOf, AreToldTo, AreToldUntil, AreUntold, at_files, at_script, FilesStop, Logs, run_files, StopsTold, stops_told, watched_run}
+use Rattle.sym_top.specs.Programs.{Program, IsNoProgram}
 use Rattle.sym_top.specs.Programs as programs
 use Rattle.sym_top.specs.Promises.{Call, IsReported, WriteFails}
 use Rattle.sym_top.specs.Promises as promise
@@ -45,7 +42,6 @@ all_some tree w olds news all = record {
   rounds = all.rounds;
   done = all.done;
   others = [];
-  are = rounds.no_round;
   begins = inl refl;
   so = part_whole (partials_of tree w.plan (all.rounds ++ [])) olds news
       (subst (λ (rs : List (List Record)). AllGrew olds news (partials_of tree w.plan rs)) (sym (append-nil all.rounds)) all.so);
