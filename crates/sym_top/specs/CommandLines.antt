@@ -34,7 +34,8 @@ with_pass_options app =
     let limited = with_rule chunked (option_rule own.LIMIT_NAME.now) in
     with_rule limited (option_rule own.WORKERS_NAME.now)
 
--- `run [--form NAME] [--chunk N] [--limit N] [--workers N] [--max-bytes N] [--watch] SCRIPT FILE...`
+-- `run [--form NAME] [--chunk N] [--limit N] [--workers N] [--max-bytes N] [--watch] SCRIPT
+-- FILE...`
 unfoldable pub run_app : App
 run_app =
     let formed = with_rule (bare_app own.RUN_NAME.now) (option_rule own.FORM_NAME.now) in

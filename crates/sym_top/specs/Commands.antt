@@ -45,8 +45,8 @@ pub record Run : Type 0 where
   pub script : List ℕ
   pub files : List (List ℕ)
 
--- `trace`: the form of the report, which records' rows are shown, those whose numbers `every` divides,
--- how files are cut and worked on, the script and the files.
+-- `trace`: the form of the report, which records' rows are shown, those whose numbers `every`
+-- divides, how files are cut and worked on, the script and the files.
 pub record Trace : Type 0 where
   pub form : List ℕ
   pub every : ℕ

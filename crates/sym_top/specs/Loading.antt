@@ -133,7 +133,8 @@ known_names command = shown_names (option_map command_seen command)
 -- How a call may end: with the status of what was to be written, if that was written whole, or with
 -- that of the failure.
 abbrev pub MayEnd : Result Status Failure → Status → Type 0
-MayEnd (Ok made) result = (result ≡ made) ⊎ ((result ≡ status.WriteFault) ⊎ (result ≡ status.NoMemory))
+MayEnd (Ok made) result =
+    (result ≡ made) ⊎ ((result ≡ status.WriteFault) ⊎ (result ≡ status.NoMemory))
 MayEnd (Err failure) result = result ≡ status_of_refusal failure.why
 
 -- The line of a failure, by the command and the script that it carries.

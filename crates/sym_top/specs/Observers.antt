@@ -57,8 +57,8 @@ pub record AreToldAll (call : Call) (run : Run) (logs : Logs) : Type 0 where
   pub loads : Loads (call.holds run.script) program
   pub told : ToldAll program.tree (run_files call run program) logs.before logs.after
 
--- The files weren't taken for this reason, and the observers were told of the partials of the rounds
--- that were done before; where an allocation failed, of a prefix of them.
+-- The files weren't taken for this reason, and the observers were told of the partials of the
+-- rounds that were done before; where an allocation failed, of a prefix of them.
 pub record AreToldUntil (call : Call) (run : Run) (logs : Logs) (why : PassErr) : Type 0 where
   pub program : Program
   pub loads : Loads (call.holds run.script) program

@@ -81,7 +81,8 @@ fn with_pass_options<'a>(alloc: Global, command: Command<'a>) -> Result<Command<
     with_option(alloc, limited, WORKERS_NAME)
 }
 
-/// `run [--form NAME] [--chunk N] [--limit N] [--workers N] [--max-bytes N] [--watch] SCRIPT FILE...`
+/// `run [--form NAME] [--chunk N] [--limit N] [--workers N] [--max-bytes N] [--watch] SCRIPT
+/// FILE...`
 pub fn run_command<'a>(alloc: Global) -> Result<Command<'a>, AllocError>
     ensures { IfOk result (λ c. app_of c ≡ run_app) }
 {

@@ -20,7 +20,8 @@ pub struct Run<'a> {
 }
 
 /// `trace`: the form of the report, which records' rows are shown, those whose numbers `every`
-/// divides, how files are cut and worked on, and the names of the script and of the files of records.
+/// divides, how files are cut and worked on, and the names of the script and of the files of
+/// records.
 #[derive(Drop)]
 pub struct Trace<'a> {
     pub form: &'a str,

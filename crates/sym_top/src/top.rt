@@ -64,7 +64,8 @@ fn run_files<T: Threads + Wait + Sync, F: Store, O: Sink, E: Sink, G: Gate + Syn
         let call = call_of F.holds F.faults asked files.old files.new in
         let logs = logs_of (λ o. log o) observers.old.items observers.new.items in
         AreTold call logs result }
-    ensures unwatched { (words : List (List ℕ)) → command_in words ≡ Some (Runs (run_seen run.entry)) →
+    ensures unwatched { (words : List (List ℕ)) →
+        command_in words ≡ Some (Runs (run_seen run.entry)) →
         let forms = forms_of (λ f. called f) (λ f. texts f) forms.items in
         let asked = asks words forms (G.shown gate.now) in
         let call = call_of F.holds F.faults asked files.old files.new in
@@ -267,11 +268,11 @@ fn run<T: Threads + Wait + Sync, F: Store, O: Sink, E: Sink, G: Gate + Sync>(
 
 /// Runs the program on these arguments, `words`, which are those after its name.
 ///
-/// `run [--form NAME] [--chunk N] [--limit N] [--workers N] [--max-bytes N] [--watch] SCRIPT FILE...`
-/// runs the script over the records of the files, in order, and writes the report to `out`. The script
-/// has at most 65,536 bytes, and there are at most 65,536 files. What is refused is told on `err`, in
-/// one line. With `--watch` the observers are told, after each round of records, of the report rows
-/// over all records so far; without it, and by all other commands, they aren't told of anything.
+/// `run [--form NAME] [--chunk N] [--limit N] [--workers N] [--max-bytes N] [--watch] SCRIPT
+/// FILE...` runs the script over the records of the files, in order, and writes the report to `out`.
+/// The script has at most 65,536 bytes, and there are at most 65,536 files. What is refused is told
+/// on `err`, in one line. With `--watch` the observers are told, after each round of records, of the
+/// report rows over all records so far; without it, and by all other commands, of nothing.
 ///
 /// `trace [--every N]`, with the options, the script and the files of `run`, writes how the group
 /// of a record stands after that record, for each record whose number N divides: a row as a report
