@@ -23,17 +23,17 @@ use sym_top::{StartErr, Status, refuse_start, symple};
 use sym_watch::Observer;
 
 fn main(rt: HostRuntime) -> ExitCode {
-    ExitCode::from(run(&rt, rt.stdout(), rt.stderr(), rt.stderr()).number())
+    let progress = Progress::new(rt.stderr());
+    ExitCode::from(run(&rt, rt.stdout(), rt.stderr(), progress).number())
 }
 
 // Runs the command that the words of this process give, over the files that it reaches. How far a
-// run has come is shown on a stream of its own.
-fn run<R, O, E, P>(rt: &R, out: O, err: E, progress: P) -> Status
+// run has come is shown by an observer.
+fn run<R, O, E>(rt: &R, out: O, err: E, progress: Progress) -> Status
 where
     R: Files + Env + Threads + Wait + AllocGlobal + Sync + Drop,
     O: Write + Drop,
     E: Write + Drop,
-    P: Write + Drop + Send + 'static,
 {
     let mut err = StreamSink::new(err);
     let words = match words_of(rt) {
@@ -44,7 +44,6 @@ where
         return refuse_start(&mut err, StartErr::NoMemory);
     };
     let mut out = StreamSink::new(out);
-    let progress = Progress::new(StreamSink::new(progress));
     match carry_out(
         rt,
         rt.alloc(),
@@ -61,27 +60,26 @@ where
 
 // Carries out the command of these arguments, with the forms `table`, `csv` and `pairs`, one
 // observer, and a gate that shows each row as it is and holds no worker up.
-fn carry_out<T, F, O, E, P>(
+fn carry_out<T, F, O, E>(
     rt: &T,
     alloc: Global,
     words: &Vec<String>,
     files: &mut F,
     out: &mut O,
     err: &mut E,
-    observer: P,
+    progress: Progress,
 ) -> Result<Status, NoMemory>
 where
     T: Threads + Wait + Sync,
     F: Store,
     O: Sink,
     E: Sink,
-    P: Observer + Send + 'static,
 {
     let table: Box<dyn ReportForm> = Box::new(alloc, TableForm::new(alloc))?;
     let csv: Box<dyn ReportForm> = Box::new(alloc, CsvForm::new(alloc))?;
     let pairs: Box<dyn ReportForm> = Box::new(alloc, PairsForm::new(alloc))?;
     let forms = Vec::from_array(alloc, [table, csv, pairs])?;
-    let observer: Box<dyn Observer + Send> = Box::new(alloc, observer)?;
+    let observer: Box<dyn Observer + Send> = Box::new(alloc, progress)?;
     let mut observers = Vec::from_array(alloc, [observer])?;
     let gate = OpenGate { hold: Free };
     Ok(symple(

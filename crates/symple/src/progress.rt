@@ -1,25 +1,31 @@
 //! The observer that shows how far a run has come.
 ghost use Rattle.std.specs.Prelude.{◌≡◌, None};
 
+use crate::stream::StreamSink;
 use itoa::Buffer;
 use std::alloc::Global;
+use std::rt::Stderr;
 use sym_base::{NoMemory, Sink, write_all};
 use sym_watch::{Observer, Partial};
 
-/// Writes a line on a sink for each partial that it is told of: how many records a run has taken,
-/// and how many groups they have. It passes over a sink that fails, and doesn't tell its log.
+/// Writes a line on standard error for each partial that it is told of: how many records a run has
+/// taken, and how many groups they have. It passes over a stream that fails, and doesn't tell its
+/// log.
 #[derive(Drop)]
-pub struct Progress<S: Sink> {
-    sink: S,
+pub struct Progress {
+    sink: StreamSink<Stderr>,
     last: Option<u64>,
 }
 
-impl<S: Sink> Progress<S> {
-    /// An observer that writes on this sink, and wasn't told of anything.
-    pub fn new(sink: S) -> Progress<S>
+impl Progress {
+    /// An observer that writes on this stream, and wasn't told of anything.
+    pub fn new(stream: Stderr) -> Progress
         ensures { result.last ≡ None }
     {
-        Progress { sink, last: None }
+        Progress {
+            sink: StreamSink::new(stream),
+            last: None,
+        }
     }
 }
 
@@ -41,7 +47,7 @@ fn write_line<S: Sink>(sink: &mut S, records: u64, groups: u64) {
     }
 }
 
-impl<S: Sink + Drop> Observer for Progress<S> {
+impl Observer for Progress {
     ghost use Rattle.std.specs.Prelude.{None};
 
     ghost log = { λ _. None };
@@ -63,38 +69,21 @@ impl<S: Sink + Drop> Observer for Progress<S> {
 mod tests {
     use super::*;
     use std::test::Fail;
-    use sym_base::{Columns, MemSink};
-    use sym_report::{Row, RowBody};
-    use sym_watch::ReportRows;
-
-    // A partial with so many rows.
-    fn partial_of(alloc: Global, upto: u64, groups: u64) -> Result<Partial, NoMemory> {
-        let mut rows = ReportRows::new(alloc);
-        'rows: for no in 0..groups {
-            rows.push(Row {
-                keys: Columns::new(alloc),
-                body: RowBody::Arith { no },
-            })?;
-        }
-        Ok(Partial { upto, rows })
-    }
+    use sym_base::MemSink;
 
     #[test]
-    fn a_line_is_written_for_each_partial_and_a_sink_that_fails_is_passed_over(
+    fn a_line_is_written_and_a_sink_that_fails_is_passed_over(
         rt: HostRuntime,
     ) -> Result<(), Fail> {
         let alloc = rt.alloc();
         let mut sink = MemSink::new(alloc, 100);
         sink.fail_at(alloc, 8)?;
-        let mut progress = Progress::new(sink);
-        assert_eq!(rt; progress.last(), None);
-        progress.tell(alloc, &partial_of(alloc, 64, 1)?)?;
+        write_line(&mut sink, 64, 1);
         let first = b"symple: 64 records, 1 groups\n";
-        assert_eq!(rt; progress.sink.bytes(), first.as_slice());
-        progress.tell(alloc, &partial_of(alloc, 128, 12)?)?;
+        assert_eq!(rt; sink.bytes(), first.as_slice());
+        write_line(&mut sink, 128, 12);
         let part = b"symple: 64 records, 1 groups\nsymple: 128";
-        assert_eq!(rt; progress.sink.bytes(), part.as_slice());
-        assert_eq!(rt; progress.last(), Some(128));
+        assert_eq!(rt; sink.bytes(), part.as_slice());
         Ok(())
     }
 }
