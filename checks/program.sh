@@ -643,7 +643,7 @@ report {\n  n = n;\n}\n'
     printf 'x\n5\n5\n5\n' >three.csv
     printf 'x\n5\ny\n' >bad.csv
     row "a run file" 0 "${kept}first 1\nnext 3\n$group" map changed.symple two.csv
-    row "a run file of a later part" 0 "${kept}first 9999999999\nnext 10000000002\n$group" \
+    row "a run file of a later part" 0 "${kept}first 9999999999\nnext 10000000001\n$group" \
         map --first 9999999999 --chunk 1 --workers 2 changed.symple two.csv
     row "a run file without records" 0 "${kept}first 1\nnext 1\ngroups 0\nend\n" \
         map changed.symple empty.csv
