@@ -291,7 +291,27 @@ fn other_lists_are_no_map_or_reduce(rt: HostRuntime) -> Result<(), Fail> {
     all_hold(&rt, wrong_list(&rt, rt.alloc(), &NO_PARTS, USAGE))
 }
 
-const NONE: [&[&str]; 113] = [
+const NOT_WATCHED: [&[&str]; 12] = [
+    &["run", "--watch", "--watch", "s", "f"],
+    &["run", "--watch", "s", "f", "--watch"],
+    &["run", "--watch=yes", "s", "f"],
+    &["run", "--watch=", "s", "f"],
+    &["run", "--Watch", "s", "f"],
+    &["run", "-w", "s", "f"],
+    &["--watch", "run", "s", "f"],
+    &["trace", "--watch", "s", "f"],
+    &["check", "--watch", "s"],
+    &["make", "--watch", "5", "1"],
+    &["map", "--watch", "s", "f"],
+    &["reduce", "--watch", "s", "f"],
+];
+
+#[test]
+fn other_lists_watch_no_run(rt: HostRuntime) -> Result<(), Fail> {
+    all_hold(&rt, wrong_list(&rt, rt.alloc(), &NOT_WATCHED, USAGE))
+}
+
+const NONE: [&[&str]; 101] = [
     &[],
     &[""],
     &["run"],
@@ -382,18 +402,6 @@ const NONE: [&[&str]; 113] = [
     &["run", "--form", "-table", "s", "f"],
     &["run", "--verbose", "s", "f"],
     &["run", "--print", "s", "f"],
-    &["run", "--watch", "--watch", "s", "f"],
-    &["run", "--watch", "s", "f", "--watch"],
-    &["run", "--watch=yes", "s", "f"],
-    &["run", "--watch=", "s", "f"],
-    &["run", "--Watch", "s", "f"],
-    &["run", "-w", "s", "f"],
-    &["--watch", "run", "s", "f"],
-    &["trace", "--watch", "s", "f"],
-    &["check", "--watch", "s"],
-    &["make", "--watch", "5", "1"],
-    &["map", "--watch", "s", "f"],
-    &["reduce", "--watch", "s", "f"],
     &["run", "--chunks", "5", "s", "f"],
     &["run", "--chun", "5", "s", "f"],
     &["run", "--Chunk", "5", "s", "f"],
