@@ -72,9 +72,7 @@ mod tests {
     use sym_base::MemSink;
 
     #[test]
-    fn a_line_is_written_and_a_sink_that_fails_is_passed_over(
-        rt: HostRuntime,
-    ) -> Result<(), Fail> {
+    fn a_line_is_written_and_a_sink_that_fails_is_passed_over(rt: HostRuntime) -> Result<(), Fail> {
         let alloc = rt.alloc();
         let mut sink = MemSink::new(alloc, 100);
         sink.fail_at(alloc, 8)?;
