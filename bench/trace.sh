@@ -11,25 +11,13 @@
 # Usage: bench/trace.sh [RECORDS]
 set -eu
 
+here=$(CDPATH='' cd -P "$(dirname "$0")" && pwd)
+# shellcheck source=bench/setup.sh
+. "$here/setup.sh"
+
 records=${1:-1000000}
 turns=${TURNS:-3}
 programs="run none thousandth every report pass"
-here=$(CDPATH='' cd -P "$(dirname "$0")" && pwd)
-root=$(dirname "$here")
-program=$root/crates/symple/out/symple
-timer=/usr/bin/time
-
-stop() {
-    echo "bench/trace.sh: $1" >&2
-    exit 1
-}
-
-for tool in mawk "$timer"; do
-    command -v "$tool" >/dev/null || stop "there is no $tool"
-done
-work=$(mktemp -d)
-trap 'rm -rf "$work"' EXIT
-trap 'exit 1' HUP INT TERM
 
 # run WAY: one of the programs; it writes $work/text, and what it took to $work/used.
 run() {
@@ -46,7 +34,7 @@ run() {
             ;;
     esac
     status=0
-    "$timer" -o "$work/used" -f '%M' "$program" "$@" --max-bytes 268435456 \
+    "$timer" -o "$work/used" -f '%M' "$symple" "$@" --max-bytes 268435456 \
         >"$work/text" 2>"$work/said" || status=$?
     [ "$status" -eq "$wanted" ] || stop "$* ended with $status"
 }
@@ -60,8 +48,6 @@ measure() {
         "$(wc -l <"$work/text") $(wc -c <"$work/text")" >>"$work/turns"
 }
 
-# The launcher builds the program; its own few milliseconds are not measured.
-"$root/symple" run "$here/count.symple" /dev/null >"$work/text"
 mawk -v records="$records" -v users=10 -f "$here/visits.awk" >"$work/log.csv"
 # One record fewer, so that 1,000,000 divides no number.
 mawk -v records="$((records - 1))" -v users=10 -f "$here/visits.awk" >"$work/short.csv"

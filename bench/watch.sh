@@ -9,25 +9,12 @@
 set -eu
 
 here=$(CDPATH='' cd -P "$(dirname "$0")" && pwd)
-root=$(dirname "$here")
+# shellcheck source=bench/setup.sh
+. "$here/setup.sh"
+
 records=${1:-4000000}
 turns=${TURNS:-3}
-symple=$root/crates/symple/out/symple
 script=$here/sessions.symple
-timer=/usr/bin/time
-
-stop() {
-    echo "watch.sh: $1" >&2
-    exit 1
-}
-
-for tool in mawk "$timer"; do
-    command -v "$tool" >/dev/null || stop "there is no $tool"
-done
-work=$(mktemp -d)
-trap 'rm -rf "$work"' EXIT
-# The launcher builds the program; its own few milliseconds are not measured.
-"$root/symple" run "$script" /dev/null >"$work/report"
 
 # turn NAME ARGUMENTS..: one run with these arguments, its time and memory added to NAME.turns.
 turn() {
