@@ -1,5 +1,5 @@
 -- For the crates above: which forms are the same, and what the equality of forms decides.
-use Rattle.std.proofs.Common.{◌≡◌, ◌≢◌, ℕ, ℤ, pos, ◌+ℤ◌, ◌-ℤ◌, ◌*ℤ◌, ◌≤ℤ◌, List, Option, None, sym, ap, ◌∙◌, arith}
+use Rattle.std.proofs.Common.{◌≡◌, ◌≢◌, ◌<◌, ◌^◌, ℕ, ℤ, pos, ◌+ℤ◌, ◌-ℤ◌, ◌*ℤ◌, ◌≤ℤ◌, List, Option, None, sym, ap, ◌∙◌, arith}
 use Rattle.std.proofs.lemmas.Bool.Decides.{Decides-eqb, Decides-int_eq, Decides-and, Decides-like}
 use Rattle.std.proofs.lemmas.Int.{ints, by_lt_z}
 use Rattle.std.specs.Bool.{Decides}
@@ -8,7 +8,8 @@ use Rattle.sym_base.specs.Limits.{IsNumber}
 use Rattle.sym_int.proofs.Products.{times_sum, product_apart}
 use Rattle.sym_int.proofs.Values.{same_ends}
 use Rattle.sym_int.specs.Bounds.{AreOfLine}
-use Rattle.sym_int.specs.Lines.{form_on, form_cell}
+use Rattle.sym_int.specs.Lines.{form_on, form_cell, offset}
+use Rattle.sym_int.specs.Offsets.{joined, joined_is}
 use Rattle.sym_int.specs.Taken.{IsTaken}
 use Rattle.sym_int.specs.contracts.form.IntFormPartialEq.TheImpl as form_equality
 use Rattle.sym_int.specs.contracts.form.LinePartialEq.TheImpl as line_equality
@@ -38,22 +39,38 @@ same_number m n e =
     let p : x ≡ y = Σ_prop_path number_prop e in
     ap of_number p
 
+-- What a line keeps of its slope and of the parts of its offset.
+abbrev Keeps : ℤ → ℤ → ℕ → Type 0
+Keeps high a low = AreOfLine a (joined high low) × (low < 2 ^ 64)
+
 abbrev LineParts : Type 0
-LineParts = (p : ℕ × ℤ × ℤ) × AreOfLine p.1 p.2
+LineParts = (p : ℕ × ℤ × ℤ × ℕ) × Keeps p.1 p.2 p.3
 
 abbrev of_parts : LineParts → Line
-of_parts p = record { cell = p.0.0; a = p.0.1; b = p.0.2; rises_or_falls = p.1.0; a_in = p.1.1; b_in = p.1.2 }
+of_parts p = record { cell = p.0.0; high = p.0.1; a = p.0.2; low = p.0.3; rises_or_falls = p.1.0.0; a_in = p.1.0.1; b_in = p.1.0.2; low_in = p.1.1 }
 
-parts_prop : (p : ℕ × ℤ × ℤ) → IsProp (AreOfLine p.1 p.2)
+parts_prop : (p : ℕ × ℤ × ℤ × ℕ) → IsProp (Keeps p.1 p.2 p.3)
 parts_prop p = hlevel props
 
-same_line : (l m : Line) → l.cell ≡ m.cell → l.a ≡ m.a → l.b ≡ m.b → l ≡ m
-same_line l m e f g =
-    let x : LineParts = ((l.cell, l.a, l.b), (l.rises_or_falls, l.a_in, l.b_in)) in
-    let y : LineParts = ((m.cell, m.a, m.b), (m.rises_or_falls, m.a_in, m.b_in)) in
-    let parts : x.0 ≡ y.0 = λ i. (e i, f i, g i) in
+same_parts : (l m : Line) → l.cell ≡ m.cell → l.high ≡ m.high → l.a ≡ m.a → l.low ≡ m.low → l ≡ m
+same_parts l m e f g h =
+    let x : LineParts = ((l.cell, l.high, l.a, l.low), ((l.rises_or_falls, l.a_in, l.b_in), l.low_in)) in
+    let y : LineParts = ((m.cell, m.high, m.a, m.low), ((m.rises_or_falls, m.a_in, m.b_in), m.low_in)) in
+    let parts : x.0 ≡ y.0 = λ i. (e i, f i, g i, h i) in
     let p : x ≡ y = Σ_prop_path parts_prop parts in
     ap of_parts p
+
+-- A number has its parts above and below 2^64 in one way.
+high_once : (h k : ℤ) (l m : ℕ) → l < 2 ^ 64 → m < 2 ^ 64 → joined h l ≡ joined k m → h ≡ k
+high_once h k l m p q e = let same = rw (joined_is h l, joined_is k m) at e in omega (arith, ints)
+
+low_once : (h k : ℤ) (l m : ℕ) → l < 2 ^ 64 → m < 2 ^ 64 → joined h l ≡ joined k m → l ≡ m
+low_once h k l m p q e = let same = rw (joined_is h l, joined_is k m) at e in omega (arith, ints)
+
+-- A line has one cell, one slope and one offset.
+pub same_line : (l m : Line) → l.cell ≡ m.cell → l.a ≡ m.a → offset l ≡ offset m → l ≡ m
+same_line l m e f g =
+    same_parts l m e (high_once l.high m.high l.low m.low l.low_in m.low_in g) f (low_once l.high m.high l.low m.low l.low_in m.low_in g)
 
 -- ---- lines that agree at two points
 
@@ -91,9 +108,9 @@ same_at_two (form.Const m) (form.Const n) x y cell apart e h = ap form.Const (sa
 same_at_two (form.Const m) (form.Line l) x y cell apart e h = cc
 same_at_two (form.Line l) (form.Const n) x y cell apart e h = cc
 same_at_two (form.Line l) (form.Line m) x y cell apart e h =
-    let slope = same_slope l.a l.b m.a m.b x y apart e h in
+    let slope = same_slope l.a (offset l) m.a (offset m) x y apart e h in
     let named : l.cell ≡ m.cell = cc in
-    ap form.Line (same_line l m named slope (same_offset l.a l.b m.a m.b x slope e))
+    ap form.Line (same_line l m named slope (same_offset l.a (offset l) m.a (offset m) x slope e))
 
 -- Forms over no cell that agree at one point are the same form.
 pub same_at_one : (f g : IntForm) (x : ℤ) → form_cell f ≡ None → form_cell g ≡ None → form_on f x ≡ form_on g x → f ≡ g
@@ -119,8 +136,10 @@ number_eq-Decides x y = Decides-like _ (λ e. same_number x y e) (λ e. ap (λ (
 
 line_eq-Decides : (x y : Line) → Decides ((line_equality.ghosts).eq x y) (x ≡ y)
 line_eq-Decides x y =
-    Decides-like _ (λ p. same_line x y p.0 p.1.0 p.1.1) (λ e. (ap (λ (l : Line). l.cell) e, (ap (λ (l : Line). l.a) e, ap (λ (l : Line). l.b) e)))
-    (Decides-and _ _ (Decides-eqb x.cell y.cell) (Decides-and _ _ (Decides-int_eq x.a y.a) (Decides-int_eq x.b y.b)))
+    Decides-like _ (λ p. same_parts x y p.0 p.1.0 p.1.1.0 p.1.1.1)
+    (λ e. (ap (λ (l : Line). l.cell) e, (ap (λ (l : Line). l.high) e, (ap (λ (l : Line). l.a) e, ap (λ (l : Line). l.low) e))))
+    (Decides-and _ _ (Decides-eqb x.cell y.cell)
+    (Decides-and _ _ (Decides-int_eq x.high y.high) (Decides-and _ _ (Decides-int_eq x.a y.a) (Decides-eqb x.low y.low))))
 
 -- The equality of forms holds exactly of equal ones,
 pub form_eq-Decides : (x y : IntForm) → Decides ((form_equality.ghosts).eq x y) (x ≡ y)

@@ -6,7 +6,7 @@ use Rattle.sym_base.specs.declared.values.state.Cell.{Cell}
 use Rattle.sym_base.specs.declared.values.state.Cell.TheVariants.{Enum, Int, Hold, Nums, Words}
 use Rattle.sym_base.specs.declared.values.state.State.{State}
 use Rattle.sym_int.specs.Elements.{IsOnSpans, IsZero, led_cell, led_cells}
-use Rattle.sym_int.specs.Lines.{form_value}
+use Rattle.sym_int.specs.Lines.{form_value, offset}
 use Rattle.sym_int.specs.Points.{HasPoint}
 use Rattle.sym_int.specs.Taken.{IsTaken}
 use Rattle.sym_int.specs.declared.form.IntForm.{IntForm}
@@ -21,7 +21,7 @@ taken_value number cell span (form.Line own) state t p =
     (λ q.
     let named : Some own.cell ≡ Some cell = t.more q in
     let e : own.cell ≡ cell = cc in
-    ap (λ (k : ℕ). own.a *ℤ number_at state k +ℤ own.b) e ∙ t.same (number_at state cell) p)
+    ap (λ (k : ℕ). own.a *ℤ number_at state k +ℤ offset own) e ∙ t.same (number_at state cell) p)
     (λ q.
     let o : span.lo ≤ℤ span.hi = span.ordered in
     let e : span.lo ≡ span.hi = omega (arith, ints) in

@@ -1,4 +1,5 @@
 pub mod CallersLemmas
+pub mod Halves
 pub mod Led
 pub mod Parted
 pub mod Products

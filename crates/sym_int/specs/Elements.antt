@@ -5,7 +5,7 @@ use Rattle.sym_base.specs.States.{HoldsInt, number_at}
 use Rattle.sym_base.specs.declared.values.state.Cell.{Cell}
 use Rattle.sym_base.specs.declared.values.state.Cell.TheVariants.{Enum, Int, Hold, Nums, Words}
 use Rattle.sym_base.specs.declared.values.state.State.{State}
-use Rattle.sym_int.specs.Lines.{form_on, form_cell, form_value}
+use Rattle.sym_int.specs.Lines.{form_on, form_cell, form_value, offset}
 use Rattle.sym_int.specs.Points.{HasPoint}
 use Rattle.sym_int.specs.Taken.{IsTaken}
 use Rattle.sym_int.specs.declared.element.IntForms.{IntForms}
@@ -112,7 +112,7 @@ GoesThroughTo f context after =
 -- The condition under which a cell's number may be put into a form.
 abbrev pub CanFix : IntForm → ℕ → ℤ → Type 0
 CanFix (form.Const number) cell x = Unit {0}
-CanFix (form.Line line) cell x = line.cell ≡ cell → IsNumber (line.a *ℤ x +ℤ line.b)
+CanFix (form.Line line) cell x = line.cell ≡ cell → IsNumber (line.a *ℤ x +ℤ offset line)
 
 -- What a form becomes where a cell holds x: its number there, if it is over the cell, and else
 -- itself.

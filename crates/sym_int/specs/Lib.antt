@@ -3,6 +3,7 @@ pub mod Cuts
 pub mod Elements
 pub mod Fits
 pub mod Lines
+pub mod Offsets
 pub mod Parts
 pub mod Points
 pub mod Pulls

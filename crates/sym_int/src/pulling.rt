@@ -23,14 +23,16 @@ pub enum Pulled {
 }
 
 impl Line {
+    ghost use Rattle.sym_int.specs.Lines.{offset};
+
     /// The same line as a wide form.
     fn widened(&self) -> Wide
-        ensures { (x : ℤ) → wide_on result x ≡ self.now.a *ℤ x +ℤ self.now.b }
+        ensures { (x : ℤ) → wide_on result x ≡ self.now.a *ℤ x +ℤ offset self.now }
     {
         Wide::Line(WideLine {
             cell: self.cell,
-            a: self.a,
-            b: self.b,
+            a: self.a as i128,
+            b: self.offset(),
         })
     }
 }

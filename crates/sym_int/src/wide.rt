@@ -53,11 +53,7 @@ impl WideLine {
             (Some self.now.cell) span.now result }
     {
         if span.lo < span.hi {
-            return IntForm::Line(Line {
-                cell: self.cell,
-                a: self.a,
-                b: self.b,
-            });
+            return IntForm::Line(Line::of(self.cell, self.a as i64, self.b));
         }
         let value = self.at(span.lo);
         IntForm::Const(Number {

@@ -4,8 +4,8 @@ use std::process::Abort;
 use std::test::Fail;
 use sym_base::{
     BinOp, Cell, CellDecl, Cells, Column, ColumnDecl, ColumnDecls, Columns, Compare, EnumDecl,
-    EnumDecls, Expr, Exprs, FieldDecl, FieldDecls, Key, KindRef, Literal, NUM_MAX, Name, Names,
-    NoMemory, Nums, Outcome, Param, Params, Part, Parts, Record, ReportFault, Script, State,
+    EnumDecls, Expr, Exprs, FieldDecl, FieldDecls, Fields, Key, KindRef, Literal, NUM_MAX, Name,
+    Names, NoMemory, Nums, Outcome, Param, Params, Part, Parts, Record, ReportFault, Script, State,
     StateDecl, StateDecls, Stmt, Stmts, TestDecl, TestDecls, Text, Value, Values, Words,
 };
 
@@ -33,6 +33,14 @@ fn values(alloc: Global) -> Result<Values, NoMemory> {
     values.push(Value::Word(word(alloc)?))?;
     values.push(Value::Label(3))?;
     Ok(values)
+}
+
+fn fields(alloc: Global) -> Result<Fields, NoMemory> {
+    let mut fields = Fields::new(alloc);
+    fields.push(Value::Num(-5))?;
+    fields.push(Value::Word(word(alloc)?))?;
+    fields.push(Value::Label(3))?;
+    Ok(fields)
 }
 
 fn nums(alloc: Global) -> Result<Nums, NoMemory> {
@@ -97,7 +105,7 @@ fn keys_are_copied(rt: HostRuntime) -> Result<(), Fail> {
 fn records_are_copied(rt: HostRuntime) -> Result<(), Fail> {
     let record = Record {
         no: 3,
-        fields: values(rt.alloc())?,
+        fields: fields(rt.alloc())?,
     };
     assert!(rt; record_is_copied(rt.alloc(), &record)?);
     Ok(())

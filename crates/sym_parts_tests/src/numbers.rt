@@ -212,17 +212,9 @@ fn an_element_goes_through_a_context_and_takes_a_number(rt: HostRuntime) -> Resu
     let mut spans = Sequence::new(rt.alloc());
     spans.push(Span { lo: 0, hi: 10 })?;
     let mut forms = Sequence::new(rt.alloc());
-    forms.push(IntForm::Line(Line {
-        cell: 0,
-        a: 3,
-        b: 2,
-    }))?;
+    forms.push(IntForm::Line(Line::of(0, 3, 2)))?;
     let context = IntForms { forms, spans };
-    let form = IntForm::Line(Line {
-        cell: 0,
-        a: 2,
-        b: -7,
-    });
+    let form = IntForm::Line(Line::of(0, 2, -7));
     let through = Element::through(&form, rt.alloc(), &context)?;
     assert!(rt; Some(through) == Line::new(0, 6, -3).map(IntForm::Line));
     let fixed = form.fixed(rt.alloc(), 0, 5)?;
@@ -234,16 +226,8 @@ fn an_element_goes_through_a_context_and_takes_a_number(rt: HostRuntime) -> Resu
 
 #[test]
 fn a_form_has_a_number_at_a_state_and_over_another_form(rt: HostRuntime) -> Result<(), Fail> {
-    let outer = IntForm::Line(Line {
-        cell: 0,
-        a: 2,
-        b: -7,
-    });
-    let inner = IntForm::Line(Line {
-        cell: 0,
-        a: 3,
-        b: 2,
-    });
+    let outer = IntForm::Line(Line::of(0, 2, -7));
+    let inner = IntForm::Line(Line::of(0, 3, 2));
     let composed = Wide::Line(WideLine {
         cell: 0,
         a: 6,

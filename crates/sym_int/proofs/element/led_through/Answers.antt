@@ -2,7 +2,7 @@ use Rattle.std.proofs.Common.{◌≡◌, ℕ, ℤ, Option, Some, ◌+ℤ◌, ◌
 use Rattle.sym_base.specs.States.{number_at}
 use Rattle.sym_int.proofs.Led.{number_there, on_spans}
 use Rattle.sym_int.specs.Elements.{IsComposed, led_to}
-use Rattle.sym_int.specs.Lines.{form_on, form_cell, form_value, wide_on, wide_cell}
+use Rattle.sym_int.specs.Lines.{form_on, form_cell, form_value, wide_on, wide_cell, offset}
 use Rattle.sym_int.specs.declared.form.IntForm.{IntForm}
 use Rattle.sym_int.specs.declared.form.IntForm.TheVariants as form
 use Rattle.sym_int.specs.declared.span.Span.{Span}
@@ -27,4 +27,4 @@ returns-in-Some-clause-value c = λ state h.
     let inner = c.in-Some.inner.now in
     let there : number_at (led_to c.args.context.now state) line.cell ≡ form_value inner state = number_there state c.args.context.now.forms line.cell inner (sym c.in-Some.ensures) (h.others line.cell inner (sym c.in-Some.ensures)) in
     let value = rw c.in-Line.is at (c.through-wide.ensures.value state) in
-    rw c.in-Line.is (c.taken_on.ensures.value state h.spans ∙ value ∙ ap (λ (x : ℤ). line.a *ℤ x +ℤ line.b) (sym there))
+    rw c.in-Line.is (c.taken_on.ensures.value state h.spans ∙ value ∙ ap (λ (x : ℤ). line.a *ℤ x +ℤ offset line) (sym there))
