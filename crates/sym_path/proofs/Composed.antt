@@ -1,10 +1,10 @@
 -- What the paths of one segment and then of another give, and that they stand for the records of both.
-use Rattle.std.proofs.Common.{◌≡◌, ◌≤◌, ◌+◌, ◌↔◌, ℕ, suc, Bool, true, false, List, [], ◌∷◌, ◌++◌, ◌⊎◌, inl, inr, length, refl, sym, ap, ◌∙◌, subst, arith, append_assoc}
+use Rattle.std.proofs.Common.{◌≡◌, ◌+◌, ℕ, suc, Bool, true, false, List, [], ◌∷◌, ◌++◌, inl, inr, length, take, drop, refl, sym, ap, ◌∙◌, subst, arith, append_assoc}
 use Rattle.std.proofs.lemmas.Grind.{flat_map-append}
-use Rattle.std.proofs.lemmas.List.{append-nil, get_or_append_left, get_or-append-add}
+use Rattle.std.proofs.lemmas.List.{append-nil, get_or_append_left, get_or-append-add, take-append-drop}
 use Rattle.std.proofs.lemmas.List.Elements.{All-append, All-cons, All-nil}
-use Rattle.std.specs.List.{All, AllZip, Any, flat_map}
-use Rattle.std.specs.Prelude.{IsTrue, if◌then◌else◌, slice_get}
+use Rattle.std.specs.List.{All, Any, flat_map, insert}
+use Rattle.std.specs.Prelude.{IsTrue, Some, if◌then◌else◌, slice_get}
 use Rattle.sym_base.specs.Tests.{Truth}
 use Rattle.sym_base.specs.declared.values.record.Record.{Record}
 use Rattle.sym_base.specs.declared.values.state.Fault.{Fault}
@@ -22,19 +22,18 @@ use Rattle.sym_path.specs.declared.part.Part.{Part}
 use Rattle.sym_path.specs.declared.path.Path.{Path}
 use Rattle.sym_path.specs.declared.path.PathEnd.{PathEnd}
 use Rattle.sym_path.specs.declared.path.PathEnd.TheVariants.{Next, Ended}
-use Rattle.sym_path.specs.Admitting.{Admits, admits}
+use Rattle.sym_path.specs.Admitting.{admits}
 use Rattle.sym_path.specs.Composing.{AreComposed, AreFollowed, GoesOnTo, GrowsBy, GrowsByAll, GrowsByPath, IsComposition, given_after, given_by_both}
 use Rattle.sym_path.specs.Fitting.{PathFits, SegmentFits}
-use Rattle.sym_path.specs.Following.{AdmitsOutcome, IsFollowed}
+use Rattle.sym_path.specs.Following.{IsFollowed}
 use Rattle.sym_path.specs.Giving.{IsOnlyOutcome, end_at, given, outcomes, state_at}
-use Rattle.sym_path.specs.Joining.{IsSettled}
 use Rattle.sym_path.specs.Pairs.{AreFollowers, ArePairs}
 use Rattle.sym_path.specs.Possible.{IsPossiblePair}
 use Rattle.sym_path.specs.Settling.{IsSettling}
 use Rattle.sym_path.specs.Standing.{EndsAmong, StandsFor}
 use Rattle.sym_path.proofs.Decided.{admits_decided}
 use Rattle.sym_path.proofs.Fitted.{end_valid}
-use Rattle.sym_path.proofs.Lists.{all_at, all_from}
+use Rattle.sym_path.proofs.Lists.{all_at, all_from, drop_get}
 use Rattle.sym_path.proofs.OnlyOutcomes.{only_outcome}
 use Rattle.sym_path.proofs.PairCounts.{count_first, ended_pairs, going_pairs, length_both, no_pairs, pairs_both}
 use Rattle.sym_path.proofs.PossibleStates.{pair_is_possible}
@@ -309,6 +308,30 @@ grown_more p first next others old mid new h (inr (impossible, is)) = record {
   is = is ∙ h.is;
   are = followed_same p first next others h.paths impossible h.are;
 }
+
+-- Others after others.
+followed_both : (p : ScriptPlan) (first : Path) (others past paths rest : List Path) → AreFollowed p first others paths → AreFollowed p first past rest → AreFollowed p first (others ++ past) (paths ++ rest)
+followed_both p first [] past paths rest h k = subst (λ (ps : List Path). AreFollowed p first past (ps ++ rest)) (sym h) k
+followed_both p first (q ∷ others) past paths rest (inl (one, more, is, can, own, h)) k = inl (one, more ++ rest, ap (λ (ps : List Path). ps ++ rest) is, can, own, followed_both p first others past more rest h k)
+followed_both p first (q ∷ others) past paths rest (inr (impossible, h)) k = inr (impossible, followed_both p first others past paths rest h k)
+
+insert_seam : {A : Type 0} (xs ys : List A) (x : A) → insert (xs ++ ys) (length xs) x ≡ xs ++ x ∷ ys
+insert_seam [] [] x = refl
+insert_seam [] (y ∷ ys) x = refl
+insert_seam (z ∷ xs) ys x = ap (λ zs. z ∷ zs) (insert_seam xs ys x)
+
+-- By the others before one and those after it, and then, in its place, by the path of that one.
+pub grown_around : (p : ScriptPlan) (first next both : Path) (others old mid new : List Path) (at : ℕ) → slice_get others at ≡ Some next → IsPossiblePair (test_truth p.tests) first next → IsFollowed p first next both → GrowsByAll p first (take at others) old mid → GrowsByAll p first (drop (at + 1) others) mid new → GrowsByAll p first others old (insert new (length mid) both)
+grown_around p first next both others old mid new at here possible followed h k = record {
+  paths = h.paths ++ both ∷ k.paths;
+  is = ap (λ (ps : List Path). insert ps (length mid) both) k.is ∙ insert_seam mid k.paths both
+      ∙ ap (λ (ps : List Path). ps ++ both ∷ k.paths) h.is ∙ append_assoc old h.paths (both ∷ k.paths);
+  are = subst (λ (ps : List Path). AreFollowed p first ps (h.paths ++ both ∷ k.paths)) whole
+      (followed_both p first (take at others) (next ∷ drop (at + 1) others) h.paths (both ∷ k.paths) h.are (inl (both, k.paths, refl, possible, followed, k.are)));
+}
+  where
+    whole : take at others ++ next ∷ drop (at + 1) others ≡ others
+    whole = ap (λ (ps : List Path). take at others ++ ps) (sym (drop_get others at next here)) ∙ take-append-drop at others
 
 -- One path more.
 pub composed_more : (p : ScriptPlan) (path : Path) (left right paths new : List Path) → AreComposed p left right paths → GrowsByPath p path right paths new → AreComposed p (left ++ path ∷ []) right new

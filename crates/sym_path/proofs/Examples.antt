@@ -1,6 +1,6 @@
 -- The definitions tried on a counter whose cell 0 is a number from 0 to 10 and whose cell 1 has the
 -- labels 0 and 1: one is added where the label is 0, and past 10 the group ends.
-use Rattle.std.specs.Prelude.{◌≡◌, refl, ℕ, ℤ, pos, false, [], ◌∷◌}
+use Rattle.std.specs.Prelude.{◌≡◌, ◌≤◌, refl, ℕ, ℤ, pos, unsigned_abs, false, [], ◌∷◌}
 use Rattle.std.proofs.Common.{arith, lit≤, lit<}
 use Rattle.std.proofs.lemmas.Int.{ints}
 use Rattle.sym_base.specs.declared.values.state.Cell.TheVariants as cell
@@ -12,6 +12,8 @@ use Rattle.sym_base.specs.declared.values.state.Outcome.TheVariants as outcome
 use Rattle.sym_enum.specs.Labels.{has_label}
 use Rattle.sym_enum.specs.declared.form.EnumForm.TheVariants as label
 use Rattle.sym_enum.specs.declared.label_set.LabelSet.{LabelSet}
+use Rattle.sym_int.specs.Bounds.{offset_max}
+use Rattle.sym_int.specs.Offsets.{joined}
 use Rattle.sym_int.specs.declared.form.IntForm.{IntForm}
 use Rattle.sym_int.specs.declared.form.IntForm.TheVariants as number
 use Rattle.sym_int.specs.declared.span.Span.{Span}
@@ -31,8 +33,12 @@ below_ten = record { lo = pos 0; hi = pos 9; lo_in = lit≤ tt; ordered = omega 
 abbrev ten : Span
 ten = record { lo = pos 10; hi = pos 10; lo_in = lit≤ tt; ordered = omega (arith, ints); hi_in = lit≤ tt }
 
+one_small : unsigned_abs (joined (pos 0) 1) ≤ offset_max
+unfolding joined
+one_small = lit≤ tt
+
 abbrev one_more : IntForm
-one_more = number.Line (record { cell = 0; a = pos 1; b = pos 1; rises_or_falls = λ e. cc; a_in = lit≤ tt; b_in = lit≤ tt })
+one_more = number.Line (record { cell = 0; high = pos 0; a = pos 1; low = 1; rises_or_falls = λ e. cc; a_in = lit≤ tt; b_in = one_small; low_in = lit< tt })
 
 abbrev zero_label : LabelSet
 zero_label = record { bits = 1; below_32 = lit< tt }
@@ -50,7 +56,7 @@ abbrev counting : ℤ → ℕ → State
 counting x l = record { cells = cell.Int x ∷ cell.Enum l ∷ [] }
 
 from_three : given nothing adds (counting (pos 3) 0) ≡ Going (counting (pos 4) 0) ∷ []
-unfolding has_label
+unfolding has_label joined
 from_three = refl
 
 from_ten : outcomes nothing (adds ∷ ends ∷ []) (counting (pos 10) 0) ≡ outcome.Ended past ∷ []
@@ -68,5 +74,5 @@ from_outside = refl
 
 -- Two paths for a state give two outcomes.
 from_both : outcomes nothing (adds ∷ adds ∷ []) (counting (pos 9) 0) ≡ Going (counting (pos 10) 0) ∷ Going (counting (pos 10) 0) ∷ []
-unfolding has_label
+unfolding has_label joined
 from_both = refl

@@ -22,7 +22,7 @@ use Rattle.sym_check.specs.Plan.Ranges.{InRange}
 use Rattle.sym_check.specs.Plan.WellFormed.{IsCell, IsWellFormed}
 use Rattle.sym_enum.specs.declared.form.EnumForm.TheVariants as label
 use Rattle.sym_int.specs.Elements.{IsConstant, CanGoThrough, StaysOn, GoesThroughTo, IsComposed, IsOnSpans, IsOnSpan}
-use Rattle.sym_int.specs.Lines.{form_on, form_cell, form_value}
+use Rattle.sym_int.specs.Lines.{form_on, form_cell, form_value, offset}
 use Rattle.sym_int.specs.Points.{HasPoint}
 use Rattle.sym_int.specs.Taken.{IsTaken}
 use Rattle.sym_int.specs.declared.element.IntForms.{IntForms}
@@ -108,7 +108,7 @@ module _ (truth : Truth) (p : ScriptPlan) (lefts : List Part) (mids : List Form)
     over_constant n inner r at constant point h = record {
       fits = constant_in lo hi (form_on (number.Line line) n) lefts r h (range n point);
       taken = number_taken lefts r (λ d x q o. let none : form_cell r ≡ None = no_cell (form_on (number.Line line) n) r h in let w : None ≡ Some d = sym none ∙ q in cc);
-      value = λ s a. constant_value (form_on (number.Line line) n) r s h ∙ ap (λ (z : ℤ). line.a *ℤ z +ℤ line.b) (sym (number_given s line.cell inner a at ∙ constant_value n inner s constant));
+      value = λ s a. constant_value (form_on (number.Line line) n) r s h ∙ ap (λ (z : ℤ). line.a *ℤ z +ℤ offset line) (sym (number_given s line.cell inner a at ∙ constant_value n inner s constant));
     }
 
     -- A line over a line.
@@ -141,7 +141,7 @@ module _ (truth : Truth) (p : ScriptPlan) (lefts : List Part) (mids : List Form)
       over_value s a (number.Line m) e =
           let named : m.cell ≡ l.cell = (one_or_more (number.Line m) e m.cell refl).0 in
           let point : HasPoint sp (number_at s l.cell) = (number_held truth lefts s l.cell sp a at_l).1 in
-          ap (λ i. m.a *ℤ number_at s i +ℤ m.b) named ∙ ap (λ (i : IntForm). form_on i (number_at s l.cell)) e ∙ h.same (number_at s l.cell) point
+          ap (λ i. m.a *ℤ number_at s i +ℤ offset m) named ∙ ap (λ (i : IntForm). form_on i (number_at s l.cell)) e ∙ h.same (number_at s l.cell) point
 
       over_line : NumberGoes p lefts truth mids lo hi (number.Line line) r
       over_line = record {
@@ -152,7 +152,7 @@ module _ (truth : Truth) (p : ScriptPlan) (lefts : List Part) (mids : List Form)
             let low : sp.lo ≡ x = ap (λ (t : Span). t.lo) (sym same) ∙ o.lo in
             let high : sp.hi ≡ x = ap (λ (t : Span). t.hi) (sym same) ∙ o.hi in
             omega (arith, ints));
-        value = λ s a. over_value s a r refl ∙ ap (λ (z : ℤ). line.a *ℤ z +ℤ line.b) (sym (number_given s line.cell (number.Line l) a at));
+        value = λ s a. over_value s a r refl ∙ ap (λ (z : ℤ). line.a *ℤ z +ℤ offset line) (sym (number_given s line.cell (number.Line l) a at));
       }
         where
           one_span : {t u : Span} → Some (part.Span t) ≡ Some (part.Span u) → t ≡ u

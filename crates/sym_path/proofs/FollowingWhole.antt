@@ -42,7 +42,7 @@ module _ (p : ScriptPlan) (when : List Part) (forms : List Form) (needs lefts : 
     (parts : AllZip (PartFits p) p.cells when) (own : FormsFit p when forms) (others : AllZip (PartFits p) p.cells needs)
     (left : AreLeft forms needs when lefts) (possible : Possible (test_truth p.tests) when forms needs) where
   -- A fault after a path that goes on.
-  fault_after : (fault : Fault) → EndFits p needs (Ended fault) → IsEndAfter p lefts forms (Ended fault) (Ended fault)
+  pub fault_after : (fault : Fault) → EndFits p needs (Ended fault) → IsEndAfter p lefts forms (Ended fault) (Ended fault)
   fault_after fault h = record {
     fits = h;
     fault = λ g. (λ e. e, λ e. e);

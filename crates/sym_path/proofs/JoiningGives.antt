@@ -14,7 +14,7 @@ use Rattle.sym_base.specs.Tests.{Truth}
 use Rattle.sym_enum.specs.Labels.{label_value}
 use Rattle.sym_enum.specs.declared.form.EnumForm.{EnumForm}
 use Rattle.sym_enum.specs.declared.form.EnumForm.TheVariants as label
-use Rattle.sym_int.specs.Lines.{form_on, form_cell, form_value}
+use Rattle.sym_int.specs.Lines.{form_on, form_cell, form_value, offset}
 use Rattle.sym_int.specs.declared.form.IntForm.{IntForm}
 use Rattle.sym_int.specs.declared.form.IntForm.TheVariants as number
 use Rattle.sym_path.specs.declared.part.Part.{Part}
@@ -70,7 +70,7 @@ module _ (truth : Truth) (when : List Part) (s : State) (admitted : Admits truth
     where
       named : (f : IntForm) (c : ℕ) → form_cell f ≡ Some c → form_value f s ≡ form_on f (number_at s c)
       named (number.Const n) c q = absurd (cc)
-      named (number.Line line) c q = let same : line.cell ≡ c = cc in ap (λ k. line.a *ℤ number_at s k +ℤ line.b) same
+      named (number.Line line) c q = let same : line.cell ≡ c = cc in ap (λ k. line.a *ℤ number_at s k +ℤ offset line) same
 
   numbers_same : (fs gs : List IntForm) → AllZip (NumberIsTakenTo when) fs gs → map (λ f. form_value f s) gs ≡ map (λ f. form_value f s) fs
   numbers_same [] [] h = refl

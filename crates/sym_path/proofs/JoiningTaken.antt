@@ -1,8 +1,8 @@
 -- When a form is another one taken on a constraint, cell by cell.
-use Rattle.std.proofs.Common.{◌≡◌, ◌↔◌, ◌<◌, ◌≤◌, ◌+◌, ℕ, ℤ, ◌<ℤ◌, Bool, List, Option, Some, None, ◌⊎◌, inl, inr, length, refl, sym, ap, ◌∙◌, subst, arith}
+use Rattle.std.proofs.Common.{◌≡◌, ◌↔◌, ◌<◌, ◌≤◌, ◌+◌, ◌-◌, ℕ, ℤ, ◌<ℤ◌, Bool, List, Option, Some, None, ◌⊎◌, inl, inr, length, refl, sym, ap, ◌∙◌, subst, arith}
+use Rattle.std.proofs.lemmas.Bool.{cases_lt}
 use Rattle.std.proofs.lemmas.Bool.Decides.{Decides-like, Decides-at}
 use Rattle.std.specs.Bool.{Decides}
-use Rattle.std.proofs.Common.{below_more}
 use Rattle.std.proofs.lemmas.Int.{ints}
 use Rattle.std.proofs.lemmas.Option.{slice_get_within}
 use Rattle.std.specs.List.{AllZip}
@@ -200,5 +200,17 @@ no_added when xs ys i (inr e) = λ f g a b. absurd (none_is (e ∙ b))
 pub whole_zip : {A : Type 0} (R : A → A → Type 0) (xs ys : List A) (i : ℕ) → length xs ≡ length ys → length xs ≤ i → ((d : ℕ) (x y : A) → d < i → slice_get xs d ≡ Some x → slice_get ys d ≡ Some y → R x y) → AllZip R xs ys
 whole_zip R xs ys i e past h = zip_from R xs ys e (λ d x y a b. let within : d < length xs = slice_get_within xs d x a in h d x y (omega arith) a b)
 
-pub next_added : (when : List Part) (xs ys : List IntForm) (i : ℕ) → ((d : ℕ) (f g : IntForm) → d < i → slice_get xs d ≡ Some f → slice_get ys d ≡ Some g → NumberIsTakenTo when f g) → AddedIsTaken when xs ys i → (d : ℕ) (f g : IntForm) → d < i + 1 → slice_get xs d ≡ Some f → slice_get ys d ≡ Some g → NumberIsTakenTo when f g
-next_added when xs ys i before here = λ d f g h a b. below_more (λ k. AddedIsTaken when xs ys k) i (λ k l x y. before k x y l) here d h f g a b
+-- Two lists of one length whose items stand to each other below an index and, from their end, below
+-- it, where these meet.
+pub zip_of_ends : (when : List Part) (xs ys : List IntForm) (i : ℕ) → length xs ≡ length ys → length xs ≤ i + i → ((d : ℕ) → d < i → AddedIsTaken when xs ys d) → ((d : ℕ) → d < i → AddedIsTaken when xs ys (length xs - 1 - d)) → AllZip (NumberIsTakenTo when) xs ys
+zip_of_ends when xs ys i e past first last = zip_from (NumberIsTakenTo when) xs ys e each
+  where
+    each : (d : ℕ) (x y : IntForm) → slice_get xs d ≡ Some x → slice_get ys d ≡ Some y → NumberIsTakenTo when x y
+    each d x y a b = elim (cases_lt d i) [
+      | inl below ↦ first d below x y a b
+      | inr above ↦
+          let within : d < length xs = slice_get_within xs d x a in
+          let low : length xs - 1 - d < i = omega (arith, within, past, above) in
+          let same : length xs - 1 - (length xs - 1 - d) ≡ d = omega (arith, within) in
+          subst (λ (k : ℕ). AddedIsTaken when xs ys k) same (last (length xs - 1 - d) low) x y a b
+    ]

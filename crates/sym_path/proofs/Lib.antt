@@ -11,6 +11,7 @@ pub mod FollowedStates
 pub mod FollowingConstants
 pub mod FollowingFits
 pub mod FollowingForms
+pub mod FollowingLeft
 pub mod FollowingNarrowed
 pub mod FollowingSteps
 pub mod FollowingTaken

@@ -9,7 +9,7 @@ use Rattle.sym_base.specs.declared.values.state.Cell.{Cell}
 use Rattle.sym_base.specs.declared.values.state.Cell.TheVariants as cell
 use Rattle.sym_base.specs.declared.values.state.State.{State}
 use Rattle.sym_enum.specs.declared.form.EnumForm.TheVariants as label
-use Rattle.sym_int.specs.Lines.{form_value}
+use Rattle.sym_int.specs.Lines.{form_value, offset}
 use Rattle.sym_int.specs.declared.form.IntForm.{IntForm}
 use Rattle.sym_int.specs.declared.form.IntForm.TheVariants as number
 use Rattle.sym_pred.specs.declared.form.HoldForm.TheVariants as hold
@@ -34,7 +34,7 @@ same_further s t u h k = record {
 
 number_same : (s t : State) → SameButLists s t → (f : IntForm) → form_value f t ≡ form_value f s
 number_same s t h (number.Const n) = refl
-number_same s t h (number.Line line) = ap (λ (x : ℤ). line.a *ℤ x +ℤ line.b) (h.numbers line.cell)
+number_same s t h (number.Line line) = ap (λ (x : ℤ). line.a *ℤ x +ℤ offset line) (h.numbers line.cell)
 
 numbers_same : (s t : State) → SameButLists s t → (added : List IntForm) → map (λ f. form_value f t) added ≡ map (λ f. form_value f s) added
 numbers_same s t h [] = refl

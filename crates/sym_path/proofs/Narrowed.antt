@@ -16,7 +16,7 @@ use Rattle.sym_enum.specs.declared.form.EnumForm.{EnumForm}
 use Rattle.sym_enum.specs.declared.form.EnumForm.TheVariants as label
 use Rattle.sym_enum.specs.declared.label_set.LabelSet.{LabelSet}
 use Rattle.sym_int.specs.Elements.{IsConstant, IsFixedTo}
-use Rattle.sym_int.specs.Lines.{form_on, form_value}
+use Rattle.sym_int.specs.Lines.{form_on, form_value, offset}
 use Rattle.sym_int.specs.Points.{HasPoint}
 use Rattle.sym_int.specs.declared.form.IntForm.{IntForm}
 use Rattle.sym_int.specs.declared.form.IntForm.TheVariants as number
@@ -132,7 +132,7 @@ fixed_value (number.Const n) g c x s h e = let same : g ≡ number.Const n = h.o
 fixed_value (number.Line line) g c x s h e = elim (cases_eq line.cell c) [
   | inl p ↦
       let at : number_at s line.cell ≡ x = ap (λ k. number_at s k) p ∙ e in
-      constant_value (form_on (number.Line line) x) g s (h.named (ap Some p)) ∙ ap (λ (y : ℤ). line.a *ℤ y +ℤ line.b) (sym at)
+      constant_value (form_on (number.Line line) x) g s (h.named (ap Some p)) ∙ ap (λ (y : ℤ). line.a *ℤ y +ℤ offset line) (sym at)
   | inr p ↦ let same : g ≡ number.Line line = h.other (λ q. p (cc)) in ap (λ (k : IntForm). form_value k s) same
 ]
 

@@ -25,7 +25,7 @@ use Rattle.sym_enum.specs.Labels.{IsOnlyLabel}
 use Rattle.sym_enum.specs.declared.form.EnumForm.{EnumForm}
 use Rattle.sym_enum.specs.declared.form.EnumForm.TheVariants as label
 use Rattle.sym_enum.specs.declared.label_set.LabelSet.{LabelSet}
-use Rattle.sym_int.specs.Lines.{form_on, form_cell}
+use Rattle.sym_int.specs.Lines.{form_on, form_cell, offset}
 use Rattle.sym_int.specs.Points.{HasPoint}
 use Rattle.sym_int.specs.declared.form.IntForm.{IntForm}
 use Rattle.sym_int.specs.declared.form.IntForm.TheVariants as number
@@ -108,9 +108,9 @@ module _ (p : ScriptPlan) (c : ℕ) where
         within x q =
             let a = q.0 in
             let b = q.1 in
-            let offset = h.2 in
-            let plain : InRange lo hi (pos 1 *ℤ x +ℤ line.b) = (omega (arith, ints), omega (arith, ints)) in
-            subst (λ (slope : ℤ). InRange lo hi (slope *ℤ x +ℤ line.b)) (sym h.1) plain
+            let none = h.2 in
+            let plain : InRange lo hi (pos 1 *ℤ x +ℤ offset line) = (omega (arith, ints), omega (arith, ints)) in
+            subst (λ (slope : ℤ). InRange lo hi (slope *ℤ x +ℤ offset line)) (sym h.1) plain
 
     pub own_fits : (cp : CellPlan) (now : Part) (f : Form) → slice_get p.cells c ≡ Some cp → slice_get when c ≡ Some now → IsCell p.enums cp → IsWholeCell p c cp now f → FormFits p when cp f
     own_fits (plan.Enum of first) (part.Set set) (form.Enum f) e g w h = own_label_fits of first set f e h
@@ -167,7 +167,7 @@ module _ (p : ScriptPlan) (c : ℕ) where
         held : number_at s line.cell ≡ x
         held = ap (λ i. cell_number (slice_get s.cells i)) h.0 ∙ ap cell_number e
 
-        same : line.a *ℤ number_at s line.cell +ℤ line.b ≡ x
+        same : line.a *ℤ number_at s line.cell +ℤ offset line ≡ x
         same = rw (h.1, h.2, held) (omega (arith, ints))
 
     pub own_same : (cp : CellPlan) (now : Part) (f : Form) (x : Cell) → slice_get s.cells c ≡ Some x → IsWholeCell p c cp now f → IsValidCell p.enums cp x → cell_at f s x ≡ x

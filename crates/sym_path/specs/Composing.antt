@@ -1,5 +1,5 @@
 -- Two segments in one: the paths of the first and then of the second.
-use Rattle.std.specs.Prelude.{◌≡◌, ◌≤◌, ◌⊎◌, List, [], ◌∷◌, ◌++◌, length}
+use Rattle.std.specs.Prelude.{◌≡◌, ◌≤◌, ◌⊎◌, ℕ, List, Some, [], ◌∷◌, ◌++◌, length, slice_get}
 use Rattle.std.specs.List.{All, flat_map}
 use Rattle.sym_base.specs.declared.values.record.Record.{Record}
 use Rattle.sym_base.specs.declared.values.state.State.{State}
@@ -87,3 +87,9 @@ pub record GrowsByPath (p : ScriptPlan) (path : Path) (others old new : List Pat
   pub paths : List Path
   pub is : new ≡ old ++ paths
   pub are : GoesOnTo p path.end path others paths
+
+-- The one at this index of the others can come after the path.
+pub record CanComeAt (truth : Truth) (first : Path) (others : List Path) (at : ℕ) : Type 0 where
+  pub next : Path
+  pub is : slice_get others at ≡ Some next
+  pub possible : IsPossiblePair truth first next

@@ -12,6 +12,7 @@ use Rattle.sym_enum.specs.Labels.{has_label, IsOnlyLabel}
 use Rattle.sym_enum.specs.declared.form.EnumForm.{EnumForm}
 use Rattle.sym_enum.specs.declared.form.EnumForm.TheVariants as label
 use Rattle.sym_enum.specs.declared.label_set.LabelSet.{LabelSet}
+use Rattle.sym_int.specs.Lines.{offset}
 use Rattle.sym_int.specs.declared.form.IntForm.{IntForm}
 use Rattle.sym_int.specs.declared.form.IntForm.TheVariants as number
 use Rattle.sym_int.specs.declared.span.Span.{Span}
@@ -37,7 +38,7 @@ IsOwnLabel c set (label.Copy d) = (d ≡ c) × ((l : ℕ) → IsOnlyLabel set l 
 abbrev pub IsOwnNumber : ℕ → Span → IntForm → Type 0
 IsOwnNumber c span (number.Const n) = (span.lo ≡ n.value) × (span.hi ≡ n.value)
 IsOwnNumber c span (number.Line line) =
-    (line.cell ≡ c) × (line.a ≡ pos 1) × (line.b ≡ pos 0) × (span.lo <ℤ span.hi)
+    (line.cell ≡ c) × (line.a ≡ pos 1) × (offset line ≡ pos 0) × (span.lo <ℤ span.hi)
 
 -- All labels of an enum with so many, and the label itself.
 abbrev pub IsWholeEnum : ℕ → ℕ → Part → Form → Type 0

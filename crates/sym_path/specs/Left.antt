@@ -71,6 +71,21 @@ pub record NeededBelow (forms : List Form) (needs : List Part) (c n : ℕ) (atom
   pub needed : slice_get needs at ≡ Some need
   pub here : NeedsHere c form need atom outcome
 
+-- Something is left of the cell c.
+pub record HasLeft (forms : List Form) (needs : List Part) (c : ℕ) (when : List Part) : Type 0 where
+  pub part : Part
+  pub is : slice_get when c ≡ Some part
+  pub some : IsLeft forms needs c part
+
+-- What is left of the cell c is in the place of its part.
+pub record LeftAt (forms : List Form) (needs : List Part) (c : ℕ)
+    (old new : List Part) : Type 0 where
+  pub part : Part
+  pub left : Part
+  pub was : slice_get old c ≡ Some part
+  pub is : new ≡ slice_set old c left
+  pub some : PartLeft forms needs c part left
+
 -- What is left of all cells.
 pub record AreLeft (forms : List Form) (needs when lefts : List Part) : Type 0 where
   pub lengths : length lefts ≡ length when

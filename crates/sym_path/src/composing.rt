@@ -1,11 +1,14 @@
 //! Two segments in one: the paths of the first and then of the second.
-ghost use Rattle.std.specs.Prelude.{IfOk, OnOk};
+ghost use Rattle.std.specs.Prelude.{IfOk, IfSome, OnOk};
 ghost use Rattle.sym_check.specs.Checking.CheckedScripts.{checked_plan};
+ghost use Rattle.sym_check.specs.Meaning.Conditions.{test_truth};
 ghost use Rattle.sym_path.specs.Composing.{AreComposed, GrowsBy, GrowsByAll, GrowsByPath, IsComposition};
+ghost use Rattle.sym_path.specs.Composing.{CanComeAt};
 ghost use Rattle.sym_path.specs.Fitting.{PathFits, SegmentFits};
 
-use crate::following::follow;
+use crate::following::{follow, path_after};
 use crate::path::Path;
+use crate::possible_pairs::possible;
 use crate::segment::Segment;
 use crate::settling::settle;
 use std::alloc::Global;
@@ -34,30 +37,70 @@ fn add_next(
     }
 }
 
-/// The same of a path that is given away.
-fn add_last(
+/// Adds the paths of this one and each of the others that can come after it.
+fn add_each(
+    alloc: Global,
+    checked: &Checked,
+    path: &Path,
+    others: &[Path],
+    out: &mut Vec<Path>,
+) -> Result<(), NoMemory>
+    requires first { PathFits (checked_plan checked.now) path.now }
+    requires others { SegmentFits (checked_plan checked.now) others.now }
+    ensures { OnOk result (GrowsByAll (checked_plan checked.now)
+        path.now others.now out.old.items out.new.items) }
+{
+    'others: for next in others {
+        add_next(alloc, checked, path, next, out)?;
+    }
+    Ok(())
+}
+
+/// The index of the last of the others that goes on and can come after the path; `None` where none
+/// does. It takes no memory.
+fn last_going_on(checked: &Checked, path: &Path, others: &[Path]) -> Option<usize>
+    requires first { PathFits (checked_plan checked.now) path.now }
+    requires others { SegmentFits (checked_plan checked.now) others.now }
+    ensures { IfSome result
+        (CanComeAt (test_truth (checked_plan checked.now).tests) path.now others.now) }
+{
+    let mut end = others.len();
+    'others: while end > 0 {
+        end -= 1;
+        let next = &others[end];
+        if next.goes_on() && possible(checked, path, next) {
+            return Some(end);
+        }
+    }
+    None
+}
+
+/// Adds the paths of this one and each of the others that can come after it, among which is the one
+/// at this index. It is moved into that one's, which goes to its place last.
+fn add_around(
     alloc: Global,
     checked: &Checked,
     path: Path,
-    next: &Path,
+    others: &[Path],
+    at: usize,
     out: &mut Vec<Path>,
 ) -> Result<(), NoMemory>
     requires first { PathFits (checked_plan checked.now) path }
-    requires second { PathFits (checked_plan checked.now) next.now }
-    ensures { OnOk result (GrowsBy (checked_plan checked.now)
-        path next.now out.old.items out.new.items) }
+    requires others { SegmentFits (checked_plan checked.now) others.now }
+    requires can { CanComeAt (test_truth (checked_plan checked.now).tests) path others.now at }
+    ensures { OnOk result (GrowsByAll (checked_plan checked.now)
+        path others.now out.old.items out.new.items) }
 {
-    match path.followed_by(alloc, checked, next)? {
-        Some(both) => {
-            out.push(both)?;
-            Ok(())
-        }
-        None => Ok(()),
-    }
+    add_each(alloc, checked, &path, &others[..at], out)?;
+    let place = out.len();
+    add_each(alloc, checked, &path, &others[at + 1..], out)?;
+    let both = path_after(alloc, checked.plan(), path, &others[at])?;
+    out.insert(place, both)?;
+    Ok(())
 }
 
-/// Adds the paths of this one and each of the others that can come after it. It is moved into the
-/// last of them.
+/// Adds the paths of this one and each of the others that can come after it. Its lists are moved
+/// into the last of them that goes on: where one alone does, they aren't copied.
 fn add_followed(
     alloc: Global,
     checked: &Checked,
@@ -70,14 +113,10 @@ fn add_followed(
     ensures { OnOk result (GrowsByAll (checked_plan checked.now)
         path others.now out.old.items out.new.items) }
 {
-    if others.is_empty() {
-        return Ok(());
+    match last_going_on(checked, &path, others) {
+        Some(at) => add_around(alloc, checked, path, others, at, out),
+        None => add_each(alloc, checked, &path, others, out),
     }
-    let last = others.len() - 1;
-    'others: for index in 0..last {
-        add_next(alloc, checked, &path, &others[index], out)?;
-    }
-    add_last(alloc, checked, path, &others[last], out)
 }
 
 /// Adds what becomes of a path before the others: one that has ended stays.

@@ -1,5 +1,5 @@
 //! One path after another: what is left of the first one's constraint, and the forms of both.
-ghost use Rattle.std.specs.Prelude.{◌≡◌, ◌≤◌, ◌<◌, ◌^◌, ◌↔◌, ◌⊎◌, Bool, IfOk, IfSome, IsSome, IsTrue, None, Some, All, length, slice_get};
+ghost use Rattle.std.specs.Prelude.{◌≡◌, ◌≤◌, ◌<◌, ◌^◌, ◌↔◌, ◌⊎◌, Bool, IfOk, IfSome, IsSome, IsTrue, None, OnOk, Some, All, length, slice_get};
 ghost use Rattle.std.specs.List.{AllZip};
 ghost use Rattle.sym_check.specs.Checking.CheckedScripts.{checked_plan};
 ghost use Rattle.sym_check.specs.Meaning.Conditions.{test_truth};
@@ -11,13 +11,14 @@ ghost use Rattle.sym_pred.specs.Meaning.{Stands};
 ghost use Rattle.sym_path.specs.Fitting.{PathFits};
 ghost use Rattle.sym_path.specs.Following.{IsFollowed};
 ghost use Rattle.sym_path.specs.FormsAfter.{IsNumberOf, IsSpanOf, IsContext, AddsConstants, part_spans, CanLead, LedTo, CanComeAfter, FormAfter, NumsAfter, WordsAfter, IsNums, IsWords, IsCopied, Copies, CopiedFrom, LacksOnly, KeepsNeeded, KeepsOthers, AllCanComeAfter, AreAfter, CanEndAfter, EndsAfter};
-ghost use Rattle.sym_path.specs.Left.{PartLeft, CopyNeeds, NeedsHere, AreLeft, LeftIsPut, CanPutLeft, CanPutAllLeft, IsShape, CanNarrow, NarrowedAt};
+ghost use Rattle.sym_path.specs.Left.{PartLeft, CopyNeeds, NeedsHere, AreLeft, HasLeft, LeftAt, LeftIsPut, CanPutLeft, CanPutAllLeft, IsShape, CanNarrow, NarrowedAt};
 ghost use Rattle.sym_path.specs.Possible.{IsLeft, IsSaid, AllLeft, IsPossiblePair};
 ghost use Rattle.sym_path.specs.Pulling.{Agrees, HoldAgrees};
 ghost use Rattle.sym_path.specs.Taking.{AreTakenTo, IsTakenOn};
 ghost use Rattle.sym_int.specs.Elements.{CanGoThrough, IsOnSpans, StaysOn};
 ghost use Rattle.sym_int.specs.Lines.{form_cell, wide_cell, wide_on};
 ghost use Rattle.sym_path.specs.declared.part.Part.TheVariants as part;
+ghost use Rattle.sym_path.specs.declared.path.PathEnd.TheVariants.{Ended};
 
 use crate::form::{Form, Forms};
 use crate::joining::same_part;
@@ -27,7 +28,7 @@ use crate::path::{Path, PathEnd};
 use crate::possible_pairs::possible_by;
 use crate::pulling::{labels_left, numbers_left};
 use std::alloc::Global;
-use sym_base::{NoMemory, Sequence, Text};
+use sym_base::{Fault, NoMemory, Sequence, Text};
 use sym_check::{Checked, Plan};
 use sym_enum::EnumForm;
 use sym_int::{FormList, IntForm, IntForms, Number, Span, Spans, Wide};
@@ -205,6 +206,49 @@ fn narrow_all(
         forms = narrow_at(alloc, when, index, forms, needs)?;
     }
     Ok(forms)
+}
+
+/// Puts what is left of the cell at `index` in the place of its part. After an `Err` the part is
+/// lost.
+fn leave_at(
+    alloc: Global,
+    when: &mut Constraint,
+    index: usize,
+    forms: &[Form],
+    needs: &[Part],
+) -> Result<(), NoMemory>
+    requires lengths { length forms.now ≡ length needs.now }
+    requires few { index < 2 ^ 16 }
+    requires left { HasLeft forms.now needs.now index when.old }
+    ensures { OnOk result (LeftAt forms.now needs.now index when.old when.new) }
+{
+    match when.replace(index, Part::Free) {
+        Some(part) => {
+            let left = left_of(alloc, index as u16, part, forms, needs)?;
+            when.set(index, left);
+            Ok(())
+        }
+        None => unreachable!(),
+    }
+}
+
+/// Puts what is left of all cells in the place of their parts.
+fn leave_all(
+    alloc: Global,
+    when: &mut Constraint,
+    forms: &[Form],
+    needs: &[Part],
+) -> Result<(), NoMemory>
+    requires lengths { length forms.now ≡ length needs.now }
+    requires parts { length when.old ≡ length needs.now }
+    requires few { length when.old ≤ 2 ^ 16 }
+    requires left { AllLeft when.old forms.now needs.now }
+    ensures { OnOk result (AreLeft forms.now needs.now when.old when.new) }
+{
+    'cells: for index in 0..needs.len() {
+        leave_at(alloc, when, index, forms, needs)?;
+    }
+    Ok(())
 }
 
 /// The form of an integer cell; the constant 0 of any other cell.
@@ -520,7 +564,12 @@ fn end_after(
 }
 
 /// The path of one and then another that can come after it. What it has is moved.
-fn path_after(alloc: Global, _plan: &Plan, path: Path, next: &Path) -> Result<Path, NoMemory>
+pub(crate) fn path_after(
+    alloc: Global,
+    _plan: &Plan,
+    path: Path,
+    next: &Path,
+) -> Result<Path, NoMemory>
     requires known { IsWellFormed (script_plan _plan.now) }
     requires first { PathFits (script_plan _plan.now) path }
     requires second { PathFits (script_plan _plan.now) next.now }
@@ -536,6 +585,50 @@ fn path_after(alloc: Global, _plan: &Plan, path: Path, next: &Path) -> Result<Pa
             Ok(Path { when, end })
         }
         PathEnd::Ended(_) => unreachable!(),
+    }
+}
+
+/// The path of one and then a next one that has ended, which can come after it. The lists of the
+/// first one aren't copied.
+fn ended_after(
+    alloc: Global,
+    _plan: &Plan,
+    path: &Path,
+    next: &Path,
+    fault: Fault,
+) -> Result<Path, NoMemory>
+    requires known { IsWellFormed (script_plan _plan.now) }
+    requires first { PathFits (script_plan _plan.now) path.now }
+    requires second { PathFits (script_plan _plan.now) next.now }
+    requires possible { IsPossiblePair (test_truth (script_plan _plan.now).tests)
+        path.now next.now }
+    requires ended { next.now.end ≡ Ended fault }
+    ensures { IfOk result (IsFollowed (script_plan _plan.now) path.now next.now) }
+{
+    match &path.end {
+        PathEnd::Next(forms) => {
+            let mut when = path.when.copy(alloc)?;
+            leave_all(alloc, &mut when, forms.as_slice(), next.when.as_slice())?;
+            let end = PathEnd::Ended(fault);
+            Ok(Path { when, end })
+        }
+        PathEnd::Ended(_) => unreachable!(),
+    }
+}
+
+/// The path of one and then a next one, which can come after it. The first one is copied, its lists
+/// only if the next one goes on.
+fn path_of_both(alloc: Global, plan: &Plan, path: &Path, next: &Path) -> Result<Path, NoMemory>
+    requires known { IsWellFormed (script_plan plan.now) }
+    requires first { PathFits (script_plan plan.now) path.now }
+    requires second { PathFits (script_plan plan.now) next.now }
+    requires possible { IsPossiblePair (test_truth (script_plan plan.now).tests)
+        path.now next.now }
+    ensures { IfOk result (IsFollowed (script_plan plan.now) path.now next.now) }
+{
+    match &next.end {
+        PathEnd::Next(_) => path_after(alloc, plan, path.copy(alloc)?, next),
+        PathEnd::Ended(fault) => ended_after(alloc, plan, path, next, *fault),
     }
 }
 
@@ -575,7 +668,7 @@ pub(crate) fn follow_by(
     if !possible_by(plan, p, q) {
         return Ok(None);
     }
-    let path = path_after(alloc, plan, p.copy(alloc)?, q)?;
+    let path = path_of_both(alloc, plan, p, q)?;
     Ok(Some(path))
 }
 

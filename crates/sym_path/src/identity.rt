@@ -34,7 +34,7 @@ fn own_number(cell: u16, span: &Span) -> IntForm
     ensures { IsOwnNumber cell span.now result }
 {
     if span.lo < span.hi {
-        IntForm::Line(Line { cell, a: 1, b: 0 })
+        IntForm::Line(Line::of(cell, 1, 0))
     } else {
         IntForm::Const(Number { value: span.lo })
     }

@@ -1,5 +1,5 @@
 //! Which paths can be joined, and the paths that they become.
-ghost use Rattle.std.specs.Prelude.{◌≡◌, ◌≤◌, ◌↔◌, ℕ, ℤ, IfOk, IsTrue, MatchOption, length};
+ghost use Rattle.std.specs.Prelude.{◌≡◌, ◌≤◌, ◌<◌, ◌-◌, ◌↔◌, ℕ, ℤ, IfOk, IsTrue, MatchOption, length};
 ghost use Rattle.std.specs.List.{AllZip};
 ghost use Rattle.sym_int.specs.Points.{IsUnion};
 ghost use Rattle.sym_int.specs.declared.span.Span.{Span as OneSpan};
@@ -102,15 +102,31 @@ fn added_is_taken(
     }
 }
 
-/// Whether the added numbers of the second list are those of the first one on the constraint.
+/// Whether this is so of the added numbers at `index` and, counted from the end, at `index`.
+fn both_are_taken(
+    when: &Constraint,
+    form: &ListForm<IntForm>,
+    other: &ListForm<IntForm>,
+    index: usize,
+) -> bool
+    requires { index < length form.now }
+    ensures { IsTrue result ↔ (AddedIsTaken when.now form.now other.now index
+        × AddedIsTaken when.now form.now other.now (length form.now - 1 - index)) }
+{
+    added_is_taken(when, form, other, index)
+        && added_is_taken(when, form, other, form.len() - 1 - index)
+}
+
+/// Whether the added numbers of the second list are those of the first one on the constraint. They
+/// are compared from both ends: where two runs of one group differ, it is mostly near one of them.
 fn numbers_are_taken(when: &Constraint, form: &ListForm<IntForm>, other: &ListForm<IntForm>) -> bool
     ensures { IsTrue result ↔ AllZip (NumberIsTakenTo when.now) form.now other.now }
 {
     if form.len() != other.len() {
         return false;
     }
-    'added: for index in 0..form.len() {
-        if !added_is_taken(when, form, other, index) {
+    'added: for index in 0..form.len() - form.len() / 2 {
+        if !both_are_taken(when, form, other, index) {
             return false;
         }
     }
@@ -143,11 +159,35 @@ fn is_taken(when: &Constraint, form: &Form, other: &Form) -> bool
     }
 }
 
-/// Whether the second forms are the first ones on the constraint.
+/// Whether the second form is the first one on the constraint, unless both are lists.
+fn may_be_taken(when: &Constraint, form: &Form, other: &Form) -> bool
+    ensures { IsTakenTo when.now form.now other.now → IsTrue result }
+{
+    match (form, other) {
+        (Form::Nums(_), Form::Nums(_)) => true,
+        (Form::Words(_), Form::Words(_)) => true,
+        _ => is_taken(when, form, other),
+    }
+}
+
+/// Whether the second forms are the first ones on the constraint, but for lists, which may be long.
+fn may_all_be_taken(when: &Constraint, forms: &[Form], others: &[Form]) -> bool
+    requires { length forms.now ≡ length others.now }
+    ensures { AreTakenTo when.now forms.now others.now → IsTrue result }
+{
+    'cells: for index in 0..forms.len() {
+        if !may_be_taken(when, &forms[index], &others[index]) {
+            return false;
+        }
+    }
+    true
+}
+
+/// Whether the second forms are the first ones on the constraint. Lists are looked at last.
 pub(crate) fn are_taken(when: &Constraint, forms: &[Form], others: &[Form]) -> bool
     ensures { IsTrue result ↔ AreTakenTo when.now forms.now others.now }
 {
-    if forms.len() != others.len() {
+    if forms.len() != others.len() || !may_all_be_taken(when, forms, others) {
         return false;
     }
     'cells: for index in 0..forms.len() {

@@ -7,12 +7,16 @@ ghost use Rattle.sym_table.specs.Rows.{FitsHeader};
 
 use crate::setting::{accepted, number, state_by};
 use std::alloc::Global;
-use sym_base::{Cell, NoMemory, Outcome, Record, Sequence, State, Text, Value, Values};
+use sym_base::{
+    Cell, Fault, FaultKind, NoMemory, Outcome, Record, Sequence, State, Text, Value, Values,
+};
 use sym_check::Checked;
 use sym_enum::EnumForm;
-use sym_explore::{Extension, Grown, extend, extend_within, fresh, fresh_with, grow, grow_with};
+use sym_explore::{
+    Extension, Grown, Scratch, extend, extend_within, fresh, fresh_with, grow, grow_with,
+};
 use sym_path::{Form, Path, PathEnd, Segment};
-use sym_plain::{Buffers, step};
+use sym_plain::step;
 use sym_pred::HoldForm;
 use sym_table::{Cutter, Decoded, Row, decode};
 use sym_vector::ListForm;
@@ -62,7 +66,7 @@ fn next_record(
     if !cutter.next_row(&mut row)? {
         return Ok(None);
     }
-    match decode(alloc, checked, cutter.header(), &row, no)? {
+    match decode(alloc, checked, cutter.header(), &row.view(), no)? {
         Decoded::Is(record) => Ok(Some(record)),
         Decoded::Bad(_) => Ok(None),
     }
@@ -116,7 +120,7 @@ fn first(
     alloc: Global,
     checked: &Checked,
     rec: &Record,
-    used: &mut Buffers,
+    used: &mut Scratch,
 ) -> Result<Option<Segment>, NoMemory>
     requires { IsRecord (checked_plan checked.now) rec.now }
 {
@@ -135,7 +139,7 @@ fn is_extended(
     segment: &Segment,
     rec: &Record,
     limit: u32,
-    used: &mut Buffers,
+    used: &mut Scratch,
     grown: &Grown,
 ) -> Result<bool, NoMemory>
     requires segment { SegmentFits (checked_plan checked.now) segment.now }
@@ -157,7 +161,7 @@ fn is_grown(
     segment: &Segment,
     rec: &Record,
     limit: u32,
-    used: &mut Buffers,
+    used: &mut Scratch,
     grown: &Grown,
 ) -> Result<bool, NoMemory>
     requires segment { SegmentFits (checked_plan checked.now) segment.now }
@@ -177,7 +181,7 @@ fn longer(
     segment: &Segment,
     rec: &Record,
     limit: u32,
-    used: &mut Buffers,
+    used: &mut Scratch,
 ) -> Result<Option<Grown>, NoMemory>
     requires { IsRecord (checked_plan checked.now) rec.now }
 {
@@ -198,7 +202,7 @@ fn begin(
     checked: &Checked,
     segments: &mut Vec<Segment>,
     rec: &Record,
-    used: &mut Buffers,
+    used: &mut Scratch,
 ) -> Result<bool, NoMemory>
     requires { IsRecord (checked_plan checked.now) rec.now }
 {
@@ -219,7 +223,7 @@ fn go_on(
     segments: &mut Vec<Segment>,
     grown: Grown,
     rec: &Record,
-    used: &mut Buffers,
+    used: &mut Scratch,
 ) -> Result<bool, NoMemory>
     requires { IsRecord (checked_plan checked.now) rec.now }
 {
@@ -241,7 +245,7 @@ fn add(
     segments: &mut Vec<Segment>,
     rec: &Record,
     limit: u32,
-    used: &mut Buffers,
+    used: &mut Scratch,
 ) -> Result<bool, NoMemory>
     requires { IsRecord (checked_plan checked.now) rec.now }
 {
@@ -267,7 +271,7 @@ fn add_line(
     case: &Case,
     line: &str,
     no: u64,
-    used: &mut Buffers,
+    used: &mut Scratch,
     explored: &mut Exploration,
 ) -> Result<bool, NoMemory> {
     let Some(rec) = record(alloc, checked, case.header, line, no)? else {
@@ -290,7 +294,7 @@ fn add_lines(
     alloc: Global,
     checked: &Checked,
     case: &Case,
-    used: &mut Buffers,
+    used: &mut Scratch,
     explored: &mut Exploration,
 ) -> Result<bool, NoMemory> {
     let mut no = 0u64;
@@ -637,7 +641,7 @@ fn records_hold(
     alloc: Global,
     case: &Case,
     checked: &Checked,
-    used: &mut Buffers,
+    used: &mut Scratch,
 ) -> Result<bool, NoMemory> {
     let mut explored = Exploration {
         records: Vec::new(alloc),
@@ -649,27 +653,35 @@ fn records_hold(
     )
 }
 
-fn case_holds(alloc: Global, case: &Case, used: &mut Buffers) -> Result<bool, NoMemory> {
+fn case_holds(alloc: Global, case: &Case, used: &mut Scratch) -> Result<bool, NoMemory> {
     match accepted(alloc, case.script) {
         Some(checked) => records_hold(alloc, case, &checked, used),
         None => Ok(false),
     }
 }
 
-/// Memory with values in it that no script has put there.
-fn used_buffers(alloc: Global) -> Result<Buffers, NoMemory> {
-    let mut used = Buffers::new(alloc);
+/// Memory with values and a path in it that no script has put there.
+fn used_scratch(alloc: Global) -> Result<Scratch, NoMemory> {
+    let mut used = Scratch::new(alloc);
     used.locals
         .push(Value::Word(Text::from_str(alloc, "old")?))?;
     used.locals.push(Value::Num(7))?;
     used.args.push(Value::Label(3))?;
+    let fault = Fault {
+        kind: FaultKind::Arith,
+        no: 7,
+    };
+    used.going.push(Path {
+        when: Sequence::new(alloc),
+        end: PathEnd::Ended(fault),
+    })?;
     Ok(used)
 }
 
 /// The place of the first case whose segments don't give what the steps give, or whose numbers are
 /// others. One case after the other uses the same memory.
 pub(crate) fn wrong_case(alloc: Global, cases: &[Case]) -> Result<Option<usize>, NoMemory> {
-    let mut used = used_buffers(alloc)?;
+    let mut used = used_scratch(alloc)?;
     'cases: for (place, case) in cases.iter().enumerate() {
         if !case_holds(alloc, case, &mut used)? {
             return Ok(Some(place));

@@ -45,19 +45,11 @@ mod tests {
     fn a_number_is_pushed_before_and_after_a_change(rt: HostRuntime) -> Result<(), Fail> {
         let alloc = rt.alloc();
         let mut forms = Sequence::new(alloc);
-        forms.push(IntForm::Line(Line {
-            cell: 0,
-            a: 1,
-            b: 1,
-        }))?;
+        forms.push(IntForm::Line(Line::of(0, 1, 1)))?;
         let mut spans = Sequence::new(alloc);
         spans.push(Span { lo: 0, hi: 9 })?;
         let context = IntForms { forms, spans };
-        let pushed = IntForm::Line(Line {
-            cell: 0,
-            a: 2,
-            b: 1,
-        });
+        let pushed = IntForm::Line(Line::of(0, 2, 1));
         let form = pushed_in_turn(alloc, pushed, pushed, &context)?;
         let later = Line::new(0, 2, 3).ok_or("line")?;
         assert!(rt; form.len() == 2);
@@ -70,11 +62,7 @@ mod tests {
     #[test]
     fn a_number_is_known_where_its_cell_is(rt: HostRuntime) -> Result<(), Fail> {
         let alloc = rt.alloc();
-        let pushed = IntForm::Line(Line {
-            cell: 0,
-            a: 2,
-            b: 1,
-        });
+        let pushed = IntForm::Line(Line::of(0, 2, 1));
         let mut form = ListForm::same(alloc).push(alloc, pushed)?;
         let nine = IntForm::Const(Number { value: 9 });
         let known = form.fixed(alloc, 0, 4)?;

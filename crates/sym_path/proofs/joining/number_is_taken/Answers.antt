@@ -1,7 +1,7 @@
 use Rattle.std.proofs.Common.{◌≡◌, ℤ, ◌+ℤ◌, ◌*ℤ◌, ap, ◌∙◌, to_z, of_z, w64, rules}
 use Rattle.std.proofs.lemmas.Int.{to_z-of_z}
 use Rattle.std.specs.Int.{w128}
-use Rattle.sym_int.specs.Lines.{form_on}
+use Rattle.sym_int.specs.Lines.{form_on, offset}
 use Rattle.sym_int.specs.declared.form.IntForm.TheVariants as number
 use Rattle.sym_path.proofs.JoiningTaken.{const_number_decided, line_stays_decided, constant_decided, not_a_line}
 use Rattle.sym_path.proofs.joining.number_is_taken.Goals as goal
@@ -15,7 +15,7 @@ returns-in-Const-other c =
     let x : ℤ = c.in-Some.x in
     let fits : SFits w64 x = search rules in
     let held : to_z w64 (of_z w64 x) ≡ x = to_z-of_z w64 x fits in
-    let at : c.at.result ≡ form_on (number.Line c.in-Line.line) x = c.at.ensures ∙ ap (λ (t : ℤ). c.in-Line.line.a *ℤ t +ℤ c.in-Line.line.b) held in
+    let at : c.at.result ≡ form_on (number.Line c.in-Line.line) x = c.at.ensures ∙ ap (λ (t : ℤ). c.in-Line.line.a *ℤ t +ℤ offset c.in-Line.line) held in
     let wide : SFits w128 c.at.result = search rules in
     let whole : to_z w128 (of_z w128 c.at.result) ≡ c.at.result = to_z-of_z w128 c.at.result wide in
     constant_decided c.args.when.now c.args.form.now c.args.other.now c.in-Line.line x (to_z w128 (of_z w128 c.at.result)) c.in-Const-other.number c.is_number.result c.in-Line.is c.in-Const-other.is c.in-Some.ensures (whole ∙ at) c.is_number.ensures

@@ -1,11 +1,11 @@
--- The numbers so far are the first form's on the constraint.
-use Rattle.std.proofs.Common.{◌≡◌, ◌<◌, ℕ, length, Some}
-use Rattle.std.specs.Prelude.{slice_get}
-use Rattle.sym_int.specs.declared.form.IntForm.{IntForm}
-use Rattle.sym_path.specs.Taking.{NumberIsTakenTo}
+-- The numbers so far, from both ends, are the first form's on the constraint.
+use Rattle.std.proofs.Common.{◌≡◌, ◌<◌, ◌-◌, ℕ, length}
+use Rattle.sym_path.specs.Joins.{AddedIsTaken}
 use Rattle.sym_path.proofs.joining.numbers_are_taken.Given as goal
 
 abbrev pub invariant-added : goal.invariant-added
-invariant-added l =
-    (length l.form ≡ length l.other)
-    × ((d : ℕ) (f g : IntForm) → d < l.index → slice_get l.form d ≡ Some f → slice_get l.other d ≡ Some g → NumberIsTakenTo l.when f g)
+invariant-added l = record {
+  lengths : length l.form ≡ length l.other;
+  first : (d : ℕ) → d < l.index → AddedIsTaken l.when l.form l.other d;
+  last : (d : ℕ) → d < l.index → AddedIsTaken l.when l.form l.other (length l.form - 1 - d);
+}

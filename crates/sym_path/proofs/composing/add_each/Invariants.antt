@@ -2,7 +2,7 @@
 use Rattle.std.proofs.Common.{take}
 use Rattle.sym_check.specs.Checking.CheckedScripts.{checked_plan}
 use Rattle.sym_path.specs.Composing.{GrowsByAll}
-use Rattle.sym_path.proofs.composing.add_followed.Given as goal
+use Rattle.sym_path.proofs.composing.add_each.Given as goal
 
 abbrev pub invariant-others : goal.invariant-others
-invariant-others l = GrowsByAll (checked_plan l.checked) l.path (take l.index l.others) l.fn.out.items l.out.items
+invariant-others l = GrowsByAll (checked_plan l.checked) l.path (take l.next-index l.others) l.fn.out.items l.out.items
