@@ -39,4 +39,4 @@ pub use values::sequence::{Plain, Sequence};
 pub use values::small_list::SmallList;
 pub use values::state::{Cell, Cells, Fault, FaultKind, Outcome, State};
 pub use values::text::{Text, Texts, Words};
-pub use values::value::{Key, Nums, Value, Values};
+pub use values::value::{Fields, Key, Nums, Value, Values};

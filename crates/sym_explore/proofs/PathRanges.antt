@@ -3,7 +3,7 @@ use Rattle.std.proofs.Common.{◌≡◌, ◌≢◌, ◌+◌, ◌≤◌, ℕ, suc
 use Rattle.std.proofs.lemmas.Int.{ints, by_lt_z}
 use Rattle.std.proofs.lemmas.List.{append-nil, length-append}
 use Rattle.std.proofs.lemmas.List.Elements.{All-push}
-use Rattle.std.specs.Prelude.{slice_get, IfSome, if◌then◌else◌}
+use Rattle.std.specs.Prelude.{slice_get, slice_set, IfSome, if◌then◌else◌}
 use Rattle.sym_base.specs.States.{number_at}
 use Rattle.sym_base.specs.Tests.{Truth}
 use Rattle.sym_base.specs.declared.values.record.Record.{Record}
@@ -33,7 +33,7 @@ use Rattle.sym_path.specs.Admitting.{admits}
 use Rattle.sym_path.specs.Changing.{GoesOn, changed, end_by, ended_by, with_fault}
 use Rattle.sym_path.specs.Fitting.{NumberFits, PathFits, SegmentFits, StaysWithin}
 use Rattle.sym_path.specs.Giving.{end_at, given, outcomes}
-use Rattle.sym_path.specs.Narrowing.{GivesWhere, IsSubspan, NarrowsNumbers}
+use Rattle.sym_path.specs.Narrowing.{GivesWhere, IsSubspan, NarrowsNumbers, NumberIsPutAtEnd, NumbersNarrowed}
 use Rattle.sym_path.specs.Standing.{EndsAmong}
 use Rattle.sym_path.specs.Taking.{HasOneNumber, NumberIsTakenTo}
 use Rattle.sym_path.specs.declared.part.Part.{Part}
@@ -66,6 +66,18 @@ goes_among records (Ended fault) h = absurd h
 fault_ends : (fault : Fault) (end : PathEnd) → ¬ (GoesOn (end_by fault end))
 fault_ends fault (Next forms) h = h
 fault_ends fault (Ended old) h = h
+
+end_stays : (c : ℕ) (x : ℤ) (end : PathEnd) → ¬ (GoesOn end) → NumberIsPutAtEnd c x end end
+end_stays c x (Next forms) over = absurd (over tt)
+end_stays c x (Ended fault) over = refl
+
+-- A path that has ended is narrowed by its span alone.
+pub narrowed_ended : (c : ℕ) (span : Span) (old new : Path) → new.when ≡ slice_set old.when c (part.Span span) → new.end ≡ old.end → ¬ (GoesOn old.end) → NumbersNarrowed c span old new
+narrowed_ended c span old new when end over = record {
+  when = when;
+  one = λ e. subst (NumberIsPutAtEnd c span.lo old.end) (sym end) (end_stays c span.lo old.end over);
+  more = λ below. end;
+}
 
 pub going_append : (xs ys : List Outcome) → those_going (xs ++ ys) ≡ those_going xs ++ those_going ys
 going_append [] ys = refl

@@ -31,17 +31,18 @@ pub(crate) fn put(
     Ok(())
 }
 
-/// Puts the paths of branches after those of their truth, in order.
+/// Moves the paths of branches after those of their truth, in order.
 pub(crate) fn put_all(
-    branches: Vec<Branch>,
+    branches: &mut Vec<Branch>,
     trues: &mut Vec<Path>,
     falses: &mut Vec<Path>,
 ) -> Result<(), NoMemory>
-    ensures trues { OnOk result (trues.new.items ≡ trues.old.items ++ paths_true branches.items) }
+    ensures trues { OnOk result (
+        trues.new.items ≡ trues.old.items ++ paths_true branches.old.items) }
     ensures falses { OnOk result (
-        falses.new.items ≡ falses.old.items ++ paths_false branches.items) }
+        falses.new.items ≡ falses.old.items ++ paths_false branches.old.items) }
 {
-    'branches: for branch in branches {
+    'branches: for branch in branches.drain(..) {
         put(branch, trues, falses)?;
     }
     Ok(())

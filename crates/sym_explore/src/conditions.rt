@@ -18,6 +18,7 @@ ghost use Rattle.sym_explore.specs.Faulting.{EndAmong, HasNumber};
 ghost use Rattle.sym_explore.specs.Knowing.{CondIsKnown};
 ghost use Rattle.sym_explore.specs.Parting.{AllGoOn, AreFewParts, AreOfOneTruth, AreParts};
 
+use crate::branch::Branch;
 use crate::comparing::Bound;
 use crate::moving::move_all;
 use crate::parting::{CellCondition, Evaluated, part_evaluated};
@@ -112,7 +113,8 @@ pub(crate) fn evaluate(
 
 /// Parts paths by a condition. Those on which it is true stay in `paths`; those on which it is
 /// false are put into `falses`, and those on which its arithmetic fails, ended, into `ended`. Each
-/// expression without cells is evaluated once. `args` is memory for the arguments of tests.
+/// expression without cells is evaluated once. `args` is memory for the arguments of tests, and
+/// `pieces` for what a split adds.
 #[cycle(parting)]
 pub(crate) fn part(
     alloc: Global,
@@ -124,6 +126,7 @@ pub(crate) fn part(
     paths: &mut Vec<Path>,
     falses: &mut Vec<Path>,
     ended: &mut Vec<Path>,
+    pieces: &mut Vec<Branch>,
 ) -> Result<(), NoMemory>
     requires known { IsWellFormed (script_plan plan.now) }
     requires cond { CondIsKnown (script_plan plan.now) (known_values known.now)
@@ -160,26 +163,34 @@ pub(crate) fn part(
         Cond::Not(condition) => {
             let mut rest = Vec::new(alloc);
             part(
-                alloc, plan, known, no, condition, args, paths, &mut rest, ended,
+                alloc, plan, known, no, condition, args, paths, &mut rest, ended, pieces,
             )?;
             mem::swap(paths, &mut rest);
             move_all(&mut rest, falses)
         }
         Cond::And(left, right) => {
-            part(alloc, plan, known, no, left, args, paths, falses, ended)?;
-            part(alloc, plan, known, no, right, args, paths, falses, ended)
+            part(
+                alloc, plan, known, no, left, args, paths, falses, ended, pieces,
+            )?;
+            part(
+                alloc, plan, known, no, right, args, paths, falses, ended, pieces,
+            )
         }
         Cond::Or(left, right) => {
             let mut rest = Vec::new(alloc);
-            part(alloc, plan, known, no, left, args, paths, &mut rest, ended)?;
             part(
-                alloc, plan, known, no, right, args, &mut rest, falses, ended,
+                alloc, plan, known, no, left, args, paths, &mut rest, ended, pieces,
+            )?;
+            part(
+                alloc, plan, known, no, right, args, &mut rest, falses, ended, pieces,
             )?;
             move_all(&mut rest, paths)
         }
         _ => {
             let evaluated = evaluate(alloc, plan, known, condition, args)?;
-            part_evaluated(alloc, plan, no, &evaluated, args, paths, falses, ended)
+            part_evaluated(
+                alloc, plan, no, &evaluated, args, paths, falses, ended, pieces,
+            )
         }
     }
 }

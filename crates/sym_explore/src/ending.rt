@@ -86,16 +86,17 @@ fn put_ended_first(paths: &mut Vec<Path>) -> usize
     count
 }
 
-/// Takes those that go on out of a list of paths. It takes no memory where none or all have ended.
-pub(crate) fn take_going(alloc: Global, paths: &mut Vec<Path>) -> Result<Vec<Path>, NoMemory>
-    ensures moved { IfOk result (λ going. AreMoved paths.old.items going.items
+/// Moves those that go on out of a list of paths into an empty one. It takes no memory where none
+/// or all have ended, or the other one has room.
+pub(crate) fn take_going(paths: &mut Vec<Path>, going: &mut Vec<Path>) -> Result<(), NoMemory>
+    requires { going.old.items ≡ [] }
+    ensures moved { OnOk result (AreMoved paths.old.items going.new.items
         [] paths.new.items) }
-    ensures going { IfOk result (λ going. AllGoOn going.items) }
+    ensures going { OnOk result (AllGoOn going.new.items) }
 {
     let ended = put_ended_first(paths);
-    let mut going = Vec::new(alloc);
-    move_from(paths, ended, &mut going)?;
-    Ok(going)
+    move_from(paths, ended, going)?;
+    Ok(())
 }
 
 /// Ends all of the paths by the fault, and puts them after those that have ended.

@@ -15,6 +15,7 @@ ghost use Rattle.sym_explore.specs.Growing.{GivesAfter, grown_paths, IsToldBy};
 
 use crate::ending::take_going;
 use crate::moving::move_all;
+use crate::scratch::Scratch;
 use crate::statements::run_block;
 use crate::stepping::step_each;
 use crate::sure::all_end_sure;
@@ -22,7 +23,6 @@ use std::alloc::Global;
 use sym_base::{NoMemory, Record};
 use sym_check::{Checked, Plan};
 use sym_path::{Path, Segment, settle};
-use sym_plain::Buffers;
 
 /// A segment that was taken a record further.
 #[derive(PartialEq, Eq, Drop)]
@@ -51,7 +51,7 @@ pub(crate) fn explore_going(
     alloc: Global,
     plan: &Plan,
     rec: &Record,
-    buffers: &mut Buffers,
+    buffers: &mut Scratch,
     paths: Vec<Path>,
 ) -> Result<Vec<Path>, NoMemory>
     requires known { IsWellFormed (script_plan plan.now) }
@@ -68,7 +68,8 @@ pub(crate) fn explore_going(
         EndAmong records paths.items → IfOk result (λ new. EndAmong records new.items) }
 {
     let mut ended = paths;
-    let mut going = take_going(alloc, &mut ended)?;
+    let mut going = buffers.take_going(alloc);
+    take_going(&mut ended, &mut going)?;
     buffers.locals.truncate(0);
     run_block(
         alloc,
@@ -80,6 +81,7 @@ pub(crate) fn explore_going(
         &mut ended,
     )?;
     move_all(&mut going, &mut ended)?;
+    buffers.keep_going(going);
     Ok(ended)
 }
 
@@ -89,7 +91,7 @@ pub(crate) fn explore_each(
     alloc: Global,
     plan: &Plan,
     rec: &Record,
-    buffers: &mut Buffers,
+    buffers: &mut Scratch,
     paths: Vec<Path>,
 ) -> Result<Vec<Path>, NoMemory>
     requires known { IsWellFormed (script_plan plan.now) }
@@ -136,7 +138,7 @@ pub fn fresh(alloc: Global, checked: &Checked, rec: &Record) -> Result<Segment, 
         IfOk result (λ segment. length segment ≤ most) }
     ensures stands { IfOk result (StandsFor (checked_plan checked.now) (rec.now ∷ [])) }
 {
-    let mut buffers = Buffers::new(alloc);
+    let mut buffers = Scratch::new(alloc);
     fresh_with(alloc, checked, rec, &mut buffers)
 }
 
@@ -145,7 +147,7 @@ pub fn fresh_with(
     alloc: Global,
     checked: &Checked,
     rec: &Record,
-    buffers: &mut Buffers,
+    buffers: &mut Scratch,
 ) -> Result<Segment, NoMemory>
     requires { IsRecord (checked_plan checked.now) rec.now }
     ensures settled { IfOk result IsSettled }
@@ -213,7 +215,7 @@ pub fn grow(
         GivesAfter (checked_plan checked.now) rec.now segment (grown_paths grown)) }
     ensures limit { IfOk result (IsToldBy limit) }
 {
-    let mut buffers = Buffers::new(alloc);
+    let mut buffers = Scratch::new(alloc);
     grow_with(alloc, checked, segment, rec, limit, &mut buffers)
 }
 
@@ -224,7 +226,7 @@ pub fn grow_with(
     segment: Segment,
     rec: &Record,
     limit: u32,
-    buffers: &mut Buffers,
+    buffers: &mut Scratch,
 ) -> Result<Grown, NoMemory>
     requires fits { SegmentFits (checked_plan checked.now) segment }
     requires rec { IsRecord (checked_plan checked.now) rec.now }

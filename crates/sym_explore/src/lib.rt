@@ -17,6 +17,7 @@ mod moving;
 mod parting;
 mod placing;
 mod ranging;
+mod scratch;
 mod statements;
 mod stepping;
 mod storing;
@@ -25,3 +26,4 @@ mod terms;
 
 pub use extending::{Grown, extend, fresh, fresh_with, grow, grow_with};
 pub use limiting::{Extension, extend_within};
+pub use scratch::Scratch;

@@ -11,13 +11,13 @@ ghost use Rattle.sym_explore.specs.Limiting.{AreInTurn, IsExtended, IsExtendedBy
 ghost use Rattle.sym_explore.specs.Sure.{IsSureEnd};
 
 use crate::extending::explore_going;
+use crate::scratch::Scratch;
 use crate::stepping::step_each;
 use crate::sure::all_end_sure;
 use std::alloc::Global;
 use sym_base::{NoMemory, Record};
 use sym_check::Checked;
 use sym_path::{Path, PathEnd, Segment, settle};
-use sym_plain::Buffers;
 
 /// A segment that was taken a record further, if the limit of paths allows it.
 #[derive(PartialEq, Eq, Drop)]
@@ -212,7 +212,7 @@ fn extend_copied(
     segment: Segment,
     rec: &Record,
     limit: u32,
-    buffers: &mut Buffers,
+    buffers: &mut Scratch,
 ) -> Result<Extension, NoMemory>
     requires fits { SegmentFits (checked_plan checked.now) segment }
     requires rec { IsRecord (checked_plan checked.now) rec.now }
@@ -231,7 +231,7 @@ fn extend_sure(
     checked: &Checked,
     segment: Segment,
     rec: &Record,
-    buffers: &mut Buffers,
+    buffers: &mut Scratch,
 ) -> Result<Segment, NoMemory>
     requires fits { SegmentFits (checked_plan checked.now) segment }
     requires sure { All (λ (path : OnePath). IsSureEnd path.end) segment }
@@ -262,7 +262,7 @@ pub fn extend_within(
     segment: Segment,
     rec: &Record,
     limit: u32,
-    buffers: &mut Buffers,
+    buffers: &mut Scratch,
 ) -> Result<Extension, NoMemory>
     requires fits { SegmentFits (checked_plan checked.now) segment }
     requires rec { IsRecord (checked_plan checked.now) rec.now }

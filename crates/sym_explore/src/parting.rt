@@ -116,7 +116,7 @@ fn split_each(
 
 /// Parts paths by a condition on a cell: their branches on which it is true take their place, and
 /// the others are put into `falses`. Where `falses` is empty, paths that aren't split and on which
-/// it has one truth take no memory.
+/// it has one truth take no memory. `pieces` is memory for what a split adds.
 fn part_each(
     alloc: Global,
     plan: &Plan,
@@ -124,6 +124,7 @@ fn part_each(
     args: &Values,
     paths: &mut Vec<Path>,
     falses: &mut Vec<Path>,
+    pieces: &mut Vec<Branch>,
 ) -> Result<(), NoMemory>
     requires known { IsWellFormed (script_plan plan.now) }
     requires condition { CellConditionFits (script_plan plan.now) args.now condition.now }
@@ -138,8 +139,8 @@ fn part_each(
     ensures going { OnOk result (AreGoing (script_plan plan.now) paths.new.items) }
     ensures falses { OnOk result (AreGoing (script_plan plan.now) falses.new.items) }
 {
-    let mut pieces = Vec::new(alloc);
-    let count = split_each(alloc, plan, condition, args, paths, &mut pieces)?;
+    pieces.clear();
+    let count = split_each(alloc, plan, condition, args, paths, pieces)?;
     move_from(paths, count, falses)?;
     put_all(pieces, paths, falses)
 }
@@ -168,6 +169,7 @@ pub(crate) fn part_evaluated(
     paths: &mut Vec<Path>,
     falses: &mut Vec<Path>,
     ended: &mut Vec<Path>,
+    pieces: &mut Vec<Branch>,
 ) -> Result<(), NoMemory>
     requires known { IsWellFormed (script_plan plan.now) }
     requires evaluated { EvaluatedFits (script_plan plan.now) args.now evaluated.now }
@@ -197,6 +199,8 @@ pub(crate) fn part_evaluated(
     match evaluated {
         Evaluated::Known(truth) => part_known(*truth, paths, falses),
         Evaluated::Failed => fail_all(arith(no), paths, ended),
-        Evaluated::Open(condition) => part_each(alloc, plan, condition, args, paths, falses),
+        Evaluated::Open(condition) => {
+            part_each(alloc, plan, condition, args, paths, falses, pieces)
+        }
     }
 }

@@ -24,7 +24,7 @@ use std::alloc::Global;
 use sym_base::{Fault, NoMemory};
 use sym_check::{Plan, Range};
 use sym_int::{IntForm, Number, Span, Wide, WideLine, WideNumber, fit};
-use sym_path::Path;
+use sym_path::{Part, Path};
 
 /// A path on which the number is known goes on with what the target's range keeps of it; where that
 /// is nothing, it ends.
@@ -47,6 +47,18 @@ pub(crate) fn range_known(target: &Target, number: &WideNumber, path: &mut Path)
     }
 }
 
+/// Narrows a path that has ended to a span within that of the cell: no form is taken on it.
+fn narrow_ended(_plan: &Plan, cell: u16, span: &Span, path: &mut Path)
+    requires fits { PathFits (script_plan _plan.now) path.old }
+    requires narrower { NarrowsNumbers span.now (slice_get path.old.when cell) }
+    requires ended { ¬ (GoesOn path.old.end) }
+    ensures fits { PathFits (script_plan _plan.now) path.new }
+    ensures gives { GivesWhere path.old cell (part.Span span.now) path.new }
+    ensures end { path.new.end ≡ path.old.end }
+{
+    path.when.set(usize::from(cell), Part::Span(*span));
+}
+
 /// Puts the part of the path on this span of the cell, ended by the fault, after the other paths.
 fn push_failed(
     alloc: Global,
@@ -65,7 +77,7 @@ fn push_failed(
         out.old.items out.new.items) }
 {
     let mut copy = path.failed(alloc, fault)?;
-    copy.narrow_numbers(plan, cell, span);
+    narrow_ended(plan, cell, span, &mut copy);
     out.push(copy)?;
     Ok(())
 }

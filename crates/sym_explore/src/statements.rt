@@ -20,11 +20,12 @@ use crate::assigning::assign_all;
 use crate::conditions::part;
 use crate::ending::fail_all;
 use crate::moving::move_all;
+use crate::scratch::Scratch;
 use std::alloc::Global;
 use sym_base::{Fault, NoMemory, Record};
 use sym_check::{Cond, Do, Dos, Fixed, Plan, known_in};
 use sym_path::Path;
-use sym_plain::{Buffers, Stop, fixed_value, name_local};
+use sym_plain::{Stop, fixed_value, name_local};
 
 /// Gives a local its value, which is evaluated once; arithmetic that fails ends all of the paths.
 fn name(
@@ -33,7 +34,7 @@ fn name(
     rec: &Record,
     local: u16,
     value: &Fixed,
-    buffers: &mut Buffers,
+    buffers: &mut Scratch,
     paths: &mut Vec<Path>,
     ended: &mut Vec<Path>,
 ) -> Result<(), NoMemory>
@@ -76,7 +77,7 @@ fn run_all(
     plan: &Plan,
     rec: &Record,
     statements: &Dos,
-    buffers: &mut Buffers,
+    buffers: &mut Scratch,
     paths: &mut Vec<Path>,
     ended: &mut Vec<Path>,
 ) -> Result<(), NoMemory>
@@ -121,7 +122,7 @@ pub(crate) fn run_block(
     plan: &Plan,
     rec: &Record,
     statements: &Dos,
-    buffers: &mut Buffers,
+    buffers: &mut Scratch,
     paths: &mut Vec<Path>,
     ended: &mut Vec<Path>,
 ) -> Result<(), NoMemory>
@@ -164,7 +165,7 @@ fn run(
     plan: &Plan,
     rec: &Record,
     statement: &Do,
-    buffers: &mut Buffers,
+    buffers: &mut Scratch,
     paths: &mut Vec<Path>,
     ended: &mut Vec<Path>,
 ) -> Result<(), NoMemory>
@@ -220,7 +221,7 @@ fn choose(
     condition: &Cond,
     then: &Dos,
     otherwise: &Dos,
-    buffers: &mut Buffers,
+    buffers: &mut Scratch,
     paths: &mut Vec<Path>,
     ended: &mut Vec<Path>,
 ) -> Result<(), NoMemory>
@@ -259,6 +260,7 @@ fn choose(
         paths,
         &mut falses,
         ended,
+        &mut buffers.pieces,
     )?;
     run_block(alloc, plan, rec, then, buffers, paths, ended)?;
     run_block(alloc, plan, rec, otherwise, buffers, &mut falses, ended)?;

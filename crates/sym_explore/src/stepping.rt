@@ -27,6 +27,7 @@ use crate::ending::arith;
 use crate::forms::put_parts;
 use crate::placing::{Place, Target, put};
 use crate::ranging::range_known;
+use crate::scratch::Scratch;
 use crate::storing::target_of;
 use crate::sure::{term_on, truth_on};
 use crate::terms::{Ready, ready_of};
@@ -35,7 +36,7 @@ use sym_base::{NoMemory, Record, Values};
 use sym_check::{Cond, Do, Dos, Fixed, FixedList, Known, Plan, Term, known_in};
 use sym_int::{IntForm, WideNumber};
 use sym_path::Path;
-use sym_plain::{Buffers, Stop, fixed_value, name_local, set_values};
+use sym_plain::{Stop, fixed_value, name_local, set_values};
 
 /// The number that is to be stored at the target for a ready term; where the target's range keeps
 /// none, the path ends.
@@ -171,7 +172,7 @@ fn name_on(
     rec: &Record,
     local: u16,
     value: &Fixed,
-    buffers: &mut Buffers,
+    buffers: &mut Scratch,
     path: &mut Path,
 ) -> Result<(), NoMemory>
     requires sure { IsSurePath (script_plan _plan.now) path.old }
@@ -202,7 +203,7 @@ fn step_all(
     plan: &Plan,
     rec: &Record,
     statements: &Dos,
-    buffers: &mut Buffers,
+    buffers: &mut Scratch,
     path: &mut Path,
 ) -> Result<(), NoMemory>
     requires known { IsWellFormed (script_plan plan.now) }
@@ -235,7 +236,7 @@ fn step_block(
     plan: &Plan,
     rec: &Record,
     statements: &Dos,
-    buffers: &mut Buffers,
+    buffers: &mut Scratch,
     path: &mut Path,
 ) -> Result<(), NoMemory>
     requires known { IsWellFormed (script_plan plan.now) }
@@ -263,7 +264,7 @@ fn step(
     plan: &Plan,
     rec: &Record,
     statement: &Do,
-    buffers: &mut Buffers,
+    buffers: &mut Scratch,
     path: &mut Path,
 ) -> Result<(), NoMemory>
     requires known { IsWellFormed (script_plan plan.now) }
@@ -308,7 +309,7 @@ fn choose(
     condition: &Cond,
     then: &Dos,
     otherwise: &Dos,
-    buffers: &mut Buffers,
+    buffers: &mut Scratch,
     path: &mut Path,
 ) -> Result<(), NoMemory>
     requires known { IsWellFormed (script_plan plan.now) }
@@ -338,7 +339,7 @@ fn step_path(
     alloc: Global,
     plan: &Plan,
     rec: &Record,
-    buffers: &mut Buffers,
+    buffers: &mut Scratch,
     path: &mut Path,
 ) -> Result<(), NoMemory>
     requires known { IsWellFormed (script_plan plan.now) }
@@ -360,7 +361,7 @@ pub(crate) fn step_each(
     alloc: Global,
     plan: &Plan,
     rec: &Record,
-    buffers: &mut Buffers,
+    buffers: &mut Scratch,
     paths: &mut [Path],
 ) -> Result<(), NoMemory>
     requires known { IsWellFormed (script_plan plan.now) }

@@ -69,10 +69,22 @@ fn ends_sure(path: &Path) -> bool
     }
 }
 
-/// Whether this is so of all of the paths.
+/// Whether this is so of the last path, if there is one.
+fn last_ends_sure(paths: &[Path]) -> bool {
+    match paths.last() {
+        Some(path) => ends_sure(path),
+        None => true,
+    }
+}
+
+/// Whether this is so of all of the paths. Those that go on mostly stand last, so the last one is
+/// looked at first.
 pub(crate) fn all_end_sure(paths: &[Path]) -> bool
     ensures { IsTrue result → All (λ (path : OnePath). IsSureEnd path.end) paths.now }
 {
+    if !last_ends_sure(paths) {
+        return false;
+    }
     'paths: for path in paths {
         if !ends_sure(path) {
             return false;

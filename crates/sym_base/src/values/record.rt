@@ -2,7 +2,7 @@
 ghost use Rattle.std.specs.Prelude.{◌≡◌, IfOk};
 
 use crate::values::memory::NoMemory;
-use crate::values::value::Values;
+use crate::values::value::Fields;
 use std::alloc::Global;
 
 /// A record: its number, counted from 1 over all files, and one value for each field of the
@@ -10,7 +10,7 @@ use std::alloc::Global;
 #[derive(PartialEq, Eq)]
 pub struct Record {
     pub no: u64,
-    pub fields: Values,
+    pub fields: Fields,
 }
 
 impl Drop for Record {

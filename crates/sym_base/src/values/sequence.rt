@@ -1,5 +1,5 @@
-//! The one list type of plain values.
-ghost use Rattle.std.specs.Prelude.{◌≡◌, ◌↔◌, ◌<◌, ◌++◌, ◌∷◌, [], IsSome, IfOk, OnOk, OnErr, length, take, slice_get, slice_set, option_copied, ◌==◌, refl};
+//! Lists in memory of their own, and values that can be copied.
+ghost use Rattle.std.specs.Prelude.{◌≡◌, ◌↔◌, ◌<◌, ◌++◌, ◌∷◌, [], IsSome, IfOk, OnOk, OnErr, length, slice_get, slice_set, option_copied, ◌==◌, refl};
 ghost use Rattle.std.specs.Option.{option_copied_mut};
 ghost use Rattle.std.specs.Hash as fed;
 ghost use Rattle.std.specs.Hash.{items_Alike};
@@ -136,14 +136,6 @@ impl<T: Drop> Sequence<T> {
     {
         let place = self.items.get_mut(index)?;
         Some(mem::replace(place, item))
-    }
-
-    /// Drops all but the first `count` items. The list keeps its memory.
-    #[inline(never)]
-    pub fn truncate(&mut self, count: usize)
-        ensures { self.new ≡ take count self.old }
-    {
-        self.items.truncate(count);
     }
 }
 

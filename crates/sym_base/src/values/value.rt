@@ -32,6 +32,9 @@ impl Drop for Value {
 /// A list of values. One value alone, as most keys, arguments and hold cells have, lies inline.
 pub type Values = SmallList<Value>;
 
+/// The values of a record's fields, of which most records have several.
+pub type Fields = Sequence<Value>;
+
 /// The elements of a `nums` cell.
 pub type Nums = Sequence<i64>;
 

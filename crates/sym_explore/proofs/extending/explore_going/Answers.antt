@@ -20,26 +20,26 @@ run_block-requires-clause-well c =
 
 pub run_block-requires-clause-fits : goal.run_block-requires-clause-fits
 run_block-requires-clause-fits c =
-    going_fit (script_plan c.args.plan.now) c.args.paths.items c.in_ok-going.going.items [] c.take_going.new.paths.items refl c.in_ok-going.ensures.moved c.requires.fits
+    going_fit (script_plan c.args.plan.now) c.args.paths.items c.take_going.new.going.items [] c.take_going.new.paths.items refl c.in_ok-take_going.ensures.moved c.requires.fits
 
 pub run_block-requires-clause-ended_fit : goal.run_block-requires-clause-ended_fit
 run_block-requires-clause-ended_fit c =
-    ended_fit (script_plan c.args.plan.now) c.args.paths.items c.in_ok-going.going.items [] c.take_going.new.paths.items refl c.in_ok-going.ensures.moved c.requires.fits
+    ended_fit (script_plan c.args.plan.now) c.args.paths.items c.take_going.new.going.items [] c.take_going.new.paths.items refl c.in_ok-take_going.ensures.moved c.requires.fits
 
 pub returns-clause-exact : goal.returns-clause-exact
 returns-clause-exact c =
     let none : c.truncate.new.self ≡ [] = search rules in
-    explored_gives (script_plan c.args.plan.now) c.args.rec.now c.args.paths.items c.in_ok-going.going.items [] c.take_going.new.paths.items c.run_block.new.paths.items c.run_block.new.ended.items c.move_all.new.to.items refl c.in_ok-going.ensures.moved c.in_ok-going.ensures.going c.in_ok-move_all.ensures.to c.truncate.new.self none c.in_ok-run_block.ensures.exact
+    explored_gives (script_plan c.args.plan.now) c.args.rec.now c.args.paths.items c.take_going.new.going.items [] c.take_going.new.paths.items c.run_block.new.paths.items c.run_block.new.ended.items c.move_all.new.to.items refl c.in_ok-take_going.ensures.moved c.in_ok-take_going.ensures.going c.in_ok-move_all.ensures.to c.truncate.new.self none c.in_ok-run_block.ensures.exact
 
 pub returns-clause-few : goal.returns-clause-few
 returns-clause-few c =
-    explored_few (script_plan c.args.plan.now) c.args.rec.now c.args.paths.items c.in_ok-going.going.items [] c.take_going.new.paths.items c.run_block.new.paths.items c.run_block.new.ended.items c.move_all.new.to.items refl c.in_ok-going.ensures.moved c.in_ok-going.ensures.going c.in_ok-move_all.ensures.to c.in_ok-run_block.ensures.few
+    explored_few (script_plan c.args.plan.now) c.args.rec.now c.args.paths.items c.take_going.new.going.items [] c.take_going.new.paths.items c.run_block.new.paths.items c.run_block.new.ended.items c.move_all.new.to.items refl c.in_ok-take_going.ensures.moved c.in_ok-take_going.ensures.going c.in_ok-move_all.ensures.to c.in_ok-run_block.ensures.few
 
 pub returns-clause-faults : goal.returns-clause-faults
 returns-clause-faults c = λ records has ends.
-    let before = ended_came (script_plan c.args.plan.now) c.args.paths.items c.in_ok-going.going.items [] c.take_going.new.paths.items refl c.in_ok-going.ensures.moved records ends in
-    explored_faults (script_plan c.args.plan.now) c.args.rec.now c.args.paths.items c.in_ok-going.going.items [] c.take_going.new.paths.items c.run_block.new.paths.items c.run_block.new.ended.items c.move_all.new.to.items refl c.in_ok-going.ensures.moved c.in_ok-going.ensures.going c.in_ok-move_all.ensures.to records c.in_ok-run_block.ensures.going (c.in_ok-run_block.ensures.faults records has before)
+    let before = ended_came (script_plan c.args.plan.now) c.args.paths.items c.take_going.new.going.items [] c.take_going.new.paths.items refl c.in_ok-take_going.ensures.moved records ends in
+    explored_faults (script_plan c.args.plan.now) c.args.rec.now c.args.paths.items c.take_going.new.going.items [] c.take_going.new.paths.items c.run_block.new.paths.items c.run_block.new.ended.items c.move_all.new.to.items refl c.in_ok-take_going.ensures.moved c.in_ok-take_going.ensures.going c.in_ok-move_all.ensures.to records c.in_ok-run_block.ensures.going (c.in_ok-run_block.ensures.faults records has before)
 
 pub returns-clause-each_few : goal.returns-clause-each_few
 returns-clause-each_few c =
-    explored_each_few (script_plan c.args.plan.now) c.args.paths.items c.in_ok-going.going.items [] c.take_going.new.paths.items c.run_block.new.paths.items c.run_block.new.ended.items c.move_all.new.to.items refl c.in_ok-going.ensures.moved c.in_ok-going.ensures.going c.in_ok-move_all.ensures.to c.in_ok-run_block.ensures.few
+    explored_each_few (script_plan c.args.plan.now) c.args.paths.items c.take_going.new.going.items [] c.take_going.new.paths.items c.run_block.new.paths.items c.run_block.new.ended.items c.move_all.new.to.items refl c.in_ok-take_going.ensures.moved c.in_ok-take_going.ensures.going c.in_ok-move_all.ensures.to c.in_ok-run_block.ensures.few

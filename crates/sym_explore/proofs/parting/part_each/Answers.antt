@@ -20,7 +20,7 @@ returns-clause-exact c = λ n.
     let before : List Path = c.args.falses.now.items in
     let after : List Path = c.put_all.new.falses.items in
     on_ok_both c.put_all.result (new ≡ c.move_from.new.paths.items ++ paths_true pieces) (after ≡ c.move_from.new.to.items ++ paths_false pieces) (AreParts p (tried_on_cell p c.args.args.now q n) old new before after [] [])
-    (λ t f. split_parts p n (holds_at p c.args.args.now q) old (take count paths) (drop count paths) c.new-pieces.result.items pieces c.new-pieces.ensures.items (c.in_ok-count.ensures.exact n) new before after
+    (λ t f. split_parts p n (holds_at p c.args.args.now q) old (take count paths) (drop count paths) c.clear.new.self.items pieces c.clear.ensures.items (c.in_ok-count.ensures.exact n) new before after
     (t ∙ ap (λ (ps : List Path). ps ++ paths_true pieces) c.in_ok-move_from.ensures.paths)
     (f ∙ ap (λ (ps : List Path). ps ++ paths_false pieces) c.in_ok-move_from.ensures.to)
     (goes_on_all p old c.requires.going))
@@ -37,7 +37,7 @@ returns-clause-few c =
     let before : List Path = c.args.falses.now.items in
     let after : List Path = c.put_all.new.falses.items in
     on_ok_both c.put_all.result (new ≡ c.move_from.new.paths.items ++ paths_true pieces) (after ≡ c.move_from.new.to.items ++ paths_false pieces) (AreFewParts (cell_branches q) old new before after [] [])
-    (λ t f. few_parts (cell_branches q) old (take count paths) (drop count paths) c.new-pieces.result.items pieces c.new-pieces.ensures.items c.in_ok-count.ensures.few new before after
+    (λ t f. few_parts (cell_branches q) old (take count paths) (drop count paths) c.clear.new.self.items pieces c.clear.ensures.items c.in_ok-count.ensures.few new before after
     (t ∙ ap (λ (ps : List Path). ps ++ paths_true pieces) c.in_ok-move_from.ensures.paths)
     (f ∙ ap (λ (ps : List Path). ps ++ paths_false pieces) c.in_ok-move_from.ensures.to))
     c.put_all.ensures.trues c.put_all.ensures.falses
