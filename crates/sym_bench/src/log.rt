@@ -47,7 +47,7 @@ pub(crate) fn records_of(alloc: Global, checked: &Checked) -> Result<Vec<Record>
         if !cutter.next_row(&mut row)? {
             return Err(Stop::Input);
         }
-        match decode(alloc, checked, cutter.header(), &row, no)? {
+        match decode(alloc, checked, cutter.header(), &row.view(), no)? {
             Decoded::Is(record) => records.push(record)?,
             Decoded::Bad(_) => return Err(Stop::Input),
         }

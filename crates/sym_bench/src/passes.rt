@@ -9,7 +9,7 @@ use crate::rounds::{CHUNKS, ROUNDS, keep_rows, next_round};
 use crate::stop::Stop;
 use std::alloc::Global;
 use std::mem;
-use sym_base::{NoMemory, Record, Values};
+use sym_base::{Fields, NoMemory, Record};
 use sym_check::Checked;
 use sym_plain::{Groups, fold_into};
 use sym_run::{Applied, Run, of_chunk, of_chunks};
@@ -40,9 +40,10 @@ fn fold_chunk(
 ) -> Result<(), Stop>
     requires { FitsChunk (checked_plan checked.now).fields chunk.now }
 {
-    'rows: for (index, row) in chunk.rows.as_slice().iter().enumerate() {
+    'rows: for index in 0..chunk.rows.len() {
         let no = chunk.first_no.wrapping_add(index as u64);
-        if decode_into(alloc, checked, &chunk.header, row, no, rec)?.is_some() {
+        let row = chunk.rows.row(index);
+        if decode_into(alloc, checked, &chunk.header, &row, no, rec)?.is_some() {
             return Err(Stop::Input);
         }
         fold_into(alloc, checked, groups, rec)?;
@@ -77,7 +78,7 @@ pub(crate) fn fold_rows(
     let mut groups = Groups::new(alloc);
     let mut rec = Record {
         no: 0,
-        fields: Values::new(alloc),
+        fields: Fields::new(alloc),
     };
     'rounds: for _round in 0..ROUNDS {
         let chunks = next_round(alloc, cutter, &mut spare, CHUNKS)?;

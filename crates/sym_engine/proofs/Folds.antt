@@ -1,12 +1,16 @@
 -- Rows and chunks that are folded in order.
-use Rattle.std.proofs.Common.{◌≡◌, ◌∙◌, refl, sym, ap, ℕ, ◌+◌, ◌<◌, List, [], ◌∷◌, ◌++◌, length, drop, map, get_or, Option, None, Result, Ok, Err, IfOk, subst}
+use Rattle.std.proofs.Common.{◌≡◌, ◌∙◌, refl, sym, ap, ℕ, ◌+◌, ◌<◌, List, [], ◌∷◌, ◌++◌, length, drop, map, get_or, slice_get, Option, Some, None, Result, Ok, Err, IfOk, subst}
+use Rattle.std.proofs.lemmas.Option.{get_or_from_slice_get, slice_get_within}
 use Rattle.sym_base.specs.declared.values.memory.NoMemory.{NoMemory}
 use Rattle.sym_base.specs.declared.values.record.Record.{Record}
 use Rattle.sym_base.specs.declared.values.value.Key.{Key}
 use Rattle.sym_base.specs.declared.values.state.Outcome.{Outcome}
 use Rattle.sym_check.specs.Meaning.Groups.{pass}
 use Rattle.sym_check.specs.Plan.ScriptPlans.{ScriptPlan}
+use Rattle.sym_base.specs.declared.values.value.Value.{Value}
 use Rattle.sym_table.specs.declared.bad.Bad.{Bad}
+use Rattle.sym_table.specs.declared.bad.BadCause.{BadCause}
+use Rattle.sym_table.specs.declared.bad.Decoded.TheVariants as decoded
 use Rattle.sym_table.specs.declared.chunk.Chunk.{Chunk}
 use Rattle.sym_table.specs.declared.header.Header.{Header}
 use Rattle.sym_table.specs.ChunkRecords.{chunk_records, all_records}
@@ -19,26 +23,37 @@ use Rattle.sym_engine.specs.declared.rounds.Took.{Took}
 use Rattle.sym_engine.specs.declared.rounds.Took.TheVariants as took
 use Rattle.sym_engine.specs.Rounds.{Takes, shown_chunk, round_records}
 use Rattle.sym_engine.specs.Taking.{ArePassed}
-use Rattle.sym_engine.proofs.Walks.{IsWalk, alone, walk_on, row_next, chunk_next, record_is}
+use Rattle.sym_engine.proofs.Walks.{IsWalk, alone, walk_on, walk_stops, row_next, chunk_next, record_is}
 
 abbrev Pairs : Type 0
 Pairs = List (Key × Outcome)
 
--- The row at a place, by the list that the code goes over.
-at_place : {A : Type 0} (xs items : List A) (k : ℕ) (x : A) → items ≡ xs → k < length items → x ≡ get_or items k x → (k < length xs) × (x ≡ get_or xs k x)
-at_place {A = A} xs items k x same h e =
-    let P : List A → Type 0 = λ ys. (k < length ys) × (x ≡ get_or ys k x) in subst P same (h, e)
-
-pub row_folded : (p : ScriptPlan) (header : Header) (n : ℕ) (rows items : List Row) (k : ℕ) (row : Row) (found : Option Bad) (rec : Record) (all : Result (List Record) Bad) (old now new : Pairs)
-    → items ≡ rows → k < length items → row ≡ get_or items k row → found ≡ None → Fills found rec (numbered n (read_row p.enums p.fields header row))
+pub row_folded : (p : ScriptPlan) (header : Header) (n : ℕ) (rows : List Row) (k : ℕ) (row : Row) (found : Option Bad) (rec : Record) (all : Result (List Record) Bad) (old now new : Pairs)
+    → slice_get rows k ≡ Some row → found ≡ None → Fills found rec (numbered n (read_row p.enums p.fields header row))
     → ((records : List Record) → now ≡ pass p records → new ≡ pass p (records ++ rec ∷ []))
     → IsWalk (ArePassed p) all (records_or_bad p header n (drop k rows)) old now → IsWalk (ArePassed p) all (records_or_bad p header (n + 1) (drop (k + 1) rows)) old new
-row_folded p header n rows items k row found rec all old now new same h e none fills folds w =
+row_folded p header n rows k row found rec all old now new at none fills folds w =
     let F : Option Bad → Type 0 = λ o. Fills o rec (numbered n (read_row p.enums p.fields header row)) in
-    let at = at_place rows items k row same h e in
+    let within = slice_get_within rows k row at in
+    let is = sym (get_or_from_slice_get rows k row row at) in
     walk_on (ArePassed p) all (records_or_bad p header n (drop k rows)) (alone (record_or_bad n (read_row p.enums p.fields header row))) (records_or_bad p header (n + 1) (drop (k + 1) rows))
-    old now new w (row_next p header n rows k row at.0 at.1)
+    old now new w (row_next p header n rows k row within is)
     (rec ∷ [], record_is n (read_row p.enums p.fields header row) rec (subst F none fills), folds)
+
+refused : (n : ℕ) (read : Result (List Value) BadCause) (bad : Bad) → numbered n read ≡ decoded.Bad bad → alone (record_or_bad n read) ≡ Err bad
+refused n (Ok values) bad e = absurd (cc)
+refused n (Err why) bad e =
+    let same : record { no = n; cause = why } ≡ bad = cc in ap Err same
+
+pub row_refused : (p : ScriptPlan) (header : Header) (n : ℕ) (rows : List Row) (k : ℕ) (row : Row) (found : Option Bad) (bad : Bad) (rec : Record) (all : Result (List Record) Bad) (old now : Pairs)
+    → slice_get rows k ≡ Some row → found ≡ Some bad → Fills found rec (numbered n (read_row p.enums p.fields header row))
+    → IsWalk (ArePassed p) all (records_or_bad p header n (drop k rows)) old now → all ≡ Err bad
+row_refused p header n rows k row found bad rec all old now at e fills w =
+    let F : Option Bad → Type 0 = λ o. Fills o rec (numbered n (read_row p.enums p.fields header row)) in
+    let within = slice_get_within rows k row at in
+    let is = sym (get_or_from_slice_get rows k row row at) in
+    walk_stops (ArePassed p) all (records_or_bad p header n (drop k rows)) (alone (record_or_bad n (read_row p.enums p.fields header row))) (records_or_bad p header (n + 1) (drop (k + 1) rows))
+    old now bad w (row_next p header n rows k row within is) (refused n (read_row p.enums p.fields header row) bad (subst F e fills))
 
 pub chunk_folded : (p : ScriptPlan) (cuts : List Chunk) (k : ℕ) (cut : Chunk) (t : Took) (all : Result (List Record) Bad) (old now new : Pairs)
     → k < length cuts → cut ≡ get_or cuts k cut → t ≡ took.Done → Takes (ArePassed p) (chunk_records p cut) now new t

@@ -11,7 +11,7 @@ use crate::cutting::then_cut;
 use crate::rounds::{Took, Work};
 use crate::ways::Way;
 use std::alloc::Global;
-use sym_base::{NoMemory, Record, Values};
+use sym_base::{Fields, NoMemory, Record};
 use sym_check::Checked;
 use sym_plain::{Groups, fold_into};
 use sym_table::{Chunk, Cutter, Spare, decode_into};
@@ -29,7 +29,7 @@ impl Folded {
     pub(crate) fn new(alloc: Global) -> Folded
         ensures { result.groups ≡ [] }
     {
-        let fields = Values::new(alloc);
+        let fields = Fields::new(alloc);
         Folded {
             groups: Groups::new(alloc),
             rec: Record { no: 0, fields },
@@ -50,9 +50,10 @@ fn fold_chunk(
         IfOk result (Takes (ArePassed p) read folded.old.groups folded.new.groups) }
 {
     let mut no = chunk.first_no;
-    'rows: for row in chunk.rows.as_slice() {
+    'rows: for index in 0..chunk.rows.len() {
+        let row = chunk.rows.row(index);
         let rec = &mut folded.rec;
-        match decode_into(alloc, checked, &chunk.header, row, no, rec)? {
+        match decode_into(alloc, checked, &chunk.header, &row, no, rec)? {
             Some(bad) => return Ok(Took::Bad(bad)),
             None => fold_into(alloc, checked, &mut folded.groups, &folded.rec)?,
         }

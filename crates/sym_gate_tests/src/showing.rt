@@ -18,10 +18,10 @@ pub(crate) struct ShowsB;
 fn rows_b(alloc: Global, count: usize) -> Result<Rows, NoMemory>
     ensures { IfOk result (λ rows. rows ≡ replicate count row_b) }
 {
+    let row = Row::from_fields(alloc, &[b"b"])?;
     let mut rows = Rows::new(alloc);
     'rows: for _row in 0..count {
-        let row = Row::from_fields(alloc, &[b"b"])?;
-        rows.push(row)?;
+        rows.push(&row)?;
     }
     Ok(rows)
 }

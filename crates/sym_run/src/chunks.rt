@@ -14,9 +14,9 @@ use crate::run_groups::RunGroups;
 use crate::runs::Run;
 use indexmap::IndexMap;
 use std::alloc::Global;
-use sym_base::{Key, NoMemory, Record, Values};
+use sym_base::{Fields, Key, NoMemory, Record, Values};
 use sym_check::Checked;
-use sym_plain::Buffers;
+use sym_explore::Scratch;
 use sym_table::{Bad, Chunk, decode_into};
 
 /// Takes the records of a chunk's rows into the chains of their keys, after those that these stand
@@ -40,18 +40,19 @@ pub(crate) fn take_rows(
     let mut key = Key {
         values: Values::new(alloc),
     };
-    let mut buffers = Buffers::new(alloc);
+    let mut scratch = Scratch::new(alloc);
     let mut rec = Record {
         no: 0,
-        fields: Values::new(alloc),
+        fields: Fields::new(alloc),
     };
-    'rows: for (index, row) in chunk.rows.as_slice().iter().enumerate() {
+    'rows: for index in 0..chunk.rows.len() {
         let no = chunk.first_no + index as u64;
-        let bad = decode_into(alloc, checked, &chunk.header, row, no, &mut rec)?;
+        let row = chunk.rows.row(index);
+        let bad = decode_into(alloc, checked, &chunk.header, &row, no, &mut rec)?;
         if bad.is_some() {
             return Ok(bad);
         }
-        take_record(alloc, checked, map, &rec, limit, &mut key, &mut buffers)?;
+        take_record(alloc, checked, map, &rec, limit, &mut key, &mut scratch)?;
     }
     Ok(None)
 }

@@ -17,9 +17,9 @@ use std::alloc::Global;
 use std::mem;
 use sym_base::{Key, NoMemory, Record};
 use sym_check::Checked;
-use sym_explore::{Extension, extend_within, fresh_with};
+use sym_explore::{Extension, Scratch, extend_within, fresh_with};
 use sym_path::Segment;
-use sym_plain::{Buffers, key_into};
+use sym_plain::key_into;
 
 /// The chain of some segments and one more, which is extended by the record, or after which the
 /// record's own segment is pushed.
@@ -30,7 +30,7 @@ fn extend_last(
     last: Segment,
     rec: &Record,
     limit: u32,
-    buffers: &mut Buffers,
+    scratch: &mut Scratch,
 ) -> Result<Chain, NoMemory>
     requires rec { IsRecord (checked_plan checked.now) rec.now }
     requires chain { ChainFits (checked_plan checked.now) (segments.items ++ last ∷ []) }
@@ -42,11 +42,11 @@ fn extend_last(
         IfOk result (ChainStandsFor (checked_plan checked.now) (records ++ rec.now ∷ [])) }
 {
     let mut segments = segments;
-    match extend_within(alloc, checked, last, rec, limit, buffers)? {
+    match extend_within(alloc, checked, last, rec, limit, scratch)? {
         Extension::Fits(longer) => push_onto(alloc, checked, segments, longer, limit),
         Extension::Over(last) => {
             segments.push(last)?;
-            let own = fresh_with(alloc, checked, rec, buffers)?;
+            let own = fresh_with(alloc, checked, rec, scratch)?;
             push_onto(alloc, checked, segments, own, limit)
         }
     }
@@ -59,7 +59,7 @@ fn take_on(
     chain: Chain,
     rec: &Record,
     limit: u32,
-    buffers: &mut Buffers,
+    scratch: &mut Scratch,
 ) -> Result<Chain, NoMemory>
     requires rec { IsRecord (checked_plan checked.now) rec.now }
     requires chain { ChainFits (checked_plan checked.now) chain }
@@ -73,12 +73,12 @@ fn take_on(
     match chain.into_held() {
         Held::One(last) => {
             let none = Vec::new(alloc);
-            extend_last(alloc, checked, none, last, rec, limit, buffers)
+            extend_last(alloc, checked, none, last, rec, limit, scratch)
         }
         Held::More(segments) => {
             let mut segments = segments;
             match segments.pop() {
-                Some(last) => extend_last(alloc, checked, segments, last, rec, limit, buffers),
+                Some(last) => extend_last(alloc, checked, segments, last, rec, limit, scratch),
                 None => unreachable!(),
             }
         }
@@ -93,7 +93,7 @@ fn lengthen(
     key: &Key,
     rec: &Record,
     limit: u32,
-    buffers: &mut Buffers,
+    scratch: &mut Scratch,
 ) -> Result<bool, NoMemory>
     requires rec { IsRecord (checked_plan checked.now) rec.now }
     requires fits { GroupsFit (checked_plan checked.now) map.old.entries }
@@ -105,7 +105,7 @@ fn lengthen(
     match map.get_mut(key) {
         Some(chain) => {
             let old = mem::replace(chain, Chain::of_one(Segment::of(Vec::new(alloc))));
-            *chain = take_on(alloc, checked, old, rec, limit, buffers)?;
+            *chain = take_on(alloc, checked, old, rec, limit, scratch)?;
             Ok(true)
         }
         None => Ok(false),
@@ -120,7 +120,7 @@ fn begin(
     key: &Key,
     rec: &Record,
     _limit: u32,
-    buffers: &mut Buffers,
+    scratch: &mut Scratch,
 ) -> Result<(), NoMemory>
     requires rec { IsRecord (checked_plan checked.now) rec.now }
     requires new { lookup (is_key key.now) map.old.entries ≡ None }
@@ -129,7 +129,7 @@ fn begin(
         (λ rest. rest ≡ rec.now ∷ []) map.old.entries map.new.entries) }
     ensures distinct { HaveDistinctKeys map.new.entries }
 {
-    let segment = fresh_with(alloc, checked, rec, buffers)?;
+    let segment = fresh_with(alloc, checked, rec, scratch)?;
     map.insert(key.copy(alloc)?, Chain::of_one(segment))?;
     Ok(())
 }
@@ -142,7 +142,7 @@ pub(crate) fn take_record(
     rec: &Record,
     limit: u32,
     key: &mut Key,
-    buffers: &mut Buffers,
+    scratch: &mut Scratch,
 ) -> Result<(), NoMemory>
     requires rec { IsRecord (checked_plan checked.now) rec.now }
     requires fits { GroupsFit (checked_plan checked.now) map.old.entries }
@@ -154,8 +154,8 @@ pub(crate) fn take_record(
     ensures distinct { HaveDistinctKeys map.new.entries }
 {
     key_into(alloc, checked, rec, key)?;
-    if lengthen(alloc, checked, map, key, rec, limit, buffers)? {
+    if lengthen(alloc, checked, map, key, rec, limit, scratch)? {
         return Ok(());
     }
-    begin(alloc, checked, map, key, rec, limit, buffers)
+    begin(alloc, checked, map, key, rec, limit, scratch)
 }

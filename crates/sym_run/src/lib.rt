@@ -19,6 +19,7 @@ pub use bracketing::{JoinTree, apply_joined, join_all};
 pub use chains::Chain;
 pub use chunks::{of_chunk, of_chunks};
 pub use joining::join_groups;
+pub use lawful::is_lawful_group;
 pub use pushing::push;
 pub use run_groups::RunGroups;
 pub use runs::{Applied, Run};

@@ -2,7 +2,7 @@
 use crate::scripts::{Row, check_rows};
 use std::alloc::Global;
 use std::test::Fail;
-use sym_base::{NoMemory, Outcome, Record, State, Text, Value, Values};
+use sym_base::{Fields, NoMemory, Outcome, Record, State, Text, Value};
 use sym_check::Checked;
 use sym_parse::print;
 use sym_plain::{columns, initial, step};
@@ -29,7 +29,7 @@ const SCRIPT: &str = "enum mode { idle, busy } enum tone { low, high } \
     calculated = -n * 2 + 9 / 4 - 9 % 4; }";
 
 fn record(alloc: Global, x: i64) -> Result<Record, NoMemory> {
-    let mut fields = Values::new(alloc);
+    let mut fields = Fields::new(alloc);
     fields.push(Value::Num(x))?;
     fields.push(Value::Num(7))?;
     fields.push(Value::Word(Text::from_str(alloc, "ann")?))?;

@@ -6,11 +6,11 @@ ghost use Rattle.sym_table.specs.Rows.{FitsHeader};
 use crate::scripts::{Row as TableRow, check_rows};
 use std::alloc::Global;
 use std::test::Fail;
-use sym_base::{NoMemory, Record, Text, Value, Values};
+use sym_base::{Fields, NoMemory, Record, Text, Value};
 use sym_check::Checked;
 use sym_table::{
-    Bad, BadCause, Chunk, Chunks, Cutter, Decoded, HeadErr, HeadFault, Header, Places, Row, Rows,
-    decode, decode_into,
+    Bad, BadCause, Chunk, Chunks, Cutter, Decoded, HeadErr, HeadFault, Header, Places, Row,
+    RowView, Rows, decode, decode_into,
 };
 
 /// What a field reads.
@@ -157,7 +157,7 @@ fn next_is(
     if !cutter.next_row(&mut row)? {
         return Ok(false);
     }
-    let decoded = decode(alloc, checked, cutter.header(), &row, 9)?;
+    let decoded = decode(alloc, checked, cutter.header(), &row.view(), 9)?;
     Ok(is_as_wanted(&decoded, want))
 }
 
@@ -274,7 +274,7 @@ const FILES: [File; 15] = [
 ];
 
 // A bar before each field, and a semicolon at the end.
-fn push_row(text: &mut Vec<u8>, row: &Row) -> Result<(), NoMemory> {
+fn push_row(text: &mut Vec<u8>, row: &RowView<'_>) -> Result<(), NoMemory> {
     'fields: for at in 0..row.len() {
         text.push(b'|')?;
         if let Some(field) = row.get(at) {
@@ -294,8 +294,8 @@ fn push_number(alloc: Global, text: &mut Vec<u8>, number: u64) -> Result<(), NoM
 // The number of the first row, and then the rows.
 fn push_chunk(alloc: Global, text: &mut Vec<u8>, cut: &Chunk) -> Result<(), NoMemory> {
     push_number(alloc, text, cut.first_no)?;
-    'rows: for row in cut.rows.as_slice() {
-        push_row(text, row)?;
+    'rows: for index in 0..cut.rows.len() {
+        push_row(text, &cut.rows.row(index))?;
     }
     Ok(())
 }
@@ -362,7 +362,7 @@ fn files_are_cut_into_rows(rt: HostRuntime) -> Result<(), Fail> {
 
 // The record of a number, a word and a label.
 fn record(alloc: Global, no: u64, number: i64, word: &str, label: u8) -> Result<Record, NoMemory> {
-    let mut fields = Values::new(alloc);
+    let mut fields = Fields::new(alloc);
     fields.push(Value::Num(number))?;
     fields.push(Value::Word(Text::from_str(alloc, word)?))?;
     fields.push(Value::Label(label))?;
@@ -424,7 +424,7 @@ fn read_next(
     if !cutter.next_row(row)? {
         return Ok(None);
     }
-    Ok(Some(decode_into(alloc, checked, cutter.header(), row, no, rec)?))
+    Ok(Some(decode_into(alloc, checked, cutter.header(), &row.view(), no, rec)?))
 }
 
 // Whether no row is left, and stays so.
@@ -489,8 +489,8 @@ fn a_row_and_a_record_are_used_again(rt: HostRuntime) -> Result<(), Fail> {
 fn rows(alloc: Global) -> Result<Rows, NoMemory> {
     let mut rows = Rows::new(alloc);
     let fields = [b"5".as_slice(), b"a".as_slice()];
-    rows.push(Row::from_fields(alloc, fields.as_slice())?)?;
-    rows.push(Row::new(alloc))?;
+    rows.push(&Row::from_fields(alloc, fields.as_slice())?)?;
+    rows.push(&Row::new(alloc))?;
     Ok(rows)
 }
 

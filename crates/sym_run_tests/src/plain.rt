@@ -3,7 +3,7 @@
 use crate::scripts::{Row, check_rows};
 use std::alloc::Global;
 use std::test::Fail;
-use sym_base::{NUM_MAX, NoMemory, Outcome, Record, Text, Value, Values};
+use sym_base::{Fields, NUM_MAX, NoMemory, Outcome, Record, Text, Value, Values};
 use sym_check::{
     ArithOp, Checked, Fixed, FixedValue, Line, Num, Pair, WordOf, fixed, number, pair, test,
 };
@@ -14,7 +14,7 @@ const SUMS: &str = "field x: num; field who: word; group who; state n: int [0..9
     update { n = n + x; } report { n = n; }";
 
 fn record(alloc: Global, x: i64) -> Result<Record, NoMemory> {
-    let mut fields = Values::new(alloc);
+    let mut fields = Fields::new(alloc);
     fields.push(Value::Num(x))?;
     fields.push(Value::Word(Text::from_str(alloc, "ann")?))?;
     Ok(Record { no: 1, fields })
@@ -154,7 +154,8 @@ fn one(alloc: Global, x: i64) -> Result<Values, NoMemory> {
 
 // A record of two numbers.
 fn two(alloc: Global, x: i64, y: i64) -> Result<Record, NoMemory> {
-    let mut fields = one(alloc, x)?;
+    let mut fields = Fields::new(alloc);
+    fields.push(Value::Num(x))?;
     fields.push(Value::Num(y))?;
     Ok(Record { no: 1, fields })
 }

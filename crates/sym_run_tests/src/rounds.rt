@@ -18,7 +18,7 @@ use sym_check::Checked;
 use sym_engine::{
     CHUNK_DEFAULT, LIMIT_DEFAULT, Options, PassErr, Rounds, Took, WORKERS_DEFAULT, Work, each_round,
 };
-use sym_table::{Bad, BadCause, Chunk, Chunks, Cutter, Decoded, Row, decode};
+use sym_table::{Bad, BadCause, Chunk, Chunks, Cutter, Decoded, Row, RowView, decode};
 
 /// The number of chunks in each round. Each row is read as `one`, where there is one.
 #[derive(Drop)]
@@ -28,11 +28,11 @@ struct Noted {
 }
 
 // The row that is read in place of a row.
-fn shown<'a>(one: &'a Option<Row>, row: &'a Row) -> &'a Row
-    ensures { result.now ≡ unwrap_or one.now row.now }
+fn shown<'a>(one: &'a Option<Row>, row: RowView<'a>) -> RowView<'a>
+    ensures { result ≡ unwrap_or one.now row.entry }
 {
     match one {
-        Some(shown) => shown,
+        Some(shown) => shown.view(),
         None => row,
     }
 }
@@ -49,8 +49,9 @@ fn read_chunk(
         IfOk result (Reads (chunk_records (checked_plan checked.now) as_shown)) }
 {
     let mut no = chunk.first_no;
-    'rows: for row in chunk.rows.as_slice() {
-        match decode(alloc, checked, &chunk.header, shown(one, row), no)? {
+    'rows: for index in 0..chunk.rows.len() {
+        let row = shown(one, chunk.rows.row(index));
+        match decode(alloc, checked, &chunk.header, &row, no)? {
             Decoded::Is(_) => no += 1,
             Decoded::Bad(bad) => return Ok(Took::Bad(bad)),
         }
@@ -245,8 +246,8 @@ fn is_chunk(chunk: &Chunk, first_no: u64, rows: &[&str]) -> bool {
     if chunk.first_no != first_no || chunk.rows.len() != rows.len() {
         return false;
     }
-    'rows: for (row, field) in chunk.rows.as_slice().iter().zip(rows) {
-        if row.get(0) != Some(field.as_bytes()) {
+    'rows: for (index, field) in rows.iter().enumerate() {
+        if chunk.rows.row(index).get(0) != Some(field.as_bytes()) {
             return false;
         }
     }

@@ -6,7 +6,7 @@ ghost use Rattle.sym_check.specs.Meaning.Groups.{is_key};
 use crate::scripts::{Row, all_hold, check_rows};
 use std::alloc::Global;
 use std::test::Fail;
-use sym_base::{Fault, FaultKind, Key, NoMemory, Outcome, Record, Text, Value, Values};
+use sym_base::{Fault, FaultKind, Fields, Key, NoMemory, Outcome, Record, Text, Value, Values};
 use sym_check::Checked;
 use sym_plain::{Groups, fold, fold_into, initial, key_into, key_of, step};
 
@@ -113,7 +113,7 @@ fn is_walk(groups: &Groups, moves: &[(i64, &'static str)]) -> bool {
 }
 
 fn record(alloc: Global, no: u64, x: i64, who: &str) -> Result<Record, NoMemory> {
-    let mut fields = Values::new(alloc);
+    let mut fields = Fields::new(alloc);
     fields.push(Value::Num(x))?;
     fields.push(Value::Word(Text::from_str(alloc, who)?))?;
     Ok(Record { no, fields })

@@ -14,7 +14,7 @@ use crate::rows::{TraceRow, TraceRows};
 use crate::starts::Starts;
 use std::alloc::Global;
 use std::slice;
-use sym_base::{Key, NoMemory, Record, Values};
+use sym_base::{Fields, Key, NoMemory, Record, Values};
 use sym_check::Checked;
 use sym_plain::{Groups, fold_into, key_into};
 use sym_table::{Bad, Chunk, decode_into};
@@ -61,7 +61,7 @@ impl Progress {
             rows: Vec::new(alloc),
             rec: Record {
                 no: 0,
-                fields: Values::new(alloc),
+                fields: Fields::new(alloc),
             },
             key: Key {
                 values: Values::new(alloc),
@@ -135,9 +135,10 @@ fn take_rows(
     ensures { let p = checked_plan checked.now in
         IfOk result (λ bad. GoesOn p every (chunk_records p chunk.now) progress.old bad progress.new) }
 {
-    'rows: for (index, row) in chunk.rows.as_slice().iter().enumerate() {
+    'rows: for index in 0..chunk.rows.len() {
         let no = chunk.first_no + index as u64;
-        let bad = decode_into(alloc, checked, &chunk.header, row, no, &mut progress.rec)?;
+        let row = chunk.rows.row(index);
+        let bad = decode_into(alloc, checked, &chunk.header, &row, no, &mut progress.rec)?;
         if bad.is_some() {
             return Ok(bad);
         }

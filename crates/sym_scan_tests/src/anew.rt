@@ -27,7 +27,7 @@ fn next_record(
     if !cutter.next_row(&mut row)? {
         return Ok(None);
     }
-    match decode(alloc, checked, cutter.header(), &row, no)? {
+    match decode(alloc, checked, cutter.header(), &row.view(), no)? {
         Decoded::Is(rec) => Ok(Some(rec)),
         Decoded::Bad(_) => Ok(None),
     }

@@ -16,4 +16,4 @@ pub mod FieldKinds
 pub mod RecordsAgree
 pub mod RowCounts
 pub mod NumbersAscii
-pub mod TakenRows
+pub mod FlatRows

@@ -1,5 +1,5 @@
 -- Cutting a file into chunks of rows.
-use Rattle.std.specs.Prelude.{◌≡◌, ◌≤◌, ◌<◌, ℕ, ◌+◌, ◌^◌, IfSome, ◌++◌, ◌∷◌, Bool, true, false, List, [], length, take, Option, Some, None, Result, Ok, Err}
+use Rattle.std.specs.Prelude.{◌≡◌, ◌≤◌, ◌<◌, ℕ, ◌+◌, ◌^◌, IfSome, ◌++◌, ◌∷◌, Bool, true, false, List, [], length, Option, Some, None, Result, Ok, Err}
 use Rattle.sym_base.specs.declared.limits.TheConstants as limit
 use Rattle.sym_base.specs.declared.values.memory.NoMemory.{NoMemory}
 use Rattle.sym_check.specs.declared.plan.script.FieldPlan.{FieldPlan}
@@ -88,22 +88,18 @@ abbrev pub TakesRows : ℕ → Option (List Row) → Option (List Row) → Resul
 TakesRows count old new (Ok rows) = AreTaken count old new rows
 TakesRows count old new (Err e) = new ≡ None
 
--- The next row is read in the place `at` of rows, and those before it stay; or there is none.
-abbrev pub ReadsAt : ℕ → Option (List Row) → Option (List Row) → List Row → List Row
+-- The next row is read and added to rows; or there is none.
+abbrev pub ReadsOnto : Option (List Row) → Option (List Row) → List Row → List Row
     → Result Bool NoMemory → Type 0
-ReadsAt at old new before after (Ok true) =
+ReadsOnto old new before after (Ok true) =
     (row : Row)
     × (left : List Row)
     × (old ≡ Some (row ∷ left))
     × (new ≡ Some left)
-    × (take (at + 1) after ≡ take at before ++ row ∷ [])
-    × (at < length after)
-ReadsAt at old new before after (Ok false) =
-    (old ≡ Some [])
-    × (new ≡ Some [])
-    × (take at after ≡ take at before)
-    × (at ≤ length after)
-ReadsAt at old new before after (Err e) = new ≡ None
+    × (after ≡ before ++ row ∷ [])
+ReadsOnto old new before after (Ok false) =
+    (old ≡ Some []) × (new ≡ Some []) × (after ≡ before)
+ReadsOnto old new before after (Err e) = new ≡ None
 
 -- The header of the first row, or its first fault; of no rows, any.
 abbrev pub HeadsBy : List FieldPlan → List Row → Option (List Row) → Result Header HeadErr → Type 0

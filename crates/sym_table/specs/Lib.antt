@@ -8,3 +8,4 @@ pub mod FileRows
 pub mod Headers
 pub mod Reading
 pub mod Cutting
+pub mod FlatRows

@@ -2,7 +2,7 @@
 ghost use Rattle.std.specs.Prelude.{◌≡◌, IfOk};
 
 use crate::header::Header;
-use crate::row::Rows;
+use crate::rows::Rows;
 use std::alloc::Global;
 use sym_base::{NoMemory, Plain, Sequence};
 

@@ -1,11 +1,11 @@
 //! Cutting a file into chunks of rows.
-ghost use Rattle.std.specs.Prelude.{◌≡◌, ◌≤◌, ◌+◌, ◌^◌, ◌<◌, List, IfOk, IfSome, IsSome, OnOk, length, take};
+ghost use Rattle.std.specs.Prelude.{◌≡◌, ◌≤◌, ◌+◌, ◌^◌, ◌<◌, List, IfOk, IfSome, IsSome, length};
 ghost use Rattle.std.specs.List.{All};
 ghost use Rattle.sym_base.specs.Limits.{max_fields};
 ghost use Rattle.sym_base.specs.declared.limits.TheConstants as limit;
 ghost use Rattle.sym_check.specs.Checking.CheckedScripts.{checked_plan};
 ghost use Rattle.sym_check.specs.declared.plan.script.FieldPlan.{FieldPlan as OneField};
-ghost use Rattle.sym_table.specs.Cutting.{Cuts, HeadsBy, Opens, ReadsAt, Takes, TakesRows};
+ghost use Rattle.sym_table.specs.Cutting.{Cuts, HeadsBy, Opens, ReadsOnto, Takes, TakesRows};
 ghost use Rattle.sym_table.specs.FileRows.{file_rows};
 ghost use Rattle.sym_table.specs.Rows.{FitsHeader, FitsChunk};
 
@@ -14,7 +14,8 @@ use crate::columns::columns_of;
 use crate::header::{HeadErr, Header, Places};
 use crate::mark::without_mark;
 use crate::reader::RowReader;
-use crate::row::{Row, Rows};
+use crate::row::Row;
+use crate::rows::Rows;
 use crate::spare::Spare;
 use std::alloc::Global;
 use std::marker::Model;
@@ -26,6 +27,8 @@ use sym_check::{Checked, FieldPlan, Plan};
 /// and how many rows a full chunk has.
 pub struct Cutter<'a> {
     rows: RowReader<'a>,
+    // The row that was read last, over whose memory the next one is read.
+    row: Row,
     header: Header,
     next_no: u64,
     chunk: u32,
@@ -36,6 +39,7 @@ impl<'a> Drop for Cutter<'a> {
     fn drop(self) {
         let Cutter {
             rows: _rows,
+            row: _row,
             header: _header,
             next_no: _next_no,
             chunk: _chunk,
@@ -58,37 +62,15 @@ impl<'a> Model for Cutter<'a> {
     ghost invariant = { λ c. IsCutting c.rows c.next_no c.chunk };
 }
 
-// Makes a row at `at`, where there are as many before it. They stay.
-fn make_row(
-    alloc: Global,
-    rows: &mut Vec<Row>,
-    at: usize,
-    spare: &mut Spare,
-) -> Result<(), NoMemory>
-    requires { at ≤ length rows.old.items }
-    ensures room { OnOk result (at < length rows.new.items) }
-    ensures same { OnOk result (take at rows.new.items ≡ take at rows.old.items) }
+// Reads the next row and adds it to others: whether there was one.
+fn read_onto(reader: &mut RowReader<'_>, row: &mut Row, rows: &mut Rows) -> Result<bool, NoMemory>
+    ensures { ReadsOnto reader.old reader.new rows.old rows.new result }
 {
-    if at == rows.len() {
-        rows.push(spare.row(alloc))?;
+    if !reader.read(row)? {
+        return Ok(false);
     }
-    Ok(())
-}
-
-// Reads the next row in the place of the one at `at`, which may be one more than there are: whether
-// there was one. The rows before it stay.
-fn read_at(
-    alloc: Global,
-    reader: &mut RowReader<'_>,
-    rows: &mut Vec<Row>,
-    at: usize,
-    spare: &mut Spare,
-) -> Result<bool, NoMemory>
-    requires { at ≤ length rows.old.items }
-    ensures { ReadsAt at reader.old reader.new rows.old.items rows.new.items result }
-{
-    match make_row(alloc, rows, at, spare) {
-        Ok(()) => reader.read(&mut rows[at]),
+    match rows.push(row) {
+        Ok(()) => Ok(true),
         Err(refused) => {
             reader.fail();
             Err(refused)
@@ -96,10 +78,11 @@ fn read_at(
     }
 }
 
-// The next rows, `count` of them or those that are left.
+// The next rows, `count` of them or those that are left, each read over the memory of `row`.
 fn take_rows(
     alloc: Global,
     reader: &mut RowReader<'_>,
+    row: &mut Row,
     count: u32,
     spare: &mut Spare,
 ) -> Result<Rows, NoMemory>
@@ -109,13 +92,13 @@ fn take_rows(
     if reader.has_failed() {
         return Err(NoMemory);
     }
-    let mut rows = spare.chunk(alloc);
-    let mut taken = 0;
-    'rows: while taken < count as usize && read_at(alloc, reader, &mut rows, taken, spare)? {
-        taken += 1;
+    let mut rows = spare.rows(alloc);
+    'rows: for _row in 0..count {
+        if !read_onto(reader, row, &mut rows)? {
+            return Ok(rows);
+        }
     }
-    spare.shorten(&mut rows, taken);
-    Ok(Rows::of(rows))
+    Ok(rows)
 }
 
 // The header of a file that has no rows: nothing is read by it.
@@ -175,6 +158,7 @@ fn open_by<'a>(
     let header = read_header(alloc, plan.fields.as_slice(), &mut rows)?;
     Ok(Cutter {
         rows,
+        row: Row::new(alloc),
         header,
         next_no: first_no,
         chunk,
@@ -219,7 +203,7 @@ impl<'a> Cutter<'a> {
     }
 
     /// The next chunk, as `next` gives it, read over the memory of rows that are done with. Once
-    /// these rows have grown to the largest, none is allocated.
+    /// this has grown to the largest chunk's, none is allocated for rows.
     pub fn next_over(&mut self, alloc: Global, spare: &mut Spare) -> Result<Option<Chunk>, NoMemory>
         ensures cuts { Cuts self.old self.new result }
         ensures fits { (fields : List OneField) → FitsHeader fields self.old.header →
@@ -227,7 +211,7 @@ impl<'a> Cutter<'a> {
         ensures header { self.new.header ≡ self.old.header }
         ensures chunk { self.new.chunk ≡ self.old.chunk }
     {
-        let rows = take_rows(alloc, &mut self.rows, self.chunk, spare)?;
+        let rows = take_rows(alloc, &mut self.rows, &mut self.row, self.chunk, spare)?;
         if rows.is_empty() {
             return Ok(None);
         }

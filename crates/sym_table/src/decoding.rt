@@ -9,13 +9,13 @@ use crate::bad::{Bad, BadCause, Decoded};
 use crate::header::Header;
 use crate::reading::field::read_field;
 use crate::reading::stop::Stop;
-use crate::row::Row;
+use crate::row::RowView;
 use std::alloc::Global;
-use sym_base::{NoMemory, Record, Value, Values};
+use sym_base::{Fields, NoMemory, Record, Value};
 use sym_check::{Checked, Plan};
 
 // The bytes of the field with the number `which`.
-fn column<'a>(header: &Header, row: &'a Row, which: usize) -> &'a [u8]
+fn column<'a>(header: &Header, row: &RowView<'a>, which: usize) -> &'a [u8]
     requires { which < length header.now.places }
     ensures { result.now ≡ column row.now (slice_index_or header.now.places which 0) }
 {
@@ -29,7 +29,7 @@ fn column<'a>(header: &Header, row: &'a Row, which: usize) -> &'a [u8]
 }
 
 // Makes the list one of `count` values, without memory where it is so already.
-fn make_room(alloc: Global, values: &mut Values, count: usize) -> Result<(), NoMemory>
+fn make_room(alloc: Global, values: &mut Fields, count: usize) -> Result<(), NoMemory>
     ensures { OnOk result (length values.new ≡ count) }
 {
     if values.len() == count {
@@ -39,7 +39,7 @@ fn make_room(alloc: Global, values: &mut Values, count: usize) -> Result<(), NoM
     'room: for _place in 0..count {
         room.push(Value::Num(0))?;
     }
-    *values = Values::of(room);
+    *values = Fields::of(room);
     Ok(())
 }
 
@@ -48,8 +48,8 @@ fn read_fields(
     alloc: Global,
     plan: &Plan,
     header: &Header,
-    row: &Row,
-    values: &mut Values,
+    row: &RowView<'_>,
+    values: &mut Fields,
 ) -> Result<(), Stop>
     requires limits { KeepsLimits plan.now.enums plan.now.fields }
     requires places { length header.now.places ≡ length plan.now.fields }
@@ -73,7 +73,7 @@ fn decode_by(
     alloc: Global,
     plan: &Plan,
     header: &Header,
-    row: &Row,
+    row: &RowView<'_>,
     no: u64,
     into: &mut Record,
 ) -> Result<Option<Bad>, NoMemory>
@@ -103,7 +103,7 @@ pub fn decode_into(
     alloc: Global,
     checked: &Checked,
     header: &Header,
-    row: &Row,
+    row: &RowView<'_>,
     no: u64,
     into: &mut Record,
 ) -> Result<Option<Bad>, NoMemory>
@@ -123,7 +123,7 @@ pub fn decode(
     alloc: Global,
     checked: &Checked,
     header: &Header,
-    row: &Row,
+    row: &RowView<'_>,
     no: u64,
 ) -> Result<Decoded, NoMemory>
     requires { FitsHeader (checked_plan checked.now).fields header.now }
@@ -134,7 +134,7 @@ pub fn decode(
 {
     let mut found = Record {
         no,
-        fields: Values::new(alloc),
+        fields: Fields::new(alloc),
     };
     match decode_into(alloc, checked, header, row, no, &mut found)? {
         Some(bad) => Ok(Decoded::Bad(bad)),

@@ -13,6 +13,7 @@ mod mark;
 mod reader;
 mod reading;
 mod row;
+mod rows;
 mod spare;
 
 pub use bad::{Bad, BadCause, Decoded};
@@ -20,5 +21,6 @@ pub use chunk::{Chunk, Chunks};
 pub use cutter::Cutter;
 pub use decoding::{decode, decode_into};
 pub use header::{HeadErr, HeadFault, Header, Places};
-pub use row::{Row, Rows};
+pub use row::{Row, RowView};
+pub use rows::Rows;
 pub use spare::Spare;

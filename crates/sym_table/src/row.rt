@@ -5,16 +5,13 @@ ghost use Rattle.csv.specs.Records.{fields_of};
 use csv::ByteRecord;
 use std::alloc::Global;
 use std::marker::Model;
-use sym_base::{NoMemory, Plain, Sequence};
+use sym_base::NoMemory;
 
 /// A row: the bytes of each field. A contract sees a list of byte strings.
 #[derive(Drop)]
 pub struct Row {
     pub(crate) fields: ByteRecord,
 }
-
-/// Rows, in order.
-pub type Rows = Sequence<Row>;
 
 impl Model for Row {
     ghost use Rattle.std.specs.Prelude.{List, ℕ};
@@ -64,10 +61,55 @@ impl Row {
     {
         self.fields.get(index)
     }
+
+    /// The row as it is read.
+    pub fn view(&self) -> RowView<'_>
+        ensures { result ≡ self.now }
+    {
+        RowView {
+            fields: &self.fields,
+            first: 0,
+            last: self.fields.len(),
+        }
+    }
 }
 
-impl Plain for Row {
-    fn copied(&self, alloc: Global) -> Result<Row, NoMemory> {
-        self.copy(alloc)
+/// A row that is read where it lies. A contract sees the list of its fields' bytes.
+#[derive(Drop)]
+pub struct RowView<'a> {
+    pub(crate) fields: &'a ByteRecord,
+    // The row has the fields from `first` up to `last`.
+    pub(crate) first: usize,
+    pub(crate) last: usize,
+}
+
+impl<'a> Model for RowView<'a> {
+    ghost use Rattle.std.specs.Prelude.{◌≤◌, ◌-◌, List, ℕ, length, take, drop};
+    ghost use Rattle.csv.specs.Records.{fields_of};
+
+    ghost Value = { List (List ℕ) };
+
+    ghost view = { λ r. take (r.last - r.first) (drop r.first (fields_of r.fields.now)) };
+
+    ghost invariant = { λ r. (r.first ≤ r.last) × (r.last ≤ length (fields_of r.fields.now)) };
+}
+
+impl<'a> RowView<'a> {
+    /// The number of fields.
+    pub fn len(&self) -> usize
+        ensures { result ≡ length self.now }
+    {
+        self.last - self.first
+    }
+
+    /// The field at `index`, counted from 0; `None` where there are at most `index` fields.
+    pub fn get(&self, index: usize) -> Option<&'a [u8]>
+        ensures { option_map (λ f. f.now) result ≡ slice_get self.now index }
+    {
+        if index < self.last - self.first {
+            self.fields.get(self.first + index)
+        } else {
+            None
+        }
     }
 }

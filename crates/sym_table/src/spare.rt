@@ -1,23 +1,19 @@
 //! Memory that is used again.
-ghost use Rattle.std.specs.Prelude.{◌≡◌, ◌≤◌, length, take};
+ghost use Rattle.std.specs.Prelude.{◌≡◌, []};
 
 use crate::chunk::Chunk;
-use crate::row::{Row, Rows};
+use crate::rows::Rows;
 use std::alloc::Global;
 
 /// Rows that are done with, over whose memory others are read. No contract speaks of them.
 pub struct Spare {
     chunks: Vec<Rows>,
-    rows: Vec<Row>,
 }
 
 // Written here so that the crates above don't prove it for each type inside.
 impl Drop for Spare {
     fn drop(self) {
-        let Spare {
-            chunks: _chunks,
-            rows: _rows,
-        } = self;
+        let Spare { chunks: _chunks } = self;
     }
 }
 
@@ -26,7 +22,6 @@ impl Spare {
     pub fn new(alloc: Global) -> Spare {
         Spare {
             chunks: Vec::new(alloc),
-            rows: Vec::new(alloc),
         }
     }
 
@@ -35,30 +30,16 @@ impl Spare {
         drop(self.chunks.push(chunk.into_rows()));
     }
 
-    // The rows of a chunk, or none.
-    pub(crate) fn chunk(&mut self, alloc: Global) -> Vec<Row> {
-        match self.chunks.pop() {
-            Some(rows) => rows.into_vec(),
-            None => Vec::new(alloc),
-        }
-    }
-
-    // One row.
-    pub(crate) fn row(&mut self, alloc: Global) -> Row {
-        match self.rows.pop() {
-            Some(row) => row,
-            None => Row::new(alloc),
-        }
-    }
-
-    // Keeps the rows after the first `count`, which stay.
-    pub(crate) fn shorten(&mut self, rows: &mut Vec<Row>, count: usize)
-        ensures { rows.new.items ≡ take count rows.old.items }
+    // No rows, over the memory of a chunk's, if one is kept.
+    pub(crate) fn rows(&mut self, alloc: Global) -> Rows
+        ensures { result ≡ [] }
     {
-        'rows: while count < rows.len() {
-            if let Some(row) = rows.pop() {
-                drop(self.rows.push(row));
+        match self.chunks.pop() {
+            Some(mut rows) => {
+                rows.clear();
+                rows
             }
+            None => Rows::new(alloc),
         }
     }
 }

@@ -9,7 +9,7 @@ use Rattle.sym_engine.proofs.folding.fold_chunk.Given as goal
 
 abbrev pub invariant-rows : goal.invariant-rows
 invariant-rows l = record {
-  number : l.no ≡ l.chunk.first_no + l.row-index;
+  number : l.no ≡ l.chunk.first_no + l.index;
   walk : IsWalk (ArePassed (checked_plan l.checked)) (chunk_records (checked_plan l.checked) l.chunk)
-      (records_or_bad (checked_plan l.checked) l.chunk.header l.no (drop l.row-index l.chunk.rows)) l.fn.folded.groups l.folded.groups;
+      (records_or_bad (checked_plan l.checked) l.chunk.header l.no (drop l.index l.chunk.rows)) l.fn.folded.groups l.folded.groups;
 }

@@ -1,6 +1,4 @@
-use Rattle.std.proofs.Common.{◌≡◌, ◌∙◌, ◌<◌, List, Some, length, refl, sym}
-use Rattle.std.proofs.lemmas.Option.{slice_get_read}
-use Rattle.std.specs.Prelude.{slice_get}
+use Rattle.std.proofs.Common.{◌∙◌, List, sym}
 use Rattle.sym_check.specs.Checking.CheckedScripts.{checked_plan}
 use Rattle.sym_table.specs.Reading.{Row}
 use Rattle.sym_run.proofs.Taking.{bad_told, record_told, taking_none, taking_on}
@@ -16,21 +14,17 @@ pub returns-then-is_some-clause-found : goal.returns-then-is_some-clause-found
 returns-then-is_some-clause-found c =
     let p = checked_plan c.args.checked.now in
     let rows : List Row = c.args.chunk.now.rows in
-    let within : c.rows.index < length rows = rw c.as_slice-row-items.ensures at c.rows-test.true in
-    let at : slice_get rows c.rows.index ≡ Some c.row-item.result = slice_get_read rows (length rows) c.rows.index c.row-item.result refl within (rw c.as_slice-row-items.ensures at c.row-item.is) in
-    bad_told p c.args.limit c.args.chunk.now.header c.args.chunk.now.first_no rows c.rows.index c.row-item.result c.in_ok-bad.bad c.decode_into.new.into c.args.map.now.entries c.rows.map.entries
-    c.rows.invariant.taking at (sym c.is_some.ensures ∙ c.if-is_some.true) c.in_ok-bad.ensures.read
+    bad_told p c.args.limit c.args.chunk.now.header c.args.chunk.now.first_no rows c.rows.index c.row-row.result c.in_ok-bad.bad c.decode_into.new.into c.args.map.now.entries c.rows.map.entries
+    c.rows.invariant.taking c.row-row.ensures (sym c.is_some.ensures ∙ c.if-is_some.true) c.in_ok-bad.ensures.read
 
 pub rows-preserved : goal.rows-preserved
 rows-preserved c =
     let p = checked_plan c.args.checked.now in
     let rows : List Row = c.args.chunk.now.rows in
-    let within : c.rows.index < length rows = rw c.as_slice-row-items.ensures at c.rows-test.true in
-    let at : slice_get rows c.rows.index ≡ Some c.row-item.result = slice_get_read rows (length rows) c.rows.index c.row-item.result refl within (rw c.as_slice-row-items.ensures at c.row-item.is) in
     record {
       taking =
-          taking_on p c.args.limit c.args.chunk.now.header c.args.chunk.now.first_no rows c.rows.index c.row-item.result c.decode_into.new.into c.args.map.now.entries c.rows.map.entries c.take_record.new.map.entries
-          c.rows.invariant.taking at
+          taking_on p c.args.limit c.args.chunk.now.header c.args.chunk.now.first_no rows c.rows.index c.row-row.result c.decode_into.new.into c.args.map.now.entries c.rows.map.entries c.take_record.new.map.entries
+          c.rows.invariant.taking c.row-row.ensures
           (record_told c.in_ok-bad.bad c.decode_into.new.into _ (sym c.is_some.ensures ∙ c.if-is_some.false) c.in_ok-bad.ensures.read)
           c.in_ok-take_record.ensures.grows;
       distinct = c.take_record.ensures.distinct;

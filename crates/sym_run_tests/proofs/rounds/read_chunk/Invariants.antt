@@ -10,7 +10,7 @@ use Rattle.sym_run_tests.proofs.rounds.read_chunk.Given as goal
 
 abbrev pub invariant-rows : goal.invariant-rows
 invariant-rows l = record {
-  number : l.no ≡ l.chunk.first_no + l.row-index;
+  number : l.no ≡ l.chunk.first_no + l.index;
   walk : IsRead (chunk_records (checked_plan l.checked) (shown_chunk (unwrap_or l.one) l.chunk))
-      (records_or_bad (checked_plan l.checked) l.chunk.header l.no (map (unwrap_or l.one) (drop l.row-index l.chunk.rows)));
+      (records_or_bad (checked_plan l.checked) l.chunk.header l.no (map (unwrap_or l.one) (drop l.index l.chunk.rows)));
 }
