@@ -12,6 +12,7 @@ use Rattle.sym_check.specs.declared.plan.script.CellPlan.TheVariants as plan
 use Rattle.sym_enum.specs.declared.form.EnumForm.{EnumForm}
 use Rattle.sym_enum.specs.declared.form.EnumForm.TheVariants as label
 use Rattle.sym_int.specs.Bounds.{offset_max, slope_max}
+use Rattle.sym_int.specs.Lines.{offset}
 use Rattle.sym_int.specs.declared.form.IntForm.{IntForm}
 use Rattle.sym_int.specs.declared.form.IntForm.TheVariants as number
 use Rattle.sym_pred.specs.declared.form.HoldForm.{HoldForm}
@@ -64,7 +65,7 @@ line_takes_bytes b bytes f rest few is e =
     ∙ ap (λ (t : ℕ). codes "x" ++ (decimal t ++ (codes "," ++ (signed_decimal d.0.0 ++ (codes "," ++ (signed_decimal h.0.0 ++ h.0.1)))))) same.0
     ∙ ap (λ (t : ℤ). codes "x" ++ (decimal m.0.cell ++ (codes "," ++ (signed_decimal t ++ (codes "," ++ (signed_decimal h.0.0 ++ h.0.1)))))) same.1
     ∙ ap (λ (t : ℤ). codes "x" ++ (decimal m.0.cell ++ (codes "," ++ (signed_decimal m.0.a ++ (codes "," ++ (signed_decimal t ++ h.0.1)))))) same.2
-    ∙ sym (grouped_6 (codes "x") (decimal m.0.cell) (codes ",") (signed_decimal m.0.a) (codes ",") (signed_decimal m.0.b) h.0.1) in
+    ∙ sym (grouped_6 (codes "x") (decimal m.0.cell) (codes ",") (signed_decimal m.0.a) (codes ",") (signed_decimal (offset m.0)) h.0.1) in
     subst (λ (r : IntForm × List ℕ). Takes number_text IsStoredNumber (b ∷ bytes) r.0 r.1) (some_is (number.Line m.0, h.0.1) (f, rest) m.2)
     (record { text_is = read; is_so = subst (λ (n : ℕ). n < 2 ^ 16) same.0 cell.is_so })
 
@@ -83,15 +84,15 @@ unfolding number_at number_text
 number_again_bytes (number.Const n) rest is ends = rw (small_codec.again n.value rest n.value_in ends, number_again n) refl
 number_again_bytes (number.Line line) rest is ends =
     let slope : unsigned_abs line.a ≤ slope_max = line.a_in in
-    let offset : unsigned_abs line.b ≤ offset_max = line.b_in in
-    let grouped : number_text (number.Line line) ++ rest ≡ codes "x" ++ (decimal line.cell ++ (codes "," ++ (signed_decimal line.a ++ (codes "," ++ (signed_decimal line.b ++ rest))))) = grouped_6 (codes "x") (decimal line.cell) (codes ",") (signed_decimal line.a) (codes ",") (signed_decimal line.b) rest in
+    let bounded : unsigned_abs (offset line) ≤ offset_max = line.b_in in
+    let grouped : number_text (number.Line line) ++ rest ≡ codes "x" ++ (decimal line.cell ++ (codes "," ++ (signed_decimal line.a ++ (codes "," ++ (signed_decimal (offset line) ++ rest))))) = grouped_6 (codes "x") (decimal line.cell) (codes ",") (signed_decimal line.a) (codes ",") (signed_decimal (offset line)) rest in
     ap number_at grouped
     ∙ rw (
-      cells.again line.cell (codes "," ++ (signed_decimal line.a ++ (codes "," ++ (signed_decimal line.b ++ rest)))) is refl,
-      after_again (codes ",") (signed_decimal line.a ++ (codes "," ++ (signed_decimal line.b ++ rest))),
-      int_codec.again line.a (codes "," ++ (signed_decimal line.b ++ rest)) (omega (arith, slope)) refl,
-      after_again (codes ",") (signed_decimal line.b ++ rest),
-      int_codec.again line.b rest (omega (arith, offset)) ends,
+      cells.again line.cell (codes "," ++ (signed_decimal line.a ++ (codes "," ++ (signed_decimal (offset line) ++ rest)))) is refl,
+      after_again (codes ",") (signed_decimal line.a ++ (codes "," ++ (signed_decimal (offset line) ++ rest))),
+      int_codec.again line.a (codes "," ++ (signed_decimal (offset line) ++ rest)) (omega (arith, slope)) refl,
+      after_again (codes ",") (signed_decimal (offset line) ++ rest),
+      int_codec.again (offset line) rest (omega (arith, bounded)) ends,
       line_again line,
     ) refl
 

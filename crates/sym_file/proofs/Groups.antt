@@ -88,7 +88,7 @@ module _ (p : ScriptPlan) where
     pub text : bytes ≡ flat_map group_text more ++ rest
     pub each : All IsGroupRead more
 
-  with_added : (start : List Group) (key : Key) (chain : List (List Path)) (now : List Group) → added start key chain ≡ Some now → now ≡ start ++ (key, chain) ∷ []
+  pub with_added : (start : List Group) (key : Key) (chain : List (List Path)) (now : List Group) → added start key chain ≡ Some now → now ≡ start ++ (key, chain) ∷ []
   with_added start key chain now e = of (has_key start key) e
     where
       of : (b : Bool) → cond b None (Some (start ++ (key, chain) ∷ [])) ≡ Some now → now ≡ start ++ (key, chain) ∷ []
@@ -138,7 +138,7 @@ module _ (p : ScriptPlan) where
           (group_starts h (flat_map group_text gs ++ rest))
 
   -- ---- the file after its script
-  ended : (saved now : Saved) (rest : List ℕ) → at_end saved rest ≡ Some now → (rest ≡ []) × (saved ≡ now)
+  pub ended : (saved now : Saved) (rest : List ℕ) → at_end saved rest ≡ Some now → (rest ≡ []) × (saved ≡ now)
   ended saved now [] e = (refl, some_is saved now e)
   ended saved now (b ∷ rest) e = absurd cc
 

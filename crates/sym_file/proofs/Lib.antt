@@ -11,5 +11,6 @@ pub mod PartTexts
 pub mod PathTexts
 pub mod Read
 pub mod SetBits
+pub mod TakenTexts
 pub mod Taking
 pub mod ValueTexts

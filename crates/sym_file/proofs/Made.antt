@@ -7,8 +7,11 @@ use Rattle.sym_base.specs.Limits.{IsNumber, is_number}
 use Rattle.sym_enum.specs.declared.label_set.LabelSet.{LabelSet}
 use Rattle.sym_enum.proofs.Sets.{same_number as same_set}
 use Rattle.sym_int.specs.Bounds.{AreOfLine}
+use Rattle.sym_int.specs.Lines.{offset}
+use Rattle.sym_int.specs.Offsets.{joined_again}
 use Rattle.sym_int.specs.Points.{AreEnds}
 use Rattle.sym_int.specs.declared.form.Line.{Line}
+use Rattle.sym_int.proofs.CallersLemmas.{same_line}
 use Rattle.sym_int.specs.declared.form.Number.{Number}
 use Rattle.sym_int.specs.declared.span.Span.{Span}
 use Rattle.sym_pred.specs.Facts.{Atom, FactMap, atom_cmp}
@@ -16,7 +19,7 @@ use Rattle.sym_pred.specs.Literals.{entry_of, literal_of, literals}
 use Rattle.sym_pred.specs.Places.{IsInOrder}
 use Rattle.sym_pred.specs.declared.literal.Literal.{Literal}
 use Rattle.sym_pred.proofs.FactsLemmas.{literals-from_sorted}
-use Rattle.sym_file.specs.Making.{facts_of, line_of, made, number_of, set_of, span_of}
+use Rattle.sym_file.specs.Making.{facts_of, line_of, line_with, made, number_of, set_of, span_of}
 use Rattle.sym_file.proofs.Codecs.{kept, some_is}
 use Rattle.sym_file.specs.Deciding.{are_ends, are_of_line, below_decided, ends_decided, line_decided, number_decided}
 use denote.Struct.Props.{props}
@@ -122,35 +125,20 @@ no_number x none = made_none (is_number x) (number_made x) (not_decided (is_numb
 
 -- ---- lines
 
-abbrev LineParts : Type 0
-LineParts = (p : ℕ × ℤ × ℤ) × AreOfLine p.1 p.2
-
-abbrev of_parts : LineParts → Line
-of_parts p = record { cell = p.0.0; a = p.0.1; b = p.0.2; rises_or_falls = p.1.0; a_in = p.1.1; b_in = p.1.2 }
-
-parts_prop : (p : ℕ × ℤ × ℤ) → IsProp (AreOfLine p.1 p.2)
-parts_prop p = hlevel props
-
-same_line : (l m : Line) → l.cell ≡ m.cell → l.a ≡ m.a → l.b ≡ m.b → l ≡ m
-same_line l m e f g =
-    let x : LineParts = ((l.cell, l.a, l.b), (l.rises_or_falls, l.a_in, l.b_in)) in
-    let y : LineParts = ((m.cell, m.a, m.b), (m.rises_or_falls, m.a_in, m.b_in)) in
-    let parts : x.0 ≡ y.0 = λ i. (e i, f i, g i) in
-    let p : x ≡ y = Σ_prop_path parts_prop parts in
-    ap of_parts p
-
 abbrev line_made : (c : ℕ) (a b : ℤ) → are_of_line a b ≡ true → Line
-line_made c a b e = record { cell = c; a = a; b = b; rises_or_falls = ((line_decided a b).0 e).0; a_in = ((line_decided a b).0 e).1; b_in = ((line_decided a b).0 e).2 }
+line_made c a b e = line_with c a b ((line_decided a b).0 e)
 
-pub line_again : (l : Line) → line_of l.cell l.a l.b ≡ Some l
+pub line_again : (l : Line) → line_of l.cell l.a (offset l) ≡ Some l
 unfolding line_of
-line_again l = made_again (are_of_line l.a l.b) (line_made l.cell l.a l.b) l ((line_decided l.a l.b).1 (l.rises_or_falls, l.a_in, l.b_in)) (λ e. same_line (line_made l.cell l.a l.b e) l refl refl refl)
+line_again l =
+    made_again (are_of_line l.a (offset l)) (line_made l.cell l.a (offset l)) l ((line_decided l.a (offset l)).1 (l.rises_or_falls, l.a_in, l.b_in))
+    (λ e. same_line (line_made l.cell l.a (offset l) e) l refl refl (joined_again (offset l)))
 
-pub line_takes : (c : ℕ) (a b : ℤ) (l : Line) → line_of c a b ≡ Some l → (c ≡ l.cell) × (a ≡ l.a) × (b ≡ l.b)
+pub line_takes : (c : ℕ) (a b : ℤ) (l : Line) → line_of c a b ≡ Some l → (c ≡ l.cell) × (a ≡ l.a) × (b ≡ offset l)
 unfolding line_of
 line_takes c a b l e =
     let m = made_takes (are_of_line a b) (line_made c a b) l e in
-    (ap (λ (k : Line). k.cell) m.1, ap (λ (k : Line). k.a) m.1, ap (λ (k : Line). k.b) m.1)
+    (ap (λ (k : Line). k.cell) m.1, ap (λ (k : Line). k.a) m.1, sym (joined_again b) ∙ ap offset m.1)
 
 pub no_line : (c : ℕ) (a b : ℤ) → (AreOfLine a b → ⊥) → line_of c a b ≡ None
 unfolding line_of
@@ -204,7 +192,7 @@ pub number_found : (x : ℤ) (r : Option Number) → MatchOption r (IsNumber x �
 number_found x None h = sym (no_number x h)
 number_found x (Some n) h = sym (ap number_of (sym h) ∙ number_again n)
 
-pub line_found : (c : ℕ) (a b : ℤ) (r : Option Line) → MatchOption r (AreOfLine a b → ⊥) (λ l. (l.cell ≡ c) × (l.a ≡ a) × (l.b ≡ b)) → r ≡ line_of c a b
+pub line_found : (c : ℕ) (a b : ℤ) (r : Option Line) → MatchOption r (AreOfLine a b → ⊥) (λ l. (l.cell ≡ c) × (l.a ≡ a) × (offset l ≡ b)) → r ≡ line_of c a b
 line_found c a b None h = sym (no_line c a b h)
 line_found c a b (Some l) h =
     sym (ap (λ (k : ℕ). line_of k a b) (sym h.0) ∙ ap (λ (x : ℤ). line_of l.cell x b) (sym h.1) ∙ ap (line_of l.cell l.a) (sym h.2) ∙ line_again l)

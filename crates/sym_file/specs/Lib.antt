@@ -3,5 +3,6 @@ pub mod Making
 pub mod Reading
 pub mod SavedTexts
 pub mod Stored
+pub mod TakenTexts
 pub mod Texts
 pub mod Totals

@@ -1,8 +1,11 @@
 -- Values of types that keep a fact, from their plain parts; none where the fact doesn't hold.
-use Rattle.std.specs.Prelude.{◌≡◌, ℕ, ◌^◌, ℤ, nat_lt, Bool, true, false, List, map, Option, Some, None, refl, if◌then◌else◌}
+use Rattle.std.specs.Prelude.{◌≡◌, ℕ, ◌≤◌, ◌^◌, ℤ, unsigned_abs, nat_lt, Bool, true, false, List, map, Option, Some, None, refl, if◌then◌else◌}
+use Rattle.std.proofs.Common.{subst, sym}
 use Rattle.std.specs.FinMap.{from_sorted, is_sorted}
 use Rattle.sym_base.specs.Limits.{is_number}
 use Rattle.sym_enum.specs.declared.label_set.LabelSet.{LabelSet}
+use Rattle.sym_int.specs.Bounds.{AreOfLine, offset_max}
+use Rattle.sym_int.specs.Offsets.{high_of, joined_again, low_below, low_of}
 use Rattle.sym_int.specs.declared.form.Line.{Line}
 use Rattle.sym_int.specs.declared.form.Number.{Number}
 use Rattle.sym_int.specs.declared.span.Span.{Span}
@@ -33,15 +36,22 @@ span_of lo hi = made (are_ends lo hi) (λ e. record {
 unfoldable pub number_of : ℤ → Option Number
 number_of x = made (is_number x) (λ e. record { value = x; value_in = (number_decided x).0 e })
 
-unfoldable pub line_of : ℕ → ℤ → ℤ → Option Line
-line_of cell a b = made (are_of_line a b) (λ e. record {
+-- The line with this slope and this offset.
+abbrev pub line_with : ℕ → (a b : ℤ) → AreOfLine a b → Line
+line_with cell a b h = record {
   cell = cell;
+  high = high_of b;
   a = a;
-  b = b;
-  rises_or_falls = ((line_decided a b).0 e).0;
-  a_in = ((line_decided a b).0 e).1;
-  b_in = ((line_decided a b).0 e).2;
-})
+  low = low_of b;
+  rises_or_falls = h.0;
+  a_in = h.1;
+  b_in = subst (λ (x : ℤ). unsigned_abs x ≤ offset_max) (sym (joined_again b)) h.2;
+  low_in = low_below b;
+}
+
+unfoldable pub line_of : ℕ → ℤ → ℤ → Option Line
+line_of cell a b =
+    made (are_of_line a b) (λ e. line_with cell a b ((line_decided a b).0 e))
 
 -- Facts of literals in order, no two of the same test and arguments.
 unfoldable pub facts_of : List Literal → Option FactMap

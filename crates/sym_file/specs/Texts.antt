@@ -11,6 +11,7 @@ use Rattle.sym_base.specs.declared.values.state.FaultKind.{FaultKind}
 use Rattle.sym_base.specs.declared.values.state.FaultKind.TheVariants as fault
 use Rattle.sym_enum.specs.declared.form.EnumForm.{EnumForm}
 use Rattle.sym_enum.specs.declared.form.EnumForm.TheVariants as label
+use Rattle.sym_int.specs.Lines.{offset}
 use Rattle.sym_int.specs.declared.form.IntForm.{IntForm}
 use Rattle.sym_int.specs.declared.form.IntForm.TheVariants as number
 use Rattle.sym_pred.specs.declared.form.HoldForm.{HoldForm}
@@ -79,7 +80,7 @@ unfoldable pub number_text : IntForm → List ℕ
 number_text (number.Const n) = codes "n" ++ signed_decimal n.value
 number_text (number.Line line) =
     codes "x" ++ decimal line.cell ++ codes "," ++ signed_decimal line.a ++ codes ","
-    ++ signed_decimal line.b
+    ++ signed_decimal (offset line)
 
 abbrev pub label_form_text : EnumForm → List ℕ
 label_form_text (label.Const l) = codes "c" ++ decimal l

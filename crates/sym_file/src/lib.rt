@@ -5,6 +5,7 @@
 
 mod forms;
 pub mod laws;
+mod leading;
 mod numbers;
 mod parts;
 mod paths;
@@ -18,4 +19,4 @@ mod writing;
 pub use reading::read_saved;
 pub use saved_err::SavedErr;
 pub use saved_text::write_saved;
-pub use totals::{Taken, Totals};
+pub use totals::{Taken, TakenText, Totals};

@@ -32,7 +32,7 @@ fn key<'a>(alloc: Global, plan: &Plan, bytes: &'a [u8]) -> Result<(Key, &'a [u8]
 
 /// A group: its key and its chain.
 #[tactic(auto, unfolding(crate::specs::Reading::group_at))]
-fn group<'a>(
+pub(crate) fn group<'a>(
     alloc: Global,
     plan: &Plan,
     bytes: &'a [u8],
@@ -69,7 +69,7 @@ fn groups<'a>(
 
 /// The script of the text, and the bytes after it.
 #[tactic(auto, unfolding(crate::specs::Reading::script_at))]
-fn script(bytes: &[u8]) -> Result<(&[u8], &[u8]), SavedErr>
+pub(crate) fn script(bytes: &[u8]) -> Result<(&[u8], &[u8]), SavedErr>
     ensures { Gives (λ x. (x.0.now, x.1.now)) result (script_at bytes.now) }
 {
     let rest = after(b"symple run 1\nscript ", bytes)?;
@@ -114,7 +114,12 @@ fn body(alloc: Global, plan: &Plan, bytes: &[u8]) -> Result<Saved, SavedErr>
 }
 
 /// `read_saved`, where this is the script in its printed form.
-fn read_own(alloc: Global, checked: &Checked, own: &[u8], bytes: &[u8]) -> Result<Saved, SavedErr>
+pub(crate) fn read_own(
+    alloc: Global,
+    checked: &Checked,
+    own: &[u8],
+    bytes: &[u8],
+) -> Result<Saved, SavedErr>
     requires { length bytes.now ≤ limit.FILE_MAX }
     ensures read { IsReadTo own.now (checked_plan checked.now) bytes.now result }
     ensures only { (saved : OneSaved) → IsStored saved →

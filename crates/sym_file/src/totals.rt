@@ -1,8 +1,9 @@
 //! The groups of saved runs, taken one after the other.
-ghost use Rattle.std.specs.Prelude.{◌≡◌, [], List, IfOk, None, Some, length, slice_get};
+ghost use Rattle.std.specs.Prelude.{◌≡◌, ◌≤◌, [], List, IfOk, None, Some, length, slice_get};
 ghost use Rattle.std.specs.Map.{lookup};
 ghost use Rattle.std.specs.Map.Iter.{deref_pair};
 ghost use Rattle.std.specs.Option.{option_map};
+ghost use Rattle.sym_base.specs.declared.limits.TheConstants as limit;
 ghost use Rattle.sym_base.specs.declared.values.record.Record.{Record as OneRecord};
 ghost use Rattle.sym_check.specs.Checking.CheckedScripts.{checked_plan};
 ghost use Rattle.sym_check.specs.Meaning.Conditions.{test_truth};
@@ -13,14 +14,20 @@ ghost use Rattle.sym_plain.specs.Pairs.{HaveDistinctKeys, after_records, standin
 ghost use Rattle.sym_run.specs.Applying.{AreValid};
 ghost use Rattle.sym_run.specs.Chains.{ChainFits};
 ghost use Rattle.sym_run.specs.SavedRuns.{IsLawfulSaved, SavedStandsFor};
+ghost use Rattle.sym_file.specs.SavedTexts.{printed};
+ghost use Rattle.sym_file.specs.TakenTexts.{IfTextDone, TakesText};
 ghost use Rattle.sym_file.specs.Totals.{IfDone, IsLed, IsTaken, IsTakenThere, led_by, led_through, taken, taken_to};
 ghost use Rattle.sym_file.specs.declared.totals.Taken.TheVariants.{Done};
 
+use crate::leading::{Led, lead_text};
+use crate::reading::read_own;
+use crate::saved_err::SavedErr;
 use std::alloc::Global;
 use std::marker::Model;
 use sym_base::{Key, NoMemory, Outcome};
 use sym_check::Checked;
 use sym_check::laws::plans::well_formed_plans_keep_states_valid;
+use sym_parse::print;
 use sym_path::Segment;
 use sym_plain::{Groups, initial};
 use sym_run::{Chain, Saved};
@@ -53,6 +60,17 @@ impl Model for Totals {
 pub enum Taken {
     /// The totals after the saved run.
     Done(Totals),
+    /// The chain of this group, counted from 0, has no path for how the group stands.
+    Gap { group: u64 },
+}
+
+/// What taking the saved run of a text comes to.
+#[derive(Drop)]
+pub enum TakenText {
+    /// The totals after the saved run, and the number of the record after its last.
+    Done { totals: Totals, next: u64 },
+    /// Its first record has another number.
+    Apart,
     /// The chain of this group, counted from 0, has no path for how the group stands.
     Gap { group: u64 },
 }
@@ -155,7 +173,7 @@ fn begin(
 }
 
 /// Takes a group; whether each segment of its chain has a path for how it stands.
-fn take_group(
+pub(crate) fn take_group(
     alloc: Global,
     checked: &Checked,
     groups: &mut Groups,
@@ -261,6 +279,42 @@ impl Totals {
                 group: index as u64,
             }),
             None => Ok(Taken::Done(Totals { groups })),
+        }
+    }
+
+    /// `read_saved` and `take` at once, of a saved run whose first record has the number `first`:
+    /// each group is taken as it is read, and no saved run is made. After an `Err`, `Apart` and
+    /// `Gap` the totals are dropped.
+    pub fn take_text(
+        self,
+        alloc: Global,
+        checked: &Checked,
+        bytes: &[u8],
+        first: u64,
+    ) -> Result<TakenText, SavedErr>
+        requires size { length bytes.now ≤ limit.FILE_MAX }
+        requires valid { AreValid (checked_plan checked.now) self }
+        ensures taken { TakesText (printed checked.now) (checked_plan checked.now) bytes.now first
+            self result }
+        ensures valid { IfOk result (λ answer.
+            IfTextDone answer (AreValid (checked_plan checked.now))) }
+    {
+        let own = print(alloc, checked.script())?;
+        let Totals { mut groups } = self;
+        match lead_text(alloc, checked, &own, bytes, first, &mut groups) {
+            Ok(Led::Done(next)) => Ok(TakenText::Done {
+                totals: Totals { groups },
+                next,
+            }),
+            Ok(Led::Gap(group)) => {
+                let _saved = read_own(alloc, checked, &own, bytes)?;
+                Ok(TakenText::Gap { group })
+            }
+            Err(SavedErr::NoMemory) => Err(SavedErr::NoMemory),
+            Err(_) => {
+                let _saved = read_own(alloc, checked, &own, bytes)?;
+                Ok(TakenText::Apart)
+            }
         }
     }
 }

@@ -202,7 +202,7 @@ impl Item for IntForm {
                 put(out, b",")?;
                 put_number(out, line.a)?;
                 put(out, b",")?;
-                put_number(out, line.b)
+                put_number(out, line.offset())
             }
         }
     }

@@ -1,11 +1,16 @@
 //! Scripts, files of saved runs, and what reading them answers.
+ghost use Rattle.std.specs.Prelude.{◌≤◌, length};
+ghost use Rattle.sym_base.specs.declared.limits.TheConstants as limit;
+ghost use Rattle.sym_check.specs.Checking.CheckedScripts.{checked_plan};
+ghost use Rattle.sym_run.specs.SavedRuns.{IsLawfulSaved};
+
 use itoa::Buffer;
 use std::alloc::Global;
 use std::process::Abort;
 use std::test::Fail;
 use sym_base::NoMemory;
 use sym_check::{Checked, check};
-use sym_file::{SavedErr, read_saved, write_saved};
+use sym_file::{SavedErr, Taken, TakenText, Totals, read_saved, write_saved};
 use sym_parse::{parse, print};
 use sym_run::Saved;
 
@@ -72,21 +77,81 @@ pub(crate) enum Answer {
     Malformed,
 }
 
+/// Whether there are the same groups, which stand the same.
+fn are_equal(one: &Totals, other: &Totals) -> bool {
+    if one.len() != other.len() {
+        return false;
+    }
+    'groups: for index in 0..one.len() {
+        if one.at(index) != other.at(index) {
+            return false;
+        }
+    }
+    true
+}
+
+/// Whether taking a text comes to what taking its saved run comes to.
+fn is_taken_alike(
+    alloc: Global,
+    checked: &Checked,
+    bytes: &[u8],
+    saved: &Saved,
+) -> Result<bool, NoMemory>
+    requires size { length bytes.now ≤ limit.FILE_MAX }
+    requires lawful { IsLawfulSaved (checked_plan checked.now) saved.now }
+{
+    let run = Totals::new(alloc).take(alloc, checked, saved)?;
+    let text = Totals::new(alloc).take_text(alloc, checked, bytes, saved.first);
+    match (run, text) {
+        (Taken::Done(one), Ok(TakenText::Done { totals, next })) => {
+            Ok(next == saved.next && are_equal(&one, &totals))
+        }
+        (Taken::Gap { group: one }, Ok(TakenText::Gap { group })) => Ok(one == group),
+        _ => Ok(false),
+    }
+}
+
+/// How reading these bytes is refused; `Wrong` where taking them isn't refused so.
+fn refused(
+    alloc: Global,
+    checked: &Checked,
+    bytes: &[u8],
+    answer: Answer,
+) -> Result<Answer, NoMemory>
+    requires { length bytes.now ≤ limit.FILE_MAX }
+{
+    let taken = match Totals::new(alloc).take_text(alloc, checked, bytes, 1) {
+        Ok(_) => Answer::Wrong,
+        Err(SavedErr::OtherScript) => Answer::OtherScript,
+        Err(SavedErr::Malformed) => Answer::Malformed,
+        Err(SavedErr::NoMemory) => return Err(NoMemory),
+    };
+    if taken == answer {
+        Ok(answer)
+    } else {
+        Ok(Answer::Wrong)
+    }
+}
+
 fn answer_to(
     alloc: Global,
     checked: &Checked,
     bytes: &[u8],
     saved: &Saved,
-) -> Result<Answer, NoMemory> {
+) -> Result<Answer, NoMemory>
+    requires size { length bytes.now ≤ limit.FILE_MAX }
+    requires lawful { IsLawfulSaved (checked_plan checked.now) saved.now }
+{
     let again = write_saved(alloc, checked, saved)?;
-    if saved.is_lawful(checked) && again.as_slice() == bytes {
+    let alike = is_taken_alike(alloc, checked, bytes, saved)?;
+    if alike && again.as_slice() == bytes {
         Ok(Answer::Read)
     } else {
         Ok(Answer::Wrong)
     }
 }
 
-/// What reading these bytes comes to.
+/// What reading these bytes comes to; `Wrong` where taking them comes to something else.
 pub(crate) fn answer_of(
     alloc: Global,
     checked: &Checked,
@@ -96,9 +161,15 @@ pub(crate) fn answer_of(
         return Ok(Answer::Wrong);
     }
     match read_saved(alloc, checked, bytes) {
-        Ok(saved) => answer_to(alloc, checked, bytes, &saved),
-        Err(SavedErr::OtherScript) => Ok(Answer::OtherScript),
-        Err(SavedErr::Malformed) => Ok(Answer::Malformed),
+        Ok(saved) => {
+            if saved.is_lawful(checked) {
+                answer_to(alloc, checked, bytes, &saved)
+            } else {
+                Ok(Answer::Wrong)
+            }
+        }
+        Err(SavedErr::OtherScript) => refused(alloc, checked, bytes, Answer::OtherScript),
+        Err(SavedErr::Malformed) => refused(alloc, checked, bytes, Answer::Malformed),
         Err(SavedErr::NoMemory) => Err(NoMemory),
     }
 }

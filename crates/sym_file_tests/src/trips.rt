@@ -8,7 +8,7 @@ use crate::scripts::{CHANGES, COUNT, NAMES, NUMBERS, SESSIONS, SUMS, TOGGLE, VIS
 use crate::setting::{Case, check_cases};
 use std::alloc::Global;
 use std::test::Fail;
-use sym_base::{NoMemory, Record, Values};
+use sym_base::{Fields, NoMemory, Record};
 use sym_check::Checked;
 use sym_file::{SavedErr, Taken, Totals, read_saved, write_saved};
 use sym_plain::{Groups, fold_into};
@@ -120,7 +120,7 @@ fn fold_row(
     if !cutter.next_row(&mut row)? {
         return Ok(false);
     }
-    if decode_into(alloc, checked, cutter.header(), &row, no, rec)?.is_some() {
+    if decode_into(alloc, checked, cutter.header(), &row.view(), no, rec)?.is_some() {
         return Ok(false);
     }
     fold_into(alloc, checked, groups, rec)?;
@@ -135,7 +135,7 @@ fn passed_by(alloc: Global, checked: &Checked, cutter: Cutter<'_>) -> Result<Gro
     let mut groups = Groups::new(alloc);
     let mut rec = Record {
         no: 0,
-        fields: Values::new(alloc),
+        fields: Fields::new(alloc),
     };
     'rows: for place in 0..ROWS {
         let no = place as u64 + 1;

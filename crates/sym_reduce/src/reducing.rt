@@ -43,8 +43,8 @@ fn read_file<F: Store>(
 
 /// How each group stands after the saved runs of the files of these names, in order: the first
 /// record of the first one has the number 1, and that of each other one follows the last of the one
-/// before it. One saved run is in memory at a time, and a later file isn't read before the earlier
-/// one is done.
+/// before it. One file is in memory at a time, and a later one isn't read before the earlier one is
+/// done.
 ///
 /// # Errors
 ///

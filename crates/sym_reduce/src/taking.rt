@@ -11,7 +11,7 @@ ghost use Rattle.sym_run.specs.Applying.{AreValid};
 use crate::error::ReduceErr;
 use std::alloc::Global;
 use sym_check::Checked;
-use sym_file::{SavedErr, Taken, Totals, read_saved};
+use sym_file::{SavedErr, TakenText, Totals};
 
 /// The totals after a file, and the number of the record that follows.
 #[derive(Drop)]
@@ -36,24 +36,15 @@ pub(crate) fn take_file(
         TakesFile (printed checked.now) p next file totals bytes.now result }
     ensures valid { IfOk result (λ step. AreValid (checked_plan checked.now) step.totals) }
 {
-    let saved = match read_saved(alloc, checked, bytes) {
-        Ok(saved) => saved,
-        Err(SavedErr::OtherScript) => return Err(ReduceErr::OtherScript { file }),
-        Err(SavedErr::Malformed) => return Err(ReduceErr::Malformed { file }),
-        Err(SavedErr::NoMemory) => return Err(ReduceErr::NoMemory),
-    };
-    if saved.first != next {
-        return Err(ReduceErr::Apart { file });
-    }
-    match totals.take(alloc, checked, &saved) {
-        Ok(Taken::Done(totals)) => Ok(Step {
-            totals,
-            next: saved.next,
-        }),
-        Ok(Taken::Gap { group }) => Err(ReduceErr::Gap {
+    match totals.take_text(alloc, checked, bytes, next) {
+        Ok(TakenText::Done { totals, next }) => Ok(Step { totals, next }),
+        Ok(TakenText::Apart) => Err(ReduceErr::Apart { file }),
+        Ok(TakenText::Gap { group }) => Err(ReduceErr::Gap {
             file,
             group: group + 1,
         }),
-        Err(_) => Err(ReduceErr::NoMemory),
+        Err(SavedErr::OtherScript) => Err(ReduceErr::OtherScript { file }),
+        Err(SavedErr::Malformed) => Err(ReduceErr::Malformed { file }),
+        Err(SavedErr::NoMemory) => Err(ReduceErr::NoMemory),
     }
 }

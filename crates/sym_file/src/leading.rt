@@ -1,0 +1,155 @@
+//! Taking the groups of a text while they are read: no saved run is made of it.
+ghost use Rattle.std.specs.Prelude.{◌≡◌, ◌↔◌, ◌≤◌, IfOk, IsTrue, length};
+ghost use Rattle.sym_base.specs.declared.limits.TheConstants as limit;
+ghost use Rattle.sym_check.specs.Checking.CheckedScripts.{checked_plan};
+ghost use Rattle.sym_run.specs.Applying.{AreValid};
+ghost use Rattle.sym_file.specs.Reading.{Gives};
+ghost use Rattle.sym_file.specs.TakenTexts.{LeadsBody, LeadsGroups, LeadsText, head_at};
+
+use crate::numbers::{after, below_64, nat};
+use crate::reading::{group, script};
+use crate::saved_err::SavedErr;
+use crate::totals::take_group;
+use indexmap::IndexSet;
+use std::alloc::Global;
+use sym_check::Checked;
+use sym_plain::Groups;
+use sym_run::is_lawful_group;
+
+/// What taking the groups of a text came to.
+pub(crate) enum Led {
+    /// All are taken; the number of the record after the last.
+    Done(u64),
+    /// The chain of this group, counted from 0, has no path for how the group stands.
+    Gap(u64),
+}
+
+/// The numbers of the first record, of the record after the last, and of the groups.
+#[tactic(auto, unfolding(crate::specs::TakenTexts::head_at))]
+fn head(bytes: &[u8]) -> Result<((u64, u64, u128), &[u8]), SavedErr>
+    ensures { Gives (λ x. (x.0, x.1.now)) result (head_at bytes.now) }
+{
+    let rest = after(b"first ", bytes)?;
+    let (first, rest) = below_64(rest)?;
+    let rest = after(b"\nnext ", rest)?;
+    let (next, rest) = below_64(rest)?;
+    let rest = after(b"\ngroups ", rest)?;
+    let (count, rest) = nat(rest)?;
+    let rest = after(b"\n", rest)?;
+    Ok(((first, next, count), rest))
+}
+
+/// The fewest bytes of a group, less one.
+const GROUP_BYTES: usize = 32;
+
+/// Room for the keys of so many groups, where there are so many bytes of them.
+fn room_for(count: u128, bytes: usize) -> usize {
+    let most = bytes / GROUP_BYTES;
+    if count < most as u128 {
+        count as usize
+    } else {
+        most
+    }
+}
+
+/// Takes so many groups, which have to be lawful; the first that is a gap, counted from 0, or the
+/// bytes after all of them.
+fn lead_groups<'a>(
+    alloc: Global,
+    checked: &Checked,
+    first: u64,
+    next: u64,
+    count: u128,
+    bytes: &'a [u8],
+    groups: &mut Groups,
+) -> Result<(Option<u64>, &'a [u8]), SavedErr>
+    requires valid { AreValid (checked_plan checked.now) groups.old }
+    ensures valid { IfOk result (λ x. AreValid (checked_plan checked.now) groups.new) }
+    ensures led { LeadsGroups (checked_plan checked.now) first next count bytes.now
+        groups.old groups.new (λ x. (x.0, x.1.now)) result }
+{
+    let plan = checked.plan();
+    let mut seen = IndexSet::with_capacity(alloc, room_for(count, bytes.len()))?;
+    let mut rest = bytes;
+    'groups: for _ in 0..count {
+        let ((key, chain), after) = group(alloc, plan, rest)?;
+        let lawful = is_lawful_group(checked, first, next, &key, &chain);
+        if !lawful {
+            return Err(SavedErr::Malformed);
+        }
+        let taken = take_group(alloc, checked, groups, &key, &chain)?;
+        if !taken {
+            return Ok((Some(seen.len() as u64), after));
+        }
+        let new = seen.insert(key)?;
+        if !new {
+            return Err(SavedErr::Malformed);
+        }
+        rest = after;
+    }
+    Ok((None, rest))
+}
+
+/// Whether records are numbered from this number on.
+fn begins(wanted: u64, first: u64, next: u64) -> bool
+    ensures { IsTrue result ↔ (first ≡ wanted) × (1 ≤ first) × (first ≤ next) }
+{
+    first == wanted && 1 <= first && first <= next
+}
+
+/// Takes all that comes after the script, where its first record has this number.
+fn lead_body(
+    alloc: Global,
+    checked: &Checked,
+    wanted: u64,
+    bytes: &[u8],
+    groups: &mut Groups,
+) -> Result<Led, SavedErr>
+    requires valid { AreValid (checked_plan checked.now) groups.old }
+    ensures valid { IfOk result (λ x. AreValid (checked_plan checked.now) groups.new) }
+    ensures led { LeadsBody (checked_plan checked.now) bytes.now wanted
+        groups.old groups.new result }
+{
+    let ((first, next, count), rest) = head(bytes)?;
+    let follows = begins(wanted, first, next);
+    if !follows {
+        return Err(SavedErr::Malformed);
+    }
+    let (gap, rest) = lead_groups(alloc, checked, first, next, count, rest, groups)?;
+    match gap {
+        Some(group) => Ok(Led::Gap(group)),
+        None => {
+            let ended = rest == b"end\n".as_slice();
+            if !ended {
+                return Err(SavedErr::Malformed);
+            }
+            Ok(Led::Done(next))
+        }
+    }
+}
+
+/// Takes the saved run of a text, where `own` is the script in its printed form, and the first
+/// record has this number. Where it isn't so, a saved run whose first record has this number isn't
+/// read of the text.
+pub(crate) fn lead_text(
+    alloc: Global,
+    checked: &Checked,
+    own: &[u8],
+    bytes: &[u8],
+    wanted: u64,
+    groups: &mut Groups,
+) -> Result<Led, SavedErr>
+    requires size { length bytes.now ≤ limit.FILE_MAX }
+    requires valid { AreValid (checked_plan checked.now) groups.old }
+    ensures valid { IfOk result (λ x. AreValid (checked_plan checked.now) groups.new) }
+    ensures led { LeadsText own.now (checked_plan checked.now) bytes.now wanted
+        groups.old groups.new result }
+{
+    let _plan = checked.plan();
+    let (found, rest) = script(bytes)?;
+    let same = found == own;
+    if !same {
+        return Err(SavedErr::Malformed);
+    }
+    lead_body(alloc, checked, wanted, rest, groups)
+}
