@@ -1,9 +1,10 @@
 #!/bin/sh
 # Runs the commands that the documents show, at the top of the repository, and compares what each
-# writes with what the document shows below it, and its status. In an indented block a line that
-# begins with `$ ` is a command, and lines right after it that begin with `> ` continue it. The
-# lines up to the next command or the end of the block are all that it writes. `$ echo $?` shows the
-# status of the command before it; a command that isn't followed by one has to end with 0.
+# writes with what the document shows below it, and its status. In a block that is indented, by eight
+# blanks in a list, a line that begins with `$ ` is a command, and lines right after it that begin
+# with `> ` continue it. The lines up to the next command or the end of the block are all that it
+# writes. `$ echo $?` shows the status of the command before it; a command that isn't followed by one
+# has to end with 0.
 #
 # Then a log in twelve parts is summarised apart and reported on by what examples/distributed has: by
 # a loop of the shell, by GNU parallel and by make. What isn't installed is named, and what it would
@@ -29,25 +30,26 @@ split() {
         /^\$ / {
             print FILENAME ":" FNR ": a command outside of an indented block" >(work "/faults")
         }
-        /^    \$ / {
+        /^    (    )?\$ / {
             finish()
+            deep = index($0, "$") - 1
             count++
             print FILENAME ":" FNR >(work "/" count ".place")
             close(work "/" count ".place")
             command = work "/" count ".command"
-            print substr($0, 7) >command
+            print substr($0, deep + 3) >command
             wanted = work "/" count ".wanted"
             printf "" >wanted
             open = going = 1
             next
         }
-        /^    > / && going { print substr($0, 7) >command; next }
+        /^    (    )?> / && going { print substr($0, deep + 3) >command; next }
         { going = 0 }
         /^ *$/ { blank++; next }
-        /^    / && open {
+        open && substr($0, 1, deep) ~ /^ *$/ {
             for (; blank > 0; blank--)
                 print "" >wanted
-            print substr($0, 5) >wanted
+            print substr($0, deep + 1) >wanted
             next
         }
         { finish() }
@@ -193,7 +195,7 @@ try_distributed() {
 # Builds the program where it has to be built, so that no command shows what a build says.
 ./symple run examples/counter.symple examples/counter.csv >/dev/null || exit 1
 
-for document in README.md docs/LANGUAGE.md docs/FORMS.md docs/TOOLS.md; do
+for document in README.md docs/LANGUAGE.md docs/FORMS.md docs/TRACES.md docs/TOOLS.md; do
     if [ -e "$document" ]; then
         run_document "$document"
     fi
