@@ -1,423 +1,227 @@
--- An expression is read where it stands, if the token after it binds no tighter.
-use Rattle.std.proofs.Common.{◌≡◌, ℕ, zero, suc, ℤ, ◌+◌, ◌-◌, ◌<◌, ◌≤◌, false, List, [], ◌∷◌, ◌++◌, length, Option, Some, None, Ok, refl, ap, ◌∙◌, arith, append_assoc, length-append}
-use Rattle.sym_base.specs.declared.tree.name.Name.{Name as NameRecord}
+-- What an expression is is read, if the token after it binds no tighter.
+use Rattle.std.proofs.Common.{◌≡◌, ℕ, zero, suc, ◌+◌, ◌<◌, ◌≤◌, Bool, true, false, if◌then◌else◌, ◌==◌, ℤ, List, [], ◌∷◌, ◌++◌, length, Option, Some, None, refl, ap, sym, ◌∙◌, arith, append_assoc, length-append}
+use Rattle.std.proofs.lemmas.Bool.{eqb-true}
+use Rattle.std.proofs.lemmas.List.{append-nil}
 use Rattle.sym_base.specs.declared.tree.expression.BinOp.{BinOp}
-use Rattle.sym_base.specs.Trees.{ExprTree, ExprsTree, Num, Words, Named, Call, Neg, Not, Bin, End, More}
-use Rattle.sym_base.specs.Sizes.{operand_count, operands_count}
-use Rattle.sym_lex.specs.declared.keyword.Keyword.{Keyword}
+use Rattle.sym_base.specs.Precedence.{op_level, or_level, and_level, relation_level, sum_level, product_level}
+use Rattle.sym_base.specs.Sizes.{operand_count}
+use Rattle.sym_base.specs.Trees.{ExprTree, ExprsTree, Num, Words, Neg, Not, Bin}
 use Rattle.sym_lex.specs.declared.keyword.Keyword.TheVariants as keyword
-use Rattle.sym_lex.specs.declared.symbol.Symbol.{Symbol}
 use Rattle.sym_lex.specs.declared.symbol.Symbol.TheVariants as symbol
 use Rattle.sym_parse.specs.declared.error.LimitKind.{LimitKind}
 use Rattle.sym_parse.specs.declared.error.LimitKind.TheVariants as limit
-use Rattle.sym_parse.specs.Lexemes.{Terminal, Name, Number, Str, Word, Sign, Lexeme, IsSign, IsNumeral, IsText, IsName}
-use Rattle.sym_parse.specs.Steps.{Input, Parser, next, next_of, place, passed, is_this_sign, sign_of, sees_word, sees_sign, sees_name, sees_number, sees_text}
+use Rattle.sym_parse.specs.Lexemes.{Terminal, Name, Number, Str, Sign, Lexeme}
+use Rattle.sym_parse.specs.Steps.{Parser, ◌>>=◌, ◌>>◌, pure, number, text, opening, bump, next, next_of, sign_of, word_of, is_this_sign, is_this_word, sees_sign}
 use Rattle.sym_parse.specs.Syntax.Expressions as syntax
-use Rattle.sym_parse.specs.Syntax.Expressions.{Line, Whole, Negation, Signed, IsGrouped, IsValues, IsPrimary, IsUnary, IsProduct, IsSum, IsRelation, IsNegation, IsConjunction, IsExpression, IsLine, Within, IsExprWithin, product_op, sum_op, compare_op, and_op, or_op}
-use Rattle.sym_parse.specs.Parsing.Expressions.{op_in, chain, chain_from, values, values_from, further, call, call_or_name, number_leaf, text_leaf, named, parens, primary, minus, unary, product, sum, relation, not_line, negation, conjunction, expr, line, lines, expression}
-use Rattle.sym_parse.proofs.Chains.{chain_begins, chain_goes, chain_ends}
-use Rattle.sym_parse.proofs.Reaching.{at, yes, no, sees-word, sees-sign, sees-word-as, sees-sign-as, sees-name-as, sees-number-as, sees-text-as, passes, stands, sign-goes, name-goes, number-goes, text-goes, operand-goes, opening-goes}
+use Rattle.sym_parse.specs.Syntax.Expressions.{Line, Whole, Negation, Signed, IsGrouped, IsValues, IsPrimary, IsUnary, IsProduct, IsSum, IsRelation, IsNegation, IsConjunction, IsExpression, IsLine, Within, IsExprWithin, op_of, of_level, product_op, compare_op}
+use Rattle.sym_parse.specs.Parsing.Expressions.{op_in, chain, chain_from, chain_turn, values, values_from, call, call_or_name, number_leaf, text_leaf, named, parens, primary, minus, unary, product, sum, relation, relation_turn, not_line, negation, conjunction, expr, line, lines, expression}
+use Rattle.sym_parse.proofs.Taking.{is-sign}
+use Rattle.sym_parse.proofs.Recognizing.{Counting, Operands, Statements, counted}
+use Rattle.sym_parse.proofs.RecognizingExpressions.{weight, weights, weights-one, weights-more}
+use Rattle.sym_parse.proofs.Reading.{Reads, Finds, word-found, sign-found, word-is, sign-is, name-is, number-is, text-is, pure-reads, then-reads, last-reads, yes-reads, no-reads, view-reads, turns-reads, of-lexemes, from-count, to-count, sign-then, name-then, number-then, text-then, bump-then, opening-then, here-then, operand-then}
 
--- How tightly a token binds behind an expression.
+-- ---- how tightly a token binds after an expression
+
+abbrev binding : Option BinOp → ℕ
+binding None = 0
+binding (Some b) = suc (op_level b)
+
+-- An operator binds as its line, and the parenthesis of a call tightest.
 abbrev pub tight : Option Terminal → ℕ
-tight (Some (Word keyword.Or)) = 1
-tight (Some (Word keyword.And)) = 2
-tight (Some (Word keyword.Is)) = 3
-tight (Some (Sign symbol.Equal)) = 3
-tight (Some (Sign symbol.NotEqual)) = 3
-tight (Some (Sign symbol.Less)) = 3
-tight (Some (Sign symbol.LessEqual)) = 3
-tight (Some (Sign symbol.Greater)) = 3
-tight (Some (Sign symbol.GreaterEqual)) = 3
-tight (Some (Sign symbol.Plus)) = 4
-tight (Some (Sign symbol.Minus)) = 4
-tight (Some (Sign symbol.Star)) = 5
-tight (Some (Sign symbol.Slash)) = 5
-tight (Some (Sign symbol.Percent)) = 5
-tight (Some (Sign symbol.OpenParen)) = 9
-tight _ = 0
+tight None = 0
+tight (Some t) = if is_this_sign symbol.OpenParen (sign_of (Some t)) then 9 else binding (op_of t)
 
--- An operator of a line binds as that line does, and a token that binds less is none.
-pub record Level (ops : Terminal → Option BinOp) (level : ℕ) : Type 0 where
-  pub is : (t : Terminal) (b : BinOp) → ops t ≡ Some b → tight (Some t) ≡ level
-  pub none : (o : Option Terminal) → tight o < level → op_in ops o ≡ None
+pub loose : (l : Lexeme) {t : Terminal} → l.terminal ≡ t → tight (Some t) ≡ 0 → tight (Some l.terminal) < 1
+loose l {t} e f = let g : tight (Some l.terminal) ≡ 0 = ap (λ (m : Terminal). tight (Some m)) e ∙ f in omega (arith, g)
 
-or-is : (t : Terminal) (b : BinOp) → or_op t ≡ Some b → tight (Some t) ≡ 1
-or-is (Word keyword.Or) b e = refl
-or-is (Sign symbol.Comma) b e = cc
-or-is _ b e = cc
-
-or-none : (o : Option Terminal) → tight o < 1 → op_in or_op o ≡ None
-or-none (Some (Word keyword.Or)) h = absurd (omega arith)
-or-none (Some (Sign symbol.Comma)) h = refl
-or-none _ h = refl
-
-and-is : (t : Terminal) (b : BinOp) → and_op t ≡ Some b → tight (Some t) ≡ 2
-and-is (Word keyword.And) b e = refl
-and-is (Sign symbol.Comma) b e = cc
-and-is _ b e = cc
-
-and-none : (o : Option Terminal) → tight o < 2 → op_in and_op o ≡ None
-and-none (Some (Word keyword.And)) h = absurd (omega arith)
-and-none (Some (Sign symbol.Comma)) h = refl
-and-none _ h = refl
-
-compare-is : (t : Terminal) (b : BinOp) → compare_op t ≡ Some b → tight (Some t) ≡ 3
-compare-is (Word keyword.Is) b e = refl
-compare-is (Sign symbol.Equal) b e = refl
-compare-is (Sign symbol.NotEqual) b e = refl
-compare-is (Sign symbol.Less) b e = refl
-compare-is (Sign symbol.LessEqual) b e = refl
-compare-is (Sign symbol.Greater) b e = refl
-compare-is (Sign symbol.GreaterEqual) b e = refl
-compare-is _ b e = cc
-
-compare-none : (o : Option Terminal) → tight o < 3 → op_in compare_op o ≡ None
-compare-none (Some (Word keyword.Is)) h = absurd (omega arith)
-compare-none (Some (Sign symbol.Equal)) h = absurd (omega arith)
-compare-none (Some (Sign symbol.NotEqual)) h = absurd (omega arith)
-compare-none (Some (Sign symbol.Less)) h = absurd (omega arith)
-compare-none (Some (Sign symbol.LessEqual)) h = absurd (omega arith)
-compare-none (Some (Sign symbol.Greater)) h = absurd (omega arith)
-compare-none (Some (Sign symbol.GreaterEqual)) h = absurd (omega arith)
-compare-none _ h = refl
-
-sum-is : (t : Terminal) (b : BinOp) → sum_op t ≡ Some b → tight (Some t) ≡ 4
-sum-is (Sign symbol.Plus) b e = refl
-sum-is (Sign symbol.Minus) b e = refl
-sum-is (Word keyword.Enum) b e = cc
-sum-is _ b e = cc
-
-sum-none : (o : Option Terminal) → tight o < 4 → op_in sum_op o ≡ None
-sum-none (Some (Sign symbol.Plus)) h = absurd (omega arith)
-sum-none (Some (Sign symbol.Minus)) h = absurd (omega arith)
-sum-none (Some (Word keyword.Enum)) h = refl
-sum-none _ h = refl
-
-product-is : (t : Terminal) (b : BinOp) → product_op t ≡ Some b → tight (Some t) ≡ 5
-product-is (Sign symbol.Star) b e = refl
-product-is (Sign symbol.Slash) b e = refl
-product-is (Sign symbol.Percent) b e = refl
-product-is (Word keyword.Enum) b e = cc
-product-is _ b e = cc
-
-product-none : (o : Option Terminal) → tight o < 5 → op_in product_op o ≡ None
-product-none (Some (Sign symbol.Star)) h = absurd (omega arith)
-product-none (Some (Sign symbol.Slash)) h = absurd (omega arith)
-product-none (Some (Sign symbol.Percent)) h = absurd (omega arith)
-product-none (Some (Word keyword.Enum)) h = refl
-product-none _ h = refl
-
-or-level : Level or_op 1
-or-level = record { is = or-is; none = or-none }
-
-and-level : Level and_op 2
-and-level = record { is = and-is; none = and-none }
-
-compare-level : Level compare_op 3
-compare-level = record { is = compare-is; none = compare-none }
-
-sum-level : Level sum_op 4
-sum-level = record { is = sum-is; none = sum-none }
-
-product-level : Level product_op 5
-product-level = record { is = product-is; none = product-none }
-
--- A call's parenthesis binds tightest.
 no-paren : (o : Option Terminal) → tight o < 9 → is_this_sign symbol.OpenParen (sign_of o) ≡ false
-no-paren (Some (Sign symbol.OpenParen)) h = absurd (omega arith)
-no-paren _ h = refl
+no-paren None h = refl
+no-paren (Some t) h = by-test (is_this_sign symbol.OpenParen (sign_of (Some t))) h
+  where
+    by-test : (p : Bool) → (if p then 9 else binding (op_of t)) < 9 → p ≡ false
+    by-test true h = absurd (omega (arith, h))
+    by-test false h = refl
+
+-- The operators of a line.
+abbrev pub operators : ℕ → Terminal → Option BinOp
+operators level t = of_level level (op_of t)
+
+pub of-level : (level : ℕ) (o : Option BinOp) (b : BinOp) → of_level level o ≡ Some b → (o ≡ Some b) × (op_level b ≡ level)
+of-level level None b e = cc
+of-level level (Some c) b e = by-test (op_level c == level) refl e
+  where
+    by-test : (t : Bool) → (op_level c == level) ≡ t → (if t then Some c else None) ≡ Some b → (Some c ≡ Some b) × (op_level b ≡ level)
+    by-test true f g = let same : c ≡ b = cc in (g, ap op_level (sym same) ∙ eqb-true (op_level c) level f)
+    by-test false f g = cc
+
+operator-tight : (level : ℕ) (t : Terminal) (b : BinOp) → operators level t ≡ Some b → tight (Some t) ≡ suc level
+operator-tight level t b e = by-test (is_this_sign symbol.OpenParen (sign_of (Some t))) refl
+  where
+    by-test : (p : Bool) → is_this_sign symbol.OpenParen (sign_of (Some t)) ≡ p → (if p then 9 else binding (op_of t)) ≡ suc level
+    by-test true f = let both : None ≡ Some b = sym (ap op_of (is-sign symbol.OpenParen t f)) ∙ (of-level level (op_of t) b e).0 in cc
+    by-test false f = let o = of-level level (op_of t) b e in ap binding o.0 ∙ ap suc o.1
+
+-- A token that binds less than a line is none of its operators.
+loose-none : (level : ℕ) (o : Option Terminal) → tight o < suc level → op_in (operators level) o ≡ None
+loose-none level None h = refl
+loose-none level (Some t) h = by-answer (operators level t) refl
+  where
+    by-answer : (r : Option BinOp) → operators level t ≡ r → r ≡ None
+    by-answer None e = refl
+    by-answer (Some b) e = absurd (omega (arith, h, operator-tight level t b e))
 
 -- What such lexemes are is read, if the token after them binds less than this.
 abbrev pub Complete : ℕ → Parser ExprTree → (List Lexeme → ExprTree → Type 0) → ℕ → Type 0
 Complete most p P level =
-    (ls rest : List Lexeme) (e : ExprTree) (st op : ℕ) → P ls e → tight (next_of rest) < level → op + operand_count e ≤ most →
-    p (at (ls ++ rest) st op) ≡ Ok (e, at rest st (op + operand_count e))
+    (ls rest : List Lexeme) (k : ℕ) (e : ExprTree) → P ls e → tight (next_of rest) < level → k + operand_count e ≤ most → Reads Operands p ls rest k (k + operand_count e) e
 
--- Each expression has an operand.
-pub one_or_more : (e : ExprTree) → 1 ≤ operand_count e
-one_or_more (Num n p) = omega arith
-one_or_more (Words t p) = omega arith
-one_or_more (Named n) = omega arith
-one_or_more (Call n es) = omega arith
-one_or_more (Neg e p) = one_or_more e
-one_or_more (Not e p) = one_or_more e
-one_or_more (Bin b l r p) = omega (arith, one_or_more l)
+-- ---- chains and values
 
-module _ (most : ℕ) (P : List Lexeme → ExprTree → Type 0) (item : Parser ExprTree) (ops : Terminal → Option BinOp) (level : ℕ)
-    (lies : Level ops level) (reads : Complete most item P (level + 1)) where
-  next-op : (l : Lexeme) (ls : List Lexeme) (st op : ℕ) (b : BinOp) → ops l.terminal ≡ Some b → op_in ops (next (at (l ∷ ls) st op)) ≡ Some b
-  unfolding next
-  next-op l ls st op b o = o
+module _ (most level inner : ℕ) (tighter : suc level < inner) (P : List Lexeme → ExprTree → Type 0) (item : Parser ExprTree) (reads : Complete most item P inner) where
+  turn-reads : (turns : ℕ) (b : BinOp) (l : Lexeme) (xs ys rest : List Lexeme) (k n : ℕ) (left right x : ExprTree) → operators level l.terminal ≡ Some b → P xs right → tight (next_of (ys ++ rest)) < inner →
+      k + operand_count right ≤ most → length (l ∷ ((xs ++ ys) ++ rest)) < turns →
+      ((more : ℕ) → length (ys ++ rest) < more → Reads Operands (chain_from (operators level) item more (Bin b left right l.at)) ys rest (k + operand_count right) n x) →
+      Reads Operands (chain_from (operators level) item turns left) (l ∷ (xs ++ ys)) rest k n x
+  unfolding chain_from next
+  turn-reads zero b l xs ys rest k n left right x o p t few enough goes = absurd (omega (arith, enough))
+  turn-reads (suc turns) b l xs ys rest k n left right x o p t few enough goes =
+      view-reads (λ i. op_in (operators level) (next i)) (chain_turn (operators level) item (chain_from (operators level) item turns) left) {b = Some b} (record { finds = λ st op. o })
+      (here-then (λ at. bump >> (item >>= (λ e. chain_from (operators level) item turns (Bin b left e at)))) (bump-then (then-reads (λ e. chain_from (operators level) item turns (Bin b left e l.at)) (reads xs (ys ++ rest) k right p t few) (goes turns (omega (arith, enough, length-append (xs ++ ys) rest, length-append xs ys, length-append ys rest))))))
 
-  -- The chain goes on after a group, with turns to spare.
-  record Goes (ls rest : List Lexeme) (e : ExprTree) (st op : ℕ) : Type 0 where
-    turns : ℕ
-    enough : length rest < turns
-    same : chain ops item (at (ls ++ rest) st op) ≡ chain_from ops item turns e (at rest st (op + operand_count e))
+  turn-ends : (turns : ℕ) (rest : List Lexeme) (k : ℕ) (e : ExprTree) → tight (next_of rest) < suc level → Reads Operands (chain_from (operators level) item turns e) [] rest k k e
+  unfolding chain_from next
+  turn-ends zero rest k e t = pure-reads
+  turn-ends (suc turns) rest k e t = view-reads (λ i. op_in (operators level) (next i)) (chain_turn (operators level) item (chain_from (operators level) item turns) e) {b = None} (record { finds = λ st op. loose-none level (next_of rest) t }) pure-reads
 
-  goes-on : (ls rest : List Lexeme) (e : ExprTree) (st op : ℕ) → IsGrouped ops P ls e → tight (next_of rest) < level + 1 → op + operand_count e ≤ most → Goes ls rest e st op
-  goes-on ls rest e st op (syntax.one p) t few =
-      record {
-        turns = suc (length rest);
-        enough = omega arith;
-        same = chain_begins ops item (at (ls ++ rest) st op) (at rest st (op + operand_count e)) e (reads ls rest e st op p t few);
-      }
-  goes-on _ rest _ st op (syntax.more {xs} {ys} {left} {right} b l g o p) t few =
-      let here : tight (Some l.terminal) ≡ level = lies.is l.terminal b o in
-      let first = goes-on xs (l ∷ (ys ++ rest)) left st op g (omega (arith, here)) (omega arith) in
-      let i : Input = at (l ∷ (ys ++ rest)) st (op + operand_count left) in
-      let counted : op + operand_count left + operand_count right ≡ op + operand_count (Bin b left right l.at) = omega arith in
-      let read : item (passed i) ≡ Ok (right, at rest st (op + operand_count left + operand_count right)) =
-      ap item (passes l (ys ++ rest) st (op + operand_count left)) ∙ reads ys rest right st (op + operand_count left) p t (omega arith) in
-      let one = chain_goes ops item first.turns left right b i (at rest st (op + operand_count left + operand_count right)) (omega (arith, first.enough)) (next-op l (ys ++ rest) st (op + operand_count left) b o) read in
-      let placed : chain_from ops item (first.turns - 1) (Bin b left right (place i)) (at rest st (op + operand_count left + operand_count right)) ≡ chain_from ops item (first.turns - 1) (Bin b left right l.at) (at rest st (op + operand_count left + operand_count right)) =
-      ap (λ (m : ℕ). chain_from ops item (first.turns - 1) (Bin b left right m) (at rest st (op + operand_count left + operand_count right))) (stands l (ys ++ rest) st (op + operand_count left)) in
-      let last : chain_from ops item (first.turns - 1) (Bin b left right l.at) (at rest st (op + operand_count left + operand_count right)) ≡ chain_from ops item (first.turns - 1) (Bin b left right l.at) (at rest st (op + operand_count (Bin b left right l.at))) =
-      ap (λ (m : ℕ). chain_from ops item (first.turns - 1) (Bin b left right l.at) (at rest st m)) counted in
-      record {
-        turns = first.turns - 1;
-        enough = omega (arith, first.enough, length-append ys rest);
-        same = ap (λ (m : List Lexeme). chain ops item (at m st op)) (append_assoc xs (l ∷ ys) rest) ∙ first.same ∙ one ∙ placed ∙ last;
-      }
+  -- After a group the chain goes on, with turns to spare.
+  group-reads : (xs ys rest : List Lexeme) (k n : ℕ) (e x : ExprTree) → IsGrouped (operators level) P xs e → tight (next_of (ys ++ rest)) < inner → k + operand_count e ≤ most →
+      ((turns : ℕ) → length (ys ++ rest) < turns → Reads Operands (chain_from (operators level) item turns e) ys rest (k + operand_count e) n x) → Reads Operands (chain (operators level) item) (xs ++ ys) rest k n x
+  unfolding chain
+  group-reads xs ys rest k n e x (syntax.one p) t few goes =
+      then-reads _ (reads xs (ys ++ rest) k e p t few) (turns-reads (λ turns. chain_from (operators level) item turns e) (goes (suc (length (ys ++ rest))) (omega arith)))
+  group-reads _ ys rest k n _ x (syntax.more {xs} {ys = zs} {left} {right} b l g o p) t few goes =
+      of-lexemes (append_assoc xs (l ∷ zs) ys) (group-reads xs (l ∷ (zs ++ ys)) rest k n left x g (omega (arith, operator-tight level l.terminal b o, tighter)) (omega (arith, few)) (λ turns enough.
+      turn-reads turns b l zs ys rest (k + operand_count left) n left right x o p t (omega (arith, few)) enough (λ more m. from-count (goes more m) (omega arith))))
 
-  pub chain-reads : Complete most (chain ops item) (IsGrouped ops P) level
-  unfolding next
-  chain-reads ls rest e st op g t few =
-      let all = goes-on ls rest e st op g (omega arith) few in
-      all.same ∙ chain_ends ops item all.turns e (at rest st (op + operand_count e)) (lies.none (next_of rest) t)
+  pub chain-reads : Complete most (chain (operators level) item) (IsGrouped (operators level) P) (suc level)
+  chain-reads ls rest k e g t few =
+      of-lexemes (sym (append-nil ls)) (group-reads ls [] rest k (k + operand_count e) e e g (omega (arith, t, tighter)) few (λ turns enough. turn-ends turns rest (k + operand_count e) e t))
 
--- Values end before a token that is no comma and binds nothing.
-pub record Ends (rest : List Lexeme) : Type 0 where
-  pub loose : tight (next_of rest) < 1
-  pub no_comma : is_this_sign symbol.Comma (sign_of (next_of rest)) ≡ false
-
-pub ends-closed : (l : Lexeme) (rest : List Lexeme) → IsSign symbol.CloseParen l → Ends (l ∷ rest)
-ends-closed l rest e =
-    let t : tight (Some l.terminal) ≡ 0 = ap (λ (m : Terminal). tight (Some m)) e in
-    record { loose = omega (arith, t); no_comma = ap (λ (m : Terminal). is_this_sign symbol.Comma (sign_of (Some m))) e }
-
-comma-loose : (l : Lexeme) → IsSign symbol.Comma l → tight (Some l.terminal) ≡ 0
-comma-loose l e = ap (λ (m : Terminal). tight (Some m)) e
-
-sees-sign-in : (s : Symbol) (ls : List Lexeme) (st op : ℕ) → sees_sign s (at ls st op) ≡ is_this_sign s (sign_of (next_of ls))
-unfolding sees_sign next
-sees-sign-in s ls st op = refl
-
-module _ (most : ℕ) (P : List Lexeme → ExprTree → Type 0) (item : Parser ExprTree) (reads : Complete most item P 1) where
-  further-ends : (more : Parser ExprsTree) (rest : List Lexeme) (st op : ℕ) → Ends rest → further item more (at rest st op) ≡ Ok (End, at rest st op)
-  further-ends more rest st op e = no (sees_sign symbol.Comma (at rest st op)) _ _ (sees-sign-in symbol.Comma rest st op ∙ e.no_comma)
-
-  further-goes : (more : Parser ExprsTree) (l : Lexeme) (rest : List Lexeme) (st op : ℕ) → IsSign symbol.Comma l → further item more (at (l ∷ rest) st op) ≡ more (at rest st op)
-  further-goes more l rest st op e = yes (sees_sign symbol.Comma (at (l ∷ rest) st op)) _ _ (sees-sign l rest st op symbol.Comma e) ∙ ap more (passes l rest st op)
-
-  values-from-reads : (n : ℕ) (ls rest : List Lexeme) (es : ExprsTree) (st op : ℕ) → IsValues P ls es → Ends rest → op + operands_count es ≤ most → length (ls ++ rest) < n →
-      values_from item n (at (ls ++ rest) st op) ≡ Ok (es, at rest st (op + operands_count es))
+module _ (w : Counting) (most : LimitKind → ℕ) (P : List Lexeme → ExprTree → Type 0) (item : Parser ExprTree)
+    (reads : (ls rest : List Lexeme) (k : ℕ) (e : ExprTree) → P ls e → tight (next_of rest) < 1 → k + weight w e ≤ most (counted w) → Reads w item ls rest k (k + weight w e) e) where
+  values-from-read : (turns : ℕ) (ls rest : List Lexeme) (k : ℕ) (es : ExprsTree) → IsValues P ls es → tight (next_of rest) < 1 → Finds (sees_sign symbol.Comma) rest false → k + weights w es ≤ most (counted w) → length (ls ++ rest) < turns →
+      Reads w (values_from item turns) ls rest k (k + weights w es) es
   unfolding values_from
-  values-from-reads zero ls rest es st op v e few enough = absurd (omega arith)
-  values-from-reads (suc n) ls rest _ st op (syntax.one {xs} {e = x} p) e few enough =
-      let first = reads ls rest x st op p e.loose (omega (arith, few)) in
-      let last = further-ends (values_from item n) rest st (op + operand_count x) e in
-      let counted : op + operand_count x ≡ op + operands_count (More x End) = omega arith in
-      rw (first, last) (ap (λ (m : ℕ). Ok (More x End, at rest st m)) counted)
-  values-from-reads (suc n) _ rest _ st op (syntax.more {xs} {ys} {e = x} {rest = es} comma p is v) e few enough =
-      let loose : tight (Some comma.terminal) ≡ 0 = comma-loose comma is in
-      let first = reads xs (comma ∷ (ys ++ rest)) x st op p (omega (arith, loose)) (omega (arith, few)) in
-      let goes = further-goes (values_from item n) comma (ys ++ rest) st (op + operand_count x) is in
-      let shorter : length (ys ++ rest) < n = omega (arith, enough, length-append (xs ++ comma ∷ ys) rest, length-append xs (comma ∷ ys), length-append ys rest) in
-      let further = values-from-reads n ys rest es st (op + operand_count x) v e (omega (arith, few)) shorter in
-      let counted : op + operand_count x + operands_count es ≡ op + operands_count (More x es) = omega arith in
-      rw (append_assoc xs (comma ∷ ys) rest, first, goes, further) (ap (λ (m : ℕ). Ok (More x es, at rest st m)) counted)
+  values-from-read zero ls rest k es v t no-comma few enough = absurd (omega (arith, enough))
+  values-from-read (suc turns) ls rest k _ (syntax.one {e = x} p) t no-comma few enough =
+      let same = weights-one w x (weight w x) refl in
+      to-count (last-reads _ (reads ls rest k x p t (omega (arith, few, same))) (last-reads _ (no-reads _ no-comma pure-reads) pure-reads)) (omega (arith, same))
+  values-from-read (suc turns) _ rest k _ (syntax.more {xs} {ys} {e = x} {rest = es} comma p is v) t no-comma few enough =
+      let same = weights-more w x es (weight w x) (weights w es) refl refl in
+      let shorter : length (ys ++ rest) < turns = omega (arith, enough, length-append (xs ++ comma ∷ ys) rest, length-append xs (comma ∷ ys), length-append ys rest) in
+      to-count (then-reads _ (reads xs (comma ∷ (ys ++ rest)) k x p (loose comma is refl) (omega (arith, few, same)))
+      (last-reads _ (yes-reads _ (sign-is is symbol.Comma refl) (bump-then (values-from-read turns ys rest (k + weight w x) es v t no-comma (omega (arith, few, same)) shorter))) pure-reads)) (omega (arith, same))
 
-  pub values-reads : (ls rest : List Lexeme) (es : ExprsTree) (st op : ℕ) → IsValues P ls es → Ends rest → op + operands_count es ≤ most →
-      values item (at (ls ++ rest) st op) ≡ Ok (es, at rest st (op + operands_count es))
+  pub values-read : (ls rest : List Lexeme) (k : ℕ) (es : ExprsTree) → IsValues P ls es → tight (next_of rest) < 1 → Finds (sees_sign symbol.Comma) rest false → k + weights w es ≤ most (counted w) →
+      Reads w (values item) ls rest k (k + weights w es) es
   unfolding values
-  values-reads ls rest es st op v e few = values-from-reads (suc (length (ls ++ rest))) ls rest es st op v e few (omega arith)
+  values-read ls rest k es v t no-comma few = turns-reads (values_from item) (values-from-read (suc (length (ls ++ rest))) ls rest k es v t no-comma few (omega arith))
+
+-- ---- the lines
 
 abbrev level_of : Line → ℕ
 level_of Whole = 1
-level_of Negation = 3
+level_of Negation = 4
 level_of Signed = 9
 
-module _ (most : LimitKind → ℕ) (room : ℕ) (deeper : Line → Parser ExprTree) (D : Line → List Lexeme → ExprTree → Type 0)
-    (below : (x : Line) → Complete (most limit.Operands) (deeper x) (D x) (level_of x))
-    (some : (x : Line) (ls : List Lexeme) (e : ExprTree) → D x ls e → 0 < room)
-    (some_in : (ls : List Lexeme) (es : ExprsTree) → IsValues (D Whole) ls es → 0 < room) where
-  number-reads : (l : Lexeme) (rest : List Lexeme) (n : ℤ) (st op : ℕ) → IsNumeral n l → op + 1 ≤ most limit.Operands → number_leaf most room deeper (at (l ∷ rest) st op) ≡ Ok (Num n l.at, at rest st (op + 1))
-  unfolding number_leaf place
-  number-reads l rest n st op is few = rw (operand-goes (most limit.Operands) (l ∷ rest) st op (omega (arith, few)), number-goes l rest st (op + 1) n is) refl
+module _ (most : LimitKind → ℕ) (room : ℕ) (deeper : Line → Parser ExprTree) (D : Line → List Lexeme → ExprTree → Type 0) (below : (x : Line) → Complete (most limit.Operands) (deeper x) (D x) (level_of x))
+    (some : (x : Line) (ls : List Lexeme) (e : ExprTree) → D x ls e → 0 < room) where
+  abbrev Complete_here : Parser ExprTree → (List Lexeme → ExprTree → Type 0) → ℕ → Type 0
+  Complete_here = Complete (most limit.Operands)
 
-  text-reads : (l : Lexeme) (rest : List Lexeme) (t : List ℕ) (st op : ℕ) → IsText t l → op + 1 ≤ most limit.Operands → text_leaf most room deeper (at (l ∷ rest) st op) ≡ Ok (Words t l.at, at rest st (op + 1))
-  unfolding text_leaf place
-  text-reads l rest t st op is few = rw (operand-goes (most limit.Operands) (l ∷ rest) st op (omega (arith, few)), text-goes l rest st (op + 1) t is) refl
+  some-values : (ls : List Lexeme) (es : ExprsTree) → IsValues (D Whole) ls es → 0 < room
+  some-values ls _ (syntax.one {e} p) = some Whole ls e p
+  some-values _ _ (syntax.more {xs} {e} comma p is v) = some Whole xs e p
 
-  -- From the name on.
-  name-first : (l : Lexeme) (rest : List Lexeme) (n : NameRecord) (st op : ℕ) → IsName n l → primary most room deeper (at (l ∷ rest) st op) ≡ named most room deeper (at (l ∷ rest) st op)
-  unfolding primary
-  name-first l rest n st op is =
-      no (sees_number (at (l ∷ rest) st op)) _ _ (sees-number-as l rest st op (Name n.text) is.text)
-      ∙ no (sees_text (at (l ∷ rest) st op)) _ _ (sees-text-as l rest st op (Name n.text) is.text)
-      ∙ yes (sees_name (at (l ∷ rest) st op)) _ _ (sees-name-as l rest st op (Name n.text) is.text)
+  primary-reads : Complete_here (primary most room deeper) (IsPrimary D) 9
+  unfolding primary number_leaf text_leaf named call_or_name call parens
+  primary-reads _ rest k _ (syntax.number l is) t few = yes-reads _ (number-is is refl) (operand-then (omega (arith, few)) (here-then (λ at. number >>= (λ n. pure (Num n at))) (number-then _ is pure-reads)))
+  primary-reads _ rest k _ (syntax.text l is) t few = no-reads _ (number-is is refl) (yes-reads _ (text-is is refl) (operand-then (omega (arith, few)) (here-then (λ at. text >>= (λ t. pure (Words t at))) (text-then _ is pure-reads))))
+  primary-reads _ rest k _ (syntax.name l is) t few =
+      no-reads _ (number-is is.text refl) (no-reads _ (text-is is.text refl) (yes-reads _ (name-is is.text refl) (operand-then (omega (arith, few)) (name-then _ is (no-reads _ (sign-found symbol.OpenParen rest (no-paren (next_of rest) t)) pure-reads)))))
+  primary-reads _ rest k _ (syntax.call {n} {xs} {es} l begin end is b v z) t few =
+      no-reads _ (number-is is.text refl) (no-reads _ (text-is is.text refl) (yes-reads _ (name-is is.text refl) (operand-then (omega (arith, few)) (name-then _ is (yes-reads _ (sign-is b symbol.OpenParen refl) (opening-then (some-values xs es v)
+      (to-count (then-reads _ (values-read Operands most (D Whole) (deeper Whole) (below Whole) xs (end ∷ rest) (k + 1) es v (loose end z refl) (sign-is z symbol.Comma refl) (omega (arith, few))) (sign-then z pure-reads)) (omega arith))))))))
+  primary-reads _ rest k _ (syntax.parens {xs} {e} begin end b d z) t few =
+      no-reads _ (number-is b refl) (no-reads _ (text-is b refl) (no-reads _ (name-is b refl) (yes-reads _ (sign-is b symbol.OpenParen refl) (opening-then (some Whole xs e d) (then-reads _ (below Whole xs (end ∷ rest) k e d (loose end z refl) few) (sign-then z pure-reads))))))
 
-  name-reads : (l : Lexeme) (rest : List Lexeme) (n : NameRecord) (st op : ℕ) → IsName n l → tight (next_of rest) < 9 → op + 1 ≤ most limit.Operands →
-      named most room deeper (at (l ∷ rest) st op) ≡ Ok (Named n, at rest st (op + 1))
-  unfolding named call_or_name
-  name-reads l rest n st op is t few =
-      let alone : sees_sign symbol.OpenParen (at rest st (op + 1)) ≡ false = sees-sign-in symbol.OpenParen rest st (op + 1) ∙ no-paren (next_of rest) t in
-      rw (operand-goes (most limit.Operands) (l ∷ rest) st op (omega (arith, few)), name-goes l rest st (op + 1) n is, alone) refl
+  -- What no primary begins with is not found before a sum.
+  primary-finds : {B : Type 0} (view : Option Terminal → B) (b : B) → ((n : ℤ) → view (Some (Number n)) ≡ b) → ((s : List ℕ) → view (Some (Str s)) ≡ b) → ((s : List ℕ) → view (Some (Name s)) ≡ b) → view (Some (Sign symbol.OpenParen)) ≡ b →
+      (ls rest : List Lexeme) (e : ExprTree) → IsPrimary D ls e → view (next_of (ls ++ rest)) ≡ b
+  primary-finds view b on-number on-text on-name on-paren _ rest _ (syntax.number {n} l is) = ap (λ (t : Terminal). view (Some t)) is ∙ on-number n
+  primary-finds view b on-number on-text on-name on-paren _ rest _ (syntax.text {t = s} l is) = ap (λ (t : Terminal). view (Some t)) is ∙ on-text s
+  primary-finds view b on-number on-text on-name on-paren _ rest _ (syntax.name {n} l is) = ap (λ (t : Terminal). view (Some t)) is.text ∙ on-name n.text
+  primary-finds view b on-number on-text on-name on-paren _ rest _ (syntax.call {n} l begin end is o v z) = ap (λ (t : Terminal). view (Some t)) is.text ∙ on-name n.text
+  primary-finds view b on-number on-text on-name on-paren _ rest _ (syntax.parens begin end o d z) = ap (λ (t : Terminal). view (Some t)) o ∙ on-paren
 
-  call-reads : (l begin end : Lexeme) (xs rest : List Lexeme) (n : NameRecord) (es : ExprsTree) (st op : ℕ) → IsName n l → IsSign symbol.OpenParen begin → IsValues (D Whole) xs es → IsSign symbol.CloseParen end →
-      op + operand_count (Call n es) ≤ most limit.Operands →
-      named most room deeper (at (l ∷ begin ∷ ((xs ++ end ∷ []) ++ rest)) st op) ≡ Ok (Call n es, at rest st (op + operand_count (Call n es)))
-  unfolding named call_or_name call
-  call-reads l begin end xs rest n es st op is b v z few =
-      let tail : List Lexeme = (xs ++ end ∷ []) ++ rest in
-      let apart : tail ≡ xs ++ end ∷ rest = append_assoc xs (end ∷ []) rest in
-      let inside : values (deeper Whole) (at tail st (op + 1)) ≡ Ok (es, at (end ∷ rest) st (op + 1 + operands_count es)) =
-      ap (λ (m : List Lexeme). values (deeper Whole) (at m st (op + 1))) apart
-      ∙ values-reads (most limit.Operands) (D Whole) (deeper Whole) (below Whole) xs (end ∷ rest) es st (op + 1) v (ends-closed end rest z) (omega (arith, few)) in
-      let counted : op + 1 + operands_count es ≡ op + operand_count (Call n es) = omega arith in
-      rw (
-        operand-goes (most limit.Operands) (l ∷ begin ∷ tail) st op (omega (arith, few)),
-        name-goes l (begin ∷ tail) st (op + 1) n is,
-        sees-sign begin tail st (op + 1) symbol.OpenParen b,
-        opening-goes room begin tail st (op + 1) (some_in xs es v),
-        inside,
-        sign-goes end rest st (op + 1 + operands_count es) symbol.CloseParen z,
-      )
-      (ap (λ (m : ℕ). Ok (Call n es, at rest st m)) counted)
+  unary-reads : Complete_here (unary most room deeper) (IsUnary D) 9
+  unfolding unary minus
+  unary-reads _ rest k _ (syntax.minus {xs} {e} l is d) t few = yes-reads _ (sign-is is symbol.Minus refl) (here-then (λ at. opening room >> (deeper Signed >>= (λ x. pure (Neg x at)))) (opening-then (some Signed xs e d) (last-reads _ (below Signed xs rest k e d t few) pure-reads)))
+  unary-reads ls rest k e (syntax.plain p) t few =
+      no-reads _ (sign-found symbol.Minus (ls ++ rest) (primary-finds (λ o. is_this_sign symbol.Minus (sign_of o)) false (λ n. refl) (λ s. refl) (λ s. refl) refl ls rest e p)) (primary-reads ls rest k e p t few)
 
-  parens-reads : (begin end : Lexeme) (xs rest : List Lexeme) (e : ExprTree) (st op : ℕ) → IsSign symbol.OpenParen begin → D Whole xs e → IsSign symbol.CloseParen end →
-      op + operand_count e ≤ most limit.Operands →
-      parens most room deeper (at (begin ∷ ((xs ++ end ∷ []) ++ rest)) st op) ≡ Ok (e, at rest st (op + operand_count e))
-  unfolding parens
-  parens-reads begin end xs rest e st op b d z few =
-      let tail : List Lexeme = (xs ++ end ∷ []) ++ rest in
-      let loose : tight (Some end.terminal) < 1 = (ends-closed end rest z).loose in
-      let inside : deeper Whole (at tail st op) ≡ Ok (e, at (end ∷ rest) st (op + operand_count e)) =
-      ap (λ (m : List Lexeme). deeper Whole (at m st op)) (append_assoc xs (end ∷ []) rest) ∙ below Whole xs (end ∷ rest) e st op d loose few in
-      rw (opening-goes room begin tail st op (some Whole xs e d), inside, sign-goes end rest st (op + operand_count e) symbol.CloseParen z) refl
-
-  paren-first : (l : Lexeme) (rest : List Lexeme) (st op : ℕ) → IsSign symbol.OpenParen l → primary most room deeper (at (l ∷ rest) st op) ≡ parens most room deeper (at (l ∷ rest) st op)
-  unfolding primary
-  paren-first l rest st op is =
-      no (sees_number (at (l ∷ rest) st op)) _ _ (sees-number-as l rest st op (Sign symbol.OpenParen) is)
-      ∙ no (sees_text (at (l ∷ rest) st op)) _ _ (sees-text-as l rest st op (Sign symbol.OpenParen) is)
-      ∙ no (sees_name (at (l ∷ rest) st op)) _ _ (sees-name-as l rest st op (Sign symbol.OpenParen) is)
-      ∙ yes (sees_sign symbol.OpenParen (at (l ∷ rest) st op)) _ _ (sees-sign l rest st op symbol.OpenParen is)
-
-  number-first : (l : Lexeme) (rest : List Lexeme) (n : ℤ) (st op : ℕ) → IsNumeral n l → primary most room deeper (at (l ∷ rest) st op) ≡ number_leaf most room deeper (at (l ∷ rest) st op)
-  unfolding primary
-  number-first l rest n st op is = yes (sees_number (at (l ∷ rest) st op)) _ _ (sees-number-as l rest st op (Number n) is)
-
-  text-first : (l : Lexeme) (rest : List Lexeme) (t : List ℕ) (st op : ℕ) → IsText t l → primary most room deeper (at (l ∷ rest) st op) ≡ text_leaf most room deeper (at (l ∷ rest) st op)
-  unfolding primary
-  text-first l rest t st op is =
-      no (sees_number (at (l ∷ rest) st op)) _ _ (sees-number-as l rest st op (Str t) is)
-      ∙ yes (sees_text (at (l ∷ rest) st op)) _ _ (sees-text-as l rest st op (Str t) is)
-
-  primary-reads : Complete (most limit.Operands) (primary most room deeper) (IsPrimary D) 9
-  primary-reads _ rest _ st op (syntax.number {n} l is) t few = number-first l rest n st op is ∙ number-reads l rest n st op is few
-  primary-reads _ rest _ st op (syntax.text {t = s} l is) t few = text-first l rest s st op is ∙ text-reads l rest s st op is few
-  primary-reads _ rest _ st op (syntax.name {n} l is) t few = name-first l rest n st op is ∙ name-reads l rest n st op is t few
-  primary-reads _ rest _ st op (syntax.call {n} {xs} {es} l begin end is b v z) t few =
-      name-first l (begin ∷ ((xs ++ end ∷ []) ++ rest)) n st op is ∙ call-reads l begin end xs rest n es st op is b v z few
-  primary-reads _ rest _ st op (syntax.parens {xs} {e} begin end b d z) t few =
-      paren-first begin ((xs ++ end ∷ []) ++ rest) st op b ∙ parens-reads begin end xs rest e st op b d z few
-
-  minus-reads : (l : Lexeme) (xs rest : List Lexeme) (e : ExprTree) (st op : ℕ) → D Signed xs e → tight (next_of rest) < 9 → op + operand_count e ≤ most limit.Operands →
-      minus most room deeper (at (l ∷ (xs ++ rest)) st op) ≡ Ok (Neg e l.at, at rest st (op + operand_count e))
-  unfolding minus place
-  minus-reads l xs rest e st op d t few = rw (opening-goes room l (xs ++ rest) st op (some Signed xs e d), below Signed xs rest e st op d t few) refl
-
-  -- No primary begins with a minus.
-  primary-plain : (ls rest : List Lexeme) (e : ExprTree) (st op : ℕ) → IsPrimary D ls e → sees_sign symbol.Minus (at (ls ++ rest) st op) ≡ false
-  primary-plain _ rest _ st op (syntax.number {n} l is) = sees-sign-as l rest st op symbol.Minus (Number n) is
-  primary-plain _ rest _ st op (syntax.text {t = s} l is) = sees-sign-as l rest st op symbol.Minus (Str s) is
-  primary-plain _ rest _ st op (syntax.name {n} l is) = sees-sign-as l rest st op symbol.Minus (Name n.text) is.text
-  primary-plain _ rest _ st op (syntax.call {n} {xs} {es} l begin end is b v z) = sees-sign-as l (begin ∷ ((xs ++ end ∷ []) ++ rest)) st op symbol.Minus (Name n.text) is.text
-  primary-plain _ rest _ st op (syntax.parens {xs} {e} begin end b d z) = sees-sign-as begin ((xs ++ end ∷ []) ++ rest) st op symbol.Minus (Sign symbol.OpenParen) b
-
-  unary-reads : Complete (most limit.Operands) (unary most room deeper) (IsUnary D) 9
-  unfolding unary
-  unary-reads _ rest _ st op (syntax.minus {xs} {e} l is d) t few =
-      yes (sees_sign symbol.Minus (at (l ∷ (xs ++ rest)) st op)) _ _ (sees-sign l (xs ++ rest) st op symbol.Minus is) ∙ minus-reads l xs rest e st op d t few
-  unary-reads ls rest e st op (syntax.plain p) t few =
-      no (sees_sign symbol.Minus (at (ls ++ rest) st op)) _ _ (primary-plain ls rest e st op p) ∙ primary-reads ls rest e st op p t few
-
-  weaker : (p : Parser ExprTree) (P : List Lexeme → ExprTree → Type 0) (m n : ℕ) → m ≤ n → Complete (most limit.Operands) p P n → Complete (most limit.Operands) p P m
-  weaker p P m n h c ls rest e st op q t few = c ls rest e st op q (omega (arith, t, h)) few
-
-  product-reads : Complete (most limit.Operands) (product most room deeper) (IsProduct D) 5
+  product-reads : Complete_here (product most room deeper) (IsProduct D) 6
   unfolding product
-  product-reads = chain-reads (most limit.Operands) (IsUnary D) (unary most room deeper) product_op 5 product-level (weaker (unary most room deeper) (IsUnary D) 6 9 (omega arith) unary-reads)
+  product-reads = chain-reads (most limit.Operands) product_level 9 (omega arith) (IsUnary D) (unary most room deeper) unary-reads
 
-  sum-reads : Complete (most limit.Operands) (sum most room deeper) (IsSum D) 4
+  sum-reads : Complete_here (sum most room deeper) (IsSum D) 5
   unfolding sum
-  sum-reads = chain-reads (most limit.Operands) (IsProduct D) (product most room deeper) sum_op 4 sum-level product-reads
+  sum-reads = chain-reads (most limit.Operands) sum_level 6 (omega arith) (IsProduct D) (product most room deeper) product-reads
 
-  relation-reads : Complete (most limit.Operands) (relation most room deeper) (IsRelation D) 3
+  relation-reads : Complete_here (relation most room deeper) (IsRelation D) 4
   unfolding relation next
-  relation-reads ls rest e st op (syntax.alone p) t few =
-      let first = sum-reads ls rest e st op p (omega (arith, t)) few in
-      rw (first, compare-none (next_of rest) t) refl
-  relation-reads _ rest _ st op (syntax.compared {xs} {ys} {left} {right} b l p o q) t few =
-      let here : tight (Some l.terminal) ≡ 3 = compare-is l.terminal b o in
-      let first = sum-reads xs (l ∷ (ys ++ rest)) left st op p (omega (arith, here)) (omega (arith, few)) in
-      let second = sum-reads ys rest right st (op + operand_count left) q (omega (arith, t)) (omega (arith, few)) in
-      let read : sum most room deeper (passed (at (l ∷ (ys ++ rest)) st (op + operand_count left))) ≡ Ok (right, at rest st (op + operand_count left + operand_count right)) =
-      ap (sum most room deeper) (passes l (ys ++ rest) st (op + operand_count left)) ∙ second in
-      let counted : op + operand_count left + operand_count right ≡ op + operand_count (Bin b left right l.at) = omega arith in
-      rw (append_assoc xs (l ∷ ys) rest, first, o, read, stands l (ys ++ rest) st (op + operand_count left)) (ap (λ (m : ℕ). Ok (Bin b left right l.at, at rest st m)) counted)
-
-  not-reads : (l : Lexeme) (xs rest : List Lexeme) (e : ExprTree) (st op : ℕ) → D Negation xs e → tight (next_of rest) < 3 → op + operand_count e ≤ most limit.Operands →
-      not_line most room deeper (at (l ∷ (xs ++ rest)) st op) ≡ Ok (Not e l.at, at rest st (op + operand_count e))
-  unfolding not_line place
-  not-reads l xs rest e st op d t few = rw (opening-goes room l (xs ++ rest) st op (some Negation xs e d), below Negation xs rest e st op d t few) refl
+  relation-reads ls rest k e (syntax.alone p) t few =
+      last-reads _ (sum-reads ls rest k e p (omega (arith, t)) few) (view-reads (λ i. op_in compare_op (next i)) (relation_turn most room deeper e) {b = None} (record { finds = λ st op. loose-none relation_level (next_of rest) t }) pure-reads)
+  relation-reads _ rest k _ (syntax.compared {xs} {ys} {left} {right} b l p o q) t few =
+      to-count (then-reads _ (sum-reads xs (l ∷ (ys ++ rest)) k left p (omega (arith, operator-tight relation_level l.terminal b o)) (omega (arith, few)))
+      (view-reads (λ i. op_in compare_op (next i)) (relation_turn most room deeper left) {b = Some b} (record { finds = λ st op. o })
+      (here-then (λ at. bump >> (sum most room deeper >>= (λ e. pure (Bin b left e at)))) (bump-then (last-reads _ (sum-reads ys rest (k + operand_count left) right q (omega (arith, t)) (omega (arith, few))) pure-reads))))) (omega arith)
 
   -- No relation begins with `not`.
-  pub primary-no-word : (k : Keyword) (ls rest : List Lexeme) (e : ExprTree) (st op : ℕ) → IsPrimary D ls e → sees_word k (at (ls ++ rest) st op) ≡ false
-  primary-no-word k _ rest _ st op (syntax.number {n} l is) = sees-word-as l rest st op k (Number n) is
-  primary-no-word k _ rest _ st op (syntax.text {t = s} l is) = sees-word-as l rest st op k (Str s) is
-  primary-no-word k _ rest _ st op (syntax.name {n} l is) = sees-word-as l rest st op k (Name n.text) is.text
-  primary-no-word k _ rest _ st op (syntax.call {n} {xs} {es} l begin end is b v z) = sees-word-as l (begin ∷ ((xs ++ end ∷ []) ++ rest)) st op k (Name n.text) is.text
-  primary-no-word k _ rest _ st op (syntax.parens {xs} {e} begin end b d z) = sees-word-as begin ((xs ++ end ∷ []) ++ rest) st op k (Sign symbol.OpenParen) b
+  abbrev no-not : (ls rest : List Lexeme) → Type 0
+  no-not ls rest = is_this_word keyword.Not (word_of (next_of (ls ++ rest))) ≡ false
 
-  unary-no-word : (k : Keyword) (ls rest : List Lexeme) (e : ExprTree) (st op : ℕ) → IsUnary D ls e → sees_word k (at (ls ++ rest) st op) ≡ false
-  unary-no-word k _ rest _ st op (syntax.minus {xs} {e} l is d) = sees-word-as l (xs ++ rest) st op k (Sign symbol.Minus) is
-  unary-no-word k ls rest e st op (syntax.plain p) = primary-no-word k ls rest e st op p
+  unary-no-not : (ls rest : List Lexeme) (e : ExprTree) → IsUnary D ls e → no-not ls rest
+  unary-no-not _ rest _ (syntax.minus l is d) = ap (λ (t : Terminal). is_this_word keyword.Not (word_of (Some t))) is
+  unary-no-not ls rest e (syntax.plain p) = primary-finds (λ o. is_this_word keyword.Not (word_of o)) false (λ n. refl) (λ s. refl) (λ s. refl) refl ls rest e p
 
-  grouped-no-word : (k : Keyword) (ops : Terminal → Option BinOp) (P : List Lexeme → ExprTree → Type 0) →
-      ((ls rest : List Lexeme) (e : ExprTree) (st op : ℕ) → P ls e → sees_word k (at (ls ++ rest) st op) ≡ false) →
-      (ls rest : List Lexeme) (e : ExprTree) (st op : ℕ) → IsGrouped ops P ls e → sees_word k (at (ls ++ rest) st op) ≡ false
-  grouped-no-word k ops P none ls rest e st op (syntax.one p) = none ls rest e st op p
-  grouped-no-word k ops P none _ rest _ st op (syntax.more {xs} {ys} {left} {right} b l g o p) =
-      ap (λ (m : List Lexeme). sees_word k (at m st op)) (append_assoc xs (l ∷ ys) rest) ∙ grouped-no-word k ops P none xs (l ∷ (ys ++ rest)) left st op g
+  grouped-no-not : (ops : Terminal → Option BinOp) (P : List Lexeme → ExprTree → Type 0) → ((ls rest : List Lexeme) (e : ExprTree) → P ls e → no-not ls rest) → (ls rest : List Lexeme) (e : ExprTree) → IsGrouped ops P ls e → no-not ls rest
+  grouped-no-not ops P none ls rest e (syntax.one p) = none ls rest e p
+  grouped-no-not ops P none _ rest _ (syntax.more {xs} {ys} {left} b l g o p) =
+      ap (λ (m : List Lexeme). is_this_word keyword.Not (word_of (next_of m))) (append_assoc xs (l ∷ ys) rest) ∙ grouped-no-not ops P none xs (l ∷ (ys ++ rest)) left g
 
-  sum-no-word : (k : Keyword) (ls rest : List Lexeme) (e : ExprTree) (st op : ℕ) → IsSum D ls e → sees_word k (at (ls ++ rest) st op) ≡ false
-  sum-no-word k = grouped-no-word k sum_op (IsProduct D) (grouped-no-word k product_op (IsUnary D) (unary-no-word k))
+  sum-no-not : (ls rest : List Lexeme) (e : ExprTree) → IsSum D ls e → no-not ls rest
+  sum-no-not = grouped-no-not (operators sum_level) (IsProduct D) (grouped-no-not product_op (IsUnary D) unary-no-not)
 
-  relation-no-word : (k : Keyword) (ls rest : List Lexeme) (e : ExprTree) (st op : ℕ) → IsRelation D ls e → sees_word k (at (ls ++ rest) st op) ≡ false
-  relation-no-word k ls rest e st op (syntax.alone p) = sum-no-word k ls rest e st op p
-  relation-no-word k _ rest _ st op (syntax.compared {xs} {ys} {left} {right} b l p o q) =
-      ap (λ (m : List Lexeme). sees_word k (at m st op)) (append_assoc xs (l ∷ ys) rest) ∙ sum-no-word k xs (l ∷ (ys ++ rest)) left st op p
+  relation-no-not : (ls rest : List Lexeme) (e : ExprTree) → IsRelation D ls e → no-not ls rest
+  relation-no-not ls rest e (syntax.alone p) = sum-no-not ls rest e p
+  relation-no-not _ rest _ (syntax.compared {xs} {ys} {left} b l p o q) =
+      ap (λ (m : List Lexeme). is_this_word keyword.Not (word_of (next_of m))) (append_assoc xs (l ∷ ys) rest) ∙ sum-no-not xs (l ∷ (ys ++ rest)) left p
 
-  negation-reads : Complete (most limit.Operands) (negation most room deeper) (IsNegation D) 3
-  unfolding negation
-  negation-reads _ rest _ st op (syntax.not {xs} {e} l is d) t few =
-      yes (sees_word keyword.Not (at (l ∷ (xs ++ rest)) st op)) _ _ (sees-word l (xs ++ rest) st op keyword.Not is) ∙ not-reads l xs rest e st op d t few
-  negation-reads ls rest e st op (syntax.plain p) t few =
-      no (sees_word keyword.Not (at (ls ++ rest) st op)) _ _ (relation-no-word keyword.Not ls rest e st op p) ∙ relation-reads ls rest e st op p t few
+  negation-reads : Complete_here (negation most room deeper) (IsNegation D) 4
+  unfolding negation not_line
+  negation-reads _ rest k _ (syntax.not {xs} {e} l is d) t few = yes-reads _ (word-is is keyword.Not refl) (here-then (λ at. opening room >> (deeper Negation >>= (λ x. pure (Not x at)))) (opening-then (some Negation xs e d) (last-reads _ (below Negation xs rest k e d t few) pure-reads)))
+  negation-reads ls rest k e (syntax.plain p) t few = no-reads _ (word-found keyword.Not (ls ++ rest) (relation-no-not ls rest e p)) (relation-reads ls rest k e p t few)
 
-  conjunction-reads : Complete (most limit.Operands) (conjunction most room deeper) (IsConjunction D) 2
+  conjunction-reads : Complete_here (conjunction most room deeper) (IsConjunction D) 2
   unfolding conjunction
-  conjunction-reads = chain-reads (most limit.Operands) (IsNegation D) (negation most room deeper) and_op 2 and-level negation-reads
+  conjunction-reads = chain-reads (most limit.Operands) and_level 4 (omega arith) (IsNegation D) (negation most room deeper) negation-reads
 
-  expr-reads : Complete (most limit.Operands) (expr most room deeper) (IsExpression D) 1
+  expr-reads : Complete_here (expr most room deeper) (IsExpression D) 1
   unfolding expr
-  expr-reads = chain-reads (most limit.Operands) (IsConjunction D) (conjunction most room deeper) or_op 1 or-level conjunction-reads
+  expr-reads = chain-reads (most limit.Operands) or_level 2 (omega arith) (IsConjunction D) (conjunction most room deeper) conjunction-reads
 
-  line-reads : (x : Line) → Complete (most limit.Operands) (line most room deeper x) (IsLine D x) (level_of x)
+  line-reads : (x : Line) → Complete_here (line most room deeper x) (IsLine D x) (level_of x)
   line-reads Whole = expr-reads
   line-reads Negation = negation-reads
   line-reads Signed = unary-reads
@@ -428,19 +232,14 @@ module _ (most : LimitKind → ℕ) where
   some-within zero x ls e d = absurd d
   some-within (suc room) x ls e d = omega arith
 
-  some-values : (room : ℕ) (ls : List Lexeme) (es : ExprsTree) → IsValues (Within room Whole) ls es → 0 < room
-  some-values room ls _ (syntax.one {xs} {e} p) = some-within room Whole ls e p
-  some-values room _ _ (syntax.more {xs} {ys} {e} {rest = es} comma p is v) = some-within room Whole xs e p
-
   lines-read : (room : ℕ) (x : Line) → Complete (most limit.Operands) (lines most room x) (Within room x) (level_of x)
   unfolding lines Within
-  lines-read zero x ls rest e st op d t few = absurd d
-  lines-read (suc room) x ls rest e st op d t few = line-reads most room (lines most room) (Within room) (lines-read room) (some-within room) (some-values room) x ls rest e st op d t few
+  lines-read zero x ls rest k e d t few = absurd d
+  lines-read (suc room) x ls rest k e d t few = line-reads most room (lines most room) (Within room) (lines-read room) (some-within room) x ls rest k e d t few
 
   -- A whole expression is read, if the token after it binds nothing.
-  pub expression-reads : (room : ℕ) (ls rest : List Lexeme) (e : ExprTree) (st op : ℕ) → IsExprWithin most room ls e → tight (next_of rest) < 1 →
-      expression most room (at (ls ++ rest) st op) ≡ Ok (e, at rest st 0)
+  pub expression-reads : (room : ℕ) (ls rest : List Lexeme) (k : ℕ) (e : ExprTree) → IsExprWithin most room ls e → tight (next_of rest) < 1 → Reads Statements (expression most room) ls rest k k e
   unfolding expression Within
-  expression-reads room ls rest e st op is t =
-      let read = expr-reads most room (lines most room) (Within room) (lines-read room) (some-within room) (some-values room) ls rest e st 0 is.whole t (omega (arith, is.few)) in
-      rw read refl
+  expression-reads room ls rest k e is t =
+      let r = expr-reads most room (lines most room) (Within room) (lines-read room) (some-within room) ls rest 0 e is.whole t (omega (arith, is.few)) in
+      record { reads = λ other. rw (r.reads k) refl }

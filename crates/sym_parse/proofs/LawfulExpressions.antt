@@ -1,5 +1,5 @@
 -- An expression that is read from the tokens of a text is lawful.
-use Rattle.std.proofs.Common.{◌≡◌, ℕ, zero, suc, ℤ, ◌+◌, ◌≤◌, max, Bool, true, false, ◌&&◌, nat_lt, nat_le, if◌then◌else◌, List, [], ◌∷◌, ◌++◌, length, Option, Some, refl, ap, sym, ◌∙◌, subst, arith}
+use Rattle.std.proofs.Common.{◌≡◌, ◌≢◌, ℕ, zero, suc, ℤ, ◌+◌, ◌≤◌, max, Bool, true, false, ◌&&◌, nat_lt, nat_le, if◌then◌else◌, List, [], ◌∷◌, ◌++◌, length, refl, ap, sym, ◌∙◌, subst, arith}
 use Rattle.std.proofs.lemmas.Bool.Decides.{nat_tests}
 use Rattle.std.specs.List.{list_all}
 use Rattle.sym_base.specs.declared.tree.name.Name.{Name as NameRecord}
@@ -14,13 +14,12 @@ use Rattle.sym_base.specs.Trees.{ExprTree, ExprsTree, Bin}
 use Rattle.sym_lex.specs.declared.token.Token.{Token}
 use Rattle.sym_lex.specs.declared.token.TokenKind.{TokenKind}
 use Rattle.sym_lex.specs.declared.token.TokenKind.TheVariants as kind
-use Rattle.sym_lex.specs.declared.keyword.Keyword.TheVariants as keyword
-use Rattle.sym_lex.specs.declared.symbol.Symbol.TheVariants as symbol
 use Rattle.sym_lex.specs.Terminals.{are_sound, is_sound, suits_kind, terminal_of, token_bytes}
 use Rattle.sym_parse.specs.Lexemes.{Terminal, Name, Number, Str, Word, Sign, Lexeme, lexeme_of, lexemes_of, IsName, IsNumeral, IsText}
 use Rattle.sym_parse.specs.Limits.{most}
 use Rattle.sym_parse.specs.Syntax.Expressions as syntax
-use Rattle.sym_parse.specs.Syntax.Expressions.{Line, Whole, Negation, Signed, IsGrouped, IsValues, IsPrimary, IsUnary, IsProduct, IsSum, IsRelation, IsNegation, IsConjunction, IsExpression, IsLine, Within, IsExprWithin, product_op, sum_op, compare_op, and_op, or_op}
+use Rattle.sym_parse.specs.Syntax.Expressions.{Line, Whole, Negation, Signed, IsGrouped, IsValues, IsPrimary, IsUnary, IsProduct, IsSum, IsRelation, IsNegation, IsConjunction, IsExpression, IsLine, Within, IsExprWithin, op_of}
+use Rattle.sym_parse.proofs.ExpressionsComplete.{operators, of-level}
 use Rattle.sym_parse.proofs.Letters.{both}
 
 -- ---- tokens
@@ -117,56 +116,26 @@ parenthesized wanted room e h = omega (arith, one_more (nat_lt (expr_level e) wa
 abbrev Holds : (List Lexeme → ExprTree → Type 0) → ℕ → ℕ → Type 0
 Holds P wanted room = (ls : List Lexeme) (e : ExprTree) → AllSuit ls → P ls e → Good wanted room e
 
--- The operators of a line that groups to the left.
-record Groups (ops : Terminal → Option BinOp) (level : ℕ) : Type 0 where
-  own : (t : Terminal) (b : BinOp) → ops t ≡ Some b → op_level b ≡ level
-  left : (t : Terminal) (b : BinOp) → ops t ≡ Some b → left_level b ≡ level
-  right : (t : Terminal) (b : BinOp) → ops t ≡ Some b → right_level b ≡ level + 1
+-- What operators take on each side. Relations don't group.
+sides : (b : BinOp) → op_level b ≢ 3 → (left_level b ≡ op_level b) × (right_level b ≡ op_level b + 1)
+sides op.Eq h = absurd (h refl)
+sides op.Ne h = absurd (h refl)
+sides op.Lt h = absurd (h refl)
+sides op.Le h = absurd (h refl)
+sides op.Gt h = absurd (h refl)
+sides op.Ge h = absurd (h refl)
+sides op.Is h = absurd (h refl)
+sides _ h = (refl, refl)
 
-or-is : (t : Terminal) (b : BinOp) → or_op t ≡ Some b → b ≡ op.Or
-or-is (Word keyword.Or) b e = cc
-or-is (Sign symbol.Comma) b e = cc
-or-is _ b e = cc
-
-and-is : (t : Terminal) (b : BinOp) → and_op t ≡ Some b → b ≡ op.And
-and-is (Word keyword.And) b e = cc
-and-is (Sign symbol.Comma) b e = cc
-and-is _ b e = cc
-
-sum-own : (t : Terminal) (b : BinOp) → sum_op t ≡ Some b → (op_level b ≡ 4) × (left_level b ≡ 4) × (right_level b ≡ 5)
-sum-own (Sign symbol.Plus) b e = let same : b ≡ op.Add = cc in (ap op_level same, ap left_level same, ap right_level same)
-sum-own (Sign symbol.Minus) b e = let same : b ≡ op.Sub = cc in (ap op_level same, ap left_level same, ap right_level same)
-sum-own (Word keyword.Enum) b e = absurd (cc)
-sum-own _ b e = absurd (cc)
-
-product-own : (t : Terminal) (b : BinOp) → product_op t ≡ Some b → (op_level b ≡ 5) × (left_level b ≡ 5) × (right_level b ≡ 6)
-product-own (Sign symbol.Star) b e = let same : b ≡ op.Mul = cc in (ap op_level same, ap left_level same, ap right_level same)
-product-own (Sign symbol.Slash) b e = let same : b ≡ op.Div = cc in (ap op_level same, ap left_level same, ap right_level same)
-product-own (Sign symbol.Percent) b e = let same : b ≡ op.Rem = cc in (ap op_level same, ap left_level same, ap right_level same)
-product-own (Word keyword.Enum) b e = absurd (cc)
-product-own _ b e = absurd (cc)
-
-compare-own : (t : Terminal) (b : BinOp) → compare_op t ≡ Some b → (op_level b ≡ 3) × (left_level b ≡ 4) × (right_level b ≡ 4)
-compare-own (Word keyword.Is) b e = let same : b ≡ op.Is = cc in (ap op_level same, ap left_level same, ap right_level same)
-compare-own (Sign symbol.Equal) b e = let same : b ≡ op.Eq = cc in (ap op_level same, ap left_level same, ap right_level same)
-compare-own (Sign symbol.NotEqual) b e = let same : b ≡ op.Ne = cc in (ap op_level same, ap left_level same, ap right_level same)
-compare-own (Sign symbol.Less) b e = let same : b ≡ op.Lt = cc in (ap op_level same, ap left_level same, ap right_level same)
-compare-own (Sign symbol.LessEqual) b e = let same : b ≡ op.Le = cc in (ap op_level same, ap left_level same, ap right_level same)
-compare-own (Sign symbol.Greater) b e = let same : b ≡ op.Gt = cc in (ap op_level same, ap left_level same, ap right_level same)
-compare-own (Sign symbol.GreaterEqual) b e = let same : b ≡ op.Ge = cc in (ap op_level same, ap left_level same, ap right_level same)
-compare-own _ b e = absurd (cc)
-
-or-groups : Groups or_op 0
-or-groups = record { own = λ t b e. ap op_level (or-is t b e); left = λ t b e. ap left_level (or-is t b e); right = λ t b e. ap right_level (or-is t b e) }
-
-and-groups : Groups and_op 1
-and-groups = record { own = λ t b e. ap op_level (and-is t b e); left = λ t b e. ap left_level (and-is t b e); right = λ t b e. ap right_level (and-is t b e) }
-
-sum-groups : Groups sum_op 4
-sum-groups = record { own = λ t b e. (sum-own t b e).0; left = λ t b e. (sum-own t b e).1; right = λ t b e. (sum-own t b e).2 }
-
-product-groups : Groups product_op 5
-product-groups = record { own = λ t b e. (product-own t b e).0; left = λ t b e. (product-own t b e).1; right = λ t b e. (product-own t b e).2 }
+relation-sides : (b : BinOp) → op_level b ≡ 3 → (left_level b ≡ 4) × (right_level b ≡ 4)
+relation-sides op.Eq e = (refl, refl)
+relation-sides op.Ne e = (refl, refl)
+relation-sides op.Lt e = (refl, refl)
+relation-sides op.Le e = (refl, refl)
+relation-sides op.Gt e = (refl, refl)
+relation-sides op.Ge e = (refl, refl)
+relation-sides op.Is e = (refl, refl)
+relation-sides _ e = absurd (omega (arith, e))
 
 -- Two operands that fit, and the operator between them.
 between : (b : BinOp) (left right : ExprTree) (place level wanted_left wanted_right wanted room : ℕ) →
@@ -182,12 +151,14 @@ between b left right place level wl wr wanted room o l r h g k =
       fits = subst (λ (t : Bool). (if t then expr_depth (Bin b left right place) + 1 else expr_depth (Bin b left right place)) ≤ room) (sym none) both_fit;
     }
 
-module _ (P : List Lexeme → ExprTree → Type 0) (ops : Terminal → Option BinOp) (level room : ℕ) (groups : Groups ops level) (item : Holds P (level + 1) room) where
-  grouped-holds : Holds (IsGrouped ops P) level room
+module _ (P : List Lexeme → ExprTree → Type 0) (level room : ℕ) (groups : level ≢ 3) (item : Holds P (level + 1) room) where
+  grouped-holds : Holds (IsGrouped (operators level) P) level room
   grouped-holds ls e s (syntax.one p) = weaker level (level + 1) room e (omega arith) (item ls e s p)
   grouped-holds _ _ s (syntax.more {xs} {ys} {left} {right} b l g o p) =
       let t = apart xs (l ∷ ys) s in
-      between b left right l.at level level (level + 1) level room (groups.own l.terminal b o) (groups.left l.terminal b o) (groups.right l.terminal b o) (omega arith)
+      let own = (of-level level (op_of l.terminal) b o).1 in
+      let side = sides b (λ e. groups (sym own ∙ e)) in
+      between b left right l.at level level (level + 1) level room own (side.0 ∙ own) (side.1 ∙ ap (λ (n : ℕ). n + 1) own) (omega arith)
       (grouped-holds xs left t.0 g) (item ys right (rest-suits l ys t.1) p)
 
 module _ (P : List Lexeme → ExprTree → Type 0) (room : ℕ) (item : (ls : List Lexeme) (e : ExprTree) → AllSuit ls → P ls e → Good 0 room e) where
@@ -233,17 +204,18 @@ module _ (room : ℕ) (D : Line → List Lexeme → ExprTree → Type 0)
   unary-holds ls e s (syntax.plain p) = weaker 6 7 room e (omega arith) (primary-holds ls e s p)
 
   product-holds : Holds (IsProduct D) 5 room
-  product-holds = grouped-holds (IsUnary D) product_op 5 room product-groups unary-holds
+  product-holds = grouped-holds (IsUnary D) 5 room (λ e. omega (arith, e)) unary-holds
 
   sum-holds : Holds (IsSum D) 4 room
-  sum-holds = grouped-holds (IsProduct D) sum_op 4 room sum-groups product-holds
+  sum-holds = grouped-holds (IsProduct D) 4 room (λ e. omega (arith, e)) product-holds
 
   relation-holds : Holds (IsRelation D) 3 room
   relation-holds ls e s (syntax.alone p) = weaker 3 4 room e (omega arith) (sum-holds ls e s p)
   relation-holds _ _ s (syntax.compared {xs} {ys} {left} {right} b l p o q) =
       let t = apart xs (l ∷ ys) s in
-      let own = compare-own l.terminal b o in
-      between b left right l.at 3 4 4 3 room own.0 own.1 own.2 (omega arith) (sum-holds xs left t.0 p) (sum-holds ys right (rest-suits l ys t.1) q)
+      let own = (of-level 3 (op_of l.terminal) b o).1 in
+      let side = relation-sides b own in
+      between b left right l.at 3 4 4 3 room own side.0 side.1 (omega arith) (sum-holds xs left t.0 p) (sum-holds ys right (rest-suits l ys t.1) q)
 
   negation-holds : Holds (IsNegation D) 2 room
   negation-holds _ _ s (syntax.not {xs} {e} l is d) =
@@ -252,10 +224,10 @@ module _ (room : ℕ) (D : Line → List Lexeme → ExprTree → Type 0)
   negation-holds ls e s (syntax.plain p) = weaker 2 3 room e (omega arith) (relation-holds ls e s p)
 
   conjunction-holds : Holds (IsConjunction D) 1 room
-  conjunction-holds = grouped-holds (IsNegation D) and_op 1 room and-groups negation-holds
+  conjunction-holds = grouped-holds (IsNegation D) 1 room (λ e. omega (arith, e)) negation-holds
 
   expression-holds : Holds (IsExpression D) 0 room
-  expression-holds = grouped-holds (IsConjunction D) or_op 0 room or-groups conjunction-holds
+  expression-holds = grouped-holds (IsConjunction D) 0 room (λ e. omega (arith, e)) conjunction-holds
 
   line-holds : (x : Line) → Holds (IsLine D x) (wanted_of x) room
   line-holds Whole ls e s p = expression-holds ls e s p

@@ -13,6 +13,7 @@ pub mod RecognizingStatements
 pub mod RecognizingDeclarations
 pub mod RecognizingScripts
 pub mod Reaching
+pub mod Reading
 pub mod ExpressionsComplete
 pub mod StatementsComplete
 pub mod DeclarationsComplete

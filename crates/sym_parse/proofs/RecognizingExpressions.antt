@@ -35,12 +35,12 @@ weights Operands es = operands_count es
 weights Statements es = 0
 weights Nothing es = 0
 
-weights-one : (w : Counting) (e : ExprTree) (c : ℕ) → c ≡ weight w e → c + 0 ≡ weights w (More e End)
+pub weights-one : (w : Counting) (e : ExprTree) (c : ℕ) → c ≡ weight w e → c + 0 ≡ weights w (More e End)
 weights-one Operands e c h = omega (arith, h)
 weights-one Statements e c h = omega (arith, h)
 weights-one Nothing e c h = omega (arith, h)
 
-weights-more : (w : Counting) (e : ExprTree) (es : ExprsTree) (c d : ℕ) → c ≡ weight w e → d ≡ weights w es → c + d ≡ weights w (More e es)
+pub weights-more : (w : Counting) (e : ExprTree) (es : ExprsTree) (c d : ℕ) → c ≡ weight w e → d ≡ weights w es → c + d ≡ weights w (More e es)
 weights-more Operands e es c d h k = omega (arith, h, k)
 weights-more Statements e es c d h k = omega (arith, h, k)
 weights-more Nothing e es c d h k = omega (arith, h, k)

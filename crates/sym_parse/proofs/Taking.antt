@@ -46,7 +46,7 @@ is-word k (Str text) e = cc
 is-word k (Word other) e = ap Word (same_true keywords.the_type (search rules) other k e)
 is-word k (Sign s) e = cc
 
-is-sign : (s : Symbol) (t : Terminal) → is_this_sign s (sign_of (Some t)) ≡ true → t ≡ Sign s
+pub is-sign : (s : Symbol) (t : Terminal) → is_this_sign s (sign_of (Some t)) ≡ true → t ≡ Sign s
 is-sign s (Name text) e = cc
 is-sign s (Number n) e = cc
 is-sign s (Str text) e = cc
