@@ -28,17 +28,7 @@ use Rattle.sym_parse.proofs.ScriptsComplete.{script-reads}
 -- One of each kind may stand.
 pub some : (k : LimitKind) → 1 ≤ most k
 some limit.Enums = omega arith
-some limit.Labels = omega arith
-some limit.Fields = omega arith
-some limit.Cells = omega arith
-some limit.Tests = omega arith
-some limit.Parameters = omega arith
-some limit.Parts = omega arith
-some limit.Statements = omega arith
-some limit.Depth = omega arith
-some limit.Operands = omega arith
-some limit.Columns = omega arith
-some limit.GroupFields = omega arith
+some _ = omega arith
 
 abbrev answered : ScriptTree → Result ScriptTree ParseErr
 answered tree = Ok tree

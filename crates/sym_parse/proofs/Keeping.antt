@@ -12,7 +12,7 @@ use Rattle.sym_parse.specs.declared.stop.Stop.TheVariants as stop
 use Rattle.sym_parse.specs.Lexemes.{Terminal, Lexeme}
 use Rattle.sym_parse.specs.Steps.{Input, Parsed, Parser, and_then, ◌>>=◌, ◌>>◌, pure, choose, refuse, full, here, bump, next, place, passed, word_of, sign_of, name_of, number_of, text_of, is_this_word, is_this_sign, is_there, named, taken, sees_word, sees_sign, sees_name, sees_number, sees_text, is_done, word, sign, name, number, text, done, opening, one_statement, one_operand, repeated, separated}
 use Rattle.sym_parse.specs.Sentences.{IsNoEarlier as Less}
-use Rattle.sym_parse.proofs.Reaching.{at}
+use Rattle.sym_parse.proofs.Reading.{at}
 
 -- A parser never goes back.
 pub record Small {A : Type 0} (p : Parser A) : Type 0 where

@@ -12,7 +12,6 @@ pub mod RecognizingExpressions
 pub mod RecognizingStatements
 pub mod RecognizingDeclarations
 pub mod RecognizingScripts
-pub mod Reaching
 pub mod Reading
 pub mod ExpressionsComplete
 pub mod StatementsComplete

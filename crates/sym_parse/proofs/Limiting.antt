@@ -36,17 +36,7 @@ kinds =
 
 kind-there : (k : LimitKind) → slice_get kinds (rank k) ≡ Some k
 kind-there limit.Enums = refl
-kind-there limit.Labels = refl
-kind-there limit.Fields = refl
-kind-there limit.Cells = refl
-kind-there limit.Tests = refl
-kind-there limit.Parameters = refl
-kind-there limit.Parts = refl
-kind-there limit.Statements = refl
-kind-there limit.Depth = refl
-kind-there limit.Operands = refl
-kind-there limit.Columns = refl
-kind-there limit.GroupFields = refl
+kind-there _ = refl
 
 -- Kinds of one rank are one.
 same-kind : (j k : LimitKind) → rank j ≡ rank k → j ≡ k

@@ -1,19 +1,26 @@
--- What a parser reads of the lexemes of a line, step by step.
-use Rattle.std.proofs.Common.{◌≡◌, ℕ, zero, suc, ◌+◌, ◌-◌, ◌<◌, ◌≤◌, ℤ, Bool, true, false, List, [], ◌∷◌, ◌++◌, length, Some, Ok, refl, ap, sym, ◌∙◌, subst, arith, append_assoc}
+-- What a parser reads of the lexemes of a line, token by token and step by step.
+use Rattle.std.proofs.Common.{◌≡◌, ℕ, zero, suc, ◌+◌, ◌-◌, ◌<◌, ◌≤◌, ℤ, Bool, true, false, List, [], ◌∷◌, ◌++◌, length, Some, Ok, refl, ap, sym, ◌∙◌, subst, arith, append_assoc, nat_lt}
+use Rattle.std.proofs.lemmas.Bool.Decides.{nat_tests}
 use Rattle.std.proofs.lemmas.List.{append-nil}
+use denote.Enum.Bare.{true_same}
 use Rattle.sym_base.specs.declared.tree.name.Name.{Name as NameRecord}
 use Rattle.sym_lex.specs.declared.keyword.Keyword.{Keyword}
 use Rattle.sym_lex.specs.declared.symbol.Symbol.{Symbol}
 use Rattle.sym_lex.specs.declared.symbol.Symbol.TheVariants as symbol
+use Rattle.sym_lex.specs.contracts.keyword.Keyword as keywords
+use Rattle.sym_lex.specs.contracts.symbol.Symbol as symbols
 use Rattle.sym_parse.specs.declared.error.LimitKind.{LimitKind}
 use Rattle.sym_parse.specs.Lexemes.{Terminal, Lexeme, IsKeyword, IsSign, IsNumeral, IsText, IsName}
-use Rattle.sym_parse.specs.Steps.{Input, Parser, ◌>>=◌, ◌>>◌, pure, choose, here, bump, next, next_of, word_of, sign_of, name_of, number_of, text_of, is_this_word, is_this_sign, is_there, sees_word, sees_sign, sees_name, sees_number, sees_text, word, sign, name, number, text, opening, one_operand, one_statement, repeated, separated}
+use Rattle.sym_parse.specs.Steps.{Input, Parser, ◌>>=◌, ◌>>◌, pure, choose, here, bump, next, next_of, word_of, sign_of, name_of, number_of, text_of, is_this_word, is_this_sign, is_there, sees_word, sees_sign, sees_name, sees_number, sees_text, word, sign, name, number, text, opening, one_operand, one_statement, repeated, separated, place, passed, named, taken}
 use Rattle.sym_parse.specs.Syntax.Declarations as syntax
 use Rattle.sym_parse.specs.Syntax.Declarations.{AreItems, AreFurther, AreAtMost, AreSome, AreSeparated}
-use Rattle.sym_parse.proofs.Reaching.{at, yes, no, sees-word-as, sees-sign-as, sees-name-as, sees-number-as, sees-text-as, passes, stands, word-goes, sign-goes, name-goes, number-goes, text-goes, operand-goes, statement-goes, opening-goes}
 use Rattle.sym_parse.proofs.Recognizing.{Counting, Operands, Statements, Nothing}
 
 -- ---- what is said
+
+-- An input before these lexemes, with these counts.
+abbrev pub at : List Lexeme → ℕ → ℕ → Input
+at ls st op = record { rest = ls; statements = st; operands = op }
 
 abbrev pub statements_in : Counting → ℕ → ℕ → ℕ
 statements_in Operands k other = other
@@ -46,19 +53,24 @@ pub record Finds {B : Type 0} (view : Input → B) (ls : List Lexeme) (b : B) : 
 
 module _ {l : Lexeme} {ls : List Lexeme} {t : Terminal} (e : l.terminal ≡ t) {b : Bool} where
   pub word-is : (k : Keyword) → is_this_word k (word_of (Some t)) ≡ b → Finds (sees_word k) (l ∷ ls) b
-  word-is k f = record { finds = λ st op. sees-word-as l ls st op k t e ∙ f }
+  unfolding sees_word next
+  word-is k f = record { finds = λ st op. ap (λ m. is_this_word k (word_of (Some m))) e ∙ f }
 
   pub sign-is : (s : Symbol) → is_this_sign s (sign_of (Some t)) ≡ b → Finds (sees_sign s) (l ∷ ls) b
-  sign-is s f = record { finds = λ st op. sees-sign-as l ls st op s t e ∙ f }
+  unfolding sees_sign next
+  sign-is s f = record { finds = λ st op. ap (λ m. is_this_sign s (sign_of (Some m))) e ∙ f }
 
   pub name-is : is_there (name_of (Some t)) ≡ b → Finds sees_name (l ∷ ls) b
-  name-is f = record { finds = λ st op. sees-name-as l ls st op t e ∙ f }
+  unfolding sees_name next
+  name-is f = record { finds = λ st op. ap (λ m. is_there (name_of (Some m))) e ∙ f }
 
   pub number-is : is_there (number_of (Some t)) ≡ b → Finds sees_number (l ∷ ls) b
-  number-is f = record { finds = λ st op. sees-number-as l ls st op t e ∙ f }
+  unfolding sees_number next
+  number-is f = record { finds = λ st op. ap (λ m. is_there (number_of (Some m))) e ∙ f }
 
   pub text-is : is_there (text_of (Some t)) ≡ b → Finds sees_text (l ∷ ls) b
-  text-is f = record { finds = λ st op. sees-text-as l ls st op t e ∙ f }
+  unfolding sees_text next
+  text-is f = record { finds = λ st op. ap (λ m. is_there (text_of (Some m))) e ∙ f }
 
 pub word-found : (k : Keyword) (ls : List Lexeme) {b : Bool} → is_this_word k (word_of (next_of ls)) ≡ b → Finds (sees_word k) ls b
 unfolding sees_word next
@@ -70,6 +82,34 @@ sign-found s ls e = record { finds = λ st op. e }
 
 pub finds-front : {B : Type 0} {view : Input → B} {b : B} (xs ys rest : List Lexeme) → Finds view (xs ++ (ys ++ rest)) b → Finds view ((xs ++ ys) ++ rest) b
 finds-front {B} {view} {b} xs ys rest f = subst (λ (m : List Lexeme). Finds view m b) (sym (append_assoc xs ys rest)) f
+
+-- ---- one token
+
+module _ (l : Lexeme) (ls : List Lexeme) (st op : ℕ) where
+  pub word-goes : (k : Keyword) → IsKeyword k l → word k (at (l ∷ ls) st op) ≡ Ok (tt, at ls st op)
+  unfolding word passed
+  word-goes k e = rw ((word-is {l = l} {ls = ls} e k (true_same keywords.the_type k k refl)).finds st op) refl
+
+  pub sign-goes : (s : Symbol) → IsSign s l → sign s (at (l ∷ ls) st op) ≡ Ok (tt, at ls st op)
+  unfolding sign passed
+  sign-goes s e = rw ((sign-is {l = l} {ls = ls} e s (true_same symbols.the_type s s refl)).finds st op) refl
+
+  pub name-goes : (n : NameRecord) → IsName n l → name (at (l ∷ ls) st op) ≡ Ok (n, at ls st op)
+  unfolding name next place passed
+  name-goes n e = ap (λ m. named l.at (name_of (Some m)) (at (l ∷ ls) st op)) e.text ∙ ap (λ (m : ℕ). Ok (record { text = n.text; at = m }, at ls st op)) e.place
+
+  number-goes : (n : ℤ) → IsNumeral n l → number (at (l ∷ ls) st op) ≡ Ok (n, at ls st op)
+  unfolding number next passed
+  number-goes n e = ap (λ m. taken (number_of (Some m)) (at (l ∷ ls) st op)) e
+
+  text-goes : (t : List ℕ) → IsText t l → text (at (l ∷ ls) st op) ≡ Ok (t, at ls st op)
+  unfolding text next passed
+  text-goes t e = ap (λ m. taken (text_of (Some m)) (at (l ∷ ls) st op)) e
+
+  opening-goes : (room : ℕ) → 0 < room → opening room (at (l ∷ ls) st op) ≡ Ok (tt, at ls st op)
+  unfolding opening passed
+  opening-goes zero h = absurd (omega (arith, h))
+  opening-goes (suc room) h = refl
 
 -- ---- steps
 
@@ -88,11 +128,11 @@ module _ {w : Counting} where
 
   pub yes-reads : {A : Type 0} {test : Input → Bool} {p : Parser A} (q : Parser A) {ls rest : List Lexeme} {k n : ℕ} {x : A} →
       Finds test (ls ++ rest) true → Reads w p ls rest k n x → Reads w (choose test p q) ls rest k n x
-  yes-reads {A} {test} {p} q {ls} {rest} {k} {n} {x} f r = record { reads = λ other. yes (test (before w (ls ++ rest) k other)) _ _ (f.finds _ _) ∙ r.reads other }
+  yes-reads {A} {test} {p} q {ls} {rest} {k} {n} {x} f r = record { reads = λ other. rw (f.finds (statements_in w k other) (operands_in w k other)) (r.reads other) }
 
   pub no-reads : {A : Type 0} {test : Input → Bool} (p : Parser A) {q : Parser A} {ls rest : List Lexeme} {k n : ℕ} {x : A} →
       Finds test (ls ++ rest) false → Reads w q ls rest k n x → Reads w (choose test p q) ls rest k n x
-  no-reads {A} {test} p {q} {ls} {rest} {k} {n} {x} f r = record { reads = λ other. no (test (before w (ls ++ rest) k other)) _ _ (f.finds _ _) ∙ r.reads other }
+  no-reads {A} {test} p {q} {ls} {rest} {k} {n} {x} f r = record { reads = λ other. rw (f.finds (statements_in w k other) (operands_in w k other)) (r.reads other) }
 
   -- By the answer to a question.
   pub view-reads : {A B : Type 0} (view : Input → B) (f : B → Parser A) {ls rest : List Lexeme} {k n : ℕ} {x : A} {b : B} →
@@ -148,22 +188,26 @@ module _ {w : Counting} where
     text-then {x} f is r = token-then text f (λ ms st op. text-goes l ms st op x is) r
 
     pub bump-then : {q : Parser B} → Reads w q ls rest k n y → Reads w (bump >> q) (l ∷ ls) rest k n y
-    bump-then {q} r = token-then bump (λ v. q) (λ ms st op. ap (λ (i : Input). Ok (tt, i)) (passes l ms st op)) r
+    unfolding passed
+    bump-then {q} r = token-then bump (λ v. q) (λ ms st op. refl) r
 
     pub opening-then : {room : ℕ} {q : Parser B} → 0 < room → Reads w q ls rest k n y → Reads w (opening room >> q) (l ∷ ls) rest k n y
-    opening-then {room} {q} some r = token-then (opening room) (λ v. q) (λ ms st op. opening-goes room l ms st op some) r
+    opening-then {room} {q} some r = token-then (opening room) (λ v. q) (λ ms st op. opening-goes l ms st op room some) r
 
     -- The place of the next token.
     pub here-then : (f : ℕ → Parser B) → Reads w (f l.at) (l ∷ ls) rest k n y → Reads w (here >>= f) (l ∷ ls) rest k n y
-    here-then f r = record { reads = λ other. rw (stands l (ls ++ rest) (statements_in w k other) (operands_in w k other)) (r.reads other) }
+    unfolding place
+    here-then f r = record { reads = λ other. r.reads other }
 
 module _ {B : Type 0} {most : ℕ} {q : Parser B} {ls rest : List Lexeme} {k n : ℕ} {y : B} where
   -- One more is counted.
   pub operand-then : k < most → Reads Operands q ls rest (k + 1) n y → Reads Operands (one_operand most >> q) ls rest k n y
-  operand-then few r = record { reads = λ other. rw (operand-goes most (ls ++ rest) other k few) (r.reads other) }
+  unfolding one_operand
+  operand-then few r = record { reads = λ other. let free : nat_lt k most ≡ true = grind (arith, nat_tests) in rw free (r.reads other) }
 
   pub statement-then : k < most → Reads Statements q ls rest (k + 1) n y → Reads Statements (one_statement most >> q) ls rest k n y
-  statement-then few r = record { reads = λ other. rw (statement-goes most (ls ++ rest) k 0 few) (r.reads other) }
+  unfolding one_statement
+  statement-then few r = record { reads = λ other. let free : nat_lt k most ≡ true = grind (arith, nat_tests) in rw free (r.reads other) }
 
 -- ---- lists
 

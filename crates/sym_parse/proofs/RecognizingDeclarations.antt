@@ -12,12 +12,12 @@ use Rattle.sym_parse.specs.declared.stop.Stop.TheVariants as stop
 use Rattle.sym_parse.specs.Beginnings as begins
 use Rattle.sym_parse.specs.Beginnings.{Begins}
 use Rattle.sym_parse.specs.Lexemes.{Lexeme, Name, Word, IsName, IsSign, IsKeyword}
-use Rattle.sym_parse.specs.Steps.{Input, next, sees_word, sees_sign, sees_name, sign, name}
+use Rattle.sym_parse.specs.Steps.{Input, next, sees_word, sees_sign, sees_name, sign, name, passed}
 use Rattle.sym_parse.specs.Syntax.Declarations as syntax
 use Rattle.sym_parse.specs.Syntax.Declarations.{AreSeparated, IsOneName, IsNum, IsLiteral, IsKind, IsEnum, IsHeader, IsDefault, IsField, IsGroup, IsRange, IsPart, IsClamp, IsCell, IsState, IsParam, IsTest, IsColumn}
 use Rattle.sym_parse.specs.Parsing.Declarations.{num, literal_value, begins_kind, kind_ref, header, default_value, field, group, range, clamp, part, param, names, enum_decl, parts, int_cell, nums_cell, hold_cell, label_cell, cell_decl, state, params, test_decl, column}
 use Rattle.sym_parse.proofs.Taking.{sees-one, sees-a-name, word-seen, sign-seen, word-token, sign-token, name-token, number-token, text-token}
-use Rattle.sym_parse.proofs.Reaching.{at, sees-word, sees-word-as, passes, word-goes, name-goes}
+use Rattle.sym_parse.proofs.Reading.{at, word-is, word-goes, name-goes}
 use Rattle.sym_parse.proofs.RecognizingExpressions.{value-line}
 use Rattle.sym_parse.proofs.Wanting.{wanted, item-after, begins-as}
 use Rattle.sym_parse.proofs.Recognizing.{Numbers, Any, Nothing, Recognizes, Starts, starts-one, starts-alone, then-line, last-line, token-line, alone-line, pure-line, choose-line, seen-line, here-line, StandsAt, list-line}
@@ -25,15 +25,15 @@ use Rattle.sym_parse.proofs.Recognizing.{Numbers, Any, Nothing, Recognizes, Star
 -- A kind alone, where a part could follow.
 name-alone : (x : NameRecord) (l : Lexeme) (st op : ℕ) → IsName x l → part (at (l ∷ []) st op) ≡ Err (stop.Expected 0)
 unfolding part kind_ref sign sees_sign next
-name-alone x l st op is = rw (sees-word-as l [] st op keyword.Num (Name x.text) is.text, sees-word-as l [] st op keyword.Word (Name x.text) is.text, name-goes l [] st op x is) refl
+name-alone x l st op is = rw ((word-is {l = l} {ls = []} is.text keyword.Num refl).finds st op, (word-is {l = l} {ls = []} is.text keyword.Word refl).finds st op, name-goes l [] st op x is) refl
 
 num-alone : (u : Unit {0}) (l : Lexeme) (st op : ℕ) → IsKeyword keyword.Num l → part (at (l ∷ []) st op) ≡ Err (stop.Expected 0)
-unfolding part kind_ref sign sees_sign next
-num-alone u l st op is = rw (sees-word l [] st op keyword.Num is, passes l [] st op) refl
+unfolding part kind_ref sign sees_sign next passed
+num-alone u l st op is = rw ((word-is {l = l} {ls = []} is keyword.Num refl).finds st op) refl
 
 word-alone : (u : Unit {0}) (l : Lexeme) (st op : ℕ) → IsKeyword keyword.Word l → part (at (l ∷ []) st op) ≡ Err (stop.Expected 0)
-unfolding part kind_ref sign sees_sign next
-word-alone u l st op is = rw (sees-word-as l [] st op keyword.Num (Word keyword.Word) is, sees-word l [] st op keyword.Word is, passes l [] st op) refl
+unfolding part kind_ref sign sees_sign next passed
+word-alone u l st op is = rw ((word-is {l = l} {ls = []} is keyword.Num refl).finds st op, (word-is {l = l} {ls = []} is keyword.Word refl).finds st op) refl
 
 module _ {m : Numbers} where
   one-name-line : Recognizes Nothing m 0 Any name (λ n ls c x. IsOneName ls x)

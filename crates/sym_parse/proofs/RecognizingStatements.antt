@@ -23,7 +23,7 @@ use Rattle.sym_parse.specs.Parsing.Statements.{begins_statement, binding, assign
 use Rattle.sym_parse.proofs.Taking.{sees-one, sees-a-name, word-seen, word-token, sign-token, name-token}
 use Rattle.sym_parse.proofs.Wanting.{raised, comma, begins-as}
 use Rattle.sym_parse.proofs.Recognizing.{Numbers, Fits, none, Meaning, Statements, Nothing, Says, Speaks, Exists, Any, Recognizes, Starts, starts-alone, says-as, as-line, by-numbers, exists-sized, stops-sized, then-says, then-line, last-says, last-line, token-line, opened-says, pure-line, either-says, choose-says, choose-line, seen-line, turns-line, statement-says}
-use Rattle.sym_parse.proofs.Reaching.{at, sees-word, sees-word-as, word-goes, name-goes}
+use Rattle.sym_parse.proofs.Reading.{at, word-is, word-goes, name-goes}
 use Rattle.sym_parse.proofs.RecognizingExpressions.{expression-line, values-line, inside, fresh, from_fresh}
 
 module _ (m : Numbers) (if_here : Parser StmtTree) (IsIfHere : Numbers → List Lexeme → StmtTree → Type 0)
@@ -75,21 +75,21 @@ module _ (m : Numbers) (if_here : Parser StmtTree) (IsIfHere : Numbers → List 
 
   let-alone : (u : Unit {0}) (l : Lexeme) (st op : ℕ) → IsKeyword keyword.Let l → simple m.most m.room if_here (at (l ∷ []) st op) ≡ Err (stop.Expected 0)
   unfolding simple binding name next
-  let-alone u l st op is = rw (sees-word l [] st op keyword.Let is, word-goes l [] st op keyword.Let is) refl
+  let-alone u l st op is = rw ((word-is {l = l} {ls = []} is keyword.Let refl).finds st op, word-goes l [] st op keyword.Let is) refl
 
   push-alone : (u : Unit {0}) (l : Lexeme) (st op : ℕ) → IsKeyword keyword.Push l → simple m.most m.room if_here (at (l ∷ []) st op) ≡ Err (stop.Expected 0)
   unfolding simple push name next
-  push-alone u l st op is = rw (sees-word-as l [] st op keyword.Let (Word keyword.Push) is, sees-word l [] st op keyword.Push is, word-goes l [] st op keyword.Push is) refl
+  push-alone u l st op is = rw ((word-is {l = l} {ls = []} is keyword.Let refl).finds st op, (word-is {l = l} {ls = []} is keyword.Push refl).finds st op, word-goes l [] st op keyword.Push is) refl
 
   keep-alone : (u : Unit {0}) (l : Lexeme) (st op : ℕ) → IsKeyword keyword.Keep l → simple m.most m.room if_here (at (l ∷ []) st op) ≡ Err (stop.Expected 0)
   unfolding simple keep name next
   keep-alone u l st op is =
-      rw (sees-word-as l [] st op keyword.Let (Word keyword.Keep) is, sees-word-as l [] st op keyword.Push (Word keyword.Keep) is, sees-word l [] st op keyword.Keep is, word-goes l [] st op keyword.Keep is) refl
+      rw ((word-is {l = l} {ls = []} is keyword.Let refl).finds st op, (word-is {l = l} {ls = []} is keyword.Push refl).finds st op, (word-is {l = l} {ls = []} is keyword.Keep refl).finds st op, word-goes l [] st op keyword.Keep is) refl
 
   name-alone : (x : NameRecord) (l : Lexeme) (st op : ℕ) → IsName x l → simple m.most m.room if_here (at (l ∷ []) st op) ≡ Err (stop.Expected 0)
   unfolding simple assignment sign sees_sign next
   name-alone x l st op is =
-      rw (sees-word-as l [] st op keyword.Let (Name x.text) is.text, sees-word-as l [] st op keyword.Push (Name x.text) is.text, sees-word-as l [] st op keyword.Keep (Name x.text) is.text, name-goes l [] st op x is) refl
+      rw ((word-is {l = l} {ls = []} is.text keyword.Let refl).finds st op, (word-is {l = l} {ls = []} is.text keyword.Push refl).finds st op, (word-is {l = l} {ls = []} is.text keyword.Keep refl).finds st op, name-goes l [] st op x is) refl
 
   -- What begins a statement other than an `if`.
   simple-starts : (i : Input) → begins_statement i ≡ true → sees_word keyword.If i ≡ false → Starts Statements m Simple i limit.Statements

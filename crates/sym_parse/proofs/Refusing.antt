@@ -25,7 +25,7 @@ use Rattle.sym_parse.specs.Sentences.{IsSentence, BeginNoSentence, IsNoEarlier, 
 use Rattle.sym_parse.specs.Beginnings.{Begins, trimmed}
 use Rattle.sym_parse.specs.Places.{CanGoOn, BeginBy, Keep, KeepAll, AddOne, IsUnexpected, token, end, IsPassed}
 use Rattle.sym_parse.specs.Syntax.Scripts.{IsScript}
-use Rattle.sym_parse.proofs.Reaching.{at}
+use Rattle.sym_parse.proofs.Reading.{at}
 use Rattle.sym_parse.proofs.Keeping.{Keeps, Along, ahead, same, Agrees}
 use Rattle.sym_parse.proofs.KeepingScripts.{script-keeps}
 use Rattle.sym_parse.proofs.ScriptsComplete.{script-reads}

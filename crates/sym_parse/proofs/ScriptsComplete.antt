@@ -17,9 +17,8 @@ use Rattle.sym_parse.specs.Syntax.Declarations.{AreItems, AreAtMost, AreSome, Is
 use Rattle.sym_parse.specs.Syntax.Scripts as syntax
 use Rattle.sym_parse.specs.Syntax.Scripts.{IsUpdate, IsReport, IsScript}
 use Rattle.sym_parse.specs.Parsing.Scripts.{enums, fields, states, tests, columns, report, script, start}
-use Rattle.sym_parse.proofs.Reaching.{at}
 use Rattle.sym_parse.proofs.Recognizing.{Statements}
-use Rattle.sym_parse.proofs.Reading.{Reads, Complete, Finds, word-is, name-is, finds-front, pure-reads, then-reads, last-reads, word-then, sign-then, any-reads, some-reads}
+use Rattle.sym_parse.proofs.Reading.{at, Reads, Complete, Finds, word-is, name-is, finds-front, pure-reads, then-reads, last-reads, word-then, sign-then, any-reads, some-reads}
 use Rattle.sym_parse.proofs.StatementsComplete.{update-reads}
 use Rattle.sym_parse.proofs.DeclarationsComplete.{enum-reads, field-reads, group-reads, state-reads, test-reads, column-reads}
 

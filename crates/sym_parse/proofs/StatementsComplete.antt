@@ -7,7 +7,7 @@ use Rattle.sym_lex.specs.declared.symbol.Symbol.TheVariants as symbol
 use Rattle.sym_parse.specs.declared.error.LimitKind.{LimitKind}
 use Rattle.sym_parse.specs.declared.error.LimitKind.TheVariants as limit
 use Rattle.sym_parse.specs.Lexemes.{Terminal, Lexeme, IsKeyword}
-use Rattle.sym_parse.specs.Steps.{Parser, next_of, word_of, name_of, is_there, is_this_word, sees_word, sees_sign}
+use Rattle.sym_parse.specs.Steps.{Parser, next_of, word_of, name_of, is_there, is_this_word, sees_word, sees_sign, next, sees_name}
 use Rattle.sym_parse.specs.Syntax.Expressions.{IsExprWithin, IsValues}
 use Rattle.sym_parse.specs.Syntax.Statements as syntax
 use Rattle.sym_parse.specs.Syntax.Statements.{IsStatement, AreStatements, IsBlock, IsElse, IsIfWithin}
@@ -15,7 +15,6 @@ use Rattle.sym_parse.specs.Syntax.Scripts.{IsUpdate}
 use Rattle.sym_parse.specs.Syntax.Scripts as scripts
 use Rattle.sym_parse.specs.Parsing.Expressions.{expression, values}
 use Rattle.sym_parse.specs.Parsing.Statements.{begins_statement, binding, assignment, push, kept_values, kept_cell, keep, simple, statement, statements_from, statements, block, otherwise, else_part, branches, if_statement, update}
-use Rattle.sym_parse.proofs.Reaching.{sees-word-as, sees-name-as}
 use Rattle.sym_parse.proofs.Recognizing.{Statements}
 use Rattle.sym_parse.proofs.Reading.{Reads, Finds, word-is, sign-is, finds-front, pure-reads, then-reads, last-reads, yes-reads, no-reads, turns-reads, to-count, word-then, sign-then, name-then, bump-then, opening-then, statement-then}
 use Rattle.sym_parse.proofs.ExpressionsComplete.{tight, loose, values-read, expression-reads}
@@ -68,11 +67,8 @@ module _ (most : LimitKind → ℕ) (room : ℕ) (if_here : Parser StmtTree) (Is
 
   begins-as : {l : Lexeme} {ls : List Lexeme} {t : Terminal} → l.terminal ≡ t → Finds begins_statement (l ∷ ls)
       (is_there (name_of (Some t)) || (is_this_word keyword.Let (word_of (Some t)) || (is_this_word keyword.Push (word_of (Some t)) || (is_this_word keyword.Keep (word_of (Some t)) || is_this_word keyword.If (word_of (Some t))))))
-  unfolding begins_statement
-  begins-as {l} {ls} {t} e = record {
-    finds = λ st op.
-        rw (sees-name-as l ls st op t e, sees-word-as l ls st op keyword.Let t e, sees-word-as l ls st op keyword.Push t e, sees-word-as l ls st op keyword.Keep t e, sees-word-as l ls st op keyword.If t e) refl;
-  }
+  unfolding begins_statement sees_name sees_word next
+  begins-as e = record { finds = λ st op. rw e refl }
 
   first-of : (ls : List Lexeme) (s : StmtTree) → IsStatement most room IsIfHere ls s → First ls
   first-of _ _ (syntax.binding w l equals end a b c d z) = record { some = omega arith; no_else = λ rest. word-is a _ refl; begins = λ rest. begins-as a }

@@ -64,54 +64,15 @@ raised-before which k h = let e : nat_lt (rank k) (rank which) ≡ true = grind 
 
 no-comma : (which : LimitKind) (t : Terminal) → Begins which t → is_comma t ≡ false
 no-comma _ _ begins.enum = refl
-no-comma _ _ (begins.label text) = refl
-no-comma _ _ begins.field = refl
-no-comma _ _ begins.cell = refl
-no-comma _ _ begins.test = refl
-no-comma _ _ (begins.parameter text) = refl
-no-comma _ _ begins.num_part = refl
-no-comma _ _ begins.word_part = refl
-no-comma _ _ (begins.label_part text) = refl
-no-comma _ _ begins.binding = refl
-no-comma _ _ begins.push = refl
-no-comma _ _ begins.keep = refl
-no-comma _ _ begins.branch = refl
-no-comma _ _ (begins.assignment text) = refl
-no-comma _ _ begins.if_level = refl
-no-comma _ _ begins.not_level = refl
-no-comma _ _ begins.minus_level = refl
-no-comma _ _ begins.paren_level = refl
-no-comma _ _ (begins.number n) = refl
-no-comma _ _ (begins.text t) = refl
-no-comma _ _ (begins.name text) = refl
-no-comma _ _ (begins.column text) = refl
-no-comma _ _ (begins.group_field text) = refl
+no-comma _ _ _ = refl
 
 -- Only what begins a level is open.
 pub open-level : (which : LimitKind) (t : Terminal) → Begins which t → (is_opening t ≡ false) ⊎ (which ≡ limit.Depth)
-open-level _ _ begins.enum = inl refl
-open-level _ _ (begins.label text) = inl refl
-open-level _ _ begins.field = inl refl
-open-level _ _ begins.cell = inl refl
-open-level _ _ begins.test = inl refl
-open-level _ _ (begins.parameter text) = inl refl
-open-level _ _ begins.num_part = inl refl
-open-level _ _ begins.word_part = inl refl
-open-level _ _ (begins.label_part text) = inl refl
-open-level _ _ begins.binding = inl refl
-open-level _ _ begins.push = inl refl
-open-level _ _ begins.keep = inl refl
-open-level _ _ begins.branch = inl refl
-open-level _ _ (begins.assignment text) = inl refl
 open-level _ _ begins.if_level = inr refl
 open-level _ _ begins.not_level = inr refl
 open-level _ _ begins.minus_level = inr refl
 open-level _ _ begins.paren_level = inr refl
-open-level _ _ (begins.number n) = inl refl
-open-level _ _ (begins.text t) = inl refl
-open-level _ _ (begins.name text) = inl refl
-open-level _ _ (begins.column text) = inl refl
-open-level _ _ (begins.group_field text) = inl refl
+open-level _ _ _ = inl refl
 
 one-most : (b : Bool) → one b ≤ 1
 one-most true = omega arith
@@ -126,37 +87,25 @@ operand-wanted which b (inr e) = let f : raised which limit.Operands ≡ 1 = ap 
 
 -- What a token that passes a limit wants is raised.
 pub raised-wanted : (which : LimitKind) (l : Lexeme) → Begins which l.terminal → (k : LimitKind) → wanted l k ≤ raised which k
-raised-wanted which l b limit.Enums = omega arith
 raised-wanted which l b limit.Labels = no-comma-wanted which l (raised which limit.Labels) b
-raised-wanted which l b limit.Fields = omega arith
-raised-wanted which l b limit.Cells = omega arith
-raised-wanted which l b limit.Tests = omega arith
 raised-wanted which l b limit.Parameters = no-comma-wanted which l (raised which limit.Parameters) b
 raised-wanted which l b limit.Parts = no-comma-wanted which l (raised which limit.Parts) b
-raised-wanted which l b limit.Statements = omega arith
-raised-wanted which l b limit.Depth = omega arith
 raised-wanted which l b limit.Operands = operand-wanted which (is_opening l.terminal) (open-level which l.terminal b)
-raised-wanted which l b limit.Columns = omega arith
 raised-wanted which l b limit.GroupFields = no-comma-wanted which l (raised which limit.GroupFields) b
+raised-wanted which l b _ = omega arith
 
 -- It wants none of its kind.
 pub wanted-none : (which : LimitKind) (l : Lexeme) → Begins which l.terminal → wanted l which ≡ 0
-wanted-none limit.Enums l b = refl
 wanted-none limit.Labels l b = ap one (no-comma limit.Labels l.terminal b)
-wanted-none limit.Fields l b = refl
-wanted-none limit.Cells l b = refl
-wanted-none limit.Tests l b = refl
 wanted-none limit.Parameters l b = ap one (no-comma limit.Parameters l.terminal b)
 wanted-none limit.Parts l b = ap one (no-comma limit.Parts l.terminal b)
-wanted-none limit.Statements l b = refl
-wanted-none limit.Depth l b = refl
+wanted-none limit.GroupFields l b = ap one (no-comma limit.GroupFields l.terminal b)
 wanted-none limit.Operands l b = closed (open-level limit.Operands l.terminal b)
   where
     closed : (is_opening l.terminal ≡ false) ⊎ (limit.Operands ≡ limit.Depth) → one (is_opening l.terminal) ≡ 0
     closed (inl e) = ap one e
     closed (inr e) = cc
-wanted-none limit.Columns l b = refl
-wanted-none limit.GroupFields l b = ap one (no-comma limit.GroupFields l.terminal b)
+wanted-none _ l b = refl
 
 -- ---- what leaves something open
 
@@ -202,18 +151,12 @@ or-none true b e = cc
 
 -- What leaves nothing open wants nothing.
 pub closed-wants : (l : Lexeme) → is_opening l.terminal ≡ false → (k : LimitKind) → wanted l k ≡ 0
-closed-wants l e limit.Enums = refl
 closed-wants l e limit.Labels = ap one (or-none (is_comma l.terminal) _ e)
-closed-wants l e limit.Fields = refl
-closed-wants l e limit.Cells = refl
-closed-wants l e limit.Tests = refl
 closed-wants l e limit.Parameters = ap one (or-none (is_comma l.terminal) _ e)
 closed-wants l e limit.Parts = ap one (or-none (is_comma l.terminal) _ e)
-closed-wants l e limit.Statements = refl
-closed-wants l e limit.Depth = refl
 closed-wants l e limit.Operands = ap one e
-closed-wants l e limit.Columns = refl
 closed-wants l e limit.GroupFields = ap one (or-none (is_comma l.terminal) _ e)
+closed-wants l e _ = refl
 
 -- The rest of some lexemes.
 abbrev Cut : List Lexeme → List Lexeme → Type 0
