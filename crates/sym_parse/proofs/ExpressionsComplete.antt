@@ -1,4 +1,4 @@
--- What an expression is is read, if the token after it binds no tighter.
+-- An expression is read where it stands, if the token after it binds no tighter.
 use Rattle.std.proofs.Common.{◌≡◌, ℕ, zero, suc, ◌+◌, ◌<◌, ◌≤◌, Bool, true, false, if◌then◌else◌, ◌==◌, ℤ, List, [], ◌∷◌, ◌++◌, length, Option, Some, None, refl, ap, sym, ◌∙◌, arith, append_assoc, length-append}
 use Rattle.std.proofs.lemmas.Bool.{eqb-true}
 use Rattle.std.proofs.lemmas.List.{append-nil}
@@ -136,14 +136,14 @@ level_of Signed = 9
 
 module _ (most : LimitKind → ℕ) (room : ℕ) (deeper : Line → Parser ExprTree) (D : Line → List Lexeme → ExprTree → Type 0) (below : (x : Line) → Complete (most limit.Operands) (deeper x) (D x) (level_of x))
     (some : (x : Line) (ls : List Lexeme) (e : ExprTree) → D x ls e → 0 < room) where
-  abbrev Complete_here : Parser ExprTree → (List Lexeme → ExprTree → Type 0) → ℕ → Type 0
-  Complete_here = Complete (most limit.Operands)
+  abbrev CompleteHere : Parser ExprTree → (List Lexeme → ExprTree → Type 0) → ℕ → Type 0
+  CompleteHere = Complete (most limit.Operands)
 
   some-values : (ls : List Lexeme) (es : ExprsTree) → IsValues (D Whole) ls es → 0 < room
   some-values ls _ (syntax.one {e} p) = some Whole ls e p
   some-values _ _ (syntax.more {xs} {e} comma p is v) = some Whole xs e p
 
-  primary-reads : Complete_here (primary most room deeper) (IsPrimary D) 9
+  primary-reads : CompleteHere (primary most room deeper) (IsPrimary D) 9
   unfolding primary number_leaf text_leaf named call_or_name call parens
   primary-reads _ rest k _ (syntax.number l is) t few = yes-reads _ (number-is is refl) (operand-then (omega (arith, few)) (here-then (λ at. number >>= (λ n. pure (Num n at))) (number-then _ is pure-reads)))
   primary-reads _ rest k _ (syntax.text l is) t few = no-reads _ (number-is is refl) (yes-reads _ (text-is is refl) (operand-then (omega (arith, few)) (here-then (λ at. text >>= (λ t. pure (Words t at))) (text-then _ is pure-reads))))
@@ -155,7 +155,8 @@ module _ (most : LimitKind → ℕ) (room : ℕ) (deeper : Line → Parser ExprT
   primary-reads _ rest k _ (syntax.parens {xs} {e} begin end b d z) t few =
       no-reads _ (number-is b refl) (no-reads _ (text-is b refl) (no-reads _ (name-is b refl) (yes-reads _ (sign-is b symbol.OpenParen refl) (opening-then (some Whole xs e d) (then-reads _ (below Whole xs (end ∷ rest) k e d (loose end z refl) few) (sign-then z pure-reads))))))
 
-  -- What no primary begins with is not found before a sum.
+  -- A question about the next token finds before a primary what it finds before each token that begins
+  -- one.
   primary-finds : {B : Type 0} (view : Option Terminal → B) (b : B) → ((n : ℤ) → view (Some (Number n)) ≡ b) → ((s : List ℕ) → view (Some (Str s)) ≡ b) → ((s : List ℕ) → view (Some (Name s)) ≡ b) → view (Some (Sign symbol.OpenParen)) ≡ b →
       (ls rest : List Lexeme) (e : ExprTree) → IsPrimary D ls e → view (next_of (ls ++ rest)) ≡ b
   primary-finds view b on-number on-text on-name on-paren _ rest _ (syntax.number {n} l is) = ap (λ (t : Terminal). view (Some t)) is ∙ on-number n
@@ -164,21 +165,21 @@ module _ (most : LimitKind → ℕ) (room : ℕ) (deeper : Line → Parser ExprT
   primary-finds view b on-number on-text on-name on-paren _ rest _ (syntax.call {n} l begin end is o v z) = ap (λ (t : Terminal). view (Some t)) is.text ∙ on-name n.text
   primary-finds view b on-number on-text on-name on-paren _ rest _ (syntax.parens begin end o d z) = ap (λ (t : Terminal). view (Some t)) o ∙ on-paren
 
-  unary-reads : Complete_here (unary most room deeper) (IsUnary D) 9
+  unary-reads : CompleteHere (unary most room deeper) (IsUnary D) 9
   unfolding unary minus
   unary-reads _ rest k _ (syntax.minus {xs} {e} l is d) t few = yes-reads _ (sign-is is symbol.Minus refl) (here-then (λ at. opening room >> (deeper Signed >>= (λ x. pure (Neg x at)))) (opening-then (some Signed xs e d) (last-reads _ (below Signed xs rest k e d t few) pure-reads)))
   unary-reads ls rest k e (syntax.plain p) t few =
       no-reads _ (sign-found symbol.Minus (ls ++ rest) (primary-finds (λ o. is_this_sign symbol.Minus (sign_of o)) false (λ n. refl) (λ s. refl) (λ s. refl) refl ls rest e p)) (primary-reads ls rest k e p t few)
 
-  product-reads : Complete_here (product most room deeper) (IsProduct D) 6
+  product-reads : CompleteHere (product most room deeper) (IsProduct D) 6
   unfolding product
   product-reads = chain-reads (most limit.Operands) product_level 9 (omega arith) (IsUnary D) (unary most room deeper) unary-reads
 
-  sum-reads : Complete_here (sum most room deeper) (IsSum D) 5
+  sum-reads : CompleteHere (sum most room deeper) (IsSum D) 5
   unfolding sum
   sum-reads = chain-reads (most limit.Operands) sum_level 6 (omega arith) (IsProduct D) (product most room deeper) product-reads
 
-  relation-reads : Complete_here (relation most room deeper) (IsRelation D) 4
+  relation-reads : CompleteHere (relation most room deeper) (IsRelation D) 4
   unfolding relation next
   relation-reads ls rest k e (syntax.alone p) t few =
       last-reads _ (sum-reads ls rest k e p (omega (arith, t)) few) (view-reads (λ i. op_in compare_op (next i)) (relation_turn most room deeper e) {b = None} (record { finds = λ st op. loose-none relation_level (next_of rest) t }) pure-reads)
@@ -208,20 +209,20 @@ module _ (most : LimitKind → ℕ) (room : ℕ) (deeper : Line → Parser ExprT
   relation-no-not _ rest _ (syntax.compared {xs} {ys} {left} b l p o q) =
       ap (λ (m : List Lexeme). is_this_word keyword.Not (word_of (next_of m))) (append_assoc xs (l ∷ ys) rest) ∙ sum-no-not xs (l ∷ (ys ++ rest)) left p
 
-  negation-reads : Complete_here (negation most room deeper) (IsNegation D) 4
+  negation-reads : CompleteHere (negation most room deeper) (IsNegation D) 4
   unfolding negation not_line
   negation-reads _ rest k _ (syntax.not {xs} {e} l is d) t few = yes-reads _ (word-is is keyword.Not refl) (here-then (λ at. opening room >> (deeper Negation >>= (λ x. pure (Not x at)))) (opening-then (some Negation xs e d) (last-reads _ (below Negation xs rest k e d t few) pure-reads)))
   negation-reads ls rest k e (syntax.plain p) t few = no-reads _ (word-found keyword.Not (ls ++ rest) (relation-no-not ls rest e p)) (relation-reads ls rest k e p t few)
 
-  conjunction-reads : Complete_here (conjunction most room deeper) (IsConjunction D) 2
+  conjunction-reads : CompleteHere (conjunction most room deeper) (IsConjunction D) 2
   unfolding conjunction
   conjunction-reads = chain-reads (most limit.Operands) and_level 4 (omega arith) (IsNegation D) (negation most room deeper) negation-reads
 
-  expr-reads : Complete_here (expr most room deeper) (IsExpression D) 1
+  expr-reads : CompleteHere (expr most room deeper) (IsExpression D) 1
   unfolding expr
   expr-reads = chain-reads (most limit.Operands) or_level 2 (omega arith) (IsConjunction D) (conjunction most room deeper) conjunction-reads
 
-  line-reads : (x : Line) → Complete_here (line most room deeper x) (IsLine D x) (level_of x)
+  line-reads : (x : Line) → CompleteHere (line most room deeper x) (IsLine D x) (level_of x)
   line-reads Whole = expr-reads
   line-reads Negation = negation-reads
   line-reads Signed = unary-reads
