@@ -1,9 +1,9 @@
 #!/bin/sh
-# Measures `symple run` with 1, 2 and 4 workers, over four workloads: the sessions of 10 and of
-# 98,304 users, a count of 10 users, and a funnel of 1,000 users. Beside it the sequential pass of
-# the same crates, gawk, mawk, and a program written by hand in Rust. All come to the same groups,
-# symple writes the same report with each number of workers, and each runs three times, in turn
-# (TURNS sets another number).
+# Measures `symple run` with 1, 2 and 4 workers, and with 4 and chunks of 64 records, over four
+# workloads: the sessions of 10 and of 98,304 users, a count of 10 users, and a funnel of 1,000
+# users. Beside it the sequential pass of the same crates, gawk, mawk, and a program written by hand
+# in Rust. All come to the same groups, symple writes the same report in each way, and each runs
+# three times, in turn (TURNS sets another number).
 # Prints the least wall time of each in seconds, its ratio to the sequential pass's, and the
 # processor time and memory of that run.
 # Of the sequential pass, sym_bench's, it is the processor time of the pass over a log in memory,
@@ -24,7 +24,7 @@ root=$(dirname "$here")
 symple=$root/crates/symple/out/symple
 timer=/usr/bin/time
 workloads="sessions users count funnel"
-ways="sequential 1 2 4 gawk mawk rust"
+ways="sequential 1 2 4 small gawk mawk rust"
 
 for tool in rustc gawk mawk "$timer"; do
     command -v "$tool" >/dev/null || stop "there is no $tool"
@@ -75,6 +75,10 @@ run() {
             set -- "$1" -v workload="$(name_of "$2")" -f "$here/runs.awk" "$work/log.csv"
             ;;
         rust) set -- "$work/runs" "$(name_of "$2")" "$work/log.csv" ;;
+        small)
+            set -- "$symple" run --limit $limit --workers 4 --chunk 64 \
+                "$here/$(name_of "$2").symple" "$work/log.csv"
+            ;;
         *)
             set -- "$symple" run --limit $limit --workers "$1" \
                 "$here/$(name_of "$2").symple" "$work/log.csv"
@@ -94,9 +98,9 @@ measure() {
             wall=$(($(cut -d' ' -f2 "$work/said") / 1000))
             cp "$work/found" "$work/expected"
             ;;
-        1 | 2 | 4)
+        1 | 2 | 4 | small)
             if [ "$1" = 1 ]; then cp "$work/found" "$work/report"; fi
-            cmp -s "$work/found" "$work/report" || stop "$1 workers write another report of $2"
+            cmp -s "$work/found" "$work/report" || stop "$1 writes another report of $2"
             groups_of "$2" <"$work/report" >"$work/found"
             ;;
     esac
@@ -122,6 +126,11 @@ done
 
 # shellcheck disable=SC2016 # what is quoted is awk's
 mawk -v workloads="$workloads" -v ways="$ways" '
+    function name(way) {
+        if (way == "small")
+            return "symple, workers: 4, chunk: 64"
+        return way ~ /^[0-9]+$/ ? "symple, workers: " way : way
+    }
     { at = $1 " " $2 }
     !(at in wall) || $3 < wall[at] { wall[at] = $3; processor[at] = $4; memory[at] = $5 }
     END {
@@ -132,8 +141,7 @@ mawk -v workloads="$workloads" -v ways="$ways" '
             print "|---|---|---|---|---|"
             for (j = 1; j <= many; j++) {
                 at = programs[j] " " names[i]
-                printf "| %s | %.2f | %.2f | %.2f | %.0f |\n", \
-                    programs[j] ~ /^[0-9]+$/ ? "symple, workers: " programs[j] : programs[j], \
+                printf "| %s | %.2f | %.2f | %.2f | %.0f |\n", name(programs[j]), \
                     wall[at] / 1000000, wall[at] / wall["sequential " names[i]], \
                     processor[at] / 1000000, memory[at] / 1024
             }
