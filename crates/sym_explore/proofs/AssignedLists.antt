@@ -42,10 +42,11 @@ use Rattle.sym_path.specs.Giving.{given, outcomes}
 use Rattle.sym_path.specs.Standing.{EndsAmong}
 use Rattle.sym_explore.specs.Assigning.{EndsNone, with_parts}
 use Rattle.sym_explore.specs.Counting.{do_ended, do_going, store_ended, store_going}
-use Rattle.sym_explore.specs.Ending.{AreMoved, AreParted, IsChanged, WereRun}
+use Rattle.sym_explore.specs.Ending.{AreMoved, AreParted, IsChanged}
 use Rattle.sym_explore.specs.Faulting.{EndAmong, EndsSo, HasNumber}
 use Rattle.sym_explore.specs.Knowing.{DoIsKnown, TermIsKnown}
 use Rattle.sym_explore.specs.Parting.{AllGoOn}
+use Rattle.sym_explore.specs.Running.{DoWasRun, WereRun}
 use Rattle.sym_explore.specs.Stepping.{after_do}
 use Rattle.sym_explore.specs.Placing.{PlaceFits, place_cell}
 use Rattle.sym_explore.specs.Storing.{after_store, store_do}
@@ -166,9 +167,7 @@ run_more p step n g e old new before after some h =
     let all : length old * (1 + 0) ≤ length old * (g + e) = mul-le-mul_left (length old) more in
     record {
       exact = h.exact;
-      fits = h.fits;
-      going = h.going;
-      ended_fit = h.ended_fit;
+      next = h.next;
       few = record { going = omega (arith, h.few.going, going); all = omega (arith, h.few.all, all) };
       faults = h.faults;
     }
@@ -247,24 +246,34 @@ module _ (p : ScriptPlan) (k : Environment) (n : ℕ) (at : Place) (t : TermPlan
       go (place.Cell c) = ap (λ (r : Result ℤ Arith). and_then (λ (y : ℤ). stored p c (with_int c) y s) (or_fault r)) (ready_fails k t x e s)
       go (place.End c) = ap (λ (r : Result ℤ Arith). and_then (λ (y : ℤ). stored p c (with_pushed c) y s) (or_fault r)) (ready_fails k t x e s)
 
+  -- The counts of paths are those of the place's cell.
+  store_done : (old new before after : List Path) → WereRun p (after_do p k n (store_do at t)) n (store_going p.cells (place_cell at)) (store_ended p.cells (place_cell at)) old new before after → DoWasRun p k n (store_do at t) old new before after
+  store_done old new before after = go at
+    where
+      go : (at : Place) → WereRun p (after_do p k n (store_do at t)) n (store_going p.cells (place_cell at)) (store_ended p.cells (place_cell at)) old new before after → DoWasRun p k n (store_do at t) old new before after
+      go (place.Cell c) h = h
+      go (place.End c) h = h
+
   -- Its arithmetic failed.
-  pub store_failed : (x : Arith) (fault : Fault) (old new before after : List Path) → ready_of k t ≡ Err x → fault.kind ≡ cause.Arith → fault.no ≡ n → WereRun p (ended_by fault) fault.no 1 0 old new before after → WereRun p (after_do p k n (store_do at t)) n (store_going p.cells (place_cell at)) (store_ended p.cells (place_cell at)) old new before after
+  pub store_failed : (x : Arith) (fault : Fault) (old new before after : List Path) → ready_of k t ≡ Err x → fault.kind ≡ cause.Arith → fault.no ≡ n → WereRun p (ended_by fault) fault.no 1 0 old new before after → DoWasRun p k n (store_do at t) old new before after
   store_failed x fault old new before after e kind number h =
       let same : fault ≡ record { kind = cause.Arith; no = n } = λ i. record { kind = kind i; no = number i } in
       let own : WereRun p (ended_by (record { kind = cause.Arith; no = n })) n 1 0 old new before after = subst (λ (f : Fault). WereRun p (ended_by f) f.no 1 0 old new before after) same h in
-      run_more p (after_do p k n (store_do at t)) n (store_going p.cells (place_cell at)) (store_ended p.cells (place_cell at)) old new before after (store_goes_on (is_clamped p.cells (place_cell at)))
-      (run_as p (ended_by (record { kind = cause.Arith; no = n })) (after_do p k n (store_do at t)) n 1 0 old new before after (fails_as p k n (store_do at t) cause.Arith (store_fails x e)) own)
+      store_done old new before after
+      (run_more p (after_do p k n (store_do at t)) n (store_going p.cells (place_cell at)) (store_ended p.cells (place_cell at)) old new before after (store_goes_on (is_clamped p.cells (place_cell at)))
+      (run_as p (ended_by (record { kind = cause.Arith; no = n })) (after_do p k n (store_do at t)) n 1 0 old new before after (fails_as p k n (store_do at t) cause.Arith (store_fails x e)) own))
 
   -- It was stored at the target.
   pub store_run : (r : Ready) (target : Target) (clamps : Bool) (old new before after : List Path) → ready_of k t ≡ Ok r → target.place ≡ at → target.fault.no ≡ n → is_clamped p.cells (place_cell at) ≡ clamps →
       WereRun p (after_store p target.fault.no target.place r) target.fault.no (if clamps then 3 else 1) (if clamps then 0 else 2) old new before after →
-      WereRun p (after_do p k n (store_do at t)) n (store_going p.cells (place_cell at)) (store_ended p.cells (place_cell at)) old new before after
+      DoWasRun p k n (store_do at t) old new before after
   store_run r target clamps old new before after e there number is h =
       let own : WereRun p (after_store p n at r) n (if clamps then 3 else 1) (if clamps then 0 else 2) old new before after =
       subst (λ (m : ℕ). WereRun p (after_store p m at r) m (if clamps then 3 else 1) (if clamps then 0 else 2) old new before after) number
       (subst (λ (a : Place). WereRun p (after_store p target.fault.no a r) target.fault.no (if clamps then 3 else 1) (if clamps then 0 else 2) old new before after) there h) in
-      subst (λ (b : Bool). WereRun p (after_do p k n (store_do at t)) n (if b then 3 else 1) (if b then 0 else 2) old new before after) (sym is)
-      (run_as p (after_store p n at r) (after_do p k n (store_do at t)) n (if clamps then 3 else 1) (if clamps then 0 else 2) old new before after (store_is p k n at t r e) own)
+      store_done old new before after
+      (subst (λ (b : Bool). WereRun p (after_do p k n (store_do at t)) n (if b then 3 else 1) (if b then 0 else 2) old new before after) (sym is)
+      (run_as p (after_store p n at r) (after_do p k n (store_do at t)) n (if clamps then 3 else 1) (if clamps then 0 else 2) old new before after (store_is p k n at t r e) own))
 
 -- ---- values that fail
 

@@ -38,9 +38,10 @@ use Rattle.sym_path.proofs.SettlingStands.{settled_stand}
 use Rattle.sym_explore.specs.Counting.{dos_ended, dos_going, made_paths}
 use Rattle.sym_explore.specs.Ending.{AreMoved, AreParted}
 use Rattle.sym_explore.specs.Faulting.{EndAmong, HasNumber}
-use Rattle.sym_explore.specs.Growing.{GivesAfter}
+use Rattle.sym_explore.specs.Growing.{GivesAfter, IsExplored, IsSegmentOf}
 use Rattle.sym_explore.specs.Knowing.{DosAreKnown}
 use Rattle.sym_explore.specs.Parting.{AllGoOn, AreFewRun, AreRun, at_state, those_ended, those_going}
+use Rattle.sym_explore.specs.Running.{DosWereRun}
 use Rattle.sym_explore.specs.Stepping.{after_dos, step_by}
 use Rattle.sym_explore.proofs.CountedPaths.{bound_is_count, updates_go_on}
 use Rattle.sym_explore.proofs.EndedLists.{moved_away, moved_count, moved_stay, outcomes_append, run_exact}
@@ -79,7 +80,7 @@ one_outcome (outcome.Ended fault ∷ []) once = refl
 one_outcome (o ∷ q ∷ os) once = absurd (omega (arith, once))
 
 module _ (p : ScriptPlan) (rec : Record) (old going none ended new after now : List Path) (empty : none ≡ []) (moves : AreMoved old going none ended) (on : AllGoOn going) (is : now ≡ after ++ new) where
-  pub explored_gives : (locals : List Value) → locals ≡ [] → AreRun p (after_dos p (environment rec locals) rec.no p.update) going new ended after → GivesAfter p rec old now
+  explored_gives : (locals : List Value) → locals ≡ [] → AreRun p (after_dos p (environment rec locals) rec.no p.update) going new ended after → GivesAfter p rec old now
   explored_gives locals fresh run s once =
       let tests = test_truth p.tests in
       let f = step_by p rec in
@@ -95,7 +96,7 @@ module _ (p : ScriptPlan) (rec : Record) (old going none ended new after now : L
       ∙ ap (λ zs. those_ended (map f os) ++ zs) at.going
       ∙ one_outcome (map f os) few
 
-  pub explored_few : AreFewRun (dos_going p.cells p.update) (dos_ended p.cells p.update) going new ended after → length now ≤ length old * made_paths p
+  explored_few : AreFewRun (dos_going p.cells p.update) (dos_ended p.cells p.update) going new ended after → length now ≤ length old * made_paths p
   explored_few h =
       fewer (length going) (length ended) (length old) (made_paths p) (length now)
       (omega (arith, moved_count old going none ended moves, ap length empty)) (omega (arith, updates_go_on p.cells p.update)) (omega (arith, ap length is, length-append after new, h.all))
@@ -106,7 +107,7 @@ module _ (p : ScriptPlan) (rec : Record) (old going none ended new after now : L
           let q : (g + e) * most ≡ o * most = ap (λ k. k * most) sum in
           omega (arith, m, q, h)
 
-  pub explored_faults : (records : List Record) → AllGoOn new → EndAmong records after → EndAmong records now
+  explored_faults : (records : List Record) → AllGoOn new → EndAmong records after → EndAmong records now
   explored_faults records goes ends =
       let P : Path → Type 0 = λ path. EndsAmong records path.end in
       let G : Path → Type 0 = λ path. GoesOn path.end in
@@ -125,10 +126,19 @@ module _ (p : ScriptPlan) (old going none ended : List Path) (empty : none ≡ [
   pub ended_fit : SegmentFits p old → SegmentFits p ended
   ended_fit h = moved_away (PathFits p) old going none ended moves h (subst (λ (ps : List Path). SegmentFits p ps) (sym empty) (All-nil (PathFits p)))
 
-  pub ended_came : (records : List Record) → EndAmong records old → EndAmong records ended
+  ended_came : (records : List Record) → EndAmong records old → EndAmong records ended
   ended_came records h =
       let P : Path → Type 0 = λ path. EndsAmong records path.end in
       moved_away P old going none ended moves h (subst (λ (ps : List Path). EndAmong records ps) (sym empty) (All-nil P))
+
+-- What those that go on become, and those that have ended.
+pub explored_run : (p : ScriptPlan) (rec : Record) (old going none ended new after now : List Path) → none ≡ [] → AreMoved old going none ended → AllGoOn going → now ≡ after ++ new → (locals : List Value) → locals ≡ [] → DosWereRun p (environment rec locals) rec.no p.update going new ended after → IsExplored p rec old now
+explored_run p rec old going none ended new after now empty moves on is locals fresh h = record {
+  exact = explored_gives p rec old going none ended new after now empty moves on is locals fresh h.exact;
+  fits = subst (SegmentFits p) (sym is) (All-append (PathFits p) after new h.next.ended_fit h.next.fits);
+  few = explored_few p rec old going none ended new after now empty moves on is h.few;
+  faults = λ records has ends. explored_faults p rec old going none ended new after now empty moves on is records h.next.going (h.faults records has (ended_came p old going none ended empty moves records ends));
+}
 
 -- ---- one record more
 
@@ -149,14 +159,7 @@ ends_longer records rec paths h =
 number_among : (records : List Record) (rec : Record) → HasNumber rec.no (records ++ rec ∷ [])
 number_among records rec = Any-push (λ (r : Record). r.no ≡ rec.no) records rec refl
 
--- The paths after a record, by those before it.
-pub record IsExplored (p : ScriptPlan) (rec : Record) (old new : List Path) : Type 0 where
-  pub exact : GivesAfter p rec old new
-  pub fits : SegmentFits p new
-  pub few : length new ≤ length old * made_paths p
-  pub faults : (records : List Record) → HasNumber rec.no records → EndAmong records old → EndAmong records new
-
--- The same of an equal plan and equal paths.
+-- What is explored, with an equal plan and equal paths.
 pub explored_of : (q p : ScriptPlan) (rec : Record) (items old new : List Path) → q ≡ p → items ≡ old → IsExplored q rec items new → IsExplored p rec old new
 explored_of q p rec items old new same is h =
     subst (λ (paths : List Path). IsExplored p rec paths new) is (subst (λ (plan : ScriptPlan). IsExplored plan rec items new) same h)
@@ -217,7 +220,7 @@ pub settled_explored : (p : ScriptPlan) (rec : Record) (records : List Record) (
 settled_explored p rec records old new segment h settling stand =
     settled_stand p (records ++ rec ∷ []) new segment (explored_stand p rec records old new h stand) settling
 
-pub first_settled : (p : ScriptPlan) (rec : Record) (path : Path) (new segment : List Path) → IsExplored p rec (path ∷ []) new → IsSettling new segment → IsIdentity p path → StandsFor p (rec ∷ []) segment
+first_settled : (p : ScriptPlan) (rec : Record) (path : Path) (new segment : List Path) → IsExplored p rec (path ∷ []) new → IsSettling new segment → IsIdentity p path → StandsFor p (rec ∷ []) segment
 first_settled p rec path new segment h settling identity =
     settled_explored p rec [] (path ∷ []) new segment h settling (whole_stands p path identity)
 
@@ -241,7 +244,16 @@ settled_few p rec old new segment small h settling =
     within : (a b c d e : ℕ) → d ≡ e → b ≤ c * d → a ≤ b → a ≤ c * e
     within a b c d e same few less = let g : c * d ≡ c * e = ap (λ (n : ℕ). c * n) same in omega arith
 
-pub first_few : (p : ScriptPlan) (rec : Record) (path : Path) (new segment : List Path) → path_bound p ≤ limit.PATHS_MAX → IsExplored p rec (path ∷ []) new → IsSettling new segment → length segment ≤ path_bound p
+first_few : (p : ScriptPlan) (rec : Record) (path : Path) (new segment : List Path) → path_bound p ≤ limit.PATHS_MAX → IsExplored p rec (path ∷ []) new → IsSettling new segment → length segment ≤ path_bound p
 first_few p rec path new segment small h settling =
     let few : length segment ≤ 1 * path_bound p = settled_few p rec (path ∷ []) new segment small h settling in
     omega arith
+
+-- What the paths of one record are settled to is its segment.
+pub first_segment : (p : ScriptPlan) (rec : Record) (path : Path) (new segment : List Path) → path_bound p ≤ limit.PATHS_MAX → IsExplored p rec (path ∷ []) new → IsSettling new segment → IsIdentity p path → IsSegmentOf p rec segment
+first_segment p rec path new segment small h settling identity = record {
+  settled = settling.settled;
+  fits = settling.reduced.fits p h.fits;
+  few = first_few p rec path new segment small h settling;
+  stands = first_settled p rec path new segment h settling identity;
+}

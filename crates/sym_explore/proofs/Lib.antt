@@ -37,3 +37,4 @@ pub mod SureSteps
 pub mod TermForms
 pub mod TermRanges
 pub mod TestsHeld
+pub mod TriedConditions

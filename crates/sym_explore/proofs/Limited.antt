@@ -28,13 +28,13 @@ use Rattle.sym_explore.specs.declared.limiting.Extension.{Extension}
 use Rattle.sym_explore.specs.declared.limiting.Extension.TheVariants.{Fits, Over}
 use Rattle.sym_explore.specs.Counting.{dos_ended, dos_going, made_paths, most_grown, most_paths}
 use Rattle.sym_explore.specs.Ending.{AreMoved}
-use Rattle.sym_explore.specs.Growing.{GivesAfter}
-use Rattle.sym_explore.specs.Limiting.{chosen, is_chosen, IsExtended, IsExtendedBy, IsLonger}
+use Rattle.sym_explore.specs.Growing.{GivesAfter, IsExplored, IsLonger}
+use Rattle.sym_explore.specs.Limiting.{chosen, is_chosen, IsExtended, IsExtendedBy}
 use Rattle.sym_explore.specs.Parting.{AllGoOn, AreFewRun, at_state, those_ended, those_going}
 use Rattle.sym_explore.specs.Stepping.{step_by}
 use Rattle.sym_explore.proofs.CountedPaths.{bound_is_count, updates_go_on}
 use Rattle.sym_explore.proofs.EndedLists.{outcomes_append}
-use Rattle.sym_explore.proofs.Extended.{apart, few_counted, IsExplored, settled_explored, settled_few, settled_gives}
+use Rattle.sym_explore.proofs.Extended.{apart, few_counted, settled_explored, settled_few, settled_gives}
 use Rattle.sym_explore.proofs.RunLists.{map_same}
 
 -- ---- those that have ended, and those that go on

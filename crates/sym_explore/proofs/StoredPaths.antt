@@ -26,10 +26,11 @@ use Rattle.sym_path.specs.Fitting.{PathFits, SegmentFits}
 use Rattle.sym_path.specs.Giving.{given, outcomes}
 use Rattle.sym_path.specs.Standing.{EndsAmong}
 use Rattle.sym_explore.specs.Assigning.{added_numbers}
-use Rattle.sym_explore.specs.Ending.{AreMoved, AreParted, WereRun}
+use Rattle.sym_explore.specs.Ending.{AreMoved, AreParted}
 use Rattle.sym_explore.specs.Faulting.{EndAmong, FaultsCameAt, HasNumber}
 use Rattle.sym_explore.specs.Parting.{AllGoOn, AreRun, those_ended, those_going}
 use Rattle.sym_explore.specs.Placing.{IsPut}
+use Rattle.sym_explore.specs.Running.{WereRun}
 use Rattle.sym_explore.specs.Stepping.{after_do}
 use Rattle.sym_explore.specs.Storing.{IsParted, ReadyStores, StoresAll, after_store, store_do}
 use Rattle.sym_explore.specs.Terms.{ready_of}
@@ -144,9 +145,11 @@ module _ (p : ScriptPlan) (step : Outcome → Outcome) (n ended : ℕ) (old mid 
   pub were_run : AreParted p false step old mid before between → SegmentFits p mid → SegmentFits p between → length mid ≡ length old → length between ≤ length before + length old * ended → ((records : List Record) → HasNumber n records → EndAmong records before → EndAmong records mid × EndAmong records between) → AreMoved mid new between after → AllGoOn new → WereRun p step n 1 ended old new before after
   were_run parted fits others same few faults moves goes = record {
     exact = run_exact p step old mid new before between after parted moves goes;
-    fits = moved_stay (PathFits p) mid new between after moves fits;
-    going = goes;
-    ended_fit = moved_away (PathFits p) mid new between after moves fits others;
+    next = record {
+      fits = moved_stay (PathFits p) mid new between after moves fits;
+      going = goes;
+      ended_fit = moved_away (PathFits p) mid new between after moves fits others;
+    };
     few = record {
       going = omega (arith, stays, same);
       all = omega (arith, moved_count mid new between after moves, same, few, times);
@@ -175,9 +178,11 @@ module _ (p : ScriptPlan) (step : Outcome → Outcome) (n : ℕ) (old mid more n
   pub clamped_run : AreParted p true step old mid [] more → SegmentFits p mid → SegmentFits p more → AllGoOn mid → AllGoOn more → SegmentFits p ended → length mid ≡ length old → length more ≤ length old * 2 → WereRun p step n 3 0 old new ended ended
   clamped_run parted fits more_fit goes more_go others same few = record {
     exact = exact;
-    fits = subst (SegmentFits p) (sym is) (All-append (PathFits p) mid more fits more_fit);
-    going = all_go;
-    ended_fit = others;
+    next = record {
+      fits = subst (SegmentFits p) (sym is) (All-append (PathFits p) mid more fits more_fit);
+      going = all_go;
+      ended_fit = others;
+    };
     few = record {
       going = omega (arith, count, same, few, times 3 1 2 refl);
       all = omega (arith, count, same, few, times 3 1 2 refl);

@@ -51,7 +51,6 @@ use Rattle.sym_explore.proofs.AssignedNowhere.{ended_stays}
 use Rattle.sym_explore.proofs.AssignedParts.{parts_fit_kept, parts_kept}
 use Rattle.sym_explore.proofs.AssignedPaths.{form_goes, same_maps}
 use Rattle.sym_explore.proofs.CountedPaths.{updates_go_on}
-use Rattle.sym_explore.proofs.Extended.{IsExplored}
 use Rattle.sym_explore.proofs.PathNumbers.{map_going}
 use Rattle.sym_explore.proofs.PathRanges.{map_same}
 use Rattle.sym_explore.proofs.RunLists.{after_then, after_update}
@@ -60,6 +59,7 @@ use Rattle.sym_explore.proofs.TermRanges.{known_ranges, ready_ranges}
 use Rattle.sym_explore.specs.Counting.{made_paths, most_grown, most_paths}
 use Rattle.sym_explore.specs.Ending.{IsChanged}
 use Rattle.sym_explore.specs.Faulting.{EndAmong, EndsSo, HasNumber}
+use Rattle.sym_explore.specs.Growing.{IsExplored}
 use Rattle.sym_explore.specs.Knowing.{DoIsKnown}
 use Rattle.sym_explore.specs.Parting.{at_state}
 use Rattle.sym_explore.specs.Placing.{TargetFits}

@@ -68,6 +68,12 @@ AreGoing p paths = All (IsGoing p) paths
 abbrev pub BranchesGo : ScriptPlan → List Branch → Type 0
 BranchesGo p branches = All (λ (b : Branch). IsGoing p b.path) branches
 
+-- A path can be split: it fits the script and goes on, and so does each branch beside it.
+pub record CanSplit (p : ScriptPlan) (path : Path) (branches : List Branch) : Type 0 where
+  pub fits : PathFits p path
+  pub goes_on : GoesOn path.end
+  pub others : BranchesGo p branches
+
 -- How many of the branches have this truth.
 abbrev pub branches_with : Bool → List Branch → ℕ
 branches_with x [] = 0

@@ -1,16 +1,15 @@
 -- Paths that have ended, which move out of a list of paths.
-use Rattle.std.specs.Prelude.{◌≡◌, ◌≤◌, ℕ, Bool, false, List, [], ◌++◌, map, length}
+use Rattle.std.specs.Prelude.{◌≡◌, ◌≤◌, Bool, false, List, [], ◌++◌, map, length}
 use Rattle.std.specs.List.{All}
 use Rattle.std.specs.List.Sorted.{IsPermutation}
-use Rattle.sym_base.specs.declared.values.record.Record.{Record}
 use Rattle.sym_base.specs.declared.values.state.State.{State}
 use Rattle.sym_base.specs.declared.values.state.Outcome.{Outcome}
 use Rattle.sym_check.specs.Plan.ScriptPlans.{ScriptPlan}
 use Rattle.sym_path.specs.declared.path.Path.{Path}
 use Rattle.sym_path.specs.Changing.{GoesOn}
-use Rattle.sym_path.specs.Fitting.{PathFits, SegmentFits}
-use Rattle.sym_explore.specs.Faulting.{EndAmong, EndsSo, HasNumber}
-use Rattle.sym_explore.specs.Parting.{AllGoOn, AreFewRun, AreRun, at_state, those_going}
+use Rattle.sym_path.specs.Fitting.{PathFits}
+use Rattle.sym_explore.specs.Faulting.{EndsSo}
+use Rattle.sym_explore.specs.Parting.{at_state, those_going}
 use Rattle.sym_explore.specs.Stepping.{Becomes}
 
 -- The old paths are the new ones, in some order, and those that were put after the others, which
@@ -37,18 +36,6 @@ abbrev pub AreParted :
     List Path → List Path → List Path → List Path → Type 0
 AreParted p clamps step old new before after = (s : State) →
     length (at_state p old s) ≤ 1 → ArePartedAt p clamps step old new before after s
-
--- A step was run on the old paths at the record with this number: the first list has those that go
--- on, and those that ended were put after the others.
-pub record WereRun (p : ScriptPlan) (step : Outcome → Outcome) (n most_going most_ended : ℕ)
-    (old new before after : List Path) : Type 0 where
-  pub exact : AreRun p step old new before after
-  pub fits : SegmentFits p new
-  pub going : AllGoOn new
-  pub ended_fit : SegmentFits p after
-  pub few : AreFewRun most_going most_ended old new before after
-  pub faults : (records : List Record) → HasNumber n records → EndAmong records before →
-      EndAmong records after
 
 -- A path becomes what the step makes of it, and ends only where it had ended.
 pub record IsChanged (p : ScriptPlan) (step : Outcome → Outcome) (old new : Path) : Type 0 where

@@ -1,11 +1,17 @@
 -- Segments that are taken a record further.
-use Rattle.std.specs.Prelude.{◌≡◌, ◌≤◌, ◌<◌, ℕ, List, length, map}
+use Rattle.std.specs.Prelude.{◌≡◌, ◌≤◌, ◌<◌, ◌*◌, ◌++◌, ◌∷◌, [], ℕ, List, length, map}
 use Rattle.sym_base.specs.declared.values.record.Record.{Record}
 use Rattle.sym_base.specs.declared.values.state.State.{State}
 use Rattle.sym_check.specs.Meaning.Conditions.{test_truth}
+use Rattle.sym_check.specs.Meaning.PathBounds.{path_bound}
 use Rattle.sym_check.specs.Plan.ScriptPlans.{ScriptPlan}
 use Rattle.sym_path.specs.declared.path.Path.{Path}
+use Rattle.sym_path.specs.Fitting.{SegmentFits}
 use Rattle.sym_path.specs.Giving.{outcomes}
+use Rattle.sym_path.specs.Joining.{IsSettled}
+use Rattle.sym_path.specs.Standing.{StandsFor}
+use Rattle.sym_explore.specs.Counting.{made_paths}
+use Rattle.sym_explore.specs.Faulting.{EndAmong, HasNumber}
 use Rattle.sym_explore.specs.Stepping.{step_by}
 use Rattle.sym_explore.specs.declared.extending.Grown.{Grown}
 use Rattle.sym_explore.specs.declared.extending.Grown.TheVariants.{Fits, Over}
@@ -26,3 +32,27 @@ abbrev pub GivesAfter : ScriptPlan → Record → List Path → List Path → Ty
 GivesAfter p rec old new = (s : State) → length (outcomes (test_truth p.tests) old s) ≤ 1 →
     outcomes (test_truth p.tests) new s
     ≡ map (step_by p rec) (outcomes (test_truth p.tests) old s)
+
+-- The paths after a record, by those before it.
+pub record IsExplored (p : ScriptPlan) (rec : Record) (old new : List Path) : Type 0 where
+  pub exact : GivesAfter p rec old new
+  pub fits : SegmentFits p new
+  pub few : length new ≤ length old * made_paths p
+  pub faults : (records : List Record) → HasNumber rec.no records → EndAmong records old →
+      EndAmong records new
+
+-- The segment of one record.
+pub record IsSegmentOf (p : ScriptPlan) (rec : Record) (segment : List Path) : Type 0 where
+  pub settled : IsSettled segment
+  pub fits : SegmentFits p segment
+  pub few : length segment ≤ path_bound p
+  pub stands : StandsFor p (rec ∷ []) segment
+
+-- A segment that was taken through the update of one more record.
+pub record IsLonger (p : ScriptPlan) (rec : Record) (old new : List Path) : Type 0 where
+  pub settled : IsSettled new
+  pub fits : SegmentFits p new
+  pub few : length new ≤ length old * path_bound p
+  pub stands : (records : List Record) → StandsFor p records old →
+      StandsFor p (records ++ rec ∷ []) new
+  pub gives : GivesAfter p rec old new

@@ -18,3 +18,4 @@ pub mod Stepping
 pub mod Storing
 pub mod Sure
 pub mod Terms
+pub mod Trying

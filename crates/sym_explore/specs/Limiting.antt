@@ -1,18 +1,15 @@
 -- Segments that are taken a record further where a limit of paths allows it.
-use Rattle.std.specs.Prelude.{◌≡◌, ◌≤◌, ◌<◌, ◌++◌, ◌∷◌, [], ℕ, ◌*◌, Bool, true, false, not, List, length}
+use Rattle.std.specs.Prelude.{◌≡◌, ◌≤◌, ◌<◌, ◌++◌, ℕ, Bool, true, false, not, List, length}
 use Rattle.std.specs.List.{All, filter}
 use Rattle.sym_base.specs.declared.values.record.Record.{Record}
-use Rattle.sym_check.specs.Meaning.PathBounds.{path_bound}
 use Rattle.sym_check.specs.Plan.ScriptPlans.{ScriptPlan}
 use Rattle.sym_path.specs.declared.path.Path.{Path}
 use Rattle.sym_path.specs.declared.path.PathEnd.{PathEnd}
 use Rattle.sym_path.specs.declared.path.PathEnd.TheVariants.{Next, Ended}
-use Rattle.sym_path.specs.Fitting.{SegmentFits}
 use Rattle.sym_path.specs.Joining.{IsSettled}
 use Rattle.sym_path.specs.Pairs.{has_ended}
 use Rattle.sym_path.specs.Settling.{IsSettling}
-use Rattle.sym_path.specs.Standing.{StandsFor}
-use Rattle.sym_explore.specs.Growing.{GivesAfter}
+use Rattle.sym_explore.specs.Growing.{IsLonger}
 use Rattle.sym_explore.specs.declared.limiting.Extension.{Extension}
 use Rattle.sym_explore.specs.declared.limiting.Turn.{Turn}
 use Rattle.sym_explore.specs.declared.limiting.Extension.TheVariants.{Fits, Over}
@@ -40,16 +37,7 @@ pub record AreInTurn (turn : Turn) (paths : List Path) : Type 0 where
   pub settled : IsSettled paths
   pub by : All (EndsBy turn) paths
 
--- A segment that was taken through the update of one more record.
-pub record IsLonger (p : ScriptPlan) (rec : Record) (old new : List Path) : Type 0 where
-  pub settled : IsSettled new
-  pub fits : SegmentFits p new
-  pub few : length new ≤ length old * path_bound p
-  pub stands : (records : List Record) → StandsFor p records old →
-      StandsFor p (records ++ rec ∷ []) new
-  pub gives : GivesAfter p rec old new
-
--- There is such a segment, and it has more paths than the limit says.
+-- There is a longer segment, and it has more paths than the limit says.
 pub record IsTooLong (p : ScriptPlan) (rec : Record) (old : List Path) (limit : ℕ) : Type 0 where
   pub new : List Path
   pub longer : IsLonger p rec old new

@@ -1,7 +1,6 @@
 //! Statements that change cells alone.
-ghost use Rattle.std.specs.Prelude.{◌≡◌, ℕ, List, OnOk, map, option_copied};
+ghost use Rattle.std.specs.Prelude.{◌≡◌, ℕ, OnOk, map, option_copied};
 ghost use Rattle.std.specs.List.{AllZip};
-ghost use Rattle.sym_base.specs.declared.values.record.Record.{Record as OneRecord};
 ghost use Rattle.sym_base.specs.declared.values.state.Cell.TheVariants as one;
 ghost use Rattle.sym_base.specs.States.{label_at, parts_at, with_cell, with_word};
 ghost use Rattle.sym_check.specs.Plan.CellKinds.{IsWordsCell};
@@ -15,11 +14,11 @@ ghost use Rattle.sym_path.specs.Fitting.{PathFits, SegmentFits};
 ghost use Rattle.sym_path.specs.declared.path.Path.{Path as OnePath};
 ghost use Rattle.sym_plain.specs.Running.{IsAssignment};
 ghost use Rattle.sym_explore.specs.Assigning.{EndsNone, HasLabel, parts_form, with_parts};
-ghost use Rattle.sym_explore.specs.Counting.{do_going, do_ended};
-ghost use Rattle.sym_explore.specs.Ending.{IsChanged, WereRun};
-ghost use Rattle.sym_explore.specs.Faulting.{EndAmong, EndsSo, HasNumber};
+ghost use Rattle.sym_explore.specs.Ending.{IsChanged};
+ghost use Rattle.sym_explore.specs.Faulting.{EndsSo};
 ghost use Rattle.sym_explore.specs.Knowing.{DoIsKnown};
-ghost use Rattle.sym_explore.specs.Parting.{AllGoOn, AreFewRun, AreRun};
+ghost use Rattle.sym_explore.specs.Parting.{AllGoOn};
+ghost use Rattle.sym_explore.specs.Running.{CanRun, DoWasRun};
 ghost use Rattle.sym_explore.specs.Stepping.{Becomes, after_do};
 ghost use Rattle.sym_explore.specs.Sure.{IsSureEnd};
 
@@ -213,7 +212,7 @@ fn keep_all(
 }
 
 /// Gives the parts of a hold cell new values on all of the paths. They are evaluated once, over the
-/// memory of `scratch`. Arithmetic that fails ends the paths.
+/// memory of `spare`. Arithmetic that fails ends the paths.
 fn keep_on(
     alloc: Global,
     _plan: &Plan,
@@ -221,36 +220,34 @@ fn keep_on(
     no: u64,
     cell: u16,
     values: &FixedList,
-    scratch: &mut Values,
+    spare: &mut Values,
     paths: &mut Vec<Path>,
     ended: &mut Vec<Path>,
 ) -> Result<(), NoMemory>
     requires known { IsWellFormed (script_plan _plan.now) }
     requires well { DoIsKnown (script_plan _plan.now) (known_values known.now)
         (Keep cell (map fixed_plan values.now)) }
-    requires fits { SegmentFits (script_plan _plan.now) paths.old.items }
-    requires going { AllGoOn paths.old.items }
-    requires ended_fit { SegmentFits (script_plan _plan.now) ended.old.items }
-    ensures { let step = after_do (script_plan _plan.now) (known_values known.now) no
-        (Keep cell (map fixed_plan values.now)) in
-        OnOk result (WereRun (script_plan _plan.now) step no 1 0
+    requires paths { CanRun (script_plan _plan.now) paths.old.items ended.old.items }
+    ensures { let d = Keep cell (map fixed_plan values.now) in
+        OnOk result (DoWasRun (script_plan _plan.now) (known_values known.now) no d
         paths.old.items paths.new.items ended.old.items ended.new.items) }
 {
-    match set_values(alloc, known, values, scratch) {
-        Ok(()) => keep_all(alloc, cell, scratch, paths),
+    match set_values(alloc, known, values, spare) {
+        Ok(()) => keep_all(alloc, cell, spare, paths),
         Err(Stop::Fault(kind)) => fail_all(Fault { kind, no }, paths, ended),
         Err(Stop::NoMemory) => Err(NoMemory),
     }
 }
 
-/// Runs an assignment on all of the paths.
-fn assign_each(
+/// An assignment, run on all of the paths: paths that go on stay in `paths`, those that end go into
+/// `ended`. What names no cell is evaluated once.
+pub(crate) fn assign_all(
     alloc: Global,
     plan: &Plan,
     known: &Known,
     no: u64,
     statement: &Do,
-    scratch: &mut Values,
+    spare: &mut Values,
     paths: &mut Vec<Path>,
     ended: &mut Vec<Path>,
 ) -> Result<(), NoMemory>
@@ -258,13 +255,9 @@ fn assign_each(
     requires assignment { IsAssignment (do_plan statement.now) }
     requires well { DoIsKnown (script_plan plan.now) (known_values known.now)
         (do_plan statement.now) }
-    requires fits { SegmentFits (script_plan plan.now) paths.old.items }
-    requires going { AllGoOn paths.old.items }
-    requires ended_fit { SegmentFits (script_plan plan.now) ended.old.items }
+    requires paths { CanRun (script_plan plan.now) paths.old.items ended.old.items }
     ensures { let d = do_plan statement.now in
-        let step = after_do (script_plan plan.now) (known_values known.now) no d in
-        let cells = (script_plan plan.now).cells in
-        OnOk result (WereRun (script_plan plan.now) step no (do_going cells d) (do_ended cells d)
+        OnOk result (DoWasRun (script_plan plan.now) (known_values known.now) no d
         paths.old.items paths.new.items ended.old.items ended.new.items) }
 {
     match statement {
@@ -277,44 +270,8 @@ fn assign_each(
             store_all(alloc, plan, known, no, place, term, paths, ended)
         }
         Do::Keep(cell, values) => {
-            keep_on(alloc, plan, known, no, *cell, values, scratch, paths, ended)
+            keep_on(alloc, plan, known, no, *cell, values, spare, paths, ended)
         }
         _ => change_each(alloc, plan, known, statement, paths),
     }
-}
-
-/// An assignment, run on all of the paths: paths that go on stay in `paths`, those that end go into
-/// `ended`. What names no cell is evaluated once.
-pub(crate) fn assign_all(
-    alloc: Global,
-    plan: &Plan,
-    known: &Known,
-    no: u64,
-    statement: &Do,
-    scratch: &mut Values,
-    paths: &mut Vec<Path>,
-    ended: &mut Vec<Path>,
-) -> Result<(), NoMemory>
-    requires known { IsWellFormed (script_plan plan.now) }
-    requires assignment { IsAssignment (do_plan statement.now) }
-    requires well { DoIsKnown (script_plan plan.now) (known_values known.now)
-        (do_plan statement.now) }
-    requires fits { SegmentFits (script_plan plan.now) paths.old.items }
-    requires going { AllGoOn paths.old.items }
-    requires ended_fit { SegmentFits (script_plan plan.now) ended.old.items }
-    ensures exact { OnOk result (AreRun (script_plan plan.now)
-        (after_do (script_plan plan.now) (known_values known.now) no (do_plan statement.now))
-        paths.old.items paths.new.items ended.old.items ended.new.items) }
-    ensures fits { OnOk result (SegmentFits (script_plan plan.now) paths.new.items) }
-    ensures going { OnOk result (AllGoOn paths.new.items) }
-    ensures ended_fit { OnOk result (SegmentFits (script_plan plan.now) ended.new.items) }
-    ensures few { let d = do_plan statement.now in
-        let cells = (script_plan plan.now).cells in
-        OnOk result (AreFewRun (do_going cells d) (do_ended cells d)
-        paths.old.items paths.new.items ended.old.items ended.new.items) }
-    ensures faults { (records : List OneRecord) → HasNumber no records →
-        EndAmong records ended.old.items → OnOk result (EndAmong records ended.new.items) }
-{
-    assign_each(alloc, plan, known, no, statement, scratch, paths, ended)?;
-    Ok(())
 }

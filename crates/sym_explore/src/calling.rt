@@ -2,9 +2,8 @@
 ghost use Rattle.std.specs.Prelude.{◌≡◌, ℕ, IfOk, OnOk};
 ghost use Rattle.sym_check.specs.Plan.ScriptPlans.{script_plan};
 ghost use Rattle.sym_check.specs.Plan.WellFormed.{IsWellFormed};
-ghost use Rattle.sym_path.specs.Changing.{GoesOn, form_of};
-ghost use Rattle.sym_path.specs.Fitting.{PathFits};
-ghost use Rattle.sym_explore.specs.Branches.{answered, Splits, BranchesGo, AreFewBranches};
+ghost use Rattle.sym_path.specs.Changing.{form_of};
+ghost use Rattle.sym_explore.specs.Branches.{answered, AreFewBranches, CanSplit, Splits};
 ghost use Rattle.sym_explore.specs.Calling.{IsTested, TestSuits, test_holds, WasTested, known_outcome};
 
 use crate::branch::Branch;
@@ -49,14 +48,10 @@ fn split_test(
     out: &mut Vec<Branch>,
 ) -> Result<bool, NoMemory>
     requires suits { TestSuits (script_plan plan.now) cell test args.now }
-    requires fits { PathFits (script_plan plan.now) path.old }
-    requires goes_on { GoesOn path.old.end }
-    requires others { BranchesGo (script_plan plan.now) out.old.items }
+    requires split { CanSplit (script_plan plan.now) path.old out.old.items }
     ensures exact { IfOk result (WasTested (script_plan plan.now) cell test args.now
         path.old out.old.items path.new out.new.items) }
-    ensures fits { OnOk result (PathFits (script_plan plan.now) path.new) }
-    ensures next { OnOk result (GoesOn path.new.end) }
-    ensures others { OnOk result (BranchesGo (script_plan plan.now) out.new.items) }
+    ensures next { OnOk result (CanSplit (script_plan plan.now) path.new out.new.items) }
     ensures few { IfOk result (AreFewBranches (λ x. 1) out.old.items out.new.items) }
 {
     if let Some(outcome) = known_outcome(path, cell, test, args) {
@@ -112,16 +107,12 @@ pub(crate) fn call(
 ) -> Result<bool, NoMemory>
     requires known { IsWellFormed (script_plan plan.now) }
     requires suits { TestSuits (script_plan plan.now) cell test args.now }
-    requires fits { PathFits (script_plan plan.now) path.old }
-    requires goes_on { GoesOn path.old.end }
-    requires others { BranchesGo (script_plan plan.now) out.old.items }
+    requires split { CanSplit (script_plan plan.now) path.old out.old.items }
     ensures exact { (n : ℕ) →
         let meaning = answered n (test_holds (script_plan plan.now) cell test args.now) in
         IfOk result (Splits (script_plan plan.now) meaning
         path.old out.old.items path.new out.new.items) }
-    ensures fits { OnOk result (PathFits (script_plan plan.now) path.new) }
-    ensures next { OnOk result (GoesOn path.new.end) }
-    ensures others { OnOk result (BranchesGo (script_plan plan.now) out.new.items) }
+    ensures next { OnOk result (CanSplit (script_plan plan.now) path.new out.new.items) }
     ensures few { IfOk result (AreFewBranches (λ x. 1) out.old.items out.new.items) }
 {
     match test_on(plan, test, cell, args, path) {

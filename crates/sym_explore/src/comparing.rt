@@ -5,10 +5,9 @@ ghost use Rattle.sym_check.specs.Plan.ScriptPlans.{script_plan};
 ghost use Rattle.sym_check.specs.Plan.WellFormed.{IsWellFormed};
 ghost use Rattle.sym_int.specs.Cuts.{IsCut, count_with, most_with};
 ghost use Rattle.sym_int.specs.Lines.{wide_cell};
-ghost use Rattle.sym_path.specs.Changing.{GoesOn};
 ghost use Rattle.sym_path.specs.Fitting.{PathFits};
 ghost use Rattle.sym_path.specs.Narrowing.{NarrowsNumbers};
-ghost use Rattle.sym_explore.specs.Branches.{answered, Splits, BranchesGo, AreFewBranches};
+ghost use Rattle.sym_explore.specs.Branches.{answered, AreFewBranches, CanSplit, Splits};
 ghost use Rattle.sym_explore.specs.Comparing.{ArePiecesOf, CutsPath, IsPiecePushed, WasCompared, number_compares};
 ghost use Rattle.sym_explore.specs.Terms.{HasSpan, ReadyFits};
 
@@ -62,15 +61,11 @@ fn cut_path(
     out: &mut Vec<Branch>,
 ) -> Result<bool, NoMemory>
     requires known { IsWellFormed (script_plan plan.now) }
-    requires fits { PathFits (script_plan plan.now) path.old }
-    requires goes_on { GoesOn path.old.end }
-    requires others { BranchesGo (script_plan plan.now) out.old.items }
+    requires split { CanSplit (script_plan plan.now) path.old out.old.items }
     requires pieces { ArePiecesOf (slice_get path.old.when cell) pieces.now }
     ensures exact { IfOk result (CutsPath (script_plan plan.now) cell pieces.now
         path.old out.old.items path.new out.new.items) }
-    ensures fits { OnOk result (PathFits (script_plan plan.now) path.new) }
-    ensures next { OnOk result (GoesOn path.new.end) }
-    ensures others { OnOk result (BranchesGo (script_plan plan.now) out.new.items) }
+    ensures next { OnOk result (CanSplit (script_plan plan.now) path.new out.new.items) }
     ensures few { IfOk result (AreFewBranches (λ x. count_with x pieces.now)
         out.old.items out.new.items) }
 {
@@ -109,14 +104,10 @@ fn compare_wide(
     requires known { IsWellFormed (script_plan plan.now) }
     requires span { HasSpan path.old (wide_cell wide.now) }
     requires number { IsNumber bound.now.number }
-    requires fits { PathFits (script_plan plan.now) path.old }
-    requires goes_on { GoesOn path.old.end }
-    requires others { BranchesGo (script_plan plan.now) out.old.items }
+    requires split { CanSplit (script_plan plan.now) path.old out.old.items }
     ensures exact { IfOk result (WasCompared (script_plan plan.now) wide.now bound.now
         path.old out.old.items path.new out.new.items) }
-    ensures fits { OnOk result (PathFits (script_plan plan.now) path.new) }
-    ensures next { OnOk result (GoesOn path.new.end) }
-    ensures others { OnOk result (BranchesGo (script_plan plan.now) out.new.items) }
+    ensures next { OnOk result (CanSplit (script_plan plan.now) path.new out.new.items) }
     ensures few { IfOk result (AreFewBranches (most_with bound.now.compare)
         out.old.items out.new.items) }
 {
@@ -144,15 +135,11 @@ pub(crate) fn compare_ready(
     requires known { IsWellFormed (script_plan plan.now) }
     requires ready { ReadyFits (script_plan plan.now) ready.now }
     requires number { IsNumber bound.now.number }
-    requires fits { PathFits (script_plan plan.now) path.old }
-    requires goes_on { GoesOn path.old.end }
-    requires others { BranchesGo (script_plan plan.now) out.old.items }
+    requires split { CanSplit (script_plan plan.now) path.old out.old.items }
     ensures exact { (n : ℕ) → let meaning = answered n (number_compares ready.now bound.now) in
         IfOk result (Splits (script_plan plan.now) meaning
         path.old out.old.items path.new out.new.items) }
-    ensures fits { OnOk result (PathFits (script_plan plan.now) path.new) }
-    ensures next { OnOk result (GoesOn path.new.end) }
-    ensures others { OnOk result (BranchesGo (script_plan plan.now) out.new.items) }
+    ensures next { OnOk result (CanSplit (script_plan plan.now) path.new out.new.items) }
     ensures few { IfOk result (AreFewBranches (most_with bound.now.compare)
         out.old.items out.new.items) }
 {

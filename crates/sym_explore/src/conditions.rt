@@ -1,6 +1,5 @@
 //! Conditions on paths: the paths are parted by whether the condition is true, false, or fails.
 ghost use Rattle.std.specs.Prelude.{◌≡◌, [], List, IfOk, OnOk, IsTrue, map};
-ghost use Rattle.sym_base.specs.declared.values.record.Record.{Record as OneRecord};
 ghost use Rattle.sym_base.specs.declared.values.value.Value.{Value as OneValue};
 ghost use Rattle.sym_check.specs.Plan.CondPlans.{cond_plan, Compared, Test};
 ghost use Rattle.sym_check.specs.Meaning.Conditions.{is_fixed, same_word};
@@ -10,13 +9,11 @@ ghost use Rattle.sym_check.specs.Checking.KnownValues.{known_values};
 ghost use Rattle.sym_check.specs.Plan.LinePlans.{term_plan};
 ghost use Rattle.sym_check.specs.Plan.ScriptPlans.{script_plan};
 ghost use Rattle.sym_check.specs.Plan.WellFormed.{IsWellFormed};
-ghost use Rattle.sym_path.specs.Fitting.{SegmentFits};
 ghost use Rattle.sym_explore.specs.Evaluating.{IsEvaluated, IsUnconnected};
-ghost use Rattle.sym_explore.specs.Branches.{tried};
-ghost use Rattle.sym_explore.specs.Counting.{branches_of};
-ghost use Rattle.sym_explore.specs.Faulting.{EndAmong, HasNumber};
 ghost use Rattle.sym_explore.specs.Knowing.{CondIsKnown};
-ghost use Rattle.sym_explore.specs.Parting.{AllGoOn, AreFewParts, AreOfOneTruth, AreParts};
+ghost use Rattle.sym_explore.specs.Parting.{AreOfOneTruth};
+ghost use Rattle.sym_explore.specs.Running.{CanRun};
+ghost use Rattle.sym_explore.specs.Trying.{CondWasTried};
 
 use crate::branch::Branch;
 use crate::comparing::Bound;
@@ -131,30 +128,16 @@ pub(crate) fn part(
     requires known { IsWellFormed (script_plan plan.now) }
     requires cond { CondIsKnown (script_plan plan.now) (known_values known.now)
         (cond_plan condition.now) }
-    requires fits { SegmentFits (script_plan plan.now) paths.old.items }
-    requires going { AllGoOn paths.old.items }
-    requires falses_fit { SegmentFits (script_plan plan.now) falses.old.items }
-    requires falses_going { AllGoOn falses.old.items }
-    requires ended_fit { SegmentFits (script_plan plan.now) ended.old.items }
-    ensures exact { let c = cond_plan condition.now in
-        let meaning = tried (script_plan plan.now) (known_values known.now) no c in
-        OnOk result (AreParts (script_plan plan.now) meaning
-        paths.old.items paths.new.items falses.old.items falses.new.items
-        ended.old.items ended.new.items) }
-    ensures fits { OnOk result (SegmentFits (script_plan plan.now) paths.new.items) }
-    ensures going { OnOk result (AllGoOn paths.new.items) }
-    ensures falses_fit { OnOk result (SegmentFits (script_plan plan.now) falses.new.items) }
-    ensures falses_going { OnOk result (AllGoOn falses.new.items) }
-    ensures ended_fit { OnOk result (SegmentFits (script_plan plan.now) ended.new.items) }
-    ensures few { OnOk result (AreFewParts (branches_of (cond_plan condition.now))
+    requires paths { CanRun (script_plan plan.now) paths.old.items ended.old.items }
+    requires falses { CanRun (script_plan plan.now) falses.old.items ended.old.items }
+    ensures tried { let c = cond_plan condition.now in
+        OnOk result (CondWasTried (script_plan plan.now) (known_values known.now) no c
         paths.old.items paths.new.items falses.old.items falses.new.items
         ended.old.items ended.new.items) }
     ensures fixed { IsTrue (is_fixed (cond_plan condition.now)) → OnOk result (AreOfOneTruth
         paths.old.items paths.new.items falses.old.items falses.new.items
         ended.old.items ended.new.items) }
     ensures none { paths.old.items ≡ [] → OnOk result (falses.new.items ≡ falses.old.items) }
-    ensures faults { (records : List OneRecord) → HasNumber no records →
-        EndAmong records ended.old.items → OnOk result (EndAmong records ended.new.items) }
 {
     if paths.is_empty() {
         return Ok(());

@@ -1,17 +1,12 @@
 //! Segments of one record, and segments that are taken a record further.
-ghost use Rattle.std.specs.Prelude.{◌≡◌, ◌≤◌, ◌*◌, ◌++◌, ◌∷◌, [], List, IfOk, length};
-ghost use Rattle.sym_base.specs.declared.values.record.Record.{Record as OneRecord};
+ghost use Rattle.std.specs.Prelude.{◌≡◌, ◌≤◌, IfOk, length};
 ghost use Rattle.sym_check.specs.Checking.CheckedScripts.{checked_plan};
-ghost use Rattle.sym_check.specs.Meaning.PathBounds.{path_bound};
 ghost use Rattle.sym_check.specs.Plan.ScriptPlans.{script_plan};
 ghost use Rattle.sym_check.specs.Meaning.Validity.{IsRecord};
 ghost use Rattle.sym_check.specs.Plan.WellFormed.{IsWellFormed};
 ghost use Rattle.sym_path.specs.Fitting.{SegmentFits};
-ghost use Rattle.sym_path.specs.Joining.{IsSettled};
-ghost use Rattle.sym_path.specs.Standing.{StandsFor};
 ghost use Rattle.sym_explore.specs.Counting.{made_paths, most_grown};
-ghost use Rattle.sym_explore.specs.Faulting.{EndAmong, HasNumber};
-ghost use Rattle.sym_explore.specs.Growing.{GivesAfter, grown_paths, IsToldBy};
+ghost use Rattle.sym_explore.specs.Growing.{IsExplored, IsLonger, IsSegmentOf, IsToldBy, grown_paths};
 
 use crate::ending::take_going;
 use crate::moving::move_all;
@@ -51,37 +46,32 @@ pub(crate) fn explore_going(
     alloc: Global,
     plan: &Plan,
     rec: &Record,
-    buffers: &mut Scratch,
+    scratch: &mut Scratch,
     paths: Vec<Path>,
 ) -> Result<Vec<Path>, NoMemory>
     requires known { IsWellFormed (script_plan plan.now) }
     requires rec { IsRecord (script_plan plan.now) rec.now }
     requires fits { SegmentFits (script_plan plan.now) paths.items }
-    ensures exact { IfOk result (λ new.
-        GivesAfter (script_plan plan.now) rec.now paths.items new.items) }
-    ensures fits { IfOk result (λ new. SegmentFits (script_plan plan.now) new.items) }
-    ensures few { let most = made_paths (script_plan plan.now) in
-        IfOk result (λ new. length new.items ≤ length paths.items * most) }
+    ensures explored { IfOk result (λ new.
+        IsExplored (script_plan plan.now) rec.now paths.items new.items) }
     ensures each_few { let most = made_paths (script_plan plan.now) in
         IfOk result (λ new. length new.items ≤ most_grown most paths.items) }
-    ensures faults { (records : List OneRecord) → HasNumber rec.now.no records →
-        EndAmong records paths.items → IfOk result (λ new. EndAmong records new.items) }
 {
     let mut ended = paths;
-    let mut going = buffers.take_going(alloc);
+    let mut going = scratch.take_going(alloc);
     take_going(&mut ended, &mut going)?;
-    buffers.locals.truncate(0);
+    scratch.locals.truncate(0);
     run_block(
         alloc,
         plan,
         rec,
         &plan.update,
-        buffers,
+        scratch,
         &mut going,
         &mut ended,
     )?;
     move_all(&mut going, &mut ended)?;
-    buffers.keep_going(going);
+    scratch.keep_going(going);
     Ok(ended)
 }
 
@@ -91,28 +81,23 @@ pub(crate) fn explore_each(
     alloc: Global,
     plan: &Plan,
     rec: &Record,
-    buffers: &mut Scratch,
+    scratch: &mut Scratch,
     paths: Vec<Path>,
 ) -> Result<Vec<Path>, NoMemory>
     requires known { IsWellFormed (script_plan plan.now) }
     requires rec { IsRecord (script_plan plan.now) rec.now }
     requires fits { SegmentFits (script_plan plan.now) paths.items }
-    ensures exact { IfOk result (λ new.
-        GivesAfter (script_plan plan.now) rec.now paths.items new.items) }
-    ensures fits { IfOk result (λ new. SegmentFits (script_plan plan.now) new.items) }
-    ensures few { let most = made_paths (script_plan plan.now) in
-        IfOk result (λ new. length new.items ≤ length paths.items * most) }
+    ensures explored { IfOk result (λ new.
+        IsExplored (script_plan plan.now) rec.now paths.items new.items) }
     ensures each_few { let most = made_paths (script_plan plan.now) in
         IfOk result (λ new. length new.items ≤ most_grown most paths.items) }
-    ensures faults { (records : List OneRecord) → HasNumber rec.now.no records →
-        EndAmong records paths.items → IfOk result (λ new. EndAmong records new.items) }
 {
     if all_end_sure(&paths) {
         let mut paths = paths;
-        step_each(alloc, plan, rec, buffers, &mut paths)?;
+        step_each(alloc, plan, rec, scratch, &mut paths)?;
         return Ok(paths);
     }
-    explore_going(alloc, plan, rec, buffers, paths)
+    explore_going(alloc, plan, rec, scratch, paths)
 }
 
 /// Whether a segment is within the limit.
@@ -132,14 +117,10 @@ fn told(segment: Segment, limit: u32) -> Grown
 /// for the record.
 pub fn fresh(alloc: Global, checked: &Checked, rec: &Record) -> Result<Segment, NoMemory>
     requires { IsRecord (checked_plan checked.now) rec.now }
-    ensures settled { IfOk result IsSettled }
-    ensures fits { IfOk result (SegmentFits (checked_plan checked.now)) }
-    ensures few { let most = path_bound (checked_plan checked.now) in
-        IfOk result (λ segment. length segment ≤ most) }
-    ensures stands { IfOk result (StandsFor (checked_plan checked.now) (rec.now ∷ [])) }
+    ensures { IfOk result (IsSegmentOf (checked_plan checked.now) rec.now) }
 {
-    let mut buffers = Scratch::new(alloc);
-    fresh_with(alloc, checked, rec, &mut buffers)
+    let mut scratch = Scratch::new(alloc);
+    fresh_with(alloc, checked, rec, &mut scratch)
 }
 
 /// `fresh` with memory that is used again, whatever is in it.
@@ -147,19 +128,15 @@ pub fn fresh_with(
     alloc: Global,
     checked: &Checked,
     rec: &Record,
-    buffers: &mut Scratch,
+    scratch: &mut Scratch,
 ) -> Result<Segment, NoMemory>
     requires { IsRecord (checked_plan checked.now) rec.now }
-    ensures settled { IfOk result IsSettled }
-    ensures fits { IfOk result (SegmentFits (checked_plan checked.now)) }
-    ensures few { let most = path_bound (checked_plan checked.now) in
-        IfOk result (λ segment. length segment ≤ most) }
-    ensures stands { IfOk result (StandsFor (checked_plan checked.now) (rec.now ∷ [])) }
+    ensures { IfOk result (IsSegmentOf (checked_plan checked.now) rec.now) }
 {
     let whole = Path::all(alloc, checked)?;
     let mut paths = Vec::with_capacity(alloc, 1)?;
     paths.push(whole)?;
-    let explored = explore_each(alloc, checked.plan(), rec, buffers, paths)?;
+    let explored = explore_each(alloc, checked.plan(), rec, scratch, paths)?;
     settle(alloc, explored)
 }
 
@@ -177,16 +154,8 @@ pub fn extend(
 ) -> Result<Grown, NoMemory>
     requires fits { SegmentFits (checked_plan checked.now) segment.now }
     requires rec { IsRecord (checked_plan checked.now) rec.now }
-    ensures settled { IfOk result (λ grown. IsSettled (grown_paths grown)) }
-    ensures fits { IfOk result (λ grown.
-        SegmentFits (checked_plan checked.now) (grown_paths grown)) }
-    ensures few { let most = path_bound (checked_plan checked.now) in
-        IfOk result (λ grown. length (grown_paths grown) ≤ length segment.now * most) }
-    ensures stands { IfOk result (λ grown. (records : List OneRecord) →
-        StandsFor (checked_plan checked.now) records segment.now →
-        StandsFor (checked_plan checked.now) (records ++ rec.now ∷ []) (grown_paths grown)) }
-    ensures gives { IfOk result (λ grown.
-        GivesAfter (checked_plan checked.now) rec.now segment.now (grown_paths grown)) }
+    ensures longer { IfOk result (λ grown.
+        IsLonger (checked_plan checked.now) rec.now segment.now (grown_paths grown)) }
     ensures limit { IfOk result (IsToldBy limit) }
 {
     grow(alloc, checked, segment.copy(alloc)?, rec, limit)
@@ -203,20 +172,12 @@ pub fn grow(
 ) -> Result<Grown, NoMemory>
     requires fits { SegmentFits (checked_plan checked.now) segment }
     requires rec { IsRecord (checked_plan checked.now) rec.now }
-    ensures settled { IfOk result (λ grown. IsSettled (grown_paths grown)) }
-    ensures fits { IfOk result (λ grown.
-        SegmentFits (checked_plan checked.now) (grown_paths grown)) }
-    ensures few { let most = path_bound (checked_plan checked.now) in
-        IfOk result (λ grown. length (grown_paths grown) ≤ length segment * most) }
-    ensures stands { IfOk result (λ grown. (records : List OneRecord) →
-        StandsFor (checked_plan checked.now) records segment →
-        StandsFor (checked_plan checked.now) (records ++ rec.now ∷ []) (grown_paths grown)) }
-    ensures gives { IfOk result (λ grown.
-        GivesAfter (checked_plan checked.now) rec.now segment (grown_paths grown)) }
+    ensures longer { IfOk result (λ grown.
+        IsLonger (checked_plan checked.now) rec.now segment (grown_paths grown)) }
     ensures limit { IfOk result (IsToldBy limit) }
 {
-    let mut buffers = Scratch::new(alloc);
-    grow_with(alloc, checked, segment, rec, limit, &mut buffers)
+    let mut scratch = Scratch::new(alloc);
+    grow_with(alloc, checked, segment, rec, limit, &mut scratch)
 }
 
 /// `grow` with memory that is used again, whatever is in it.
@@ -226,23 +187,15 @@ pub fn grow_with(
     segment: Segment,
     rec: &Record,
     limit: u32,
-    buffers: &mut Scratch,
+    scratch: &mut Scratch,
 ) -> Result<Grown, NoMemory>
     requires fits { SegmentFits (checked_plan checked.now) segment }
     requires rec { IsRecord (checked_plan checked.now) rec.now }
-    ensures settled { IfOk result (λ grown. IsSettled (grown_paths grown)) }
-    ensures fits { IfOk result (λ grown.
-        SegmentFits (checked_plan checked.now) (grown_paths grown)) }
-    ensures few { let most = path_bound (checked_plan checked.now) in
-        IfOk result (λ grown. length (grown_paths grown) ≤ length segment * most) }
-    ensures stands { IfOk result (λ grown. (records : List OneRecord) →
-        StandsFor (checked_plan checked.now) records segment →
-        StandsFor (checked_plan checked.now) (records ++ rec.now ∷ []) (grown_paths grown)) }
-    ensures gives { IfOk result (λ grown.
-        GivesAfter (checked_plan checked.now) rec.now segment (grown_paths grown)) }
+    ensures longer { IfOk result (λ grown.
+        IsLonger (checked_plan checked.now) rec.now segment (grown_paths grown)) }
     ensures limit { IfOk result (IsToldBy limit) }
 {
-    let explored = explore_each(alloc, checked.plan(), rec, buffers, segment.into_vec())?;
+    let explored = explore_each(alloc, checked.plan(), rec, scratch, segment.into_vec())?;
     let settled = settle(alloc, explored)?;
     Ok(told(settled, limit))
 }

@@ -2,9 +2,7 @@
 ghost use Rattle.std.specs.Prelude.{◌≡◌, ℕ, IfOk, OnOk};
 ghost use Rattle.sym_check.specs.Plan.CellKinds.{IsEnumCell};
 ghost use Rattle.sym_check.specs.Plan.ScriptPlans.{script_plan};
-ghost use Rattle.sym_path.specs.Changing.{GoesOn};
-ghost use Rattle.sym_path.specs.Fitting.{PathFits};
-ghost use Rattle.sym_explore.specs.Branches.{answered, Splits, BranchesGo, AreFewBranches};
+ghost use Rattle.sym_explore.specs.Branches.{answered, AreFewBranches, CanSplit, Splits};
 ghost use Rattle.sym_explore.specs.Labels.{cell_has, label_form, set_of, WasSplit};
 
 use crate::branch::Branch;
@@ -44,14 +42,10 @@ fn split_labels(
     out: &mut Vec<Branch>,
 ) -> Result<bool, NoMemory>
     requires enum_cell { (of : ℕ) × IsEnumCell (script_plan plan.now).cells cell of }
-    requires goes_on { GoesOn path.old.end }
-    requires fits { PathFits (script_plan plan.now) path.old }
-    requires others { BranchesGo (script_plan plan.now) out.old.items }
+    requires split { CanSplit (script_plan plan.now) path.old out.old.items }
     ensures exact { IfOk result (WasSplit (script_plan plan.now) cell label
         path.old out.old.items path.new out.new.items) }
-    ensures fits { OnOk result (PathFits (script_plan plan.now) path.new) }
-    ensures next { OnOk result (GoesOn path.new.end) }
-    ensures others { OnOk result (BranchesGo (script_plan plan.now) out.new.items) }
+    ensures next { OnOk result (CanSplit (script_plan plan.now) path.new out.new.items) }
     ensures few { IfOk result (AreFewBranches (λ x. 1) out.old.items out.new.items) }
 {
     let Some(set) = set_of(path, cell) else {
@@ -85,15 +79,11 @@ pub(crate) fn cell_is(
     out: &mut Vec<Branch>,
 ) -> Result<bool, NoMemory>
     requires enum_cell { (of : ℕ) × IsEnumCell (script_plan plan.now).cells cell of }
-    requires goes_on { GoesOn path.old.end }
-    requires fits { PathFits (script_plan plan.now) path.old }
-    requires others { BranchesGo (script_plan plan.now) out.old.items }
+    requires split { CanSplit (script_plan plan.now) path.old out.old.items }
     ensures exact { (n : ℕ) → let meaning = answered n (cell_has cell label) in
         IfOk result (Splits (script_plan plan.now) meaning
         path.old out.old.items path.new out.new.items) }
-    ensures fits { OnOk result (PathFits (script_plan plan.now) path.new) }
-    ensures next { OnOk result (GoesOn path.new.end) }
-    ensures others { OnOk result (BranchesGo (script_plan plan.now) out.new.items) }
+    ensures next { OnOk result (CanSplit (script_plan plan.now) path.new out.new.items) }
     ensures few { IfOk result (AreFewBranches (λ x. 1) out.old.items out.new.items) }
 {
     match label_form(path, cell) {

@@ -7,7 +7,8 @@ ghost use Rattle.sym_path.specs.declared.path.Path.{Path as OnePath};
 ghost use Rattle.sym_path.specs.Fitting.{SegmentFits};
 ghost use Rattle.sym_path.specs.Joining.{IsSettled};
 ghost use Rattle.sym_explore.specs.Counting.{most_grown, most_paths};
-ghost use Rattle.sym_explore.specs.Limiting.{AreInTurn, IsExtended, IsExtendedBy, IsLonger, chosen, is_chosen};
+ghost use Rattle.sym_explore.specs.Growing.{IsLonger};
+ghost use Rattle.sym_explore.specs.Limiting.{AreInTurn, IsExtended, IsExtendedBy, chosen, is_chosen};
 ghost use Rattle.sym_explore.specs.Sure.{IsSureEnd};
 
 use crate::extending::explore_going;
@@ -212,7 +213,7 @@ fn extend_copied(
     segment: Segment,
     rec: &Record,
     limit: u32,
-    buffers: &mut Scratch,
+    scratch: &mut Scratch,
 ) -> Result<Extension, NoMemory>
     requires fits { SegmentFits (checked_plan checked.now) segment }
     requires rec { IsRecord (checked_plan checked.now) rec.now }
@@ -220,7 +221,7 @@ fn extend_copied(
 {
     let plan = checked.plan();
     let going = copies_of(alloc, segment.paths(), false)?;
-    let grown = explore_going(alloc, plan, rec, buffers, going)?;
+    let grown = explore_going(alloc, plan, rec, scratch, going)?;
     extend_by(alloc, segment, grown, limit)
 }
 
@@ -231,7 +232,7 @@ fn extend_sure(
     checked: &Checked,
     segment: Segment,
     rec: &Record,
-    buffers: &mut Scratch,
+    scratch: &mut Scratch,
 ) -> Result<Segment, NoMemory>
     requires fits { SegmentFits (checked_plan checked.now) segment }
     requires sure { All (λ (path : OnePath). IsSureEnd path.end) segment }
@@ -240,7 +241,7 @@ fn extend_sure(
     ensures few { IfOk result (λ longer. length longer ≤ length segment) }
 {
     let mut paths = segment.into_vec();
-    step_each(alloc, checked.plan(), rec, buffers, &mut paths)?;
+    step_each(alloc, checked.plan(), rec, scratch, &mut paths)?;
     settle(alloc, paths)
 }
 
@@ -262,20 +263,20 @@ pub fn extend_within(
     segment: Segment,
     rec: &Record,
     limit: u32,
-    buffers: &mut Scratch,
+    scratch: &mut Scratch,
 ) -> Result<Extension, NoMemory>
     requires fits { SegmentFits (checked_plan checked.now) segment }
     requires rec { IsRecord (checked_plan checked.now) rec.now }
     ensures { IfOk result (IsExtended (checked_plan checked.now) rec.now segment limit) }
 {
     if stays_within(segment.paths(), limit) {
-        let longer = extend_sure(alloc, checked, segment, rec, buffers)?;
+        let longer = extend_sure(alloc, checked, segment, rec, scratch)?;
         return Ok(Extension::Fits(longer));
     }
     let plan = checked.plan();
     if surely_fit(segment.paths(), checked.path_bound(), limit) {
-        let grown = explore_going(alloc, plan, rec, buffers, segment.into_vec())?;
+        let grown = explore_going(alloc, plan, rec, scratch, segment.into_vec())?;
         return Ok(Extension::Fits(settle(alloc, grown)?));
     }
-    extend_copied(alloc, checked, segment, rec, limit, buffers)
+    extend_copied(alloc, checked, segment, rec, limit, scratch)
 }

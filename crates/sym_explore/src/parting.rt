@@ -1,14 +1,12 @@
 //! Lists of paths, parted by a condition whose expressions without cells were evaluated.
-ghost use Rattle.std.specs.Prelude.{◌≡◌, ◌≤◌, ◌++◌, ℕ, [], List, IfOk, OnOk, IsTrue, drop, if◌then◌else◌, length, take};
-ghost use Rattle.sym_base.specs.declared.values.record.Record.{Record as OneRecord};
+ghost use Rattle.std.specs.Prelude.{◌≡◌, ◌≤◌, ◌++◌, ℕ, [], IfOk, OnOk, IsTrue, drop, if◌then◌else◌, length, take};
 ghost use Rattle.sym_check.specs.Plan.ScriptPlans.{script_plan};
 ghost use Rattle.sym_check.specs.Plan.WellFormed.{IsWellFormed};
-ghost use Rattle.sym_path.specs.Changing.{GoesOn};
-ghost use Rattle.sym_path.specs.Fitting.{PathFits, SegmentFits};
-ghost use Rattle.sym_explore.specs.Evaluating.{AreFewSplit, CellConditionFits, EvaluatedFits, SplitsEach, tried_on_cell, evaluated_truth, is_known, cell_branches, evaluated_branches};
-ghost use Rattle.sym_explore.specs.Branches.{answered, AreFewBranches, AreGoing, BranchesGo, Splits};
-ghost use Rattle.sym_explore.specs.Faulting.{EndAmong, HasNumber};
-ghost use Rattle.sym_explore.specs.Parting.{AllGoOn, AreFewParts, AreOfOneTruth, AreParts};
+ghost use Rattle.sym_explore.specs.Evaluating.{AreFewSplit, CellConditionFits, EvaluatedFits, SplitsEach, tried_on_cell, is_known, cell_branches};
+ghost use Rattle.sym_explore.specs.Branches.{AreFewBranches, AreGoing, BranchesGo, CanSplit, Splits};
+ghost use Rattle.sym_explore.specs.Parting.{AreFewParts, AreOfOneTruth, AreParts};
+ghost use Rattle.sym_explore.specs.Running.{CanRun};
+ghost use Rattle.sym_explore.specs.Trying.{EvaluatedWasTried};
 
 use crate::branch::{Branch, put_all};
 use crate::calling::call;
@@ -56,16 +54,12 @@ fn split(
 ) -> Result<bool, NoMemory>
     requires known { IsWellFormed (script_plan plan.now) }
     requires condition { CellConditionFits (script_plan plan.now) args.now condition.now }
-    requires fits { PathFits (script_plan plan.now) path.old }
-    requires goes_on { GoesOn path.old.end }
-    requires others { BranchesGo (script_plan plan.now) out.old.items }
+    requires split { CanSplit (script_plan plan.now) path.old out.old.items }
     ensures exact { (n : ℕ) →
         let meaning = tried_on_cell (script_plan plan.now) args.now condition.now n in
         IfOk result (Splits (script_plan plan.now) meaning
         path.old out.old.items path.new out.new.items) }
-    ensures fits { OnOk result (PathFits (script_plan plan.now) path.new) }
-    ensures next { OnOk result (GoesOn path.new.end) }
-    ensures others { OnOk result (BranchesGo (script_plan plan.now) out.new.items) }
+    ensures next { OnOk result (CanSplit (script_plan plan.now) path.new out.new.items) }
     ensures few { IfOk result (AreFewBranches (cell_branches condition.now)
         out.old.items out.new.items) }
 {
@@ -173,28 +167,15 @@ pub(crate) fn part_evaluated(
 ) -> Result<(), NoMemory>
     requires known { IsWellFormed (script_plan plan.now) }
     requires evaluated { EvaluatedFits (script_plan plan.now) args.now evaluated.now }
-    requires fits { SegmentFits (script_plan plan.now) paths.old.items }
-    requires going { AllGoOn paths.old.items }
-    requires falses_fit { SegmentFits (script_plan plan.now) falses.old.items }
-    requires falses_going { AllGoOn falses.old.items }
-    requires ended_fit { SegmentFits (script_plan plan.now) ended.old.items }
-    ensures exact { let meaning = evaluated_truth (script_plan plan.now) args.now evaluated.now in
-        OnOk result (AreParts (script_plan plan.now) (answered no meaning)
-        paths.old.items paths.new.items falses.old.items falses.new.items
-        ended.old.items ended.new.items) }
-    ensures fits { OnOk result (SegmentFits (script_plan plan.now) paths.new.items) }
-    ensures going { OnOk result (AllGoOn paths.new.items) }
-    ensures falses_fit { OnOk result (SegmentFits (script_plan plan.now) falses.new.items) }
-    ensures falses_going { OnOk result (AllGoOn falses.new.items) }
-    ensures ended_fit { OnOk result (SegmentFits (script_plan plan.now) ended.new.items) }
-    ensures few { OnOk result (AreFewParts (evaluated_branches evaluated.now)
+    requires paths { CanRun (script_plan plan.now) paths.old.items ended.old.items }
+    requires falses { CanRun (script_plan plan.now) falses.old.items ended.old.items }
+    ensures tried { OnOk result (EvaluatedWasTried (script_plan plan.now)
+        args.now no evaluated.now
         paths.old.items paths.new.items falses.old.items falses.new.items
         ended.old.items ended.new.items) }
     ensures fixed { IsTrue (is_known evaluated.now) → OnOk result (AreOfOneTruth
         paths.old.items paths.new.items falses.old.items falses.new.items
         ended.old.items ended.new.items) }
-    ensures faults { (records : List OneRecord) → HasNumber no records →
-        EndAmong records ended.old.items → OnOk result (EndAmong records ended.new.items) }
 {
     match evaluated {
         Evaluated::Known(truth) => part_known(*truth, paths, falses),

@@ -104,7 +104,7 @@ fn store_on(
     store_at(alloc, plan, &target, &ready, path)
 }
 
-/// Gives the parts of a hold cell new values. They are evaluated over the memory of `scratch`, which
+/// Gives the parts of a hold cell new values. They are evaluated over the memory of `spare`, which
 /// gets that of the old parts.
 fn keep_in(
     alloc: Global,
@@ -113,7 +113,7 @@ fn keep_in(
     no: u64,
     cell: u16,
     values: &FixedList,
-    scratch: &mut Values,
+    spare: &mut Values,
     path: &mut Path,
 ) -> Result<(), NoMemory>
     requires known { IsWellFormed (script_plan _plan.now) }
@@ -124,8 +124,8 @@ fn keep_in(
         OnOk result (IsStepped (script_plan _plan.now)
         (after_do (script_plan _plan.now) (known_values known.now) no d) no path.old path.new) }
 {
-    match set_values(alloc, known, values, scratch) {
-        Ok(()) => put_parts(alloc, path, cell, scratch),
+    match set_values(alloc, known, values, spare) {
+        Ok(()) => put_parts(alloc, path, cell, spare),
         Err(Stop::Fault(_)) => {
             path.fail(arith(no));
             Ok(())
@@ -141,7 +141,7 @@ fn assign_on(
     known: &Known,
     no: u64,
     statement: &Do,
-    scratch: &mut Values,
+    spare: &mut Values,
     path: &mut Path,
 ) -> Result<(), NoMemory>
     requires known { IsWellFormed (script_plan plan.now) }
@@ -160,7 +160,7 @@ fn assign_on(
         Do::PushNum(cell, term) => {
             store_on(alloc, plan, known, no, Place::End(*cell), term, path)
         }
-        Do::Keep(cell, values) => { keep_in(alloc, plan, known, no, *cell, values, scratch, path) }
+        Do::Keep(cell, values) => { keep_in(alloc, plan, known, no, *cell, values, spare, path) }
         _ => change(alloc, plan, known, statement, path),
     }
 }
@@ -172,22 +172,22 @@ fn name_on(
     rec: &Record,
     local: u16,
     value: &Fixed,
-    buffers: &mut Scratch,
+    scratch: &mut Scratch,
     path: &mut Path,
 ) -> Result<(), NoMemory>
     requires sure { IsSurePath (script_plan _plan.now) path.old }
-    ensures stepped { let k = environment rec.now buffers.old.locals in
+    ensures stepped { let k = environment rec.now scratch.old.locals in
         let d = Let local (fixed_plan value.now) in
         OnOk result (IsStepped (script_plan _plan.now)
         (after_do (script_plan _plan.now) k rec.now.no d) rec.now.no path.old path.new) }
-    ensures named { let k = environment rec.now buffers.old.locals in
+    ensures named { let k = environment rec.now scratch.old.locals in
         OnOk result (IsNamedOn rec.now k (Let local (fixed_plan value.now))
-        buffers.new.locals path.new) }
-    ensures locals { let count = length buffers.old.locals in
-        OnOk result (take count buffers.new.locals ≡ buffers.old.locals) }
+        scratch.new.locals path.new) }
+    ensures locals { let count = length scratch.old.locals in
+        OnOk result (take count scratch.new.locals ≡ scratch.old.locals) }
 {
-    match fixed_value(alloc, &known_in(rec, &buffers.locals), value) {
-        Ok(value) => name_local(&mut buffers.locals, local, value),
+    match fixed_value(alloc, &known_in(rec, &scratch.locals), value) {
+        Ok(value) => name_local(&mut scratch.locals, local, value),
         Err(Stop::Fault(_)) => {
             path.fail(arith(rec.no));
             Ok(())
@@ -203,28 +203,28 @@ fn step_all(
     plan: &Plan,
     rec: &Record,
     statements: &Dos,
-    buffers: &mut Scratch,
+    scratch: &mut Scratch,
     path: &mut Path,
 ) -> Result<(), NoMemory>
     requires known { IsWellFormed (script_plan plan.now) }
-    requires well { DosAreKnown (script_plan plan.now) (environment rec.now buffers.old.locals)
+    requires well { DosAreKnown (script_plan plan.now) (environment rec.now scratch.old.locals)
         (dos_plan statements.now) }
     requires sure { IsSurePath (script_plan plan.now) path.old }
-    ensures stepped { let k = environment rec.now buffers.old.locals in
+    ensures stepped { let k = environment rec.now scratch.old.locals in
         OnOk result (IsStepped (script_plan plan.now)
         (after_dos (script_plan plan.now) k rec.now.no (dos_plan statements.now))
         rec.now.no path.old path.new) }
-    ensures locals { let count = length buffers.old.locals in
-        OnOk result (take count buffers.new.locals ≡ buffers.old.locals) }
+    ensures locals { let count = length scratch.old.locals in
+        OnOk result (take count scratch.new.locals ≡ scratch.old.locals) }
 {
     match statements {
         Dos::End => Ok(()),
         Dos::More(first, rest) => {
-            step(alloc, plan, rec, first, buffers, path)?;
+            step(alloc, plan, rec, first, scratch, path)?;
             if !path.goes_on() {
                 return Ok(());
             }
-            step_all(alloc, plan, rec, rest, buffers, path)
+            step_all(alloc, plan, rec, rest, scratch, path)
         }
     }
 }
@@ -236,23 +236,23 @@ fn step_block(
     plan: &Plan,
     rec: &Record,
     statements: &Dos,
-    buffers: &mut Scratch,
+    scratch: &mut Scratch,
     path: &mut Path,
 ) -> Result<(), NoMemory>
     requires known { IsWellFormed (script_plan plan.now) }
-    requires well { DosAreKnown (script_plan plan.now) (environment rec.now buffers.old.locals)
+    requires well { DosAreKnown (script_plan plan.now) (environment rec.now scratch.old.locals)
         (dos_plan statements.now) }
     requires sure { IsSurePath (script_plan plan.now) path.old }
-    ensures stepped { let k = environment rec.now buffers.old.locals in
+    ensures stepped { let k = environment rec.now scratch.old.locals in
         OnOk result (IsStepped (script_plan plan.now)
         (after_dos (script_plan plan.now) k rec.now.no (dos_plan statements.now))
         rec.now.no path.old path.new) }
-    ensures locals { OnOk result (buffers.new.locals ≡ buffers.old.locals) }
+    ensures locals { OnOk result (scratch.new.locals ≡ scratch.old.locals) }
 {
-    let count = buffers.locals.len();
-    step_all(alloc, plan, rec, statements, buffers, path)?;
-    if count < buffers.locals.len() {
-        buffers.locals.truncate(count);
+    let count = scratch.locals.len();
+    step_all(alloc, plan, rec, statements, scratch, path)?;
+    if count < scratch.locals.len() {
+        scratch.locals.truncate(count);
     }
     Ok(())
 }
@@ -264,36 +264,36 @@ fn step(
     plan: &Plan,
     rec: &Record,
     statement: &Do,
-    buffers: &mut Scratch,
+    scratch: &mut Scratch,
     path: &mut Path,
 ) -> Result<(), NoMemory>
     requires known { IsWellFormed (script_plan plan.now) }
-    requires well { DoIsKnown (script_plan plan.now) (environment rec.now buffers.old.locals)
+    requires well { DoIsKnown (script_plan plan.now) (environment rec.now scratch.old.locals)
         (do_plan statement.now) }
     requires sure { IsSurePath (script_plan plan.now) path.old }
-    ensures stepped { let k = environment rec.now buffers.old.locals in
+    ensures stepped { let k = environment rec.now scratch.old.locals in
         OnOk result (IsStepped (script_plan plan.now)
         (after_do (script_plan plan.now) k rec.now.no (do_plan statement.now))
         rec.now.no path.old path.new) }
-    ensures named { let k = environment rec.now buffers.old.locals in
-        OnOk result (IsNamedOn rec.now k (do_plan statement.now) buffers.new.locals path.new) }
-    ensures locals { let count = length buffers.old.locals in
-        OnOk result (take count buffers.new.locals ≡ buffers.old.locals) }
+    ensures named { let k = environment rec.now scratch.old.locals in
+        OnOk result (IsNamedOn rec.now k (do_plan statement.now) scratch.new.locals path.new) }
+    ensures locals { let count = length scratch.old.locals in
+        OnOk result (take count scratch.new.locals ≡ scratch.old.locals) }
 {
     match statement {
-        Do::Let(local, value) => name_on(alloc, plan, rec, *local, value, buffers, path),
+        Do::Let(local, value) => name_on(alloc, plan, rec, *local, value, scratch, path),
         Do::If(condition, then, otherwise) => {
-            choose(alloc, plan, rec, condition, then, otherwise, buffers, path)
+            choose(alloc, plan, rec, condition, then, otherwise, scratch, path)
         }
         _ => {
-            let known = known_in(rec, &buffers.locals);
+            let known = known_in(rec, &scratch.locals);
             assign_on(
                 alloc,
                 plan,
                 &known,
                 rec.no,
                 statement,
-                &mut buffers.args,
+                &mut scratch.args,
                 path,
             )
         }
@@ -309,23 +309,23 @@ fn choose(
     condition: &Cond,
     then: &Dos,
     otherwise: &Dos,
-    buffers: &mut Scratch,
+    scratch: &mut Scratch,
     path: &mut Path,
 ) -> Result<(), NoMemory>
     requires known { IsWellFormed (script_plan plan.now) }
-    requires well { DoIsKnown (script_plan plan.now) (environment rec.now buffers.old.locals)
+    requires well { DoIsKnown (script_plan plan.now) (environment rec.now scratch.old.locals)
         (If (cond_plan condition.now) (dos_plan then.now) (dos_plan otherwise.now)) }
     requires sure { IsSurePath (script_plan plan.now) path.old }
-    ensures stepped { let k = environment rec.now buffers.old.locals in
+    ensures stepped { let k = environment rec.now scratch.old.locals in
         let d = If (cond_plan condition.now) (dos_plan then.now) (dos_plan otherwise.now) in
         OnOk result (IsStepped (script_plan plan.now)
         (after_do (script_plan plan.now) k rec.now.no d) rec.now.no path.old path.new) }
-    ensures locals { OnOk result (buffers.new.locals ≡ buffers.old.locals) }
+    ensures locals { OnOk result (scratch.new.locals ≡ scratch.old.locals) }
 {
-    let known = known_in(rec, &buffers.locals);
-    match truth_on(alloc, plan, &known, condition, &mut buffers.args, path) {
-        Ok(true) => step_block(alloc, plan, rec, then, buffers, path),
-        Ok(false) => step_block(alloc, plan, rec, otherwise, buffers, path),
+    let known = known_in(rec, &scratch.locals);
+    match truth_on(alloc, plan, &known, condition, &mut scratch.args, path) {
+        Ok(true) => step_block(alloc, plan, rec, then, scratch, path),
+        Ok(false) => step_block(alloc, plan, rec, otherwise, scratch, path),
         Err(Stop::Fault(_)) => {
             path.fail(arith(rec.no));
             Ok(())
@@ -339,7 +339,7 @@ fn step_path(
     alloc: Global,
     plan: &Plan,
     rec: &Record,
-    buffers: &mut Scratch,
+    scratch: &mut Scratch,
     path: &mut Path,
 ) -> Result<(), NoMemory>
     requires known { IsWellFormed (script_plan plan.now) }
@@ -349,8 +349,8 @@ fn step_path(
     ensures { OnOk result (IsSteppedOn (script_plan plan.now) rec.now path.old path.new) }
 {
     if path.goes_on() {
-        buffers.locals.truncate(0);
-        step_block(alloc, plan, rec, &plan.update, buffers, path)
+        scratch.locals.truncate(0);
+        step_block(alloc, plan, rec, &plan.update, scratch, path)
     } else {
         Ok(())
     }
@@ -361,7 +361,7 @@ pub(crate) fn step_each(
     alloc: Global,
     plan: &Plan,
     rec: &Record,
-    buffers: &mut Scratch,
+    scratch: &mut Scratch,
     paths: &mut [Path],
 ) -> Result<(), NoMemory>
     requires known { IsWellFormed (script_plan plan.now) }
@@ -372,7 +372,7 @@ pub(crate) fn step_each(
         (AllZip (IsSteppedOn (script_plan plan.now) rec.now) paths.old paths.new) }
 {
     'paths: for path in paths.iter_mut() {
-        step_path(alloc, plan, rec, buffers, path)?;
+        step_path(alloc, plan, rec, scratch, path)?;
     }
     Ok(())
 }

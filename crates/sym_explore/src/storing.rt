@@ -10,13 +10,12 @@ ghost use Rattle.sym_int.specs.Points.{AreEnds};
 ghost use Rattle.sym_path.specs.Changing.{GoesOn};
 ghost use Rattle.sym_path.specs.Fitting.{PathFits, SegmentFits};
 ghost use Rattle.sym_path.specs.declared.path.Path.{Path as OnePath};
-ghost use Rattle.sym_explore.specs.Counting.{store_ended, store_going};
-ghost use Rattle.sym_explore.specs.Ending.{AreParted, WereRun};
+ghost use Rattle.sym_explore.specs.Ending.{AreParted};
 ghost use Rattle.sym_explore.specs.Faulting.{EndAmong, FaultsCameAt, HasNumber};
 ghost use Rattle.sym_explore.specs.Knowing.{DoIsKnown};
 ghost use Rattle.sym_explore.specs.Parting.{AllGoOn};
 ghost use Rattle.sym_explore.specs.Placing.{PlaceFits, TargetFits, place_cell};
-ghost use Rattle.sym_explore.specs.Stepping.{after_do};
+ghost use Rattle.sym_explore.specs.Running.{CanRun, DoWasRun, WereRun};
 ghost use Rattle.sym_explore.specs.Storing.{IsParted, StoresAll, after_store, store_do};
 ghost use Rattle.sym_explore.specs.Terms.{ReadyFits};
 
@@ -185,9 +184,7 @@ fn end_each(
     requires ready { ReadyFits (script_plan plan.now) ready.now }
     requires target { TargetFits (script_plan plan.now) target.now }
     requires ends { target.now.clamps ≡ false }
-    requires fits { SegmentFits (script_plan plan.now) paths.old.items }
-    requires going { AllGoOn paths.old.items }
-    requires ended_fit { SegmentFits (script_plan plan.now) ended.old.items }
+    requires paths { CanRun (script_plan plan.now) paths.old.items ended.old.items }
     ensures { let n = target.now.fault.no in
         let step = after_store (script_plan plan.now) n target.now.place ready.now in
         OnOk result (WereRun (script_plan plan.now) step n 1 2
@@ -214,15 +211,9 @@ pub(crate) fn store_all(
     requires known { IsWellFormed (script_plan plan.now) }
     requires well { DoIsKnown (script_plan plan.now) (known_values known.now)
         (store_do place (term_plan term.now)) }
-    requires fits { SegmentFits (script_plan plan.now) paths.old.items }
-    requires going { AllGoOn paths.old.items }
-    requires ended_fit { SegmentFits (script_plan plan.now) ended.old.items }
-    ensures { let step = after_do (script_plan plan.now) (known_values known.now) no
-        (store_do place (term_plan term.now)) in
-        let cells = (script_plan plan.now).cells in
-        let c = place_cell place in
-        OnOk result (WereRun (script_plan plan.now) step no
-        (store_going cells c) (store_ended cells c)
+    requires paths { CanRun (script_plan plan.now) paths.old.items ended.old.items }
+    ensures { let d = store_do place (term_plan term.now) in
+        OnOk result (DoWasRun (script_plan plan.now) (known_values known.now) no d
         paths.old.items paths.new.items ended.old.items ended.new.items) }
 {
     let Ok(ready) = ready_of(known, term) else {

@@ -19,7 +19,7 @@ returns-in-Ok c =
     let k : Environment = known_values c.args.known.now in
     let es : List FixedPlan = map fixed_plan c.args.values.now in
     on_ok c.keep_all.result
-    (λ e. kept_run p k c.args.no c.args.cell es c.set_values.new.values c.requires.well c.in-Ok.ensures c.args.paths.now.items c.keep_all.new.paths.items c.args.ended.now.items e c.requires.fits c.requires.going c.requires.ended_fit)
+    (λ e. kept_run p k c.args.no c.args.cell es c.set_values.new.values c.requires.well c.in-Ok.ensures c.args.paths.now.items c.keep_all.new.paths.items c.args.ended.now.items e c.requires.paths.fits c.requires.paths.going c.requires.paths.ended_fit)
     c.keep_all.ensures
 
 pub returns-in-Err-Fault : goal.returns-in-Err-Fault
@@ -39,4 +39,4 @@ returns-in-Err-Fault c =
     (λ e f. values_failed p k c.args.no c.args.cell es kind old new before after fails
     (failed_run p (record { kind = kind; no = c.args.no }) old new before after e
     (f ∙ ap (λ (x : FaultKind). before ++ failed_paths (record { kind = x; no = c.args.no }) old) c.in-Err-Fault.kind-is)
-    fits c.requires.fits c.requires.going c.requires.ended_fit))
+    fits c.requires.paths.fits c.requires.paths.going c.requires.paths.ended_fit))

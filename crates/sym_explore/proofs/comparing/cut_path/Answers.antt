@@ -21,19 +21,27 @@ pub returns-in_default-third-clause-few : goal.returns-in_default-third-clause-f
 returns-in_default-third-clause-few c =
     few_two (script_plan c.args.plan.now) c.args.cell c.args.pieces.now c.in-Some.second c.args.path.now c.args.out.now.items c.push_piece.new.out.items c.in-Some.is c.in_ok-push_piece.ensures
 
-pub returns-in_default-third-clause-others : goal.returns-in_default-third-clause-others
-returns-in_default-third-clause-others c =
-    pushed_fit (script_plan c.args.plan.now) c.args.cell c.args.pieces.now.first c.args.path.now c.args.out.now.items c.push_piece.new.out.items c.in_ok-push_piece.ensures c.requires.goes_on c.requires.others
+pub returns-in_default-third-clause-next : goal.returns-in_default-third-clause-next
+returns-in_default-third-clause-next c = record {
+  fits = c.narrow_numbers.ensures.fits;
+  goes_on = c.narrow_numbers.ensures.next c.requires.split.goes_on;
+  others = pushed_fit (script_plan c.args.plan.now) c.args.cell c.args.pieces.now.first c.args.path.now c.args.out.now.items c.push_piece.new.out.items c.in_ok-push_piece.ensures c.requires.split.goes_on c.requires.split.others;
+}
 
 pub returns-clause-exact : goal.returns-clause-exact
 returns-clause-exact c =
     cut_three (script_plan c.args.plan.now) c.args.cell c.args.pieces.now c.in-Some.second c.in-Some-third.third c.args.path.now c.narrow_numbers-2.new.self c.args.out.now.items c.push_piece.new.out.items c.push_piece-2.new.out.items c.requires.pieces c.in-Some.is c.in-Some-third.is c.in_ok-push_piece.ensures c.in_ok-push_piece-2.ensures c.narrow_numbers-2.ensures.gives
 
-pub returns-clause-others : goal.returns-clause-others
-returns-clause-others c =
+pub returns-clause-next : goal.returns-clause-next
+returns-clause-next c =
     let p : ScriptPlan = script_plan c.args.plan.now in
-    pushed_fit p c.args.cell c.in-Some.second c.args.path.now c.push_piece.new.out.items c.push_piece-2.new.out.items c.in_ok-push_piece-2.ensures c.requires.goes_on
-    (pushed_fit p c.args.cell c.args.pieces.now.first c.args.path.now c.args.out.now.items c.push_piece.new.out.items c.in_ok-push_piece.ensures c.requires.goes_on c.requires.others)
+    record {
+      fits = c.narrow_numbers-2.ensures.fits;
+      goes_on = c.narrow_numbers-2.ensures.next c.requires.split.goes_on;
+      others =
+          pushed_fit p c.args.cell c.in-Some.second c.args.path.now c.push_piece.new.out.items c.push_piece-2.new.out.items c.in_ok-push_piece-2.ensures c.requires.split.goes_on
+          (pushed_fit p c.args.cell c.args.pieces.now.first c.args.path.now c.args.out.now.items c.push_piece.new.out.items c.in_ok-push_piece.ensures c.requires.split.goes_on c.requires.split.others);
+    }
 
 pub returns-clause-few : goal.returns-clause-few
 returns-clause-few c =

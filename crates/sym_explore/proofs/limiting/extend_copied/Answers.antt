@@ -29,7 +29,6 @@ returns c =
     let same : q ≡ p = c.plan-plan.ensures.same in
     let small = small_of q p same c.plan-plan.ensures.accepted.few in
     let is : c.in_ok-going.going.items ≡ chosen false old = c.in_ok-going.ensures ∙ ap (chosen false) c.paths.ensures in
-    let apart = explored_of q p c.args.rec.now c.in_ok-going.going.items (chosen false old) grown same is
-    (record { exact = c.in_ok-grown.ensures.exact; fits = c.in_ok-grown.ensures.fits; few = c.in_ok-grown.ensures.few; faults = c.in_ok-grown.ensures.faults }) in
+    let apart = explored_of q p c.args.rec.now c.in_ok-going.going.items (chosen false old) grown same is c.in_ok-grown.ensures.explored in
     let explored = explored_apart p c.args.rec.now old grown c.requires.fits apart in
     when_answered c.extend_by.result (λ e by. extended_from p c.args.rec.now old grown c.args.limit e small explored by) c.extend_by.ensures

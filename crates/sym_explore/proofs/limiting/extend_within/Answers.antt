@@ -21,8 +21,7 @@ returns-then-surely_fit c =
     let new : List Path = c.in_ok-settle.field-0 in
     let same : q ≡ p = c.plan-plan.ensures.same in
     let small = small_of q p same c.plan-plan.ensures.accepted.few in
-    let explored = explored_of q p c.args.rec.now c.into_vec.result.items old grown same c.into_vec.ensures
-    (record { exact = c.in_ok-grown.ensures.exact; fits = c.in_ok-grown.ensures.fits; few = c.in_ok-grown.ensures.few; faults = c.in_ok-grown.ensures.faults }) in
+    let explored = explored_of q p c.args.rec.now c.into_vec.result.items old grown same c.into_vec.ensures c.in_ok-grown.ensures.explored in
     let few : length grown ≤ most_grown (made_paths p) old =
     subst (λ (ps : List Path). length grown ≤ most_grown (made_paths p) ps) c.into_vec.ensures
     (subst (λ (plan : ScriptPlan). length grown ≤ most_grown (made_paths plan) c.into_vec.result.items) same c.in_ok-grown.ensures.each_few) in

@@ -20,15 +20,11 @@ paths-init c =
       pieces = c.requires.pieces;
     }
 
-pub split-requires-clause-fits : goal.split-requires-clause-fits
-split-requires-clause-fits c =
+pub split-requires-clause-split : goal.split-requires-clause-split
+split-requires-clause-split c =
     let p = script_plan c.args.plan.now in
-    (subst (IsGoing p) (sym c.index_mut.ensures.value) (c.paths.invariant.going c.paths.index c.index_mut.result.now (omega arith))).fits
-
-pub split-requires-clause-goes_on : goal.split-requires-clause-goes_on
-split-requires-clause-goes_on c =
-    let p = script_plan c.args.plan.now in
-    (subst (IsGoing p) (sym c.index_mut.ensures.value) (c.paths.invariant.going c.paths.index c.index_mut.result.now (omega arith))).goes_on
+    let going = subst (IsGoing p) (sym c.index_mut.ensures.value) (c.paths.invariant.going c.paths.index c.index_mut.result.now (omega arith)) in
+    record { fits = going.fits; goes_on = going.goes_on; others = c.paths.invariant.pieces }
 
 pub paths-preserved : goal.paths-preserved
 paths-preserved c =
@@ -40,7 +36,7 @@ paths-preserved c =
     let new : Path = c.split.new.path in
     let written : List Path = set paths index new in
     let below : index < length paths = omega arith in
-    let going : AreGoing p written = All-set (IsGoing p) paths index new (record { fits = c.in_ok-split.ensures.fits; goes_on = c.in_ok-split.ensures.next }) c.paths.invariant.going in
+    let going : AreGoing p written = All-set (IsGoing p) paths index new (record { fits = c.in_ok-split.ensures.next.fits; goes_on = c.in_ok-split.ensures.next.goes_on }) c.paths.invariant.going in
     elim c.if-branch.branch [
       | then-branch w ↦
           let final : List Path = w.swap.new.self.items in
@@ -55,7 +51,7 @@ paths-preserved c =
                 subst (λ (n : ℕ). AreSplitTo p (tried_on_cell p c.args.args.now q) (cell_branches q) old c.args.pieces.now.items (index + 1) n c.if-branch.paths.items c.split.new.out.items) (sym w.count-is)
                 (subst (λ (ps : List Path). AreSplitTo p (tried_on_cell p c.args.args.now q) (cell_branches q) old c.args.pieces.now.items (index + 1) (c.paths.count + 1) ps c.split.new.out.items) (sym is) more);
             going = subst (AreGoing p) (sym is) (All-permutation (IsGoing p) written final (IsPermutation-swap written final c.paths.count index counted indexed w.swap.ensures.items) going);
-            pieces = c.in_ok-split.ensures.others;
+            pieces = c.in_ok-split.ensures.next.others;
           }
       | else-branch w ↦
           let more : AreSplitTo p (tried_on_cell p c.args.args.now q) (cell_branches q) old c.args.pieces.now.items (index + 1) c.paths.count written c.split.new.out.items =
@@ -66,7 +62,7 @@ paths-preserved c =
                 subst (λ (n : ℕ). AreSplitTo p (tried_on_cell p c.args.args.now q) (cell_branches q) old c.args.pieces.now.items (index + 1) n c.if-branch.paths.items c.split.new.out.items) (sym w.count-is)
                 (subst (λ (ps : List Path). AreSplitTo p (tried_on_cell p c.args.args.now q) (cell_branches q) old c.args.pieces.now.items (index + 1) c.paths.count ps c.split.new.out.items) (sym is) more);
             going = subst (AreGoing p) (sym is) going;
-            pieces = c.in_ok-split.ensures.others;
+            pieces = c.in_ok-split.ensures.next.others;
           }
     ]
 

@@ -24,7 +24,7 @@ use Rattle.sym_explore.proofs.stepping.+stepping.Goals as goal
 pub step_all-step_all-requires : goal.step_all-step_all-requires
 step_all-step_all-requires t c =
     let p : ScriptPlan = script_plan c.args.plan.now in
-    let k : Environment = environment c.args.rec.now c.args.buffers.now.locals in
+    let k : Environment = environment c.args.rec.now c.args.scratch.now.locals in
     let d : DoPlan = do_plan c.deref.result.now in
     let rest : DosPlan = dos_plan c.deref-in-More.result.now in
     let is : dos_plan c.args.statements.now ≡ Then d rest = search rules in
@@ -32,14 +32,14 @@ step_all-step_all-requires t c =
     let goes : GoesOn c.step.new.path.end = c.goes_on.ensures.0 c.if-not-goes_on.false in
     let named = c.in_ok-step-in-More.ensures.named goes in
     let well : DosAreKnown p k (Then d rest) = subst (λ (ds : DosPlan). DosAreKnown p k ds) is c.requires.well in
-    let next = rest_known p k (environment c.args.rec.now c.step.new.buffers.locals) d rest well named.0 named.1 in
+    let next = rest_known p k (environment c.args.rec.now c.step.new.scratch.locals) d rest well named.0 named.1 in
     let sure : IsSurePath p c.step.new.path = sure_still p k c.args.rec.now.no d rest c.args.path.now c.step.new.path c.in_ok-step-in-More.ensures.stepped goes in
     (omega (arith, size, c.decreases), (c.requires.known, (next, sure)))
 
 pub step_all-returns-then-not-goes_on-clause-stepped : goal.step_all-returns-then-not-goes_on-clause-stepped
 step_all-returns-then-not-goes_on-clause-stepped t c =
     let p : ScriptPlan = script_plan c.args.plan.now in
-    let k : Environment = environment c.args.rec.now c.args.buffers.now.locals in
+    let k : Environment = environment c.args.rec.now c.args.scratch.now.locals in
     let n : ℕ = c.args.rec.now.no in
     let d : DoPlan = do_plan c.deref.result.now in
     let rest : DosPlan = dos_plan c.in-More.rest.value in
@@ -51,7 +51,7 @@ step_all-returns-then-not-goes_on-clause-stepped t c =
 pub step_all-returns-else-not-goes_on-clause-stepped : goal.step_all-returns-else-not-goes_on-clause-stepped
 step_all-returns-else-not-goes_on-clause-stepped t c =
     let p : ScriptPlan = script_plan c.args.plan.now in
-    let k : Environment = environment c.args.rec.now c.args.buffers.now.locals in
+    let k : Environment = environment c.args.rec.now c.args.scratch.now.locals in
     let n : ℕ = c.args.rec.now.no in
     let d : DoPlan = do_plan c.deref.result.now in
     let rest : DosPlan = dos_plan c.deref-in-More.result.now in
@@ -70,7 +70,7 @@ pub choose-returns-in-Err-Fault-clause-stepped : goal.choose-returns-in-Err-Faul
 choose-returns-in-Err-Fault-clause-stepped t c =
     let p : ScriptPlan = script_plan c.args.plan.now in
     let T : Truth = test_truth p.tests in
-    let k : Environment = environment c.args.rec.now c.args.buffers.now.locals in
+    let k : Environment = environment c.args.rec.now c.args.scratch.now.locals in
     let q : CondPlan = cond_plan c.args.condition.now in
     let is : c.truth_on.result ≡ Err (stop.Fault c.in-Err-Fault.field-0-0) = c.in-Err-Fault.is ∙ ap Err c.in-Err-Fault.field-0-is in
     let fails : HoldsAfter p c.args.path.now (λ s. or_fault (truth T k q s) ≡ Err c.in-Err-Fault.field-0-0) =

@@ -4,7 +4,8 @@ use Rattle.sym_base.specs.declared.values.state.Outcome.{Outcome}
 use Rattle.sym_check.specs.Plan.ScriptPlans.{ScriptPlan, script_plan}
 use Rattle.sym_vector.proofs.ListsLemmas.{written_back}
 use Rattle.sym_path.specs.declared.path.Path.{Path}
-use Rattle.sym_explore.specs.Ending.{AreMoved, AreParted, WereRun}
+use Rattle.sym_explore.specs.Ending.{AreMoved, AreParted}
+use Rattle.sym_explore.specs.Running.{WereRun}
 use Rattle.sym_explore.specs.Storing.{after_store}
 use Rattle.sym_explore.proofs.AssignedLists.{on_ok_both}
 use Rattle.sym_explore.proofs.EndedLists.{none_moved}

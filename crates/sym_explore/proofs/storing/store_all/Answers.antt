@@ -15,7 +15,7 @@ returns-in_default c =
     let t : TermPlan = term_plan c.args.term.now in
     on_ok_both c.fail_all.result c.fail_all.ensures.paths c.fail_all.ensures.ended
     (λ e f. store_failed p k c.args.no c.args.place t c.in_default.field-0 c.arith.result c.args.paths.now.items c.fail_all.new.paths.items c.args.ended.now.items c.fail_all.new.ended.items (sym c.ready_of.ensures ∙ c.in_default.is) c.arith.ensures.kind c.arith.ensures.no
-    (failed_run p c.arith.result c.args.paths.now.items c.fail_all.new.paths.items c.args.ended.now.items c.fail_all.new.ended.items e f (subst (FitsFault p) (sym c.arith.ensures.kind) tt) c.requires.fits c.requires.going c.requires.ended_fit))
+    (failed_run p c.arith.result c.args.paths.now.items c.fail_all.new.paths.items c.args.ended.now.items c.fail_all.new.ended.items e f (subst (FitsFault p) (sym c.arith.ensures.kind) tt) c.requires.paths.fits c.requires.paths.going c.requires.paths.ended_fit))
 
 pub target_of-target-requires-clause-place : goal.target_of-target-requires-clause-place
 target_of-target-requires-clause-place c =
@@ -41,7 +41,7 @@ returns-then-target c =
     (store_run (script_plan c.args.plan.now) (known_values c.args.known.now) c.args.no c.args.place (term_plan c.args.term.now) c.in-Ok.ready c.target_of-target.result true
     c.args.paths.now.items c.clamp_each.new.paths.items c.args.ended.now.items c.args.ended.now.items
     (sym c.in-Ok.ensures) c.target_of-target.ensures.place c.target_of-target.ensures.number (sym c.target_of-target.ensures.clamps ∙ c.if-target.true))
-    (c.clamp_each.ensures c.args.ended.now.items c.requires.ended_fit)
+    (c.clamp_each.ensures c.args.ended.now.items c.requires.paths.ended_fit)
 
 pub returns-else-target : goal.returns-else-target
 returns-else-target c =
