@@ -1,5 +1,5 @@
 -- Paths that end in turn, no two of which can be joined.
-use Rattle.std.proofs.Common.{◌≡◌, ◌<◌, ◌≤◌, ◌++◌, ◌∷◌, [], ℕ, true, false, List, Option, Some, None, length, get_or, refl, ap, arith}
+use Rattle.std.proofs.Common.{◌≡◌, ◌<◌, ◌++◌, ◌∷◌, [], true, false, List, Option, Some, None, get_or, refl, ap, arith}
 use Rattle.std.proofs.lemmas.List.Elements.{All-get_or, All-nil, All-push, All-weaker}
 use Rattle.std.proofs.lemmas.List.Quantifiers.{all_pairs_push}
 use Rattle.std.specs.Prelude.{IfSome, is_some}
@@ -9,7 +9,7 @@ use Rattle.sym_path.specs.declared.part.Part.{Part}
 use Rattle.sym_path.specs.declared.path.Path.{Path}
 use Rattle.sym_path.specs.declared.path.PathEnd.{PathEnd}
 use Rattle.sym_path.specs.declared.path.PathEnd.TheVariants.{Next, Ended}
-use Rattle.sym_path.specs.Joining.{EndsAgree, IsSettled, Joinable}
+use Rattle.sym_path.specs.Joining.{IsSettled, Joinable}
 use Rattle.sym_explore.specs.Limiting.{AreInTurn, EndsBy}
 use Rattle.sym_explore.specs.declared.limiting.Turn.{Turn}
 

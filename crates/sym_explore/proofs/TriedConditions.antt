@@ -15,7 +15,7 @@ use Rattle.sym_path.specs.Changing.{GoesOn, with_fault}
 use Rattle.sym_path.specs.Fitting.{PathFits, SegmentFits}
 use Rattle.sym_explore.specs.Branches.{AreGoing, IsGoing}
 use Rattle.sym_explore.specs.Counting.{branches_of}
-use Rattle.sym_explore.specs.Evaluating.{cell_branches, evaluated_branches, tried_on_cell}
+use Rattle.sym_explore.specs.Evaluating.{cell_branches, tried_on_cell}
 use Rattle.sym_explore.specs.Parting.{AllGoOn, AreFewParts, AreParts, at_state}
 use Rattle.sym_explore.specs.Running.{CanRun}
 use Rattle.sym_explore.specs.Trying.{CondWasTried, EvaluatedWasTried, WereTried}

@@ -1,4 +1,4 @@
-use Rattle.std.proofs.Common.{◌≡◌, ◌<◌, ◌++◌, true, List, length, refl, ap, subst, arith}
+use Rattle.std.proofs.Common.{◌≡◌, ◌++◌, true, List, length, refl, subst, arith}
 use Rattle.std.proofs.lemmas.List.{length-append}
 use Rattle.sym_path.specs.declared.path.Path.{Path}
 use Rattle.sym_path.specs.Joining.{IsSettled}
