@@ -1,5 +1,5 @@
 -- The text that bytes begin with, and the digits that they go on with.
-use Rattle.std.proofs.Common.{◌≡◌, ℕ, suc, ◌+◌, ◌-◌, ◌*◌, ◌^◌, ◌<◌, ◌≤◌, true, false, List, ◌∷◌, ◌++◌, length, take, drop, Option, Some, None, refl, sym, ap, subst, ◌∙◌, arith, add-one, drop-cons, get_or}
+use Rattle.std.proofs.Common.{◌≡◌, ℕ, suc, ◌+◌, ◌-◌, ◌*◌, ◌^◌, ◌<◌, ◌≤◌, Bool, true, false, ◌==◌, if◌then◌else◌, List, ◌∷◌, ◌++◌, length, take, drop, Option, Some, None, refl, sym, ap, subst, ◌∙◌, arith, add-one, drop-cons, get_or}
 use Rattle.std.proofs.lemmas.Grind.{pow_more}
 use Rattle.std.proofs.Math.Nat.{pow-le-pow_right}
 use Rattle.std.proofs.lemmas.List.{drop_all, length-append, length-drop, take-append-drop, take_all, take_at}
@@ -91,3 +91,33 @@ module _ (first : ℕ) (bytes : List ℕ) where
 
   pub digits_done : (index number : ℕ) → Ends (drop index bytes) → AreDigits index number → digits_at 37 first bytes ≡ Some (number, drop index bytes)
   digits_done index number ends h = sym h.whole ∙ digits_end (37 - index) number (drop index bytes) ends
+
+-- ---- bytes that are compared one after the other
+module _ (text bytes : List ℕ) where
+  -- The first bytes are those of the text, and the rest is to be compared.
+  pub record IsCompared (index : ℕ) : Type 0 where
+    pub within : index ≤ length text
+    pub same : after (drop index text) (drop index bytes) ≡ after text bytes
+
+  module _ (index : ℕ) (h : IsCompared index) where
+    module _ (more : index < length text) (there : index < length bytes) where
+      next_compared : after (drop index text) (drop index bytes) ≡ (if get_or text index 0 == get_or bytes index 0 then after (drop (index + 1) text) (drop (index + 1) bytes) else None)
+      unfolding after
+      next_compared = rw (left_byte text index more, left_byte bytes index there) refl
+
+      pub compared_more : get_or text index 0 ≡ get_or bytes index 0 → IsCompared (index + 1)
+      compared_more e =
+          let test : (get_or text index 0 == get_or bytes index 0) ≡ true = grind (arith, e) in
+          record {
+            within = omega (arith, more);
+            same = sym (ap (λ (b : Bool). if b then after (drop (index + 1) text) (drop (index + 1) bytes) else None) test) ∙ sym next_compared ∙ h.same;
+          }
+
+      pub compared_apart : (get_or text index 0 ≡ get_or bytes index 0 → ⊥) → after text bytes ≡ None
+      compared_apart apart =
+          let test : (get_or text index 0 == get_or bytes index 0) ≡ false = grind (arith, apart) in
+          sym h.same ∙ next_compared ∙ ap (λ (b : Bool). if b then after (drop (index + 1) text) (drop (index + 1) bytes) else None) test
+
+    pub compared_all : length text ≤ index → after text bytes ≡ Some (drop index bytes)
+    unfolding after
+    compared_all past = sym h.same ∙ ap (λ (bs : List ℕ). after bs (drop index bytes)) (drop_all index text past)

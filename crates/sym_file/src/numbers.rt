@@ -9,18 +9,27 @@ use sym_base::NUM_MAX;
 /// The most digits of a number: so many fit 127 bits.
 const DIGITS_MAX: usize = 38;
 
-/// The bytes after this text; `None` exactly where they don't begin with it.
+/// The bytes after this text; `None` exactly where they don't begin with it. A text that is known
+/// when this is compiled is compared without a loop.
+#[inline(always)]
 pub(crate) fn rest_after<'a>(text: &[u8], bytes: &'a [u8]) -> Option<&'a [u8]>
     ensures { option_copied result ≡ after text.now bytes.now }
 {
     if bytes.len() < text.len() {
         return None;
     }
-    let (front, rest) = bytes.split_at(text.len());
-    if front == text { Some(rest) } else { None }
+    let mut index = 0;
+    'compared: while index < text.len() {
+        if text[index] != bytes[index] {
+            return None;
+        }
+        index += 1;
+    }
+    Some(&bytes[index..])
 }
 
 /// The bytes after this text, with which they have to begin.
+#[inline(always)]
 pub(crate) fn after<'a>(text: &[u8], bytes: &'a [u8]) -> Result<&'a [u8], SavedErr>
     ensures { Gives (λ rest. rest.now) result (after text.now bytes.now) }
 {

@@ -1,19 +1,24 @@
-use Rattle.std.proofs.Common.{◌≡◌, ◌∙◌, sym}
-use Rattle.std.specs.Cmp.Lexicographic.{bytes_decides}
-use Rattle.sym_file.proofs.Fronts.{after_differs, after_short, after_split}
+use Rattle.std.proofs.Common.{◌∙◌, ◌<◌, Some, ap, arith, length, refl, sym}
+use Rattle.sym_file.proofs.Fronts.{after_short, compared_all, compared_apart, compared_more, whole_rest}
 use Rattle.sym_file.proofs.numbers.rest_after.Goals as goal
 
 pub returns-then-bytes-text : goal.returns-then-bytes-text
 returns-then-bytes-text c = sym (after_short c.args.text.now c.args.bytes.now c.if-bytes-text.true)
 
-pub returns-then-eq : goal.returns-then-eq
-returns-then-eq c =
-    let front = c.split_at.result.0.now in
-    let same : front ≡ c.args.text.now = (bytes_decides front c.args.text.now).0 (sym c.eq.ensures ∙ c.if-eq.true) in
-    sym (after_split c.args.text.now c.args.bytes.now front c.split_at.result.1.now c.split_at.ensures.front c.split_at.ensures.back same)
+pub compared-init : goal.compared-init
+compared-init c = record { within = omega arith; same = refl }
 
-pub returns-else-eq : goal.returns-else-eq
-returns-else-eq c =
-    let front = c.split_at.result.0.now in
-    sym (after_differs c.args.text.now c.args.bytes.now front c.split_at.ensures.front
-    (λ e. let yes = (bytes_decides front c.args.text.now).1 e in let no = sym c.eq.ensures ∙ c.if-eq.false in absurd (cc (yes, no))))
+pub returns-then-text-index : goal.returns-then-text-index
+returns-then-text-index c =
+    let within : c.compared.index < length c.args.bytes.now = omega (arith, c.compared-test.true, c.if-bytes-text.false) in
+    sym (compared_apart c.args.text.now c.args.bytes.now c.compared.index c.compared.invariant c.compared-test.true within c.if-text-index.true)
+
+pub compared-preserved : goal.compared-preserved
+compared-preserved c =
+    let within : c.compared.index < length c.args.bytes.now = omega (arith, c.compared-test.true, c.if-bytes-text.false) in
+    compared_more c.args.text.now c.args.bytes.now c.compared.index c.compared.invariant c.compared-test.true within c.if-text-index.false
+
+pub returns : goal.returns
+returns c =
+    sym (compared_all c.args.text.now c.args.bytes.now c.compared.index c.compared.invariant c.compared-test.false
+    ∙ ap Some (sym (whole_rest c.args.bytes.now c.compared.index)))
