@@ -8,7 +8,7 @@ use crate::numbers::{after, below_8, below_16, int, nat, small};
 use crate::saved_err::SavedErr;
 use crate::values::{values, word};
 use std::alloc::Global;
-use sym_base::{Sequence, Text, Values};
+use sym_base::{Sequence, Text};
 use sym_check::{CellPlan, Plan};
 use sym_enum::EnumForm;
 use sym_int::{IntForm, Line, Number};
@@ -90,7 +90,7 @@ fn hold_form(alloc: Global, parts: usize, bytes: &[u8]) -> Result<(Form, &[u8]),
     match bytes {
         [b'h', rest @ ..] => {
             let (values, rest) = values(alloc, parts, rest)?;
-            Ok((Form::Hold(HoldForm::Const(Values::of(values))), rest))
+            Ok((Form::Hold(HoldForm::Const(values)), rest))
         }
         [b'k', rest @ ..] => {
             let (cell, rest) = below_16(rest)?;

@@ -8,7 +8,7 @@ use crate::numbers::{after, below_16, nat, rest_after, small};
 use crate::saved_err::SavedErr;
 use crate::values::values;
 use std::alloc::Global;
-use sym_base::{Sequence, Values};
+use sym_base::Sequence;
 use sym_check::{CellPlan, Plan};
 use sym_enum::LabelSet;
 use sym_int::Span;
@@ -57,7 +57,7 @@ fn next_literal<'a>(
     let (args, rest) = values(alloc, argument_count(plan, test, parts), rest)?;
     let literal = Literal {
         test,
-        args: Values::of(args),
+        args,
         outcome,
     };
     Ok((literal, rest))

@@ -13,7 +13,7 @@ use crate::paths::chain;
 use crate::saved_err::SavedErr;
 use crate::values::values;
 use std::alloc::Global;
-use sym_base::{Key, Values};
+use sym_base::Key;
 use sym_check::{Checked, Plan};
 use sym_parse::print;
 use sym_run::{Chain, RunGroups, Saved};
@@ -26,7 +26,6 @@ fn key<'a>(alloc: Global, plan: &Plan, bytes: &'a [u8]) -> Result<(Key, &'a [u8]
     let rest = after(b"key", bytes)?;
     let (values, rest) = values(alloc, plan.group.len(), rest)?;
     let rest = after(b"\n", rest)?;
-    let values = Values::of(values);
     Ok((Key { values }, rest))
 }
 

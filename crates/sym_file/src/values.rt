@@ -5,7 +5,7 @@ use crate::numbers::{after, below_8, nat, small};
 use crate::saved_err::SavedErr;
 use std::alloc::Global;
 use std::str;
-use sym_base::{Text, Value};
+use sym_base::{Text, Value, Values};
 
 /// Text after its number of bytes.
 #[tactic(auto, unfolding(crate::specs::Reading::counted_at))]
@@ -64,14 +64,10 @@ fn next_value(alloc: Global, bytes: &[u8]) -> Result<(Value, &[u8]), SavedErr>
 }
 
 /// So many values, each after a space.
-pub(crate) fn values(
-    alloc: Global,
-    count: usize,
-    bytes: &[u8],
-) -> Result<(Vec<Value>, &[u8]), SavedErr>
-    ensures { Gives (λ x. (x.0.items, x.1.now)) result (values_at count bytes.now) }
+pub(crate) fn values(alloc: Global, count: usize, bytes: &[u8]) -> Result<(Values, &[u8]), SavedErr>
+    ensures { Gives (λ x. (x.0, x.1.now)) result (values_at count bytes.now) }
 {
-    let mut values = Vec::with_capacity(alloc, count)?;
+    let mut values = Values::new(alloc);
     let mut rest = bytes;
     'values: for _ in 0..count {
         let (value, after) = next_value(alloc, rest)?;

@@ -5,4 +5,4 @@ use Rattle.sym_file.proofs.Loops.{with_front}
 use Rattle.sym_file.proofs.values.values.Given as goal
 
 abbrev pub invariant-values : goal.invariant-values
-invariant-values l = with_front l.values.items (many (apart value_at) (l.count - l.counter) l.rest) ≡ values_at l.count l.bytes
+invariant-values l = with_front l.values (many (apart value_at) (l.count - l.counter) l.rest) ≡ values_at l.count l.bytes
