@@ -7,6 +7,7 @@ pub mod Lawful
 pub mod Loops
 pub mod Made
 pub mod NumberTexts
+pub mod OneItem
 pub mod PartTexts
 pub mod PathTexts
 pub mod Read

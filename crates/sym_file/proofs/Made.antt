@@ -1,8 +1,9 @@
 -- What is made of plain parts is the one value with these parts.
-use Rattle.std.proofs.Common.{◌≡◌, ℕ, ◌<◌, ◌^◌, ℤ, Bool, true, false, cond, nat_lt, List, [], ◌∷◌, map, Option, Some, None, refl, sym, ap, ◌∙◌}
+use Rattle.std.proofs.Common.{◌≡◌, ℕ, ◌<◌, ◌^◌, ℤ, Bool, true, false, arith, cond, nat_lt, List, [], ◌∷◌, map, Option, Some, None, refl, sym, ap, ◌∙◌}
 use Rattle.std.proofs.lemmas.List.{length-map}
-use Rattle.std.specs.Prelude.{MatchOption, T, length}
-use Rattle.std.specs.FinMap.{len, len-entries, entries, entries-from_sorted, entries_sorted, from_sorted, is_sorted, same_entries_map}
+use Rattle.std.specs.Prelude.{IfOk, MatchOption, Result, Ok, Err, T, length}
+use Rattle.std.specs.FinMap as finite
+use Rattle.std.specs.FinMap.{empty, get, get-empty, len, len-entries, entries, entries-from_sorted, entries_sorted, from_sorted, is_sorted, same_entries_map}
 use Rattle.sym_base.specs.Limits.{IsNumber, is_number}
 use Rattle.sym_enum.specs.declared.label_set.LabelSet.{LabelSet}
 use Rattle.sym_enum.proofs.Sets.{same_number as same_set}
@@ -15,10 +16,10 @@ use Rattle.sym_int.proofs.CallersLemmas.{same_line}
 use Rattle.sym_int.specs.declared.form.Number.{Number}
 use Rattle.sym_int.specs.declared.span.Span.{Span}
 use Rattle.sym_pred.specs.Facts.{Atom, FactMap, atom_cmp}
-use Rattle.sym_pred.specs.Literals.{entry_of, literal_of, literals}
+use Rattle.sym_pred.specs.Literals.{atom_of, entry_of, literal_of, literals}
 use Rattle.sym_pred.specs.Places.{IsInOrder}
 use Rattle.sym_pred.specs.declared.literal.Literal.{Literal}
-use Rattle.sym_pred.proofs.FactsLemmas.{literals-from_sorted}
+use Rattle.sym_pred.proofs.FactsLemmas.{facts-longer, from_sorted-nil, literals-from_sorted}
 use Rattle.sym_file.specs.Making.{facts_of, line_of, line_with, made, number_of, set_of, span_of}
 use Rattle.sym_file.proofs.Codecs.{kept, some_is}
 use Rattle.sym_file.specs.Deciding.{are_ends, are_of_line, below_decided, ends_decided, line_decided, number_decided}
@@ -196,6 +197,18 @@ pub line_found : (c : ℕ) (a b : ℤ) (r : Option Line) → MatchOption r (AreO
 line_found c a b None h = sym (no_line c a b h)
 line_found c a b (Some l) h =
     sym (ap (λ (k : ℕ). line_of k a b) (sym h.0) ∙ ap (λ (x : ℤ). line_of l.cell x b) (sym h.1) ∙ ap (line_of l.cell l.a) (sym h.2) ∙ line_again l)
+
+-- The facts of one literal are the map with its entry alone.
+one_found : (l : Literal) (f : FactMap) → f ≡ finite.insert empty (atom_of l) l.outcome → facts_of (l ∷ []) ≡ Some f
+unfolding facts_of
+one_found l f is = ap Some (facts-longer [] l 0 tt (omega arith, refl, λ o. refl) ∙ ap (λ (e : FactMap). finite.insert e (atom_of l) l.outcome) from_sorted-nil ∙ sym is)
+
+pub none_yet : (f : FactMap) (a : Atom) → f ≡ empty → get f a ≡ None
+none_yet f a e = ap (λ (g : FactMap). get g a) e ∙ get-empty atom_cmp a
+
+pub one_made : {E : Type 0} (l : Literal) (f : FactMap) (r : Result FactMap E) → f ≡ empty → IfOk r (λ g. g ≡ finite.insert f (atom_of l) l.outcome) → IfOk r (λ g. facts_of (l ∷ []) ≡ Some g)
+one_made l f (Ok g) e h = one_found l g (h ∙ ap (λ (m : FactMap). finite.insert m (atom_of l) l.outcome) e)
+one_made l f (Err x) e h = tt
 
 pub facts_found : (ls : List Literal) (r : Option FactMap) → MatchOption r (¬ (IsInOrder ls)) (λ facts. literals facts ≡ ls) → r ≡ facts_of ls
 facts_found ls None h = sym (no_facts ls h)

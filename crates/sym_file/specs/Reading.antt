@@ -191,13 +191,18 @@ span_at bytes = do
   span ← span_of lo.0 hi.0
   Some (part.Span span, hi.1)
 
+-- So many literals, which are facts.
+abbrev pub facts_in : ScriptPlan → ℕ → ℕ → List ℕ → Read Part
+facts_in p parts count bytes = do
+  literals ← many (apart (literal_at p parts)) count bytes
+  known ← facts_of literals.0
+  Some (part.Facts known, literals.1)
+
 unfoldable pub facts_at : ScriptPlan → ℕ → List ℕ → Read Part
 facts_at p parts bytes = do
   rest ← after (codes "f") bytes
   n ← nat_at rest
-  literals ← many (apart (literal_at p parts)) n.0 n.1
-  known ← facts_of literals.0
-  Some (part.Facts known, literals.1)
+  facts_in p parts n.0 n.1
 
 abbrev pub free_at : List ℕ → Read Part
 free_at bytes = after (codes "v") bytes >>= λ rest. Some (part.Free, rest)
@@ -310,6 +315,13 @@ listed_at word item bytes = do
 
 unfoldable pub segment_at : ScriptPlan → List ℕ → Read (List Path)
 segment_at p bytes = listed_at (codes "segment ") (path_at p) bytes
+
+-- So many segments, of which there is one at least.
+abbrev pub chain_in : ScriptPlan → ℕ → List ℕ → Read (List (List Path))
+chain_in p count bytes = do
+  segments ← many (segment_at p) count bytes
+  chain ← chain_of segments.0
+  Some (chain, segments.1)
 
 unfoldable pub chain_at : ScriptPlan → List ℕ → Read (List (List Path))
 chain_at p bytes = do

@@ -1,14 +1,14 @@
 //! Reading what is known of the cells.
-ghost use Rattle.std.specs.Prelude.{◌≡◌, slice_get};
+ghost use Rattle.std.specs.Prelude.{◌≡◌, ◌∷◌, [], IfOk, Some, slice_get};
 ghost use Rattle.sym_check.specs.Plan.ScriptPlans.{script_plan};
 ghost use Rattle.sym_file.specs.Making.{facts_of, set_of, span_of};
-ghost use Rattle.sym_file.specs.Reading.{Gives, apart, arguments_in, each, facts_at, free_at, literal_at, many, outcome_at, part_at, set_at, span_at};
+ghost use Rattle.sym_file.specs.Reading.{Gives, apart, arguments_in, each, facts_at, facts_in, free_at, literal_at, many, outcome_at, part_at, set_at, span_at};
 
 use crate::numbers::{after, below_16, nat, rest_after, small};
 use crate::saved_err::SavedErr;
 use crate::values::values;
 use std::alloc::Global;
-use sym_base::Sequence;
+use sym_base::{NoMemory, Sequence};
 use sym_check::{CellPlan, Plan};
 use sym_enum::LabelSet;
 use sym_int::Span;
@@ -139,6 +139,49 @@ fn facts_of(literals: Vec<Literal>) -> Option<Facts>
     Facts::of(literals)
 }
 
+/// The facts of one literal, which lies inline.
+fn facts_of_one(alloc: Global, literal: Literal) -> Result<Facts, NoMemory>
+    ensures { IfOk result (λ facts. facts_of (literal ∷ []) ≡ Some facts) }
+{
+    Facts::none(alloc).with(literal)
+}
+
+/// Facts of one literal, after a space.
+fn one_fact<'a>(
+    alloc: Global,
+    plan: &Plan,
+    parts: usize,
+    bytes: &'a [u8],
+) -> Result<(Part, &'a [u8]), SavedErr>
+    ensures { Gives (λ x. (x.0, x.1.now)) result
+        (facts_in (script_plan plan.now) parts 1 bytes.now) }
+{
+    let (literal, rest) = next_literal(alloc, plan, parts, bytes)?;
+    let facts = facts_of_one(alloc, literal)?;
+    Ok((Part::Facts(facts), rest))
+}
+
+/// Facts of so many literals, each after a space.
+fn facts_in<'a>(
+    alloc: Global,
+    plan: &Plan,
+    parts: usize,
+    count: u128,
+    bytes: &'a [u8],
+) -> Result<(Part, &'a [u8]), SavedErr>
+    ensures { Gives (λ x. (x.0, x.1.now)) result
+        (facts_in (script_plan plan.now) parts count bytes.now) }
+{
+    if count == 1 {
+        return one_fact(alloc, plan, parts, bytes);
+    }
+    let (literals, rest) = literals(alloc, plan, parts, count, bytes)?;
+    match facts_of(literals) {
+        Some(facts) => Ok((Part::Facts(facts), rest)),
+        None => Err(SavedErr::Malformed),
+    }
+}
+
 /// Facts on a hold cell of so many parts.
 #[tactic(auto, unfolding(crate::specs::Reading::facts_at))]
 fn facts<'a>(
@@ -152,11 +195,7 @@ fn facts<'a>(
 {
     let rest = after(b"f", bytes)?;
     let (count, rest) = nat(rest)?;
-    let (literals, rest) = literals(alloc, plan, parts, count, rest)?;
-    match facts_of(literals) {
-        Some(facts) => Ok((Part::Facts(facts), rest)),
-        None => Err(SavedErr::Malformed),
-    }
+    facts_in(alloc, plan, parts, count, rest)
 }
 
 fn free(bytes: &[u8]) -> Result<(Part, &[u8]), SavedErr>

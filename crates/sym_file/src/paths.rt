@@ -1,7 +1,7 @@
 //! Reading paths, segments and chains.
 ghost use Rattle.std.specs.Prelude.{◌≡◌, codes};
 ghost use Rattle.sym_check.specs.Plan.ScriptPlans.{script_plan};
-ghost use Rattle.sym_file.specs.Reading.{Gives, arith_at, chain_at, end_at, listed_at, many, next_at, over_at, path_at, segment_at};
+ghost use Rattle.sym_file.specs.Reading.{Gives, arith_at, chain_at, chain_in, end_at, listed_at, many, next_at, over_at, path_at, segment_at};
 
 use crate::forms::forms;
 use crate::numbers::{after, below_16, below_64, nat};
@@ -119,6 +119,39 @@ fn segments<'a>(
     Ok((segments, rest))
 }
 
+/// A chain of one segment.
+fn one_segment<'a>(
+    alloc: Global,
+    plan: &Plan,
+    bytes: &'a [u8],
+) -> Result<(Chain, &'a [u8]), SavedErr>
+    ensures { Gives (λ x. (x.0, x.1.now)) result (chain_in (script_plan plan.now) 1 bytes.now) }
+{
+    let (segment, rest) = segment(alloc, plan, bytes)?;
+    let chain = Chain::one(alloc, segment)?;
+    Ok((chain, rest))
+}
+
+/// A chain of so many segments.
+fn chain_in<'a>(
+    alloc: Global,
+    plan: &Plan,
+    count: u128,
+    bytes: &'a [u8],
+) -> Result<(Chain, &'a [u8]), SavedErr>
+    ensures { Gives (λ x. (x.0, x.1.now)) result
+        (chain_in (script_plan plan.now) count bytes.now) }
+{
+    if count == 1 {
+        return one_segment(alloc, plan, bytes);
+    }
+    let (segments, rest) = segments(alloc, plan, count, bytes)?;
+    match Chain::of(segments) {
+        Some(chain) => Ok((chain, rest)),
+        None => Err(SavedErr::Malformed),
+    }
+}
+
 /// A chain, of one segment or more.
 #[tactic(auto, unfolding(crate::specs::Reading::chain_at, crate::specs::Reading::listed_at))]
 pub(crate) fn chain<'a>(
@@ -131,9 +164,5 @@ pub(crate) fn chain<'a>(
     let rest = after(b"chain ", bytes)?;
     let (count, rest) = nat(rest)?;
     let rest = after(b"\n", rest)?;
-    let (segments, rest) = segments(alloc, plan, count, rest)?;
-    match Chain::of(segments) {
-        Some(chain) => Ok((chain, rest)),
-        None => Err(SavedErr::Malformed),
-    }
+    chain_in(alloc, plan, count, rest)
 }
