@@ -13,7 +13,7 @@ use Rattle.sym_plain.specs.Pairs.{HaveDistinctKeys, has_key}
 use Rattle.sym_run.specs.Runs.{added}
 use Rattle.sym_run.specs.declared.saved.Saved.{Saved}
 use Rattle.sym_run.proofs.GroupPuts.{new_key}
-use Rattle.sym_file.specs.Reading.{◌>>=◌, after, at_end, below_at, body_at, chain_at, group_at, groups_at, key_at, nat_at, script_at, values_at}
+use Rattle.sym_file.specs.Reading.{◌>>=◌, after, at_end, below_at, body_at, chain_at, group_at, groups_at, head_at, key_at, nat_at, script_at, values_at}
 use Rattle.sym_file.specs.Texts.{body_text, chain_text, group_text, head_text, key_text, line_end, listed, spaced, value_text}
 use Rattle.sym_file.proofs.Codecs.{AreMany, Ends, Few, Takes, after_again, after_takes, bound, few_after, fewer, grouped_3, grouped_6, kept_not, some_is}
 use Rattle.sym_file.proofs.NumberTexts.{nat_again, nat_takes}
@@ -226,9 +226,29 @@ module _ (p : ScriptPlan) where
       let text : bytes ≡ body_text made = read ∙ ap (λ (bs : List ℕ). codes "first " ++ (decimal first ++ (codes "\nnext " ++ (decimal next ++ (codes "\ngroups " ++ bs))))) g.text ∙ sym (regrouped_body first next g.groups) in
       subst (λ (s : Saved). (bytes ≡ body_text s) × IsBodyRead s) g.is (text, record { first = small_first; next = small_next; many = g.many; each = g.each })
 
+  step_in : {A B C : Type 0} (r : Option A) (f : A → Option B) (g : B → Option C) (h : A → Option C) → ((x : A) → h x ≡ (f x >>= g)) → (r >>= h) ≡ ((r >>= f) >>= g)
+  step_in (Some x) f g h e = e x
+  step_in None f g h e = refl
+
+  -- What is read of the body after its head.
+  abbrev pub rest_of : (ℕ × ℕ × ℕ) × List ℕ → Option Saved
+  rest_of h = groups_at p h.0.2 [] h.1 >>= λ gs. after (codes "end\n") gs.1 >>= λ r. at_end (record { first = h.0.0; next = h.0.1; groups = gs.0 }) r
+
+  -- What is read of the body, in one row of steps.
+  body_steps : (bytes : List ℕ) → (after (codes "first ") bytes >>= λ r. below_at (2 ^ 64) r >>= λ f. after (codes "\nnext ") f.1 >>= λ r. below_at (2 ^ 64) r >>= λ x. after (codes "\ngroups ") x.1 >>= λ r. groups_at_end f.0 x.0 r) ≡ body_at p bytes
+  unfolding body_at head_at
+  body_steps bytes =
+      step_in (after (codes "first ") bytes) _ rest_of _ (λ a.
+      step_in (below_at (2 ^ 64) a) _ rest_of _ (λ f.
+      step_in (after (codes "\nnext ") f.1) _ rest_of _ (λ b.
+      step_in (below_at (2 ^ 64) b) _ rest_of _ (λ x.
+      step_in (after (codes "\ngroups ") x.1) _ rest_of _ (λ c.
+      step_in (nat_at c) _ rest_of _ (λ n.
+      step_in (after line_end n.1) _ rest_of _ (λ d. refl)))))))
+
   pub body_takes : (bytes : List ℕ) (saved : Saved) → Few bytes → body_at p bytes ≡ Some saved → (bytes ≡ body_text saved) × IsBodyRead saved
-  unfolding body_at
-  body_takes bytes saved few e =
+  body_takes bytes saved few read_to =
+      let e = body_steps bytes ∙ read_to in
       let a = bound (after (codes "first ") bytes) (λ r. below_at (2 ^ 64) r >>= λ f. after (codes "\nnext ") f.1 >>= λ r. below_at (2 ^ 64) r >>= λ x. after (codes "\ngroups ") x.1 >>= λ r. groups_at_end f.0 x.0 r) saved e in
       let b = bound (below_at (2 ^ 64) a.0) (λ f. after (codes "\nnext ") f.1 >>= λ r. below_at (2 ^ 64) r >>= λ x. after (codes "\ngroups ") x.1 >>= λ r. groups_at_end f.0 x.0 r) saved a.2 in
       let c = bound (after (codes "\nnext ") b.0.1) (λ r. below_at (2 ^ 64) r >>= λ x. after (codes "\ngroups ") x.1 >>= λ r. groups_at_end b.0.0 x.0 r) saved b.2 in
@@ -250,7 +270,7 @@ module _ (p : ScriptPlan) where
 
   pub body_again : (saved : Saved) → saved.first < 2 ^ 64 → saved.next < 2 ^ 64 → length saved.groups < 2 ^ 64 → HaveDistinctKeys saved.groups → All IsGroupRead saved.groups
       → body_at p (body_text saved) ≡ Some saved
-  unfolding body_at body_text
+  unfolding body_at head_at body_text
   body_again saved first next few distinct each =
       let tail : List ℕ = flat_map group_text saved.groups ++ codes "end\n" in
       let plain : body_text saved ≡ codes "first " ++ (decimal saved.first ++ (line_end ++ (codes "next " ++ (decimal saved.next ++ (line_end ++ (codes "groups " ++ (decimal (length saved.groups) ++ (line_end ++ tail)))))))) = regrouped_body saved.first saved.next saved.groups in

@@ -16,9 +16,8 @@ use Rattle.sym_run.specs.Runs.{added}
 use Rattle.sym_run.specs.SavedRuns.{IsLawfulGroup, IsLawfulSaved}
 use Rattle.sym_run.specs.declared.saved.Saved.{Saved}
 use Rattle.sym_run.proofs.GroupPuts.{all_split}
-use Rattle.sym_file.specs.Reading.{Fails, ◌>>=◌, after, at_end, below_at, body_at, group_at, groups_at, nat_at, script_at}
-use Rattle.sym_file.specs.Texts.{line_end}
-use Rattle.sym_file.specs.TakenTexts.{AreGroupsLed, IsBodyLed, IsTextOf, LeadsBody, LeadsText, Pairs, Stops, head_at}
+use Rattle.sym_file.specs.Reading.{Fails, ◌>>=◌, after, at_end, body_at, group_at, groups_at, head_at, script_at}
+use Rattle.sym_file.specs.TakenTexts.{AreGroupsLed, IsBodyLed, IsTextOf, LeadsBody, LeadsText, Pairs, Stops}
 use Rattle.sym_file.specs.Totals.{IsTaken, led_through, taken, taken_on}
 use Rattle.sym_file.specs.declared.leading.Led.{Led}
 use Rattle.sym_file.specs.declared.leading.Led.TheVariants as led
@@ -27,7 +26,7 @@ use Rattle.sym_file.specs.declared.saved_err.SavedErr.TheVariants as error
 use Rattle.sym_file.specs.declared.totals.Taken.{Taken}
 use Rattle.sym_file.specs.declared.totals.Taken.TheVariants.{Done, Gap}
 use Rattle.sym_file.proofs.Codecs.{after_takes, bound, some_is}
-use Rattle.sym_file.proofs.Groups.{Group, ended, with_added}
+use Rattle.sym_file.proofs.Groups.{Group, ended, rest_of, with_added}
 use Rattle.sym_file.proofs.Loops.{groups_done, groups_go_on, groups_stop, key_twice}
 use Rattle.sym_file.proofs.Read.{lawful_one, saved_read, script_is, stored_one, whole_read}
 
@@ -194,23 +193,9 @@ module _ (p : ScriptPlan) where
               }
 
   -- ---- the parts of a text
-  step_in : {A B C : Type 0} (r : Option A) (f : A → Option B) (g : B → Option C) (h : A → Option C) → ((x : A) → h x ≡ (f x >>= g)) → (r >>= h) ≡ ((r >>= f) >>= g)
-  step_in (Some x) f g h e = e x
-  step_in None f g h e = refl
-
-  abbrev rest_of : (ℕ × ℕ × ℕ) × List ℕ → Option Saved
-  rest_of h = groups_at p h.0.2 [] h.1 >>= λ gs. after (codes "end\n") gs.1 >>= λ r. at_end (record { first = h.0.0; next = h.0.1; groups = gs.0 }) r
-
-  body_is : (bytes : List ℕ) → body_at p bytes ≡ (head_at bytes >>= rest_of)
-  unfolding body_at head_at
-  body_is bytes =
-      step_in (after (codes "first ") bytes) _ rest_of _ (λ a.
-      step_in (below_at (2 ^ 64) a) _ rest_of _ (λ f.
-      step_in (after (codes "\nnext ") f.1) _ rest_of _ (λ b.
-      step_in (below_at (2 ^ 64) b) _ rest_of _ (λ x.
-      step_in (after (codes "\ngroups ") x.1) _ rest_of _ (λ c.
-      step_in (nat_at c) _ rest_of _ (λ n.
-      step_in (after line_end n.1) _ rest_of _ (λ d. refl)))))))
+  body_is : (bytes : List ℕ) → body_at p bytes ≡ (head_at bytes >>= rest_of p)
+  unfolding body_at
+  body_is bytes = refl
 
   at_last : (saved : Saved) → (after (codes "end\n") (codes "end\n") >>= λ r. at_end saved r) ≡ Some saved
   unfolding after
@@ -220,13 +205,13 @@ module _ (p : ScriptPlan) where
     pub no_head : (e : SavedErr) → (wanted : ℕ) → Fails e (head_at bytes) → Stops e ((saved : Saved) → body_at p bytes ≡ Some saved → IsLawfulSaved p saved → saved.first ≢ wanted)
     no_head error.OtherScript wanted f = absurd f
     no_head error.Malformed wanted f = λ saved read lawful.
-        let none : body_at p bytes ≡ None = body_is bytes ∙ ap (λ (h : Option ((ℕ × ℕ × ℕ) × List ℕ)). h >>= rest_of) f in
+        let none : body_at p bytes ≡ None = body_is bytes ∙ ap (λ (h : Option ((ℕ × ℕ × ℕ) × List ℕ)). h >>= rest_of p) f in
         absurd (cc (none, read))
     no_head error.NoMemory wanted f = tt
 
     module _ (first next count : ℕ) (rest : List ℕ) (head : head_at bytes ≡ Some ((first, next, count), rest)) where
-      body_of : body_at p bytes ≡ rest_of ((first, next, count), rest)
-      body_of = body_is bytes ∙ ap (λ (h : Option ((ℕ × ℕ × ℕ) × List ℕ)). h >>= rest_of) head
+      body_of : body_at p bytes ≡ rest_of p ((first, next, count), rest)
+      body_of = body_is bytes ∙ ap (λ (h : Option ((ℕ × ℕ × ℕ) × List ℕ)). h >>= rest_of p) head
 
       -- What a saved run has that is read.
       record IsBody (saved : Saved) : Type 0 where

@@ -365,9 +365,9 @@ abbrev pub at_end : Saved → List ℕ → Option Saved
 at_end saved [] = Some saved
 at_end saved (b ∷ bytes) = None
 
--- The saved run, all of the bytes.
-unfoldable pub body_at : ScriptPlan → List ℕ → Option Saved
-body_at p bytes = do
+-- The numbers of the first record, of the one after the last, and of the groups.
+unfoldable pub head_at : List ℕ → Read (ℕ × ℕ × ℕ)
+head_at bytes = do
   rest ← after (codes "first ") bytes
   first ← below_at (2 ^ 64) rest
   rest ← after (codes "\nnext ") first.1
@@ -375,6 +375,12 @@ body_at p bytes = do
   rest ← after (codes "\ngroups ") next.1
   n ← nat_at rest
   rest ← after line_end n.1
-  groups ← groups_at p n.0 [] rest
+  Some ((first.0, next.0, n.0), rest)
+
+-- The saved run, all of the bytes.
+unfoldable pub body_at : ScriptPlan → List ℕ → Option Saved
+body_at p bytes = do
+  head ← head_at bytes
+  groups ← groups_at p head.0.2 [] head.1
   rest ← after (codes "end\n") groups.1
-  at_end (record { first = first.0; next = next.0; groups = groups.0 }) rest
+  at_end (record { first = head.0.0; next = head.0.1; groups = groups.0 }) rest

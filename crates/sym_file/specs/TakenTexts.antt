@@ -1,5 +1,5 @@
 -- What the saved run of a text leads totals to, where its groups are taken while they are read.
-use Rattle.std.specs.Prelude.{◌≡◌, ◌≢◌, ℕ, ◌^◌, List, [], Option, Some, None, Result, Ok, Err, codes}
+use Rattle.std.specs.Prelude.{◌≡◌, ◌≢◌, ℕ, List, [], Option, Some, None, Result, Ok, Err}
 use Rattle.std.specs.List.{All}
 use Rattle.sym_base.specs.declared.values.value.Key.{Key}
 use Rattle.sym_base.specs.declared.values.state.Outcome.{Outcome}
@@ -8,10 +8,9 @@ use Rattle.sym_path.specs.declared.path.Path.{Path}
 use Rattle.sym_plain.specs.Pairs.{HaveDistinctKeys}
 use Rattle.sym_run.specs.SavedRuns.{IsLawfulGroup, IsLawfulSaved}
 use Rattle.sym_run.specs.declared.saved.Saved.{Saved}
-use Rattle.sym_file.specs.Reading.{◌>>=◌, Read, after, below_at, body_at, groups_at, nat_at}
+use Rattle.sym_file.specs.Reading.{body_at, groups_at}
 use Rattle.sym_file.specs.SavedTexts.{IsReadTo, IsSaved}
 use Rattle.sym_file.specs.Stored.{IsStored}
-use Rattle.sym_file.specs.Texts.{line_end}
 use Rattle.sym_file.specs.Totals.{taken}
 use Rattle.sym_file.specs.declared.saved_err.SavedErr.{SavedErr}
 use Rattle.sym_file.specs.declared.saved_err.SavedErr.TheVariants as error
@@ -73,18 +72,6 @@ IfTextDone text.Apart P = Unit {0}
 IfTextDone (text.Gap group) P = Unit {0}
 
 -- ---- the parts of a text
-
--- The numbers of the first record, of the one after the last, and of the groups.
-unfoldable pub head_at : List ℕ → Read (ℕ × ℕ × ℕ)
-head_at bytes = do
-  rest ← after (codes "first ") bytes
-  first ← below_at (2 ^ 64) rest
-  rest ← after (codes "\nnext ") first.1
-  next ← below_at (2 ^ 64) rest
-  rest ← after (codes "\ngroups ") next.1
-  n ← nat_at rest
-  rest ← after line_end n.1
-  Some ((first.0, next.0, n.0), rest)
 
 -- This is so, unless memory ran out.
 abbrev pub Stops : SavedErr → Type 0 → Type 0

@@ -3,11 +3,9 @@ ghost use Rattle.std.specs.Prelude.{◌≡◌, ◌↔◌, ◌≤◌, IfOk, IsTru
 ghost use Rattle.sym_base.specs.declared.limits.TheConstants as limit;
 ghost use Rattle.sym_check.specs.Checking.CheckedScripts.{checked_plan};
 ghost use Rattle.sym_run.specs.Applying.{AreValid};
-ghost use Rattle.sym_file.specs.Reading.{Gives};
-ghost use Rattle.sym_file.specs.TakenTexts.{LeadsBody, LeadsGroups, LeadsText, head_at};
+ghost use Rattle.sym_file.specs.TakenTexts.{LeadsBody, LeadsGroups, LeadsText};
 
-use crate::numbers::{after, below_64, nat};
-use crate::reading::{group, script};
+use crate::reading::{group, head, script};
 use crate::saved_err::SavedErr;
 use crate::totals::take_group;
 use indexmap::IndexSet;
@@ -22,21 +20,6 @@ pub(crate) enum Led {
     Done(u64),
     /// The chain of this group, counted from 0, has no path for how the group stands.
     Gap(u64),
-}
-
-/// The numbers of the first record, of the record after the last, and of the groups.
-#[tactic(auto, unfolding(crate::specs::TakenTexts::head_at))]
-fn head(bytes: &[u8]) -> Result<((u64, u64, u128), &[u8]), SavedErr>
-    ensures { Gives (λ x. (x.0, x.1.now)) result (head_at bytes.now) }
-{
-    let rest = after(b"first ", bytes)?;
-    let (first, rest) = below_64(rest)?;
-    let rest = after(b"\nnext ", rest)?;
-    let (next, rest) = below_64(rest)?;
-    let rest = after(b"\ngroups ", rest)?;
-    let (count, rest) = nat(rest)?;
-    let rest = after(b"\n", rest)?;
-    Ok(((first, next, count), rest))
 }
 
 /// The fewest bytes of a group, less one.

@@ -3,7 +3,7 @@ ghost use Rattle.std.specs.Prelude.{◌≡◌, ◌≤◌, [], IfOk, length};
 ghost use Rattle.sym_base.specs.declared.limits.TheConstants as limit;
 ghost use Rattle.sym_check.specs.Checking.CheckedScripts.{checked_plan};
 ghost use Rattle.sym_check.specs.Plan.ScriptPlans.{script_plan};
-ghost use Rattle.sym_file.specs.Reading.{Gives, at_end, body_at, group_at, groups_at, key_at, script_at};
+ghost use Rattle.sym_file.specs.Reading.{Gives, at_end, body_at, group_at, groups_at, head_at, key_at, script_at};
 ghost use Rattle.sym_file.specs.SavedTexts.{IsReadAs, IsReadTo, IsSaved, printed};
 ghost use Rattle.sym_file.specs.Stored.{IsStored};
 ghost use Rattle.sym_run.specs.declared.saved.Saved.{Saved as OneSaved};
@@ -80,6 +80,21 @@ pub(crate) fn script(bytes: &[u8]) -> Result<(&[u8], &[u8]), SavedErr>
     Ok(rest.split_at(count as usize))
 }
 
+/// The numbers of the first record, of the record after the last, and of the groups.
+#[tactic(auto, unfolding(crate::specs::Reading::head_at))]
+pub(crate) fn head(bytes: &[u8]) -> Result<((u64, u64, u128), &[u8]), SavedErr>
+    ensures { Gives (λ x. (x.0, x.1.now)) result (head_at bytes.now) }
+{
+    let rest = after(b"first ", bytes)?;
+    let (first, rest) = below_64(rest)?;
+    let rest = after(b"\nnext ", rest)?;
+    let (next, rest) = below_64(rest)?;
+    let rest = after(b"\ngroups ", rest)?;
+    let (count, rest) = nat(rest)?;
+    let rest = after(b"\n", rest)?;
+    Ok(((first, next, count), rest))
+}
+
 /// The saved run, with which the bytes end.
 fn at_end(saved: Saved, rest: &[u8]) -> Result<Saved, SavedErr>
     ensures { Gives (λ run. run) result (at_end saved rest.now) }
@@ -95,13 +110,7 @@ fn at_end(saved: Saved, rest: &[u8]) -> Result<Saved, SavedErr>
 fn body(alloc: Global, plan: &Plan, bytes: &[u8]) -> Result<Saved, SavedErr>
     ensures { Gives (λ saved. saved) result (body_at (script_plan plan.now) bytes.now) }
 {
-    let rest = after(b"first ", bytes)?;
-    let (first, rest) = below_64(rest)?;
-    let rest = after(b"\nnext ", rest)?;
-    let (next, rest) = below_64(rest)?;
-    let rest = after(b"\ngroups ", rest)?;
-    let (count, rest) = nat(rest)?;
-    let rest = after(b"\n", rest)?;
+    let ((first, next, count), rest) = head(bytes)?;
     let (groups, rest) = groups(alloc, plan, count, rest)?;
     let rest = after(b"end\n", rest)?;
     let saved = Saved {

@@ -3,7 +3,8 @@ use Rattle.std.proofs.lemmas.Result.{err_from_is_err_and}
 use Rattle.std.specs.Cmp.Lexicographic.{bytes_decides}
 use Rattle.sym_check.specs.Checking.CheckedScripts.{checked_plan}
 use Rattle.sym_check.specs.Plan.ScriptPlans.{ScriptPlan}
-use Rattle.sym_file.specs.TakenTexts.{GroupsLead, head_at}
+use Rattle.sym_file.specs.Reading.{head_at}
+use Rattle.sym_file.specs.TakenTexts.{GroupsLead}
 use Rattle.sym_file.proofs.TakenTexts.{gap_led, no_end, no_groups, no_head, not_begun, whole_led}
 use Rattle.sym_file.proofs.leading.lead_body.Goals as goal
 
