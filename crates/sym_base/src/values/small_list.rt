@@ -373,7 +373,12 @@ impl<T: PartialEq> PartialEq for SmallList<T> {
     ghost laws = { lists_per T.laws };
 
     fn eq(&self, other: &SmallList<T>) -> bool {
-        self.items.as_slice() == other.items.as_slice()
+        let items = self.items.as_slice();
+        let others = other.items.as_slice();
+        if items.len() == 1 && others.len() == 1 {
+            return items[0] == others[0];
+        }
+        items == others
     }
 }
 
