@@ -1,11 +1,14 @@
 -- Pairs with distinct keys, as the map keeps them.
-use Rattle.std.proofs.Common.{◌≡◌, ◌∙◌, ap, sym, refl, Bool, true, false, cond, ◌||◌, if◌then◌else◌, List, [], ◌∷◌, ◌++◌, map, Option, Some, None, is_some}
-use Rattle.std.specs.List.{AllByRecursion}
-use Rattle.std.specs.Map.{keys_of, lookup, set_value}
+use Rattle.std.proofs.Common.{◌≡◌, ◌∙◌, ℕ, zero, suc, ap, sym, refl, subst, Bool, true, false, cond, ◌||◌, if◌then◌else◌, List, [], ◌∷◌, ◌++◌, map, get_or, Option, Some, None, is_some}
+use Rattle.std.specs.Prelude.{IfSome, slice_get}
+use Rattle.std.specs.List.{AllByRecursion, IsDistinct, position}
+use Rattle.std.specs.Map.{keys_of, lookup, set_value, values_of}
+use Rattle.std.proofs.lemmas.List.Quantifiers.{position-Some}
 use Rattle.std.proofs.lemmas.Map.{NonePasses}
 use Rattle.std.proofs.lemmas.Map.Entries.{none_past_head}
 use Rattle.std.proofs.lemmas.Map.Made.{is_some-lookup}
 use Rattle.std.proofs.lemmas.Map.Keys.{IsDistinct-head, IsDistinct-tail}
+use Rattle.std.proofs.lemmas.Option.{slice_get-get_or}
 use Rattle.indexmap.specs.IndexMap.{insert_entry}
 use Rattle.sym_base.specs.declared.values.value.Key.{Key}
 use Rattle.sym_base.specs.declared.values.state.Outcome.{Outcome}
@@ -14,8 +17,8 @@ use Rattle.sym_base.specs.declared.values.state.Outcome.TheVariants.{Going}
 use Rattle.sym_check.specs.Meaning.Groups.{is_key}
 use Rattle.sym_check.specs.Plan.ScriptPlans.{ScriptPlan}
 use Rattle.sym_check.specs.Meaning.Updates.{initial, step}
-use Rattle.sym_check.proofs.Keys.{keys_equiv}
-use Rattle.sym_plain.specs.Pairs.{HaveDistinctKeys, has_key, put, standing, stepped}
+use Rattle.sym_check.proofs.Keys.{equal_keys, keys_equiv, same_key}
+use Rattle.sym_plain.specs.Pairs.{HaveDistinctKeys, has_key, put, put_by_index, standing, stepped}
 use Rattle.sym_plain.proofs.Puts.{at_key}
 
 module _ {V : Type 0} where
@@ -80,6 +83,56 @@ module _ {V : Type 0} where
       ap (λ (b : Bool). if b then map (at_key key now) pairs else pairs ++ (key, now) ∷ [])
       (sym (is_some-lookup (is_key key) pairs) ∙ ap is_some none)
 
+-- ---- by an index
+-- The key at the first index that has it.
+pub indexed-key : (keys : List Key) (key : Key) (found : Option ℕ) → found ≡ position (is_key key) keys → IfSome found (λ i. slice_get keys i ≡ Some key)
+indexed-key keys key None is = tt
+indexed-key keys key (Some i) is =
+    let h = position-Some (is_key key) keys i key (sym is) in
+    slice_get-get_or keys i key h.0 ∙ ap Some (sym (equal_keys key (get_or keys i key) h.1))
+
+-- What holds of all keys holds of the one at an index.
+pub at-index : (P : Key → Type 0) (keys : List Key) (index : ℕ) (key : Key) → AllByRecursion P keys → slice_get keys index ≡ Some key → P key
+at-index P [] index key h at = absurd cc
+at-index P (k ∷ keys) zero key h at = let same : k ≡ key = cc in subst P same h.0
+at-index P (k ∷ keys) (suc index) key h at = at-index P keys index key h.1 at
+
+module _ {V : Type 0} where
+  -- What is set at an index changes no key.
+  indexed-keys : (pairs : List (Key × V)) (index : ℕ) (now : V) → keys_of (put_by_index pairs index now) ≡ keys_of pairs
+  indexed-keys [] index now = refl
+  indexed-keys (p ∷ rest) zero now = refl
+  indexed-keys (p ∷ rest) (suc index) now = ap (λ ks. p.0 ∷ ks) (indexed-keys rest index now)
+
+  pub indexed-apart : (pairs : List (Key × V)) (index : ℕ) (now : V) → HaveDistinctKeys pairs → HaveDistinctKeys (put_by_index pairs index now)
+  indexed-apart pairs index now apart = subst (IsDistinct is_key) (sym (indexed-keys pairs index now)) apart
+
+  -- A pair before the one with the key has another key.
+  unlike-head : (p : Key × V) (rest : List (Key × V)) (key : Key) (index : ℕ) → HaveDistinctKeys (p ∷ rest) → slice_get (keys_of rest) index ≡ Some key → is_key key p.0 ≡ false
+  unlike-head p rest key index apart at =
+      keys_equiv.symm key p.0 ∙ at-index (λ k. is_key p.0 k ≡ false) (keys_of rest) index key (IsDistinct-head is_key p.0 (keys_of rest) apart) at
+
+  -- What is set at the index of a key is put for it,
+  pub indexed-put : (pairs : List (Key × V)) (key : Key) (index : ℕ) (now : V) → HaveDistinctKeys pairs → slice_get (keys_of pairs) index ≡ Some key → put_by_index pairs index now ≡ put pairs key now
+  indexed-put [] key index now apart at = absurd cc
+  indexed-put (p ∷ rest) key zero now apart at =
+      let same : p.0 ≡ key = cc in
+      put_here p rest key now apart (ap (is_key key) same ∙ same_key key)
+  indexed-put (p ∷ rest) key (suc index) now apart at =
+      ap (λ ps. p ∷ ps) (indexed-put rest key index now (IsDistinct-tail is_key p.0 (keys_of rest) apart) at)
+      ∙ put_past p rest key now (unlike-head p rest key index apart at)
+
+  -- and what is there is what the key has.
+  pub indexed-lookup : (pairs : List (Key × V)) (key : Key) (index : ℕ) → HaveDistinctKeys pairs → slice_get (keys_of pairs) index ≡ Some key → lookup (is_key key) pairs ≡ slice_get (values_of pairs) index
+  indexed-lookup [] key index apart at = absurd cc
+  indexed-lookup (p ∷ rest) key zero apart at =
+      let same : p.0 ≡ key = cc in
+      ap (λ (b : Bool). cond b (Some p.1) (lookup (is_key key) rest)) (ap (is_key key) same ∙ same_key key)
+  indexed-lookup (p ∷ rest) key (suc index) apart at =
+      ap (λ (b : Bool). cond b (Some p.1) (lookup (is_key key) rest)) (unlike-head p rest key index apart at)
+      ∙ indexed-lookup rest key index (IsDistinct-tail is_key p.0 (keys_of rest) apart) at
+
+-- ---- groups
 -- A new group makes its first step,
 pub begun : (p : ScriptPlan) (key : Key) (rec : Record) (pairs : List (Key × Outcome)) → HaveDistinctKeys pairs → lookup (is_key key) pairs ≡ None → insert_entry is_key pairs key (step p (Going (initial p)) rec) ≡ stepped p key rec pairs
 begun p key rec pairs apart none =

@@ -1,7 +1,8 @@
 -- Groups as a list of pairs: each key with how its group stands, or with another value of its own.
-use Rattle.std.specs.Prelude.{◌≡◌, Bool, true, false, List, [], ◌∷◌, ◌++◌, map, Option, Some, None, if◌then◌else◌}
+use Rattle.std.specs.Prelude.{◌≡◌, ℕ, Bool, true, false, List, [], ◌∷◌, ◌++◌, map, Option, Some, None, if◌then◌else◌}
 use Rattle.std.specs.List.{IsDistinct}
 use Rattle.std.specs.Map.{keys_of, lookup}
+use Rattle.indexmap.specs.IndexMap.{set_value_at}
 use Rattle.sym_base.specs.declared.values.value.Key.{Key}
 use Rattle.sym_base.specs.declared.values.record.Record.{Record}
 use Rattle.sym_base.specs.declared.values.state.Outcome.{Outcome}
@@ -23,6 +24,10 @@ put pairs key now =
     if has_key pairs key
     then map (λ p. if is_key key p.0 then (p.0, now) else p) pairs
     else pairs ++ (key, now) ∷ []
+
+-- The value at this index becomes this one; all else stays.
+abbrev pub put_by_index : {V : Type 0} → List (Key × V) → ℕ → V → List (Key × V)
+put_by_index pairs index now = set_value_at pairs index now
 
 -- How a group stands; one that isn't there begins with the initial state.
 abbrev pub standing : ScriptPlan → Option Outcome → Outcome

@@ -1,7 +1,7 @@
 //! How groups stand, in order of their keys' first appearance.
-ghost use Rattle.std.specs.Prelude.{◌≡◌, ◌++◌, ◌∷◌, [], None, IsTrue, IfOk, OnOk, OnErr, length, slice_get};
+ghost use Rattle.std.specs.Prelude.{◌≡◌, ◌++◌, ◌∷◌, [], None, Some, IsTrue, IfOk, IfSome, OnOk, OnErr, is_some, length, slice_get};
 ghost use Rattle.std.specs.List.{list_all};
-ghost use Rattle.std.specs.Map.{lookup};
+ghost use Rattle.std.specs.Map.{keys_of, lookup, values_of};
 ghost use Rattle.std.specs.Map.Iter.{deref_pair};
 ghost use Rattle.std.specs.Option.{option_map, option_copied, option_copied_mut};
 ghost use Rattle.sym_check.specs.Meaning.Conditions.{has_fixed_body};
@@ -131,7 +131,7 @@ impl Model for Groups {
 
 impl Groups {
     ghost use Rattle.std.specs.Borrow.{sem};
-    ghost use Rattle.sym_plain.specs.Lending.{lends_outcome};
+    ghost use Rattle.sym_plain.specs.Lending.{lends_outcome, lends_outcome_at};
 
     /// No groups. It takes no memory.
     pub fn new(alloc: Global) -> Groups
@@ -195,6 +195,25 @@ impl Groups {
     {
         self.map.insert(key, outcome)?;
         Ok(())
+    }
+
+    /// The index of the group with this key, counted from 0; `None` exactly where there is no such
+    /// group. It stays the index of that group, since groups keep their order.
+    pub fn index_of(&self, key: &Key) -> Option<usize>
+        ensures index { IfSome result (λ i. slice_get (keys_of self.now) i ≡ Some key.now) }
+        ensures found { is_some result ≡ is_some (lookup (is_key key.now) self.now) }
+        ensures distinct { HaveDistinctKeys self.now }
+    {
+        self.map.get_index_of(key)
+    }
+
+    /// The outcome of the group at `index`, counted from 0, which can be written; `None` exactly
+    /// where `index >= len`.
+    pub fn outcome_at_mut(&mut self, index: usize) -> Option<&mut Outcome>
+        ensures* writes_back { sem 𝓛 (lends_outcome_at self.entry index result) }
+        ensures outcome { option_copied_mut result ≡ slice_get (values_of self.old) index }
+    {
+        self.map.get_index_mut(index)
     }
 
     /// Equal groups of their own.
