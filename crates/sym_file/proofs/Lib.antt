@@ -6,6 +6,7 @@ pub mod Groups
 pub mod Lawful
 pub mod Loops
 pub mod Made
+pub mod Marks
 pub mod NumberTexts
 pub mod OneItem
 pub mod PartTexts

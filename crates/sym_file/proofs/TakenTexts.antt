@@ -1,21 +1,24 @@
 -- The groups of a text, taken while they are read.
 use Rattle.std.proofs.Common.{◌≡◌, ◌≢◌, ◌∙◌, ℕ, zero, suc, ◌+◌, ◌-◌, ◌<◌, ◌≤◌, ◌^◌, refl, sym, ap, subst, arith, Bool, true, false, cond, not, List, [], ◌∷◌, ◌++◌, append_assoc, length, Option, Some, None, Result, Ok, Err, codes}
-use Rattle.std.proofs.lemmas.List.{append-nil, length-map}
+use Rattle.std.proofs.lemmas.List.{append-nil, length-map, length_push}
 use Rattle.std.proofs.lemmas.List.Elements.{All-nil, All-push}
+use Rattle.std.proofs.lemmas.Map.Keys.{IsDistinct-push}
 use Rattle.std.specs.List.{All, IsDistinct}
 use Rattle.std.specs.Map.{keys_of, lookup}
 use Rattle.sym_base.specs.declared.values.value.Key.{Key}
 use Rattle.sym_base.specs.declared.values.state.Outcome.{Outcome}
 use Rattle.sym_check.specs.Meaning.Conditions.{test_truth}
 use Rattle.sym_check.specs.Meaning.Groups.{is_among, is_key}
+use Rattle.sym_check.proofs.Keys.{keys_equiv}
 use Rattle.sym_check.specs.Plan.ScriptPlans.{ScriptPlan}
 use Rattle.sym_check.specs.Plan.WellFormed.{IsWellFormed}
 use Rattle.sym_path.specs.declared.path.Path.{Path}
-use Rattle.sym_plain.specs.Pairs.{put, standing}
+use Rattle.sym_plain.specs.Pairs.{HaveDistinctKeys, put, standing}
 use Rattle.sym_run.specs.Runs.{added}
 use Rattle.sym_run.specs.SavedRuns.{IsLawfulGroup, IsLawfulSaved}
 use Rattle.sym_run.specs.declared.saved.Saved.{Saved}
 use Rattle.sym_run.proofs.GroupPuts.{all_split}
+use Rattle.sym_file.specs.Marks.{AreMarks, IsTakenOnce}
 use Rattle.sym_file.specs.Reading.{Fails, ◌>>=◌, after, at_end, body_at, group_at, groups_at, head_at, script_at}
 use Rattle.sym_file.specs.TakenTexts.{AreGroupsLed, IsBodyLed, IsTextOf, LeadsBody, LeadsText, Pairs, Stops}
 use Rattle.sym_file.specs.Totals.{IsTaken, led_through, taken, taken_on}
@@ -27,6 +30,7 @@ use Rattle.sym_file.specs.declared.totals.Taken.{Taken}
 use Rattle.sym_file.specs.declared.totals.Taken.TheVariants.{Done, Gap}
 use Rattle.sym_file.proofs.Codecs.{after_takes, bound, some_is}
 use Rattle.sym_file.proofs.Groups.{Group, ended, rest_of, with_added}
+use Rattle.sym_file.proofs.Marks.{seen_few}
 use Rattle.sym_file.proofs.Loops.{groups_done, groups_go_on, groups_stop, key_twice}
 use Rattle.sym_file.proofs.Read.{lawful_one, saved_read, script_is, stored_one, whole_read}
 
@@ -38,18 +42,9 @@ keys_last : (groups : List Group) (key : Key) (chain : List (List Path)) → key
 keys_last [] key chain = refl
 keys_last (g ∷ groups) key chain = ap (λ (ks : List Key). g.0 ∷ ks) (keys_last groups key chain)
 
--- What is added to a set of keys, and whether it is new.
-pub was_there : (there new : Bool) → new ≡ not there → new ≡ false → there ≡ true
-was_there true new e f = refl
-was_there false new e f = absurd cc
-
-pub is_fresh : (there new : Bool) → new ≡ not there → new ≡ true → there ≡ false
-is_fresh true new e f = absurd cc
-is_fresh false new e f = refl
-
-pub with_key : (there : Bool) (keys more : List Key) (key : Key) → more ≡ cond there keys (keys ++ key ∷ []) → there ≡ false → more ≡ keys ++ key ∷ []
-with_key true keys more key e f = absurd cc
-with_key false keys more key e f = e
+no_keys : IsDistinct is_key []
+unfolding IsDistinct
+no_keys = tt
 
 module _ (p : ScriptPlan) where
   abbrev led_of : Key → List (List Path) → Pairs → Option Outcome
@@ -113,25 +108,27 @@ module _ (p : ScriptPlan) where
       )
 
   module _ (first next count : ℕ) (bytes : List ℕ) (old : Pairs) where
-    -- Groups that were read are lawful and distinct, and have led the totals on.
-    pub record IsLeading (i : ℕ) (seen : List Key) (rest : List ℕ) (now : Pairs) : Type 0 where
+    -- Groups that were read are lawful and distinct, have led the totals on, and are marked.
+    pub record IsLeading (i : ℕ) (rest : List ℕ) (now : Pairs) (marks : List Bool) : Type 0 where
       pub groups : List Group
       pub reads : groups_at p (count - i) groups rest ≡ groups_at p count [] bytes
-      pub keys : keys_of groups ≡ seen
-      pub distinct : IsDistinct is_key seen
+      pub many : length groups ≡ i
+      pub distinct : HaveDistinctKeys groups
       pub each : All (IsLawfulGroup p first next) groups
       pub led : taken p 0 groups old ≡ Done now
+      pub marked : AreMarks (keys_of groups) now marks
 
-    pub begins : (seen : List Key) → seen ≡ [] → IsDistinct is_key seen → IsLeading 0 seen bytes old
-    begins seen none distinct =
+    pub begins : (marks : List Bool) → AreMarks [] old marks → IsLeading 0 bytes old marks
+    begins marks none =
         let whole : count - 0 ≡ count = omega arith in
         record {
           groups = [];
           reads = ap (λ (n : ℕ). groups_at p n [] bytes) whole;
-          keys = sym none;
-          distinct = distinct;
+          many = refl;
+          distinct = no_keys;
           each = All-nil (IsLawfulGroup p first next);
           led = refl;
+          marked = none;
         }
 
     -- No lawful groups are read.
@@ -141,13 +138,20 @@ module _ (p : ScriptPlan) where
     not_read : groups_at p count [] bytes ≡ None → NoLawful
     not_read none groups end read each = absurd (cc (none, read))
 
-    module _ (i : ℕ) (seen : List Key) (rest : List ℕ) (now : Pairs) (is : IsLeading i seen rest now) where
+    module _ (i : ℕ) (rest : List ℕ) (now : Pairs) (marks : List Bool) (is : IsLeading i rest now marks) where
+      -- The groups that were read are no more than the marks.
+      pub index_small : length marks < 2 ^ 64 → i < 2 ^ 64
+      index_small h =
+          let few = seen_few (keys_of is.groups) now marks is.marked in
+          let many : length (keys_of is.groups) ≡ i = length-map is.groups (λ (g : Group). g.0) ∙ is.many in
+          omega (arith, h, few, many)
+
       pub is_done : count ≤ i → AreGroupsLed p first next count bytes old now rest
       is_done past = record {
         groups = is.groups;
         read = groups_done p count i is.groups rest (groups_at p count [] bytes) past is.reads;
         each = is.each;
-        distinct = subst (IsDistinct is_key) (sym is.keys) is.distinct;
+        distinct = is.distinct;
         led = is.led;
       }
 
@@ -163,33 +167,32 @@ module _ (p : ScriptPlan) where
               let more = next_of count i is.groups bytes rest key chain after groups end within one is.reads read in
               none (all_split (IsLawfulGroup p first next) is.groups (key, chain) more.0 (subst (All (IsLawfulGroup p first next)) more.1 each))
 
-          pub is_gap : led_of key chain now ≡ None → (groups : List Group) (end : List ℕ) → groups_at p count [] bytes ≡ Some (groups, end) → taken p 0 groups old ≡ Gap (length seen)
+          pub is_gap : led_of key chain now ≡ None → (groups : List Group) (end : List ℕ) → groups_at p count [] bytes ≡ Some (groups, end) → taken p 0 groups old ≡ Gap i
           is_gap none groups end read =
               let more = next_of count i is.groups bytes rest key chain after groups end within one is.reads read in
-              let many : length is.groups ≡ length seen = sym (length-map is.groups (λ (g : Group). g.0)) ∙ ap length is.keys in
               ap (λ (gs : List Group). taken p 0 gs old) more.1
               ∙ one_gap_at is.groups key chain old now is.led more.0 none
-              ∙ ap Gap many
+              ∙ ap Gap is.many
 
-          pub seen_twice : is_among key seen ≡ true → NoLawful
-          seen_twice there =
-              let again : is_among key (keys_of is.groups) ≡ true = ap (is_among key) is.keys ∙ there in
+          pub named_twice : is_among key (keys_of is.groups) ≡ true → NoLawful
+          named_twice again =
               not_read (key_twice p count i is.groups rest (groups_at p count [] bytes) key chain after within one
               (ap (λ (b : Bool). cond b None (Some (is.groups ++ (key, chain) ∷ []))) again) is.reads)
 
-          pub leads_on : (more : List Key) (new : Pairs) → IsLawfulGroup p first next (key, chain) → IsTaken key now (led_of key chain now) true new → is_among key seen ≡ false → more ≡ seen ++ key ∷ [] → IsDistinct is_key more
-              → IsLeading (i + 1) more after new
-          leads_on more new lawful took apart longer distinct =
-              let fresh : is_among key (keys_of is.groups) ≡ false = ap (is_among key) is.keys ∙ apart in
+          pub leads_on : (new : Pairs) (more : List Bool) → IsLawfulGroup p first next (key, chain) → IsTakenOnce (keys_of is.groups) key now (led_of key chain now) (Some true) new more
+              → IsLeading (i + 1) after new more
+          leads_on new more lawful h =
+              let longer : keys_of (is.groups ++ (key, chain) ∷ []) ≡ keys_of is.groups ++ key ∷ [] = keys_last is.groups key chain in
               record {
                 groups = is.groups ++ (key, chain) ∷ [];
                 reads =
                     groups_go_on p count i is.groups rest (groups_at p count [] bytes) key chain after (is.groups ++ (key, chain) ∷ []) within one
-                    (ap (λ (b : Bool). cond b None (Some (is.groups ++ (key, chain) ∷ []))) fresh) is.reads;
-                keys = keys_last is.groups key chain ∙ ap (λ (ks : List Key). ks ++ key ∷ []) is.keys ∙ sym longer;
-                distinct = distinct;
+                    (ap (λ (b : Bool). cond b None (Some (is.groups ++ (key, chain) ∷ []))) h.0) is.reads;
+                many = length_push is.groups (key, chain) ∙ ap (λ (n : ℕ). n + 1) is.many;
+                distinct = subst (IsDistinct is_key) (sym longer) (IsDistinct-push keys_equiv (keys_of is.groups) key is.distinct h.0);
                 each = All-push (IsLawfulGroup p first next) is.groups (key, chain) is.each lawful;
-                led = one_more is.groups key chain old now is.led new took;
+                led = one_more is.groups key chain old now is.led new h.1;
+                marked = subst (λ (ks : List Key). AreMarks ks new more) (sym longer) h.2;
               }
 
   -- ---- the parts of a text

@@ -1,12 +1,14 @@
 -- Groups that are led through the chains of saved runs.
-use Rattle.std.proofs.Common.{◌≡◌, ◌∙◌, ℕ, zero, suc, ◌+◌, ◌<◌, ◌≤◌, refl, sym, ap, subst, arith, Bool, true, false, cond, List, [], ◌∷◌, ◌++◌, drop, length, map, get_or, Option, Some, None}
+use Rattle.std.proofs.Common.{◌≡◌, ◌∙◌, ℕ, zero, suc, ◌+◌, ◌<◌, ◌≤◌, refl, sym, ap, subst, arith, Bool, true, false, cond, List, [], ◌∷◌, ◌++◌, drop, length, map, get_or, is_some, Option, Some, None}
 use Rattle.std.specs.Prelude.{IfOk, Result, option_and_then, slice_get}
 use Rattle.std.specs.List.{All}
-use Rattle.std.specs.Map.{keys_of, lookup}
+use Rattle.std.specs.Map.{keys_of, lookup, values_of}
 use Rattle.std.proofs.lemmas.List.{drop_all}
 use Rattle.std.proofs.lemmas.Option.{get_or_from_slice_get, slice_get_within}
-use Rattle.std.proofs.lemmas.List.Elements.{All-head, All-tail, All-weaker}
+use Rattle.std.proofs.lemmas.Result.{IfOk-weaker}
+use Rattle.std.proofs.lemmas.List.Elements.{All-cons, All-head, All-tail, All-weaker}
 use Rattle.sym_base.specs.Tests.{Truth}
+use Rattle.sym_base.specs.declared.values.memory.NoMemory.{NoMemory}
 use Rattle.sym_base.specs.declared.values.value.Key.{Key}
 use Rattle.sym_base.specs.declared.values.record.Record.{Record}
 use Rattle.sym_base.specs.declared.values.state.State.{State}
@@ -31,8 +33,9 @@ use Rattle.sym_path.proofs.Decided.{admits_decided}
 use Rattle.sym_path.proofs.OnlyOutcomes.{only_outcome}
 use Rattle.sym_check.proofs.Keys.{same_key}
 use Rattle.sym_check.proofs.PlanLaws.{after_append, ended_stays}
-use Rattle.sym_plain.specs.Pairs.{after_keys, after_records, put, standing}
+use Rattle.sym_plain.specs.Pairs.{HaveDistinctKeys, after_keys, after_records, put, put_by_index, standing}
 use Rattle.sym_plain.proofs.Apart.{groups_apart}
+use Rattle.sym_plain.proofs.Pairs.{indexed-lookup, indexed-put}
 use Rattle.sym_run.specs.Applying.{AreValid}
 use Rattle.sym_run.specs.Chains.{ChainFits, ChainStandsFor}
 use Rattle.sym_run.specs.Runs.{GroupsStandFor}
@@ -40,7 +43,7 @@ use Rattle.sym_run.specs.SavedRuns.{IsLawfulGroup, IsLawfulPath, IsLawfulSegment
 use Rattle.sym_run.proofs.GroupPuts.{absent_key, all_found, all_put}
 use Rattle.sym_file.specs.declared.totals.Taken.{Taken}
 use Rattle.sym_file.specs.declared.totals.Taken.TheVariants.{Done, Gap}
-use Rattle.sym_file.specs.Totals.{IsLed, IsTaken, IsTakenThere, first_of, led_by, led_through, taken, taken_on}
+use Rattle.sym_file.specs.Totals.{IsLed, IsTaken, first_of, led_by, led_through, taken, taken_on}
 use Rattle.sym_file.proofs.Loops.{left_from}
 
 -- ---- the first path for a state
@@ -166,21 +169,55 @@ module _ (p : ScriptPlan) (key : Key) (chain : List (List Path)) (old : List (Ke
   pub begun_not : (s : State) (now : Outcome) → s ≡ initial p → IsLed false now (led_through (test_truth p.tests) chain (Going s)) → led_through (test_truth p.tests) chain (standing p None) ≡ None
   begun_not s now is h = sym (ap (λ (t : State). led_through (test_truth p.tests) chain (Going t)) is) ∙ h
 
-  pub begun_taken : (s : State) (now : Outcome) (copy : Key) (new : List (Key × Outcome)) → s ≡ initial p → lookup (is_key key) old ≡ None → copy ≡ key
-      → led_through (test_truth p.tests) chain (Going s) ≡ Some now → new ≡ old ++ (copy, now) ∷ [] → IsTaken key old (led_through (test_truth p.tests) chain (standing p None)) true new
-  begun_taken s now copy new is none same led more =
-      (now, sym (ap (λ (t : State). led_through (test_truth p.tests) chain (Going t)) is) ∙ led, more ∙ ap (λ (k : Key). old ++ (k, now) ∷ []) same ∙ put_new key old now none)
+  pub begun_taken : (s : State) (now : Outcome) (new : List (Key × Outcome)) → s ≡ initial p → lookup (is_key key) old ≡ None
+      → led_through (test_truth p.tests) chain (Going s) ≡ Some now → new ≡ old ++ (key, now) ∷ [] → IsTaken key old (led_through (test_truth p.tests) chain (standing p None)) true new
+  begun_taken s now new is none led more =
+      (now, sym (ap (λ (t : State). led_through (test_truth p.tests) chain (Going t)) is) ∙ led, more ∙ put_new key old now none)
 
-  pub there_taken : (b : Bool) (new : List (Key × Outcome)) → IsTakenThere (test_truth p.tests) chain key old (Some b) new
+  -- The group at an index has the key that is there.
+  pub taken_at : (index : ℕ) (before now : Outcome) (b : Bool) → HaveDistinctKeys old → Some before ≡ slice_get (values_of old) index → IsLed b now (led_through (test_truth p.tests) chain before)
+      → slice_get (keys_of old) index ≡ Some key → IsTaken key old (led_through (test_truth p.tests) chain (standing p (lookup (is_key key) old))) b (put_by_index old index now)
+  taken_at index before now b apart is led at =
+      let found : lookup (is_key key) old ≡ Some before = indexed-lookup old key index apart at ∙ sym is in
+      let here : IsTaken key old (led_through (test_truth p.tests) chain before) b (put old key now) = taken_by key old b now (led_through (test_truth p.tests) chain before) led in
+      subst (λ (new : List (Key × Outcome)). IsTaken key old (led_through (test_truth p.tests) chain (standing p (lookup (is_key key) old))) b new) (sym (indexed-put old key index now apart at))
+      (subst (λ (f : Option Outcome). IsTaken key old (led_through (test_truth p.tests) chain (standing p f)) b (put old key now)) (sym found) here)
+
+  pub new_taken : (b : Bool) (new : List (Key × Outcome)) → lookup (is_key key) old ≡ None → IsTaken key old (led_through (test_truth p.tests) chain (standing p None)) b new
       → IsTaken key old (led_through (test_truth p.tests) chain (standing p (lookup (is_key key) old))) b new
-  there_taken b new h = subst (λ (f : Option Outcome). IsTaken key old (led_through (test_truth p.tests) chain (standing p f)) b new) (sym h.1) h.2
+  new_taken b new none h = subst (λ (f : Option Outcome). IsTaken key old (led_through (test_truth p.tests) chain (standing p f)) b new) (sym none) h
 
-  pub new_taken : {E : Type 0} (r : Result Bool E) (mid new : List (Key × Outcome)) → lookup (is_key key) old ≡ None → mid ≡ old
-      → IfOk r (λ b. IsTaken key mid (led_through (test_truth p.tests) chain (standing p None)) b new)
+  pub copy_taken : (r : Result Bool NoMemory) (copy : Key) (new : List (Key × Outcome)) → copy ≡ key → lookup (is_key key) old ≡ None
+      → IfOk r (λ b. IsTaken copy old (led_through (test_truth p.tests) chain (standing p None)) b new)
       → IfOk r (λ b. IsTaken key old (led_through (test_truth p.tests) chain (standing p (lookup (is_key key) old))) b new)
-  new_taken r mid new none same h =
-      subst (λ (f : Option Outcome). IfOk r (λ b. IsTaken key old (led_through (test_truth p.tests) chain (standing p f)) b new)) (sym none)
-      (subst (λ (m : List (Key × Outcome)). IfOk r (λ b. IsTaken key m (led_through (test_truth p.tests) chain (standing p None)) b new)) same h)
+  copy_taken r copy new same none h =
+      IfOk-weaker r (λ b. IsTaken copy old (led_through (test_truth p.tests) chain (standing p None)) b new) (λ b. IsTaken key old (led_through (test_truth p.tests) chain (standing p (lookup (is_key key) old))) b new)
+      (λ b t. new_taken b new none (subst (λ (k : Key). IsTaken k old (led_through (test_truth p.tests) chain (standing p None)) b new) same t)) h
+
+pub not_found : (found : Option Outcome) → false ≡ is_some found → found ≡ None
+not_found None e = refl
+not_found (Some o) e = absurd cc
+
+-- ---- a group by its index
+pub nothing_there : (key : Key) (groups : List (Key × Outcome)) (index : ℕ) → slice_get (keys_of groups) index ≡ Some key → None ≡ slice_get (values_of groups) index → ⊥
+nothing_there key [] index at none = absurd cc
+nothing_there key (g ∷ groups) zero at none = absurd cc
+nothing_there key (g ∷ groups) (suc index) at none = nothing_there key groups index at none
+
+pub valid_at : (p : ScriptPlan) (groups : List (Key × Outcome)) (index : ℕ) (o : Outcome) → AreValid p groups → Some o ≡ slice_get (values_of groups) index → IsValidOutcome p o
+valid_at p [] index o h at = absurd cc
+valid_at p (g ∷ groups) zero o h at =
+    let same : g.1 ≡ o = cc in
+    subst (IsValidOutcome p) same (All-head (λ (group : Key × Outcome). IsValidOutcome p group.1) g groups h)
+valid_at p (g ∷ groups) (suc index) o h at = valid_at p groups index o (All-tail (λ (group : Key × Outcome). IsValidOutcome p group.1) g groups h) at
+
+pub valid_set : (p : ScriptPlan) (groups : List (Key × Outcome)) (index : ℕ) (o : Outcome) → AreValid p groups → IsValidOutcome p o → AreValid p (put_by_index groups index o)
+valid_set p [] index o h v = h
+valid_set p (g ∷ groups) zero o h v =
+    All-cons (λ (group : Key × Outcome). IsValidOutcome p group.1) (g.0, o) groups v (All-tail (λ (group : Key × Outcome). IsValidOutcome p group.1) g groups h)
+valid_set p (g ∷ groups) (suc index) o h v =
+    All-cons (λ (group : Key × Outcome). IsValidOutcome p group.1) g (put_by_index groups index o) (All-head (λ (group : Key × Outcome). IsValidOutcome p group.1) g groups h)
+    (valid_set p groups index o (All-tail (λ (group : Key × Outcome). IsValidOutcome p group.1) g groups h) v)
 
 -- The chain of a lawful group fits the script.
 pub chain_fits : (p : ScriptPlan) (first next : ℕ) (groups : List (Key × List (List Path))) (index : ℕ) (key : Key) (chain : List (List Path)) → All (IsLawfulGroup p first next) groups → slice_get groups index ≡ Some (key, chain) → ChainFits p chain

@@ -1,5 +1,6 @@
 pub mod Deciding
 pub mod Making
+pub mod Marks
 pub mod Reading
 pub mod SavedTexts
 pub mod Stored

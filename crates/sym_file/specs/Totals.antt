@@ -54,14 +54,6 @@ IsTaken key old led true new =
     (outcome : Outcome) × (led ≡ Some outcome) × (new ≡ put old key outcome)
 IsTaken key old led false new = led ≡ None
 
--- The same where there may be no group with the key, and then nothing was done.
-abbrev pub IsTakenThere : Truth → List (List Path) → Key → List (Key × Outcome) → Option Bool
-    → List (Key × Outcome) → Type 0
-IsTakenThere truth chain key old None new = (lookup (is_key key) old ≡ None) × (new ≡ old)
-IsTakenThere truth chain key old (Some led) new =
-    (before : Outcome) × (lookup (is_key key) old ≡ Some before)
-    × IsTaken key old (led_through truth chain before) led new
-
 -- What was answered, by the first gap, or by none and the groups.
 abbrev pub taken_to : Option ℕ → List (Key × Outcome) → Taken
 taken_to None totals = Done totals

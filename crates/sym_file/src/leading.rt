@@ -1,18 +1,26 @@
 //! Taking the groups of a text while they are read: no saved run is made of it.
-ghost use Rattle.std.specs.Prelude.{◌≡◌, ◌↔◌, ◌≤◌, IfOk, IsTrue, length};
+ghost use Rattle.std.specs.Prelude.{◌≡◌, ◌↔◌, ◌≤◌, List, IfOk, IsTrue, length};
+ghost use Rattle.std.specs.Map.{lookup};
 ghost use Rattle.sym_base.specs.declared.limits.TheConstants as limit;
+ghost use Rattle.sym_base.specs.declared.values.value.Key.{Key as OneKey};
 ghost use Rattle.sym_check.specs.Checking.CheckedScripts.{checked_plan};
+ghost use Rattle.sym_check.specs.Meaning.Conditions.{test_truth};
+ghost use Rattle.sym_check.specs.Meaning.Groups.{is_key};
+ghost use Rattle.sym_plain.specs.Pairs.{standing};
 ghost use Rattle.sym_run.specs.Applying.{AreValid};
+ghost use Rattle.sym_run.specs.Chains.{ChainFits};
+ghost use Rattle.sym_file.specs.Marks.{AreMarks, IsTakenOnce};
 ghost use Rattle.sym_file.specs.TakenTexts.{LeadsBody, LeadsGroups, LeadsText};
+ghost use Rattle.sym_file.specs.Totals.{led_through};
 
 use crate::reading::{group, head, script};
 use crate::saved_err::SavedErr;
-use crate::totals::take_group;
-use indexmap::IndexSet;
+use crate::totals::{begin, take_at};
 use std::alloc::Global;
+use sym_base::{Key, NoMemory};
 use sym_check::Checked;
 use sym_plain::Groups;
-use sym_run::is_lawful_group;
+use sym_run::{Chain, is_lawful_group};
 
 /// What taking the groups of a text came to.
 pub(crate) enum Led {
@@ -22,16 +30,39 @@ pub(crate) enum Led {
     Gap(u64),
 }
 
-/// The fewest bytes of a group, less one.
-const GROUP_BYTES: usize = 32;
-
-/// Room for the keys of so many groups, where there are so many bytes of them.
-fn room_for(count: u128, bytes: usize) -> usize {
-    let most = bytes / GROUP_BYTES;
-    if count < most as u128 {
-        count as usize
-    } else {
-        most
+/// Takes a group of a text; whether each segment of its chain has a path for how the group stands.
+/// `None` exactly where the text named the key before: the group at each index is marked where it
+/// did. Where all is taken, the group of this key is marked, too.
+fn take_once(
+    alloc: Global,
+    checked: &Checked,
+    groups: &mut Groups,
+    marks: &mut Vec<bool>,
+    key: Key,
+    chain: &Chain,
+) -> Result<Option<bool>, NoMemory>
+    requires fits { ChainFits (checked_plan checked.now) chain.now }
+    requires valid { AreValid (checked_plan checked.now) groups.old }
+    requires marks { length marks.old.items ≡ length groups.old }
+    ensures valid { IfOk result (λ led. AreValid (checked_plan checked.now) groups.new) }
+    ensures taken { (seen : List OneKey) → AreMarks seen groups.old marks.old.items →
+        IfOk result (λ led. IsTakenOnce seen key groups.old
+        (led_through (test_truth (checked_plan checked.now).tests) chain.now
+        (standing (checked_plan checked.now) (lookup (is_key key) groups.old)))
+        led groups.new marks.new.items) }
+{
+    match groups.index_of(&key) {
+        Some(index) => {
+            if marks[index] {
+                return Ok(None);
+            }
+            marks[index] = true;
+            Ok(Some(take_at(alloc, checked, groups, index, chain)?))
+        }
+        None => {
+            marks.push(true)?;
+            Ok(Some(begin(alloc, checked, groups, key, chain)?))
+        }
     }
 }
 
@@ -52,21 +83,18 @@ fn lead_groups<'a>(
         groups.old groups.new (λ x. (x.0, x.1.now)) result }
 {
     let plan = checked.plan();
-    let mut seen = IndexSet::with_capacity(alloc, room_for(count, bytes.len()))?;
+    let mut marks = vec![in alloc; false; groups.len()]?;
     let mut rest = bytes;
-    'groups: for _ in 0..count {
+    'groups: for index in 0..count {
         let ((key, chain), after) = group(alloc, plan, rest)?;
         let lawful = is_lawful_group(checked, first, next, &key, &chain);
         if !lawful {
             return Err(SavedErr::Malformed);
         }
-        let taken = take_group(alloc, checked, groups, &key, &chain)?;
-        if !taken {
-            return Ok((Some(seen.len() as u64), after));
-        }
-        let new = seen.insert(key)?;
-        if !new {
-            return Err(SavedErr::Malformed);
+        match take_once(alloc, checked, groups, &mut marks, key, &chain)? {
+            Some(true) => {}
+            Some(false) => return Ok((Some(index as u64), after)),
+            None => return Err(SavedErr::Malformed),
         }
         rest = after;
     }

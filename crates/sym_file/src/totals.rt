@@ -1,10 +1,11 @@
 //! The groups of saved runs, taken one after the other.
 ghost use Rattle.std.specs.Prelude.{◌≡◌, ◌≤◌, [], List, IfOk, None, Some, length, slice_get};
-ghost use Rattle.std.specs.Map.{lookup};
+ghost use Rattle.std.specs.Map.{keys_of, lookup};
 ghost use Rattle.std.specs.Map.Iter.{deref_pair};
 ghost use Rattle.std.specs.Option.{option_map};
 ghost use Rattle.sym_base.specs.declared.limits.TheConstants as limit;
 ghost use Rattle.sym_base.specs.declared.values.record.Record.{Record as OneRecord};
+ghost use Rattle.sym_base.specs.declared.values.value.Key.{Key as OneKey};
 ghost use Rattle.sym_check.specs.Checking.CheckedScripts.{checked_plan};
 ghost use Rattle.sym_check.specs.Meaning.Conditions.{test_truth};
 ghost use Rattle.sym_check.specs.Meaning.Groups.{is_key};
@@ -16,7 +17,7 @@ ghost use Rattle.sym_run.specs.Chains.{ChainFits};
 ghost use Rattle.sym_run.specs.SavedRuns.{IsLawfulSaved, SavedStandsFor};
 ghost use Rattle.sym_file.specs.SavedTexts.{printed};
 ghost use Rattle.sym_file.specs.TakenTexts.{IfTextDone, TakesText};
-ghost use Rattle.sym_file.specs.Totals.{IfDone, IsLed, IsTaken, IsTakenThere, led_by, led_through, taken, taken_to};
+ghost use Rattle.sym_file.specs.Totals.{IfDone, IsLed, IsTaken, led_by, led_through, taken, taken_to};
 ghost use Rattle.sym_file.specs.declared.totals.Taken.TheVariants.{Done};
 
 use crate::leading::{Led, lead_text};
@@ -123,40 +124,43 @@ fn lead_through(
     Ok(true)
 }
 
-/// Leads the group with this key through the chain; whether each segment has a path for it. `None`
-/// exactly where there is no such group.
-fn take_there(
+/// Leads the group at this index through the chain; whether each segment has a path for it.
+pub(crate) fn take_at(
     alloc: Global,
     checked: &Checked,
     groups: &mut Groups,
-    key: &Key,
-    chain: &Chain,
-) -> Result<Option<bool>, NoMemory>
-    requires fits { ChainFits (checked_plan checked.now) chain.now }
-    requires valid { AreValid (checked_plan checked.now) groups.old }
-    ensures valid { IfOk result (λ led. AreValid (checked_plan checked.now) groups.new) }
-    ensures taken { IfOk result (λ led. IsTakenThere (test_truth (checked_plan checked.now).tests)
-        chain.now key.now groups.old led groups.new) }
-{
-    match groups.outcome_mut(key) {
-        Some(outcome) => Ok(Some(lead_through(alloc, checked, chain, outcome)?)),
-        None => Ok(None),
-    }
-}
-
-/// A new group: the initial state, led through the chain; whether each segment has a path for it.
-fn begin(
-    alloc: Global,
-    checked: &Checked,
-    groups: &mut Groups,
-    key: &Key,
+    index: usize,
     chain: &Chain,
 ) -> Result<bool, NoMemory>
     requires fits { ChainFits (checked_plan checked.now) chain.now }
     requires valid { AreValid (checked_plan checked.now) groups.old }
-    requires new { lookup (is_key key.now) groups.old ≡ None }
+    requires distinct { HaveDistinctKeys groups.old }
     ensures valid { IfOk result (λ led. AreValid (checked_plan checked.now) groups.new) }
-    ensures taken { IfOk result (λ led. IsTaken key.now groups.old
+    ensures taken { (key : OneKey) → slice_get (keys_of groups.old) index ≡ Some key →
+        IfOk result (λ led. IsTaken key groups.old
+        (led_through (test_truth (checked_plan checked.now).tests) chain.now
+        (standing (checked_plan checked.now) (lookup (is_key key) groups.old)))
+        led groups.new) }
+{
+    match groups.outcome_at_mut(index) {
+        Some(outcome) => lead_through(alloc, checked, chain, outcome),
+        None => Ok(false),
+    }
+}
+
+/// A new group: the initial state, led through the chain; whether each segment has a path for it.
+pub(crate) fn begin(
+    alloc: Global,
+    checked: &Checked,
+    groups: &mut Groups,
+    key: Key,
+    chain: &Chain,
+) -> Result<bool, NoMemory>
+    requires fits { ChainFits (checked_plan checked.now) chain.now }
+    requires valid { AreValid (checked_plan checked.now) groups.old }
+    requires new { lookup (is_key key) groups.old ≡ None }
+    ensures valid { IfOk result (λ led. AreValid (checked_plan checked.now) groups.new) }
+    ensures taken { IfOk result (λ led. IsTaken key groups.old
         (led_through (test_truth (checked_plan checked.now).tests) chain.now
         (standing (checked_plan checked.now) None)) led groups.new) }
 {
@@ -167,13 +171,12 @@ fn begin(
     if !led {
         return Ok(false);
     }
-    let key = key.copy(alloc)?;
     groups.begin(alloc, key, outcome)?;
     Ok(true)
 }
 
 /// Takes a group; whether each segment of its chain has a path for how it stands.
-pub(crate) fn take_group(
+fn take_group(
     alloc: Global,
     checked: &Checked,
     groups: &mut Groups,
@@ -188,9 +191,9 @@ pub(crate) fn take_group(
         (standing (checked_plan checked.now) (lookup (is_key key.now) groups.old)))
         led groups.new) }
 {
-    match take_there(alloc, checked, groups, key, chain)? {
-        Some(led) => Ok(led),
-        None => begin(alloc, checked, groups, key, chain),
+    match groups.index_of(key) {
+        Some(index) => take_at(alloc, checked, groups, index, chain),
+        None => begin(alloc, checked, groups, key.copy(alloc)?, chain),
     }
 }
 

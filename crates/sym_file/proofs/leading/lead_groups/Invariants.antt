@@ -1,4 +1,4 @@
--- The groups that were read are lawful and distinct, and have led the totals on.
+-- The groups that were read are lawful and distinct, have led the totals on, and are marked.
 use Rattle.sym_check.specs.Checking.CheckedScripts.{checked_plan}
 use Rattle.sym_run.specs.Applying.{AreValid}
 use Rattle.sym_file.proofs.TakenTexts.{IsLeading}
@@ -7,5 +7,5 @@ use Rattle.sym_file.proofs.leading.lead_groups.Given as goal
 abbrev pub invariant-groups : goal.invariant-groups
 invariant-groups l = record {
   valid : AreValid (checked_plan l.checked) l.groups;
-  leading : IsLeading (checked_plan l.checked) l.first l.next l.count l.bytes l.fn.groups l.counter l.seen.keys l.rest l.groups;
+  leading : IsLeading (checked_plan l.checked) l.first l.next l.count l.bytes l.fn.groups l.index l.rest l.groups l.marks.items;
 }
