@@ -1,10 +1,11 @@
 #!/bin/sh
-# Measures `symple map` beside `symple run` over the same log, with 1 and 4 workers: the sessions of
-# 10 and of 98,304 users. Then `symple reduce` over 16 run files of 98,304 groups each, beside the
-# sequential pass over as many records as they have groups in sum, and beside a run with one worker
-# over the logs of which they are. What reduce writes is what run writes.
+# Measures `symple map` beside `symple run` over the same log, with 1 and 4 workers and with chunks
+# of 1,024 and 16,384 records: the sessions of 10 and of 98,304 users. Then `symple reduce` over 16
+# run files of 98,304 groups each, beside the sequential pass over as many records as they have
+# groups in sum, and beside a run with one worker over the logs of which they are. What reduce
+# writes is what run writes.
 # Each runs three times, in turn (TURNS sets another number). Prints the least wall time of each in
-# seconds, the memory of that run, and ratios: of map to run with as many workers, and of reduce to
+# seconds, the memory of that run, and ratios: of map to run with the same options, and of reduce to
 # the sequential pass and to the run. Of the sequential pass, sym_bench's, it is the processor time
 # of the pass over a log in memory, without file and report.
 # Last, the bytes of a run file for each group, and for each group beside its key: of the 16 files,
@@ -53,12 +54,14 @@ measure_sequential() {
         >>"$work/turns"
 }
 
-# Both commands over the log of so many users, with 1 and 4 workers.
+# Both commands over the log of so many users, with 1 and 4 workers and both sizes of chunks.
 measure_map() {
     for workers in 1 4; do
-        for command in run map; do
-            measure "$command-$1-$workers" "$command" --workers "$workers" \
-                --max-bytes $most_bytes "$script" "$work/log-$1.csv"
+        for chunk in 1024 16384; do
+            for command in run map; do
+                measure "$command-$1-$workers-$chunk" "$command" --workers "$workers" \
+                    --chunk $chunk --max-bytes $most_bytes "$script" "$work/log-$1.csv"
+            done
         done
     done
 }
@@ -113,8 +116,10 @@ done
 
 # What is measured is right.
 for size in 10 $users; do
-    "$symple" reduce --max-bytes $most_bytes "$script" "$work/map-$size-1.out" |
-        cmp - "$work/run-$size-1.out" || stop "reduce differs from run at $size users"
+    for chunk in 1024 16384; do
+        "$symple" reduce --max-bytes $most_bytes "$script" "$work/map-$size-1-$chunk.out" |
+            cmp - "$work/run-$size-1-$chunk.out" || stop "reduce differs from run at $size users"
+    done
 done
 cmp "$work/reduce-parts.out" "$work/run-parts.out" || stop "reduce differs from run over parts"
 
@@ -130,13 +135,17 @@ mawk '
     END {
         print "| Way | s | MiB | ratio |"
         print "|---|---|---|---|"
-        count = split("10 98304", sizes, " ")
-        for (i = 1; i <= count; i++)
-            for (workers = 1; workers <= 4; workers += 3) {
-                name = sizes[i] " users, " workers (workers == 1 ? " worker" : " workers")
-                row("run, " name, "run-" sizes[i] "-" workers, "")
-                row("map, " name, "map-" sizes[i] "-" workers, "run-" sizes[i] "-" workers)
-            }
+        split("10 98304", sizes, " ")
+        split("1024 16384", chunks, " ")
+        for (i = 1; i <= 2; i++)
+            for (workers = 1; workers <= 4; workers += 3)
+                for (k = 1; k <= 2; k++) {
+                    name = sizes[i] " users, " workers (workers == 1 ? " worker" : " workers")
+                    name = name ", chunks of " chunks[k]
+                    way = sizes[i] "-" workers "-" chunks[k]
+                    row("run, " name, "run-" way, "")
+                    row("map, " name, "map-" way, "run-" way)
+                }
         row("sequential pass over the parts", "sequential", "")
         row("run over the parts, 1 worker", "run-parts", "sequential")
         row("reduce over the parts", "reduce-parts", "sequential")

@@ -8,7 +8,8 @@
 #   (`CALL`: `CLAUSE`, `CLAUSE`);
 # - in a crate's README, docs/ARCHITECTURE.md, docs/DECISIONS.md and CONTRIBUTING.md, each single
 #   name in backticks, in the sources of some crate;
-# - in docs/CALLS.md each public call with its clauses, by calls.py beside this file.
+# - in docs/CALLS.md each public call with its clauses, by calls.py beside this file;
+# - each text that a mutant changes, on one line of its file.
 # The last line counts what was looked up and what is missing.
 # shellcheck disable=SC2016 # the backticks are those of the documents
 set -u
@@ -38,7 +39,7 @@ entries() {
 check_paths() {
     begins='crates|docs|examples|bench|checks|\.ci'
     case $1 in
-        crates/*) begins="$begins|src|specs|proofs|must-fail" ;;
+        crates/*) begins="$begins|src|specs|proofs|must-fail|mutants" ;;
     esac
     quoted "$1" | grep -E '^[A-Za-z0-9_./-]+$' | grep -E "^($begins)/" |
         grep -vE '(^|/)(NAME|out)(/|$)' >"$work/paths"
@@ -143,11 +144,12 @@ check_clauses() {
     done <"$work/entries"
 }
 
-# All words of the sources, the crates' names, the handles, and the directories at the top.
+# All words of the sources, the crates' names, the handles, and the directories at the top and of a
+# crate.
 {
     find crates -name out -prune -o -type f \( -name '*.rt' -o -name '*.antt' \) -exec cat {} +
     cat crates.txt HANDLES symple checks/*.c
-    ls
+    ls . crates/sym_base
 } | grep -oE '[A-Za-z_][A-Za-z0-9_]*' | sort -u >"$work/words"
 
 check_words() {
@@ -169,6 +171,26 @@ check_clauses README.md
 for document in docs/ARCHITECTURE.md docs/DECISIONS.md CONTRIBUTING.md crates/*/README.md; do
     check_words "$document"
 done
+
+# Each text that a mutant changes is on one line of its file, so that the mutant can be tried.
+check_mutants() {
+    for edit in crates/*/must-fail/*.edit crates/*/mutants/*.edit; do
+        crate=$(dirname "$(dirname "$edit")")
+        file=
+        while IFS= read -r line; do
+            case $line in
+                'file: '*) file=$crate/${line#file: } ;;
+                'old: '*)
+                    [ "$(grep -cF -e "${line#old: }" "$file")" = 1 ]
+                    note $? "$edit: not on one line of $file: ${line#old: }"
+                    ;;
+            esac
+        done <"$edit"
+        [ -n "$file" ]
+        note $? "$edit: it names no file"
+    done
+}
+check_mutants
 
 python3 "$here/calls.py"
 note $? "docs/CALLS.md: not the calls of the sources"

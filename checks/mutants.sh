@@ -1,0 +1,30 @@
+#!/bin/sh
+# Tries the mutants that the gate leaves out: those in `mutants` of these crates, or of all crates
+# that have such a folder. Each has to be refused. Run it where such a crate changes; it needs rt,
+# and 2 to 35 processor minutes a crate, beside the proof of the crates below it.
+# Usage: checks/mutants.sh [CRATE]...
+set -u
+
+# shellcheck source=checks/common.sh
+. "$(dirname "$0")/common.sh"
+cd "$root" || exit 1
+
+if [ $# -eq 0 ]; then
+    for folder in crates/*/mutants; do
+        crate=${folder%/mutants}
+        set -- "$@" "${crate#crates/}"
+    done
+fi
+
+# rt takes them from `must-fail`, so a link stands there while it runs.
+links=
+trap 'rm -rf "$work"; for link in $links; do rm -f "$link"; done' EXIT
+for crate in "$@"; do
+    if [ ! -d "crates/$crate/mutants" ]; then
+        echo "$check: $crate has no folder mutants" >&2
+        exit 2
+    fi
+    links="$links crates/$crate/must-fail"
+    ln -s mutants "crates/$crate/must-fail" || exit 1
+done
+rt must-fail "$@"
