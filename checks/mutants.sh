@@ -17,14 +17,15 @@ if [ $# -eq 0 ]; then
 fi
 
 # rt takes them from `must-fail`, so a link stands there while it runs.
-links=
-trap 'rm -rf "$work"; for link in $links; do rm -f "$link"; done' EXIT
+links=$work/links
+trap 'xargs rm -f <"$links"; rm -rf "$work"' EXIT
+: >"$links"
 for crate in "$@"; do
     if [ ! -d "crates/$crate/mutants" ]; then
         echo "$check: $crate has no folder mutants" >&2
         exit 2
     fi
-    links="$links crates/$crate/must-fail"
     ln -s mutants "crates/$crate/must-fail" || exit 1
+    echo "crates/$crate/must-fail" >>"$links"
 done
 rt must-fail "$@"
