@@ -25,6 +25,10 @@ for crate in "$@"; do
         echo "$check: $crate has no folder mutants" >&2
         exit 2
     fi
+    if [ -e "crates/$crate/must-fail" ]; then
+        echo "$check: $crate has a must-fail already" >&2
+        exit 2
+    fi
     ln -s mutants "crates/$crate/must-fail" || exit 1
     echo "crates/$crate/must-fail" >>"$links"
 done
