@@ -30,7 +30,7 @@ trap 'exit 1' HUP INT TERM
 # Runs one of the programs over the log.
 run() {
     case $1 in
-        symple) set -- "$root/crates/symple/out/symple" run "$here/counter.symple" "$work/log.csv" ;;
+        symple) set -- "$symple" run "$here/counter.symple" "$work/log.csv" ;;
         awk) set -- "$awk" -f "$here/counter.awk" "$work/log.csv" ;;
         rust) set -- "$work/counter" "$work/log.csv" ;;
         sum) set -- "$awk" -f "$here/sum.awk" "$work/log.csv" ;;
@@ -47,8 +47,9 @@ measure() {
     echo "$1 $(((end - begin) / 1000)) $(cat "$work/used")" >>"$work/turns"
 }
 
-# The launcher builds the program; its own few milliseconds are not measured.
+# The launcher builds the program if it has to; its own few milliseconds are not measured.
 "$root/symple" run "$here/counter.symple" /dev/null >"$work/report"
+symple=$("$root/symple" --version | sed -n 's/^path //p')
 rustc -O -o "$work/counter" "$here/counter.rs"
 "$awk" -v records="$records" -f "$here/records.awk" >"$work/log.csv"
 

@@ -15,7 +15,6 @@ starts=200
 programs="pass table csv pairs"
 here=$(CDPATH='' cd -P "$(dirname "$0")" && pwd)
 root=$(dirname "$here")
-program=$root/crates/symple/out/symple
 timer=/usr/bin/time
 
 stop() {
@@ -54,8 +53,9 @@ run() {
     fi
 }
 
-# The launcher builds the program; its own few milliseconds are not measured.
+# The launcher builds the program if it has to; its own few milliseconds are not measured.
 "$root/symple" run "$here/forms.symple" /dev/null >"$work/report"
+program=$("$root/symple" --version | sed -n 's/^path //p')
 mawk -v groups="$groups" 'BEGIN {
     print "user,x"
     for (turn = 0; turn < 10; turn++)

@@ -24,15 +24,15 @@ parts=16
 users=98304
 most_bytes=268435456
 root=$(dirname "$here")
-symple=$root/crates/symple/out/symple
 script=$here/sessions.symple
 timer=/usr/bin/time
 
 for tool in mawk "$timer"; do
     command -v "$tool" >/dev/null || stop "there is no $tool"
 done
-# The launcher builds the program; its own few milliseconds are not measured.
+# The launcher builds the program if it has to; its own few milliseconds are not measured.
 "$root/symple" run "$script" /dev/null >"$work/report"
+symple=$("$root/symple" --version | sed -n 's/^path //p')
 
 # measure WAY ARGUMENTS..: runs symple, its output to $work/WAY.out, and notes its microseconds and
 # its kilobytes.

@@ -10,7 +10,7 @@ set -eu
 
 here=$(CDPATH='' cd -P "$(dirname "$0")" && pwd)
 root=$(dirname "$here")
-program=${1:-$root/crates/symple/out/symple}
+program=${1-}
 
 stop() {
     echo "bench/parse.sh: $1" >&2
@@ -39,7 +39,10 @@ read_by_awk() {
 }
 
 # The launcher builds the program where no other is named.
-[ $# -gt 0 ] || "$root/symple" run "$here/counter.symple" /dev/null >/dev/null
+if [ -z "$program" ]; then
+    "$root/symple" run "$here/counter.symple" /dev/null >/dev/null
+    program=$("$root/symple" --version | sed -n 's/^path //p')
+fi
 
 : >"$work/none"
 start_symple=$(read_by_symple "$work/none")

@@ -29,13 +29,14 @@ work=$(mktemp -d)
 trap 'rm -rf "$work"' EXIT
 trap 'exit 1' HUP INT TERM
 
-# The launcher builds the program; its own few milliseconds are not measured.
+# The launcher builds the program if it has to; its own few milliseconds are not measured.
 "$root/symple" run "$here/sessions.symple" /dev/null >"$work/report"
+symple=$("$root/symple" --version | sed -n 's/^path //p')
 
 # The instructions of a run of a script over a log.
 count() {
     valgrind --tool=callgrind --callgrind-out-file=/dev/null \
-        "$root/crates/symple/out/symple" run "$here/$1.symple" "$work/$2.csv" \
+        "$symple" run "$here/$1.symple" "$work/$2.csv" \
         2>&1 >"$work/report" | awk '/Collected/ { print $4 }'
 }
 
@@ -68,9 +69,9 @@ python=$(python3 -c 'import sys; print(sys.executable)')
 run() {
     log=$work/$2.csv
     case $1 in
-        symple) set -- "$root/crates/symple/out/symple" run "$here/sessions.symple" "$log" ;;
+        symple) set -- "$symple" run "$here/sessions.symple" "$log" ;;
         two_keys)
-            set -- "$root/crates/symple/out/symple" run "$here/two_keys.symple" "$log"
+            set -- "$symple" run "$here/two_keys.symple" "$log"
             ;;
         rust) set -- "$work/sessions" "$log" ;;
         mawk | gawk) set -- "$1" -f "$here/sessions.awk" "$log" ;;

@@ -2,7 +2,6 @@
 # program is, which is built first, and a directory for what is measured, which goes at the end.
 # shellcheck shell=sh disable=SC2034,SC2154 # what the scripts use, and what they have set
 root=$(dirname "$here")
-symple=$root/crates/symple/out/symple
 timer=/usr/bin/time
 
 stop() {
@@ -16,5 +15,6 @@ done
 work=$(mktemp -d)
 trap 'rm -rf "$work"' EXIT
 trap 'exit 1' HUP INT TERM
-# The launcher builds the program; its own few milliseconds are not measured.
+# The launcher builds the program if it has to; its own few milliseconds are not measured.
 "$root/symple" make 1 1 >"$work/made"
+symple=$("$root/symple" --version | sed -n 's/^path //p')

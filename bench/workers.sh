@@ -21,7 +21,6 @@ here=$(CDPATH='' cd -P "$(dirname "$0")" && pwd)
 records=${1:-4000000}
 limit=16
 root=$(dirname "$here")
-symple=$root/crates/symple/out/symple
 timer=/usr/bin/time
 workloads="sessions users count funnel"
 ways="sequential 1 2 4 small gawk mawk rust"
@@ -29,8 +28,9 @@ ways="sequential 1 2 4 small gawk mawk rust"
 for tool in rustc gawk mawk "$timer"; do
     command -v "$tool" >/dev/null || stop "there is no $tool"
 done
-# The launcher builds the program; its own few milliseconds are not measured.
+# The launcher builds the program if it has to; its own few milliseconds are not measured.
 "$root/symple" run "$here/sessions.symple" /dev/null >"$work/report"
+symple=$("$root/symple" --version | sed -n 's/^path //p')
 rustc -O -o "$work/runs" "$here/runs.rs"
 
 # The users of a workload's log.

@@ -10,12 +10,7 @@
 # passed and failed.
 set -u
 
-here=$(CDPATH='' cd -P "$(dirname "$0")" && pwd)
-root=$(dirname "$here")
-program=${SYMPLE_PROGRAM:-$root/crates/symple/out/symple}
-if [ -z "${SYMPLE_PROGRAM-}" ]; then
-    # Builds the program where it has to be built.
-    "$root/symple" run "$root/examples/counter.symple" "$root/examples/counter.csv" >/dev/null ||
-        exit 1
-fi
-PYTHONDONTWRITEBYTECODE=1 exec python3 "$here/agree.py" "$program" "${1:-60}" "${2:-1}"
+# shellcheck source=checks/common.sh
+. "$(dirname "$0")/common.sh"
+find_program
+PYTHONDONTWRITEBYTECODE=1 python3 "$here/agree.py" "$program" "${1:-60}" "${2:-1}"

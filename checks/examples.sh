@@ -192,8 +192,7 @@ try_distributed() {
     try_make "$@"
 }
 
-# Builds the program where it has to be built, so that no command shows what a build says.
-./symple run examples/counter.symple examples/counter.csv >/dev/null || exit 1
+find_program
 
 for document in README.md docs/LANGUAGE.md docs/FORMS.md docs/TRACES.md docs/TOOLS.md; do
     if [ -e "$document" ]; then

@@ -18,7 +18,6 @@ set -u
 
 # shellcheck source=checks/common.sh
 . "$(dirname "$0")/common.sh"
-program=${SYMPLE_PROGRAM:-$root/crates/symple/out/symple}
 kills=${1:-10}
 mebibytes=${2:-1}
 [ $# -ge 1 ] && shift
@@ -62,11 +61,7 @@ many() {
 }
 
 cc -O2 -shared -fPIC -o "$work/calls.so" "$here/failing_call.c" || exit 1
-if [ -z "${SYMPLE_PROGRAM-}" ]; then
-    # Builds the program where it has to be built.
-    "$root/symple" run "$root/examples/counter.symple" "$root/examples/counter.csv" >/dev/null ||
-        exit 1
-fi
+find_program
 cp "$root"/checks/scripts/*.symple "$work"
 cd "$work" || exit 1
 : >nothing

@@ -23,7 +23,6 @@ every=7
 
 # shellcheck source=checks/common.sh
 . "$(dirname "$0")/common.sh"
-program=$root/crates/symple/out/symple
 no_memory=8
 
 # expect STATUS TEXT: what a run has to answer. The text is a format of printf: the report of the
@@ -76,12 +75,12 @@ run_short() {
     status=$?
 }
 
-# row_once NAME STATUS TEXT ARGUMENTS..: the arguments give this answer.
+# row_once NAME STATUS TEXT ARGUMENTS..: the arguments give this answer, by `starter`.
 row_once() {
     name=$1
     expect "$2" "$3"
     shift 3
-    run "$root/symple" "$@"
+    run "$starter" "$@"
     note_answer "$name"
     : >"$work/out"
     "$program" "$@" >"$out" 2>/dev/full
@@ -184,8 +183,8 @@ changed() {
 }
 
 cc -O2 -shared -fPIC -o "$work/failing.so" "$here/failing_allocation.c" || exit 1
-# Builds the program where it has to be built, so that no row sees what a build says.
-"$root/symple" run "$root/examples/counter.symple" "$root/examples/counter.csv" >/dev/null || exit 1
+find_program
+starter=$root/symple
 cp "$here"/scripts/*.symple "$work"
 cd "$work" || exit 1
 
@@ -422,8 +421,12 @@ row "no file" 2 usage run counts.symple
 row "another command" 2 usage walk counts.symple first.csv
 row "another case of the command" 2 usage Run counts.symple first.csv
 row "an option" 2 usage run --form counts.symple first.csv
-row "a version" 2 usage --version
 row "help" 2 usage run counts.symple first.csv -h
+# These the launcher answers itself.
+starter=$program
+row "a version" 2 usage --version
+row "help alone" 2 usage --help
+starter=$root/symple
 row "options" 0 'user | n\na | 1\nb | 1\n--\n' \
     run --chunk 1 counts.symple --limit=1 first.csv --workers 2
 row "a form" 0 'user | n\na | 1\nb | 1\n--\n' run counts.symple first.csv --form table
