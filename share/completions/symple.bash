@@ -24,7 +24,10 @@ _symple_files() {
 _symple() {
     local current=${COMP_WORDS[COMP_CWORD]} command=${COMP_WORDS[1]}
     COMPREPLY=()
-    if [ "$COMP_CWORD" -eq 1 ]; then
+    if [ "$COMP_CWORD" -eq 1 ] && [[ $current == -* ]]; then
+        mapfile -t COMPREPLY < <(compgen -W "--help --version" -- "$current")
+        return
+    elif [ "$COMP_CWORD" -eq 1 ]; then
         mapfile -t COMPREPLY < <(compgen -W "run trace map reduce check make" -- "$current")
         return
     fi

@@ -36,6 +36,8 @@ function __symple_scripts
 end
 
 complete -c symple -f
+complete -c symple -n __symple_command -l help -d 'Show the commands and options'
+complete -c symple -n __symple_command -l version -d 'Show which program this is'
 complete -c symple -n __symple_command -a run -d 'Run a script over the records of files'
 complete -c symple -n __symple_command -a trace -d 'Write how the group of each record stands'
 complete -c symple -n __symple_command -a map -d 'Write the run file of a part of a log'
