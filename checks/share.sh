@@ -17,6 +17,7 @@ bash_words=share/completions/symple.bash
 zsh_words=share/completions/_symple
 fish_words=share/completions/symple.fish
 vim_words=share/vim/syntax/symple.vim
+usage=share/launcher/usage.txt
 grammar=share/textmate/symple.tmLanguage.json
 script=examples/counter.symple
 log=examples/counter.csv
@@ -116,6 +117,28 @@ zsh_file_words() {
     ' "$zsh_words"
 }
 
+# In the help an option is for the commands that it names, or for all that have records or a FILE.
+usage_words() {
+    awk '
+        /^    symple [a-z]+ / && $2 != "help," {
+            commands[++many] = $2
+            print $2
+            if (/\[--print\]/)
+                print $2 " --print"
+        }
+        /^    --[a-z]/ {
+            for (i = 1; i <= many; i++) {
+                has_file = commands[i] !~ /^(check|make)$/
+                has_records = commands[i] !~ /^(check|reduce)$/
+                if (/all with FILE/ ? has_file : /all with records/ ? has_records : \
+                    $0 ~ ("[ ,]" commands[i] "(,| |$)"))
+                    print commands[i], $1
+            }
+        }
+    ' "$usage"
+    grep -E '^    --form ' "$usage" | grep -oE 'table|csv|pairs' | sort -u | sed 's/^/--form /'
+}
+
 # Whether a command takes an option; the arguments beside it are right.
 takes() {
     case $1 in
@@ -144,6 +167,8 @@ try_words() {
     same "$bash_words: other words than the manual page" "$work/manual" "$work/bash"
     same "$zsh_words: other words than the manual page" "$work/manual" "$work/zsh"
     same "$fish_words: other words than the manual page" "$work/manual" "$work/fish"
+    usage_words >"$work/usage"
+    same "$usage: other words than the manual page" "$work/manual" "$work/usage"
 
     for command in run trace map reduce check make; do
         grep -qx "$command" "$work/manual"
@@ -226,6 +251,8 @@ try_ranges() {
         esac
         [ "$(number_of "$name")" = "$default" ]
         note $? "$manual: another default of $option than $name"
+        grep -q "^    $option .*($default)\$" "$usage"
+        note $? "$usage: another default of $option than $default"
     done <"$work/ranges"
 }
 
@@ -309,6 +336,11 @@ try_tools() {
             printf "%s\n" "${COMPREPLY[@]}"' bash "$bash_words" >"$work/completed"
         grep '^run --' "$work/manual" | sed 's/^run //' >"$work/options"
         same "$bash_words: run -- isn't completed to the options" "$work/options" "$work/completed"
+        # shellcheck disable=SC2016 # bash expands it
+        completed=$(bash -c 'source "$1"; COMP_WORDS=(symple --v); COMP_CWORD=1; _symple
+            echo "${COMPREPLY[@]}"' bash "$bash_words")
+        [ "$completed" = --version ]
+        note $? "$bash_words: --v is completed to $completed"
     fi
     if has zsh "$zsh_words"; then
         zsh -n "$zsh_words"
@@ -333,7 +365,30 @@ try_tools() {
     fi
 }
 
-# The program runs from where it was installed, and each file is there.
+# Each limit of the sources that a hint names, with the words for it, is the one of the sources.
+try_hints() {
+    hints=share/launcher/script.awk
+    for words in ENUMS:enums LABELS:labels FIELDS:fields CELLS:cells TESTS:tests COLUMNS:columns \
+        PARAMETERS:parameters PARTS:parts STATEMENTS:statements DEPTH:depth OPERANDS:operands; do
+        number=$(sed -n "s/^pub const ${words%:*}_MAX: [a-z0-9]* = \([0-9_]*\);\$/\1/p" \
+            crates/sym_base/src/limits.rt)
+        grep -qE "limit\[\"${words#*:}\"\].* = (\"|)${number:-none}( |;|\"|\$)" "$hints"
+        note $? "$hints: the limit of ${words#*:} isn't ${number:-named so in the sources}"
+    done
+    sed -n 's/^ *ScriptFault::[A-Za-z]* => "\([a-z ]*\)",$/\1/p' crates/sym_top/src/message.rt |
+        while read -r fault; do
+            grep -qF "what == \"$fault\"" "$hints" || echo "$fault"
+        done >"$work/unhinted"
+    [ ! -s "$work/unhinted" ]
+    note $? "$hints: no hint for: $(cat "$work/unhinted")"
+    sed -n 's/^ *Keyword::[A-Za-z]* => "\([a-z]*\)",$/\1/p' crates/sym_lex/src/keyword.rt \
+        >"$work/keywords"
+    sed -n '/words("enum field from/,/, keyword)/p' "$hints" | grep -o '"[a-z ]*"' | tr -d '"' |
+        tr -s ' ' '\n' | grep . >"$work/hinted"
+    same "$hints: other keywords" "$work/keywords" "$work/hinted"
+}
+
+# The program runs from where it was installed, and each file is there, until all are removed.
 try_install() {
     ./install.sh "$work/a prefix" >"$work/installed"
     note $? "install.sh ended with another status than 0"
@@ -341,25 +396,47 @@ try_install() {
         [ -s "$file" ]
         note $? "install.sh wrote no $file"
     done <"$work/installed"
-    [ "$(wc -l <"$work/installed")" -eq 5 ]
-    note $? "install.sh wrote other files than the program, the page and three completions"
+    find "$work/a prefix" -type f >"$work/there"
+    same "install.sh names other files than it writes" "$work/there" "$work/installed"
     "$work/a prefix/bin/symple" run "$script" "$log" >"$work/report"
     note $? "the installed program doesn't run"
     ./symple run "$script" "$log" >"$work/wanted.report"
     cmp -s "$work/wanted.report" "$work/report"
     note $? "the installed program writes another report"
+    cmp -s "$program" "$work/a prefix/libexec/symple/symple"
+    note $? "another program is installed than the one that runs"
+    "$work/a prefix/bin/symple" --help | cmp -s - "$usage"
+    note $? "the installed launcher shows no help"
+    ./symple --version | grep -v '^path ' >"$work/wanted.version"
+    "$work/a prefix/bin/symple" --version | grep -v '^path ' | cmp -s - "$work/wanted.version"
+    note $? "the installed launcher says another version"
+    SYMPLE_EXPLAIN=1 "$work/a prefix/bin/symple" check examples/reference/slip.symple \
+        2>"$work/said" || grep -q ':5:21:' "$work/said"
+    note $? "the installed launcher explains nothing"
+    ln -s "$work/a prefix/bin/symple" "$work/linked"
+    "$work/linked" run "$script" "$log" | cmp -s - "$work/wanted.report"
+    note $? "the installed launcher doesn't run by a link"
+    : >"$work/a prefix/bin/other"
+    ./install.sh --uninstall "$work/a prefix" >"$work/removed"
+    note $? "install.sh --uninstall ended with another status than 0"
+    same "install.sh --uninstall removes other files" "$work/installed" "$work/removed"
+    [ "$(find "$work/a prefix" ! -type d)" = "$work/a prefix/bin/other" ] &&
+        [ ! -e "$work/a prefix/libexec/symple" ]
+    note $? "install.sh --uninstall leaves a file, or takes one of another program"
+    ./install.sh --uninstall "$work/a prefix" >"$work/removed" && [ ! -s "$work/removed" ]
+    note $? "install.sh --uninstall isn't content where nothing is installed"
     ./install.sh >/dev/null 2>&1
     [ $? -eq 2 ]
     note $? "install.sh without a directory doesn't end with 2"
 }
 
-# Builds the program where it has to be built, so that it isn't built within a trial.
-./symple run "$script" "$log" >/dev/null || exit 1
+find_program
 
 try_words
 try_ranges
 try_highlighting
 try_manual
+try_hints
 try_tools
 try_install
 
