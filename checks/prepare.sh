@@ -1,6 +1,7 @@
 #!/bin/sh
 # Tries share/symple-prepare: each option, each refusal and each reason for which a record is
-# rejected; its times against those of GNU date, and its rows against Python's csv.
+# rejected; its times against those of GNU date, and its rows against Python's csv. Then the
+# templates of share/templates: each script over its log, and its report.
 # The last line counts what passed and failed.
 set -u
 
@@ -399,6 +400,20 @@ try_manual() {
     fi
 }
 
+# Each template: its script over its log gives its report.
+try_templates() {
+    for script in share/templates/*.symple; do
+        name=${script%.symple}
+        run ./symple run "$script" "$name.csv"
+        diff "$name.report" "$out" >&2
+        note $? "$script: another report than $name.report"
+        [ "$status" -le 1 ]
+        note $? "$script: status $status"
+        grep -qF "$(basename "$script")" share/templates/README.md
+        note $? "share/templates/README.md: no $(basename "$script")"
+    done
+}
+
 # Builds the program where it has to be built, so that it isn't built within a trial.
 ./symple run examples/counter.symple examples/counter.csv >/dev/null || exit 1
 
@@ -416,5 +431,6 @@ try_orders
 try_refusals
 try_stops
 try_manual
+try_templates
 
 counted passed failed
