@@ -194,7 +194,8 @@ try_distributed() {
 
 find_program
 
-for document in README.md docs/LANGUAGE.md docs/FORMS.md docs/TRACES.md docs/TOOLS.md; do
+for document in README.md docs/TUTORIAL.md docs/LOGS.md docs/LANGUAGE.md docs/MESSAGES.md \
+    docs/FORMS.md docs/TRACES.md docs/TOOLS.md; do
     if [ -e "$document" ]; then
         run_document "$document"
     fi

@@ -117,6 +117,10 @@ try_epochs() {
 }
 
 try_zones() {
+    if ! python3 -c 'import zoneinfo; zoneinfo.ZoneInfo("Europe/Berlin")' 2>/dev/null; then
+        skipped "no zones of time: --zone isn't tried"
+        return
+    fi
     log='t\n2026-03-29T01:59:59\n2026-03-29T03:00:00\n2026-07-01T10:00:00Z\n2026-07-01T10:00:00\n'
     gives "$log" 't\n1774745999\n1774746000\n1782900000\n1782892800\n' \
         --time t --zone Europe/Berlin
@@ -248,6 +252,7 @@ try_many_times() {
     date -u -f "$work/times" +%s >"$work/wanted"
     [ "$(wc -l <"$work/wanted")" -eq 2000 ] && cmp "$work/wanted" "$work/prepared" >&2
     note $? "--time: other seconds than those of GNU date"
+    python3 -c 'import zoneinfo; zoneinfo.ZoneInfo("America/New_York")' 2>/dev/null || return
     sed 's/.\{6\}$//' "$work/times" >"$work/local"
     (echo t; cat "$work/local") | "$prepare" --time t --zone America/New_York \
         --rejects "$work/rejects" 2>"$work/err" | tail -n +2 >"$work/prepared"
