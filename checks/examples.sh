@@ -120,6 +120,11 @@ try_loop() {
     reports_as_run
     note $? "parts mapped by a loop: another report than that of a run"
 
+    ./symple check --print "$script" >"$parts/printed.symple" &&
+        ./symple reduce "$parts/printed.symple" "$parts"/part-*.csv.run >"$parts/report" &&
+        ! cmp -s "$script" "$parts/printed.symple" && cmp "$parts/whole" "$parts/report" >&2
+    note $? "reduce by the script in another layout: another report than that of a run"
+
     rm "$parts/part-03.csv.run"
     ./symple reduce "$script" "$parts"/part-*.csv.run >"$parts/report" 2>"$parts/said"
     [ $? -eq 4 ] && [ ! -s "$parts/report" ] &&

@@ -124,6 +124,9 @@ try_zones() {
     log='t\n2026-03-29T01:59:59\n2026-03-29T03:00:00\n2026-07-01T10:00:00Z\n2026-07-01T10:00:00\n'
     gives "$log" 't\n1774745999\n1774746000\n1782900000\n1782892800\n' \
         --time t --zone Europe/Berlin
+    # The same second of the same minute, after another offset of the zone.
+    gives 't\n2026-01-01T10:00:20\n2026-07-01T10:00:10\n2026-07-01T10:00:20\n' \
+        't\n1767258020\n1782892810\n1782892820\n' --time t --zone Europe/Berlin
     rejects 2 't\n2026-03-29T02:30:00\n2026-10-25T02:30:00\n2026-10-25T03:00:00\n' \
         't\n1792893600\n' '2,t: a time that Europe/Berlin skips,2026-03-29T02:30:00
 3,t: a time that Europe/Berlin has twice,2026-10-25T02:30:00\n' --time t --zone Europe/Berlin
