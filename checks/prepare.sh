@@ -204,7 +204,7 @@ try_rows() {
 }
 
 # A log that is longer than what is read at once, with quotes, line ends and CR here and there, is
-# read as Python's csv reads it.
+# read as Python's csv reads it. Beside it is the same log with records that are rejected.
 try_long_logs() {
     python3 - "$work" <<'end'
 import csv, random, sys
@@ -212,18 +212,20 @@ random.seed(7)
 work = sys.argv[1]
 words = ["a", "bc", "", "d e", "x, y", 'say "hi"', "two\nlines", "cr\rlf", "\u00fc" * 9]
 for name, share in (("none", 0), ("few", 0.0005), ("many", 0.5)):
-    with open(f"{work}/{name}.csv", "w", newline="", encoding="utf-8") as file:
-        writer = csv.writer(file, lineterminator="\r\n" if name == "few" else "\n",
-                            quoting=csv.QUOTE_MINIMAL)
-        writer.writerow(["n", "v", "w"])
-        for n in range(40000):
-            pick = words if random.random() < share else words[:4]
-            row = [str(n), random.choice(pick), random.choice(pick)]
-            if "\r" in row[1] + row[2]:
-                row = ['"' + field.replace('"', '""') + '"' for field in row]
-                file.write(",".join(row) + "\n")
-            else:
-                writer.writerow(row)
+    mark = "\r\n" if name == "few" else "\n"
+    whole = open(f"{work}/{name}.csv", "w", newline="", encoding="utf-8")
+    bad = open(f"{work}/{name}-bad.csv", "w", newline="", encoding="utf-8")
+    for file in whole, bad:
+        file.write("n,v,w" + mark)
+    for n in range(40000):
+        pick = words if random.random() < share else words[:4]
+        row = [str(n), random.choice(pick), random.choice(pick)]
+        row = ['"' + field.replace('"', '""') + '"' if set(field) & set('",\r\n') else field
+               for field in row]
+        for file in whole, bad:
+            file.write(",".join(row) + mark)
+        if n % 9000 == 8999:
+            bad.write("1970-01-01" + mark)
 end
     for name in none few many; do
         "$prepare" "$work/$name.csv" >"$work/prepared.csv" &&
@@ -235,6 +237,16 @@ rows = [list(csv.reader(log)) for log in logs]
 sys.exit(rows[0] != rows[1] or len(rows[0]) != 40001)
 end
         note $? "a log with quotes in $name of its records: other rows than those of Python's csv"
+        for options in '' '--sort n --where v!=bc --keep w,n --scale n:1'; do
+            # shellcheck disable=SC2086
+            "$prepare" $options "$work/$name.csv" >"$work/prepared.csv" 2>"$work/whole.err"
+            # shellcheck disable=SC2086
+            run "$prepare" $options --rejects "$work/rejects.csv" "$work/$name-bad.csv"
+            echo 'symple-prepare: 4 records rejected' >>"$work/whole.err"
+            [ "$status" -eq 1 ] && cmp "$work/prepared.csv" "$out" >&2 &&
+                cmp "$work/whole.err" "$work/err" >&2
+            note $? "$name $options: other records beside those that are rejected"
+        done
     done
 }
 
@@ -367,12 +379,16 @@ try_refusals() {
     bytes 't,v\n1,2\n' | cmp -s - "$work/log.csv"
     note $? 'a log named by --rejects was changed'
     refuses 't,v\n1,2\n' "--rejects $work: Is a directory" --rejects "$work"
-    for options in --other '--separator ;;' '--encoding x' '--grouping .' '--ambiguous x' '- -'; do
+    for options in --other '--separator ;;' '--encoding x' '--grouping .' '--ambiguous x' '- -' \
+        --keep= --header=; do
         # shellcheck disable=SC2086
         run "$prepare" $options
         [ "$status" -eq 2 ] && [ ! -s "$out" ]
         note $? "$options: status $status"
     done
+    run "$prepare" --keep '"a'
+    [ "$status" -eq 2 ] && [ ! -s "$out" ]
+    note $? "a quote that isn't closed in a list of names: status $status"
 }
 
 # Without a file for rejects it stops at the first one, and symple takes no such log for a whole one.
