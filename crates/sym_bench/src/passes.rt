@@ -13,7 +13,7 @@ use sym_base::{Fields, NoMemory, Record};
 use sym_check::Checked;
 use sym_plain::{Groups, fold_into};
 use sym_run::{Applied, Run, of_chunk, of_chunks};
-use sym_table::{Chunk, Cutter, Spare, decode_into};
+use sym_table::{Chunk, Cutter, Row, RowCursor, Spare, decode_into};
 
 /// Only cuts the rows: how many there are.
 pub(crate) fn cut_rows(alloc: Global, cutter: &mut Cutter<'_>) -> Result<usize, Stop> {
@@ -30,10 +30,12 @@ pub(crate) fn cut_rows(alloc: Global, cutter: &mut Cutter<'_>) -> Result<usize, 
     Err(Stop::Input)
 }
 
-/// Folds the rows of a chunk, over the memory of a record.
+/// Folds the rows of a chunk, which the cursor has next, over the memory of a row and of a record.
 fn fold_chunk(
     alloc: Global,
     checked: &Checked,
+    cursor: &mut RowCursor<'_>,
+    row: &mut Row,
     chunk: &Chunk,
     groups: &mut Groups,
     rec: &mut Record,
@@ -42,8 +44,10 @@ fn fold_chunk(
 {
     'rows: for index in 0..chunk.rows.len() {
         let no = chunk.first_no.wrapping_add(index as u64);
-        let row = chunk.rows.row(index);
-        if decode_into(alloc, checked, &chunk.header, &row, no, rec)?.is_some() {
+        if !cursor.read(row)? {
+            return Err(Stop::Input);
+        }
+        if decode_into(alloc, checked, &chunk.header, &row.view(), no, rec)?.is_some() {
             return Err(Stop::Input);
         }
         fold_into(alloc, checked, groups, rec)?;
@@ -60,8 +64,10 @@ fn fold_chunks(
 ) -> Result<(), Stop>
     requires { All (FitsChunk (checked_plan checked.now).fields) chunks.now }
 {
+    let mut cursor = RowCursor::over(alloc, chunks)?;
+    let mut row = Row::with_room(alloc)?;
     'chunks: for chunk in chunks {
-        fold_chunk(alloc, checked, chunk, groups, rec)?;
+        fold_chunk(alloc, checked, &mut cursor, &mut row, chunk, groups, rec)?;
     }
     Ok(())
 }

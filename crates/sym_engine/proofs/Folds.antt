@@ -15,14 +15,14 @@ use Rattle.sym_table.specs.declared.chunk.Chunk.{Chunk}
 use Rattle.sym_table.specs.declared.header.Header.{Header}
 use Rattle.sym_table.specs.ChunkRecords.{chunk_records, all_records}
 use Rattle.sym_table.specs.Decoding.{numbered, Fills}
-use Rattle.sym_table.specs.Reading.{Row}
+use Rattle.sym_table.specs.Reading.{Passes, Row}
 use Rattle.sym_table.specs.RowRecords.{record_or_bad, records_or_bad}
 use Rattle.sym_table.specs.Rows.{read_row}
 use Rattle.sym_engine.specs.declared.folding.Folded.{Folded}
 use Rattle.sym_engine.specs.declared.rounds.Took.{Took}
 use Rattle.sym_engine.specs.declared.rounds.Took.TheVariants as took
 use Rattle.sym_engine.specs.Rounds.{Takes, shown_chunk, round_records}
-use Rattle.sym_engine.specs.Taking.{ArePassed}
+use Rattle.sym_engine.specs.Taking.{ArePassed, IfTaken}
 use Rattle.sym_engine.proofs.Walks.{IsWalk, alone, walk_on, walk_stops, row_next, chunk_next, record_is}
 
 abbrev Pairs : Type 0
@@ -62,6 +62,11 @@ chunk_folded p cuts k cut t all old now new h e done takes w =
     let T : Took → Type 0 = λ x. Takes (ArePassed p) (chunk_records p cut) now new x in
     walk_on (ArePassed p) all (all_records p (drop k cuts)) (chunk_records p cut) (all_records p (drop (k + 1) cuts)) old now new w
     (chunk_next p cuts k cut h e) (subst T done takes)
+
+-- The cursor has passed the rows of a chunk that is folded.
+pub is_passed : (t : Took) (rows : List Row) (old new : Option (List Row)) → t ≡ took.Done → IfTaken t (Passes rows old new) → Passes rows old new
+is_passed took.Done rows old new e h = h
+is_passed (took.Bad bad) rows old new e h = cc e
 
 -- ---- rows as they are
 same_rows : (rows : List Row) → map (λ row. row) rows ≡ rows

@@ -3,9 +3,10 @@ ghost use Rattle.std.specs.Prelude.{◌≡◌, [], IfOk};
 ghost use Rattle.std.specs.List.{All};
 ghost use Rattle.sym_check.specs.Checking.CheckedScripts.{checked_plan};
 ghost use Rattle.sym_table.specs.ChunkRecords.{all_records, chunk_records};
+ghost use Rattle.sym_table.specs.Reading.{HasNext, Passes};
 ghost use Rattle.sym_table.specs.Rows.{FitsChunk};
 ghost use Rattle.sym_engine.specs.Rounds.{Takes};
-ghost use Rattle.sym_engine.specs.Taking.{ArePassed};
+ghost use Rattle.sym_engine.specs.Taking.{ArePassed, IfTaken};
 
 use crate::cutting::then_cut;
 use crate::rounds::{Took, Work};
@@ -14,7 +15,7 @@ use std::alloc::Global;
 use sym_base::{Fields, NoMemory, Record};
 use sym_check::Checked;
 use sym_plain::{Groups, fold_into};
-use sym_table::{Chunk, Cutter, Spare, decode_into};
+use sym_table::{Chunk, Cutter, Row, RowCursor, Spare, decode_into};
 
 /// The groups of the rounds so far, and the record that was read last, over whose memory the next
 /// one is made.
@@ -37,23 +38,30 @@ impl Folded {
     }
 }
 
-// Folds the rows of a chunk.
+// Folds the rows of a chunk, which the cursor has next, each read over the memory of `row`.
 fn fold_chunk(
     alloc: Global,
     checked: &Checked,
+    cursor: &mut RowCursor<'_>,
+    row: &mut Row,
     chunk: &Chunk,
     folded: &mut Folded,
 ) -> Result<Took, NoMemory>
-    requires { FitsChunk (checked_plan checked.now).fields chunk.now }
-    ensures { let p = checked_plan checked.now in
+    requires chunk { FitsChunk (checked_plan checked.now).fields chunk.now }
+    requires rows { HasNext chunk.now.rows cursor.old }
+    ensures takes { let p = checked_plan checked.now in
         let read = chunk_records p chunk.now in
         IfOk result (Takes (ArePassed p) read folded.old.groups folded.new.groups) }
+    ensures passes { IfOk result (λ took.
+        IfTaken took (Passes chunk.now.rows cursor.old cursor.new)) }
 {
     let mut no = chunk.first_no;
-    'rows: for index in 0..chunk.rows.len() {
-        let row = chunk.rows.row(index);
+    'rows: for _index in 0..chunk.rows.len() {
+        if !cursor.read(row)? {
+            return Ok(Took::Done);
+        }
         let rec = &mut folded.rec;
-        match decode_into(alloc, checked, &chunk.header, &row, no, rec)? {
+        match decode_into(alloc, checked, &chunk.header, &row.view(), no, rec)? {
             Some(bad) => return Ok(Took::Bad(bad)),
             None => fold_into(alloc, checked, &mut folded.groups, &folded.rec)?,
         }
@@ -74,8 +82,10 @@ fn fold_chunks(
         let read = all_records p chunks.now in
         IfOk result (Takes (ArePassed p) read folded.old.groups folded.new.groups) }
 {
+    let mut cursor = RowCursor::over(alloc, chunks)?;
+    let mut row = Row::with_room(alloc)?;
     'chunks: for chunk in chunks {
-        match fold_chunk(alloc, checked, chunk, folded)? {
+        match fold_chunk(alloc, checked, &mut cursor, &mut row, chunk, folded)? {
             Took::Done => {}
             Took::Bad(bad) => return Ok(Took::Bad(bad)),
         }

@@ -47,7 +47,7 @@ counted_more window i rows quotes one quote h so is_one is_quote =
           let plain = plain_after (get_or window i 0) c (none_there (c == 34) (sym is_quote ∙ n)) in
           let pushed = ends_push body c first in
           let same : one_if (next_step (place_after first body) c).ends ≡ one =
-              ap (λ p. one_if (next_step p c).ends) (sym (so.stands q)) ∙ ap one_if plain.ends_is ∙ sym is_one in
+          ap (λ p. one_if (next_step p c).ends) (sym (so.stands q)) ∙ ap one_if plain.ends_is ∙ sym is_one in
           ap₂ (λ x y. x + y) (so.counted q) (sym same) ∙ sym pushed ∙ ap (row_ends first) (sym (body_more window i h));
       stands = λ (none : quotes + quote ≡ 0).
           let q : quotes ≡ 0 = omega (arith, none) in
@@ -102,9 +102,11 @@ first_passed bytes from h e =
   where
     first_ends : (c : ℕ) → is_line_end c ≡ true → row_ends place.Between (c ∷ []) ≡ 0
     first_ends c e = rw e refl
+
     first_bits : (end comma : Bool) (t : Step) → end ≡ true
         → (if end then place.Between else if comma then place.Start else place.Inside) ≡ (if end then goes place.Between false else t).at
     first_bits true comma t e = refl
     first_bits false comma t e = cc e
+
     first_stands : (c : ℕ) → is_line_end c ≡ true → place_of c ≡ place_after place.Between (c ∷ [])
     first_stands c e = first_bits (is_line_end c) (c == 44) (start c) e

@@ -1,8 +1,9 @@
 //! The run of one chunk.
-ghost use Rattle.std.specs.Prelude.{◌≡◌, ◌<◌, ◌≤◌, ◌+◌, All, List, Some, IfOk, length, slice_get};
+ghost use Rattle.std.specs.Prelude.{◌≡◌, ◌<◌, ◌≤◌, ◌+◌, All, List, Some, IfNone, IfOk, length, slice_get};
 ghost use Rattle.sym_check.specs.Checking.CheckedScripts.{checked_plan};
 ghost use Rattle.sym_plain.specs.Pairs.{HaveDistinctKeys};
 ghost use Rattle.sym_table.specs.ChunkRecords.{chunk_records};
+ghost use Rattle.sym_table.specs.Reading.{HasNext, Passes};
 ghost use Rattle.sym_table.specs.Rows.{FitsChunk};
 ghost use Rattle.sym_table.specs.declared.chunk.Chunk.{Chunk as OneChunk};
 ghost use Rattle.sym_run.specs.Growing.{TakesOn};
@@ -14,21 +15,24 @@ use crate::run_groups::RunGroups;
 use crate::runs::Run;
 use indexmap::IndexMap;
 use std::alloc::Global;
+use std::slice;
 use sym_base::{Fields, Key, NoMemory, Record, Values};
 use sym_check::Checked;
 use sym_explore::Scratch;
-use sym_table::{Bad, Chunk, decode_into};
+use sym_table::{Bad, Chunk, Row, RowCursor, decode_into};
 
-/// Takes the records of a chunk's rows into the chains of their keys, after those that these stand
-/// for, up to the first row that is no record.
+/// Takes the records of a chunk's rows, which the cursor has next, into the chains of their keys,
+/// after those that these stand for, up to the first row that is no record.
 pub(crate) fn take_rows(
     alloc: Global,
     checked: &Checked,
+    cursor: &mut RowCursor<'_>,
     chunk: &Chunk,
     map: &mut IndexMap<Key, Chain>,
     limit: u32,
 ) -> Result<Option<Bad>, NoMemory>
     requires chunk { FitsChunk (checked_plan checked.now).fields chunk.now }
+    requires rows { HasNext chunk.now.rows cursor.old }
     requires fits { GroupsFit (checked_plan checked.now) map.old.entries }
     requires tight { AreTight (checked_plan checked.now) limit map.old.entries }
     requires distinct { HaveDistinctKeys map.old.entries }
@@ -36,6 +40,8 @@ pub(crate) fn take_rows(
         TakesOn p limit (chunk_records p chunk.now) map.old.entries bad map.new.entries) }
     ensures fits { IfOk result (λ bad. GroupsFit (checked_plan checked.now) map.new.entries) }
     ensures distinct { HaveDistinctKeys map.new.entries }
+    ensures passes { IfOk result (λ bad.
+        IfNone bad (Passes chunk.now.rows cursor.old cursor.new)) }
 {
     let mut key = Key {
         values: Values::new(alloc),
@@ -45,10 +51,13 @@ pub(crate) fn take_rows(
         no: 0,
         fields: Fields::new(alloc),
     };
+    let mut row = Row::with_room(alloc)?;
     'rows: for index in 0..chunk.rows.len() {
         let no = chunk.first_no + index as u64;
-        let row = chunk.rows.row(index);
-        let bad = decode_into(alloc, checked, &chunk.header, &row, no, &mut rec)?;
+        if !cursor.read(&mut row)? {
+            return Ok(None);
+        }
+        let bad = decode_into(alloc, checked, &chunk.header, &row.view(), no, &mut rec)?;
         if bad.is_some() {
             return Ok(bad);
         }
@@ -75,7 +84,8 @@ pub fn of_chunk(
         IfOk result (StandsForChunks (checked_plan checked.now) limit chunks) }
 {
     let mut map = IndexMap::new(alloc);
-    let bad = take_rows(alloc, checked, chunk, &mut map, limit)?;
+    let mut cursor = RowCursor::over(alloc, slice::from_ref(chunk))?;
+    let bad = take_rows(alloc, checked, &mut cursor, chunk, &mut map, limit)?;
     Ok(Run {
         lo: number,
         hi: number + 1,

@@ -13,10 +13,11 @@ use crate::chunks::take_rows;
 use crate::joining::join_groups;
 use crate::run_groups::RunGroups;
 use std::alloc::Global;
+use std::slice;
 use sym_base::NoMemory;
 use sym_check::Checked;
 use sym_plain::Groups;
-use sym_table::{Bad, Chunk};
+use sym_table::{Bad, Chunk, RowCursor};
 
 /// What the records of neighbouring chunks do to each group, or the first of their rows that is no
 /// record.
@@ -167,7 +168,8 @@ impl Run {
             });
         }
         let mut map = groups.into_map();
-        let bad = take_rows(alloc, checked, chunk, &mut map, limit)?;
+        let mut cursor = RowCursor::over(alloc, slice::from_ref(chunk))?;
+        let bad = take_rows(alloc, checked, &mut cursor, chunk, &mut map, limit)?;
         Ok(Run {
             lo,
             hi: hi + 1,

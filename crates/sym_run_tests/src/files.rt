@@ -5,12 +5,13 @@ ghost use Rattle.sym_table.specs.Rows.{FitsHeader};
 
 use crate::scripts::{Row as TableRow, check_rows};
 use std::alloc::Global;
+use std::slice;
 use std::test::Fail;
 use sym_base::{Fields, NoMemory, Record, Text, Value};
 use sym_check::Checked;
 use sym_table::{
     Bad, BadCause, Chunk, Chunks, Cutter, Decoded, HeadErr, HeadFault, Header, Places, Row,
-    RowView, Rows, decode, decode_into,
+    RowCursor, RowView, Rows, Spare, decode, decode_into,
 };
 
 /// What a field reads.
@@ -255,7 +256,7 @@ fn headers_are_refused_at_their_first_fault(rt: HostRuntime) -> Result<(), Fail>
 /// first row, and a bar before each field.
 struct File(&'static str, u32, &'static str);
 
-const FILES: [File; 15] = [
+const FILES: [File; 21] = [
     File("", 2, ""),
     File("\u{feff}", 2, ""),
     File("n,w,c", 2, ""),
@@ -271,6 +272,12 @@ const FILES: [File; 15] = [
     File("n,w,c\n\0@", 1, "1|\0@;"),
     File("n,w,c,x,x\n1", 9, "1|1;"),
     File("x,\"n\",w,c\n,1", 9, "1||1;"),
+    File("n,w,c\n1\n\u{feff}2\n", 1, "1|1;2|\u{feff}2;"),
+    File("n,w,c\n\n1\n\n\n2\n\n", 1, "1|1;2|2;"),
+    File("n,w,c\n1,a\"b\n2", 1, "1|1|a\"b;2|2;"),
+    File("n,w,c\n1\n2,\"b", 1, "1|1;2|2|b;"),
+    File("n,w,c\n1\n2,\"b\"\n", 1, "1|1;2|2|b;"),
+    File("n,w,c\n\"1\"\r2\r\n3,\"c\n\"\r4", 2, "1|1;|2;3|3|c\n;|4;"),
 ];
 
 // A bar before each field, and a semicolon at the end.
@@ -294,8 +301,12 @@ fn push_number(alloc: Global, text: &mut Vec<u8>, number: u64) -> Result<(), NoM
 // The number of the first row, and then the rows.
 fn push_chunk(alloc: Global, text: &mut Vec<u8>, cut: &Chunk) -> Result<(), NoMemory> {
     push_number(alloc, text, cut.first_no)?;
-    'rows: for index in 0..cut.rows.len() {
-        push_row(text, &cut.rows.row(index))?;
+    let mut cursor = RowCursor::over(alloc, slice::from_ref(cut))?;
+    let mut row = Row::with_room(alloc)?;
+    'rows: for _row in 0..cut.rows.len() {
+        if cursor.read(&mut row)? {
+            push_row(text, &row.view())?;
+        }
     }
     Ok(())
 }
@@ -335,7 +346,7 @@ fn file_is(
     chunk: u32,
     wanted: &[u8],
 ) -> Result<bool, NoMemory> {
-    if bytes.len() >= 1_000 || chunk < 1 || chunk > 1_024 {
+    if bytes.len() >= 20_000 || chunk < 1 || chunk > 1_024 {
         return Ok(false);
     }
     match Cutter::open(alloc, checked, bytes, 1, chunk) {
@@ -358,6 +369,84 @@ impl TableRow for File {
 #[test]
 fn files_are_cut_into_rows(rt: HostRuntime) -> Result<(), Fail> {
     check_rows(&rt, rt.alloc(), FIELDS, &FILES)
+}
+
+/// So many bytes in one field, and how many rows a chunk has.
+struct Long(usize, u32);
+
+const LONG: [Long; 3] = [Long(200, 1), Long(9_000, 1), Long(9_000, 9)];
+
+// A text, so many bytes `a`, and another text.
+fn around(alloc: Global, before: &[u8], count: usize, after: &[u8]) -> Result<Vec<u8>, NoMemory> {
+    let mut bytes = Vec::new(alloc);
+    bytes.extend_from_slice(before)?;
+    'bytes: for _byte in 0..count {
+        bytes.push(b'a')?;
+    }
+    bytes.extend_from_slice(after)?;
+    Ok(bytes)
+}
+
+impl TableRow for Long {
+    fn holds(&self, alloc: Global, checked: &Checked) -> Result<bool, NoMemory> {
+        let file = around(alloc, b"n,w,c\n1,", self.0, b",red\n2,b")?;
+        let next: &[u8] = if self.1 == 1 {
+            b"|red;2|2|b;"
+        } else {
+            b"|red;|2|b;"
+        };
+        let wanted = around(alloc, b"1|1|", self.0, next)?;
+        file_is(alloc, checked, file.as_slice(), self.1, wanted.as_slice())
+    }
+}
+
+#[test]
+fn long_fields_are_cut_into_rows(rt: HostRuntime) -> Result<(), Fail> {
+    check_rows(&rt, rt.alloc(), FIELDS, &LONG)
+}
+
+/// How many rows of a file are read one by one before a chunk is cut, and the chunk, after which a
+/// row was added to it.
+struct Mixed(usize, &'static str);
+
+const MIXED: [Mixed; 2] = [Mixed(0, "1|1;|2;|x;"), Mixed(1, "2|2;|3;|x;")];
+
+// The next chunk of two rows, after so many rows, and a row that is added to it.
+fn push_mixed(
+    alloc: Global,
+    text: &mut Vec<u8>,
+    cutter: &mut Cutter<'_>,
+    before: usize,
+) -> Result<(), NoMemory> {
+    let mut row = Row::new(alloc);
+    'rows: for _row in 0..before {
+        cutter.next_row(&mut row)?;
+    }
+    if let Some(cut) = cutter.next_over(alloc, &mut Spare::new(alloc))? {
+        let mut cut = cut;
+        cut.rows.push(&Row::from_fields(alloc, &[b"x"])?)?;
+        push_chunk(alloc, text, &cut)?;
+    }
+    Ok(())
+}
+
+impl TableRow for Mixed {
+    fn holds(&self, alloc: Global, checked: &Checked) -> Result<bool, NoMemory> {
+        match Cutter::open(alloc, checked, b"n,w,c\n1\n2\n3\n", 1, 2) {
+            Ok(opened) => {
+                let mut cutter = opened;
+                let mut text = Vec::new(alloc);
+                push_mixed(alloc, &mut text, &mut cutter, self.0)?;
+                Ok(text.as_slice() == self.1.as_bytes())
+            }
+            Err(_) => Ok(false),
+        }
+    }
+}
+
+#[test]
+fn rows_that_are_added_are_read_last(rt: HostRuntime) -> Result<(), Fail> {
+    check_rows(&rt, rt.alloc(), FIELDS, &MIXED)
 }
 
 // The record of a number, a word and a label.

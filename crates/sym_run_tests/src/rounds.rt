@@ -10,6 +10,7 @@ ghost use Rattle.sym_run_tests.specs.Rounds.{Reads};
 
 use crate::scripts::{Row as Case, Scripted, check_rows, check_scripted};
 use std::alloc::Global;
+use std::slice;
 use std::sync::Wait;
 use std::test::Fail;
 use std::thread::Threads;
@@ -18,7 +19,7 @@ use sym_check::Checked;
 use sym_engine::{
     CHUNK_DEFAULT, LIMIT_DEFAULT, Options, PassErr, Rounds, Took, WORKERS_DEFAULT, Work, each_round,
 };
-use sym_table::{Bad, BadCause, Chunk, Chunks, Cutter, Decoded, Row, RowView, decode};
+use sym_table::{Bad, BadCause, Chunk, Chunks, Cutter, Decoded, Row, RowCursor, RowView, decode};
 
 /// The number of chunks in each round. Each row is read as `one`, where there is one.
 #[derive(Drop)]
@@ -49,8 +50,13 @@ fn read_chunk(
         IfOk result (Reads (chunk_records (checked_plan checked.now) as_shown)) }
 {
     let mut no = chunk.first_no;
-    'rows: for index in 0..chunk.rows.len() {
-        let row = shown(one, chunk.rows.row(index));
+    let mut cursor = RowCursor::over(alloc, slice::from_ref(chunk))?;
+    let mut held = Row::with_room(alloc)?;
+    'rows: for _index in 0..chunk.rows.len() {
+        if !cursor.read(&mut held)? {
+            return Ok(Took::Done);
+        }
+        let row = shown(one, held.view());
         match decode(alloc, checked, &chunk.header, &row, no)? {
             Decoded::Is(_) => no += 1,
             Decoded::Bad(bad) => return Ok(Took::Bad(bad)),
@@ -242,34 +248,33 @@ fn work_of(alloc: Global, checked: &Checked, shared: &Shared) -> Result<Option<W
 }
 
 // Whether the chunk has this number and these rows of one field.
-fn is_chunk(chunk: &Chunk, first_no: u64, rows: &[&str]) -> bool {
-    if chunk.first_no != first_no || chunk.rows.len() != rows.len() {
-        return false;
-    }
-    'rows: for (index, field) in rows.iter().enumerate() {
-        if chunk.rows.row(index).get(0) != Some(field.as_bytes()) {
-            return false;
+fn is_chunk(alloc: Global, chunk: &Chunk, first_no: u64, rows: &[&str]) -> Result<bool, NoMemory> {
+    let mut cursor = RowCursor::over(alloc, slice::from_ref(chunk))?;
+    let mut row = Row::with_room(alloc)?;
+    'rows: for field in rows {
+        if !cursor.read(&mut row)? || row.get(0) != Some(field.as_bytes()) {
+            return Ok(false);
         }
     }
-    true
+    Ok(chunk.first_no == first_no && chunk.rows.len() == rows.len())
 }
 
-fn is_work(work: &Work, checked: &Checked, limit: u32) -> bool {
+fn is_work(alloc: Global, work: &Work, checked: &Checked, limit: u32) -> Result<bool, NoMemory> {
     match work.chunks.as_slice() {
-        [first, second] => {
+        [first, second] => Ok(
             work.limit == limit
                 && work.checked.path_bound() == checked.path_bound()
-                && is_chunk(first, 1, &["1", "2"])
-                && is_chunk(second, 3, &["3"])
-        }
-        _ => false,
+                && is_chunk(alloc, first, 1, &["1", "2"])?
+                && is_chunk(alloc, second, 3, &["3"])?,
+        ),
+        _ => Ok(false),
     }
 }
 
 impl Case for Shared {
     fn holds(&self, alloc: Global, checked: &Checked) -> Result<bool, NoMemory> {
         match work_of(alloc, checked, self)? {
-            Some(work) => Ok(is_work(&work.copy(alloc)?, checked, self.0)),
+            Some(work) => is_work(alloc, &work.copy(alloc)?, checked, self.0),
             None => Ok(false),
         }
     }

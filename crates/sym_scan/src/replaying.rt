@@ -1,11 +1,12 @@
 //! Chunks that are replayed from how groups stand before them.
-ghost use Rattle.std.specs.Prelude.{◌≡◌, ◌≤◌, ◌++◌, [], IfOk, OnOk, if◌then◌else◌};
+ghost use Rattle.std.specs.Prelude.{◌≡◌, ◌≤◌, ◌++◌, [], IfNone, IfOk, OnOk, if◌then◌else◌};
 ghost use Rattle.std.specs.List.{All};
 ghost use Rattle.std.specs.Map.{lookup};
 ghost use Rattle.sym_check.specs.Checking.CheckedScripts.{checked_plan};
 ghost use Rattle.sym_check.specs.Meaning.Groups.{is_key, key_of};
 ghost use Rattle.sym_plain.specs.Pairs.{after_record};
 ghost use Rattle.sym_table.specs.ChunkRecords.{all_records, chunk_records};
+ghost use Rattle.sym_table.specs.Reading.{HasNext, Passes};
 ghost use Rattle.sym_table.specs.Rows.{FitsChunk};
 ghost use Rattle.sym_scan.specs.Replays.{GoesOn, replayed_to, row_of};
 ghost use Rattle.sym_scan.specs.Traces.{is_shown};
@@ -17,7 +18,7 @@ use std::slice;
 use sym_base::{Fields, Key, NoMemory, Record, Values};
 use sym_check::Checked;
 use sym_plain::{Groups, fold_into, key_into};
-use sym_table::{Bad, Chunk, decode_into};
+use sym_table::{Bad, Chunk, Row, RowCursor, decode_into};
 
 /// What chunks come to.
 #[derive(Drop)]
@@ -122,23 +123,32 @@ fn take_record(
     Ok(())
 }
 
-// Takes the records of a chunk's rows, up to the first row that is none.
+// Takes the records of a chunk's rows, which the cursor has next, up to the first row that is none.
+// Each is read over the memory of `row`.
 fn take_rows(
     alloc: Global,
     checked: &Checked,
+    cursor: &mut RowCursor<'_>,
+    row: &mut Row,
     chunk: &Chunk,
     every: u64,
     progress: &mut Progress,
 ) -> Result<Option<Bad>, NoMemory>
     requires chunk { FitsChunk (checked_plan checked.now).fields chunk.now }
+    requires rows { HasNext chunk.now.rows cursor.old }
     requires every { 1 ≤ every }
-    ensures { let p = checked_plan checked.now in
+    ensures goes { let p = checked_plan checked.now in
         IfOk result (λ bad. GoesOn p every (chunk_records p chunk.now) progress.old bad progress.new) }
+    ensures passes { IfOk result (λ bad.
+        IfNone bad (Passes chunk.now.rows cursor.old cursor.new)) }
 {
     'rows: for index in 0..chunk.rows.len() {
         let no = chunk.first_no + index as u64;
-        let row = chunk.rows.row(index);
-        let bad = decode_into(alloc, checked, &chunk.header, &row, no, &mut progress.rec)?;
+        if !cursor.read(row)? {
+            return Ok(None);
+        }
+        let rec = &mut progress.rec;
+        let bad = decode_into(alloc, checked, &chunk.header, &row.view(), no, rec)?;
         if bad.is_some() {
             return Ok(bad);
         }
@@ -166,8 +176,19 @@ pub fn replay_all(
         IfOk result (λ replayed. replayed ≡ replayed_to p every starts (all_records p chunks.now)) }
 {
     let mut progress = Progress::new(alloc, starts);
+    let mut cursor = RowCursor::over(alloc, chunks)?;
+    let mut row = Row::with_room(alloc)?;
     'chunks: for chunk in chunks {
-        if let Some(bad) = take_rows(alloc, checked, chunk, every, &mut progress)? {
+        let taken = take_rows(
+            alloc,
+            checked,
+            &mut cursor,
+            &mut row,
+            chunk,
+            every,
+            &mut progress,
+        )?;
+        if let Some(bad) = taken {
             return Ok(Replayed::Bad(bad));
         }
     }

@@ -5,6 +5,8 @@ pub mod Cells
 pub mod FieldFacts
 pub mod Firsts
 pub mod Marks
+pub mod Cursors
+pub mod Raws
 pub mod Readers
 pub mod FoundColumns
 pub mod Openings
@@ -15,5 +17,5 @@ pub mod HeadersAgree
 pub mod FieldKinds
 pub mod RecordsAgree
 pub mod RowCounts
+pub mod Stepping
 pub mod NumbersAscii
-pub mod FlatRows

@@ -8,4 +8,4 @@ pub mod FileRows
 pub mod Headers
 pub mod Reading
 pub mod Cutting
-pub mod FlatRows
+pub mod RawRows

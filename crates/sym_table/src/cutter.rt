@@ -5,7 +5,7 @@ ghost use Rattle.sym_base.specs.Limits.{max_fields};
 ghost use Rattle.sym_base.specs.declared.limits.TheConstants as limit;
 ghost use Rattle.sym_check.specs.Checking.CheckedScripts.{checked_plan};
 ghost use Rattle.sym_check.specs.declared.plan.script.FieldPlan.{FieldPlan as OneField};
-ghost use Rattle.sym_table.specs.Cutting.{Cuts, HeadsBy, Opens, ReadsOnto, Takes, TakesRows};
+ghost use Rattle.sym_table.specs.Cutting.{Cuts, HeadsBy, Opens, Takes};
 ghost use Rattle.sym_table.specs.FileRows.{file_rows};
 ghost use Rattle.sym_table.specs.Rows.{FitsHeader, FitsChunk};
 
@@ -15,7 +15,7 @@ use crate::header::{HeadErr, Header, Places};
 use crate::mark::without_mark;
 use crate::reader::RowReader;
 use crate::row::Row;
-use crate::rows::Rows;
+use crate::source::RowSource;
 use crate::spare::Spare;
 use std::alloc::Global;
 use std::marker::Model;
@@ -26,9 +26,7 @@ use sym_check::{Checked, FieldPlan, Plan};
 /// rows that are left, `None` after memory ran out; the header; the number of the next row;
 /// and how many rows a full chunk has.
 pub struct Cutter<'a> {
-    rows: RowReader<'a>,
-    // The row that was read last, over whose memory the next one is read.
-    row: Row,
+    rows: RowSource<'a>,
     header: Header,
     next_no: u64,
     chunk: u32,
@@ -39,7 +37,6 @@ impl<'a> Drop for Cutter<'a> {
     fn drop(self) {
         let Cutter {
             rows: _rows,
-            row: _row,
             header: _header,
             next_no: _next_no,
             chunk: _chunk,
@@ -60,45 +57,6 @@ impl<'a> Model for Cutter<'a> {
     } };
 
     ghost invariant = { λ c. IsCutting c.rows c.next_no c.chunk };
-}
-
-// Reads the next row and adds it to others: whether there was one.
-fn read_onto(reader: &mut RowReader<'_>, row: &mut Row, rows: &mut Rows) -> Result<bool, NoMemory>
-    ensures { ReadsOnto reader.old reader.new rows.old rows.new result }
-{
-    if !reader.read(row)? {
-        return Ok(false);
-    }
-    match rows.push(row) {
-        Ok(()) => Ok(true),
-        Err(refused) => {
-            reader.fail();
-            Err(refused)
-        }
-    }
-}
-
-// The next rows, `count` of them or those that are left, each read over the memory of `row`.
-fn take_rows(
-    alloc: Global,
-    reader: &mut RowReader<'_>,
-    row: &mut Row,
-    count: u32,
-    spare: &mut Spare,
-) -> Result<Rows, NoMemory>
-    requires { 1 ≤ count }
-    ensures { TakesRows count reader.old reader.new result }
-{
-    if reader.has_failed() {
-        return Err(NoMemory);
-    }
-    let mut rows = spare.rows(alloc);
-    'rows: for _row in 0..count {
-        if !read_onto(reader, row, &mut rows)? {
-            return Ok(rows);
-        }
-    }
-    Ok(rows)
 }
 
 // The header of a file that has no rows: nothing is read by it.
@@ -124,7 +82,7 @@ fn read_header(
     ensures reads { IfSome reader.old (λ rows. HeadsBy fields.now rows reader.new result) }
     ensures fits { IfOk result (λ h. FitsHeader fields.now h) }
 {
-    let mut row = Row::new(alloc);
+    let mut row = Row::with_room(alloc)?;
     if reader.read(&mut row)? {
         let places = columns_of(alloc, &row, fields)?;
         Ok(Header {
@@ -154,11 +112,11 @@ fn open_by<'a>(
     ensures numbers { IfOk result (λ c. c.next_no ≡ first_no) }
     ensures chunk { IfOk result (λ c. c.chunk ≡ chunk) }
 {
-    let mut rows = RowReader::over(alloc, without_mark(bytes));
-    let header = read_header(alloc, plan.fields.as_slice(), &mut rows)?;
+    let bytes = without_mark(bytes);
+    let mut reader = RowReader::over(alloc, bytes);
+    let header = read_header(alloc, plan.fields.as_slice(), &mut reader)?;
     Ok(Cutter {
-        rows,
-        row: Row::new(alloc),
+        rows: RowSource::after_first(alloc, without_mark(bytes), reader),
         header,
         next_no: first_no,
         chunk,
@@ -211,7 +169,7 @@ impl<'a> Cutter<'a> {
         ensures header { self.new.header ≡ self.old.header }
         ensures chunk { self.new.chunk ≡ self.old.chunk }
     {
-        let rows = take_rows(alloc, &mut self.rows, &mut self.row, self.chunk, spare)?;
+        let rows = self.rows.take(self.chunk, spare)?;
         if rows.is_empty() {
             return Ok(None);
         }

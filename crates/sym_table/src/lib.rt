@@ -5,6 +5,7 @@
 mod bad;
 mod chunk;
 mod columns;
+mod cursor;
 mod cutter;
 mod decoding;
 mod header;
@@ -14,10 +15,12 @@ mod reader;
 mod reading;
 mod row;
 mod rows;
+mod source;
 mod spare;
 
 pub use bad::{Bad, BadCause, Decoded};
 pub use chunk::{Chunk, Chunks};
+pub use cursor::RowCursor;
 pub use cutter::Cutter;
 pub use decoding::{decode, decode_into};
 pub use header::{HeadErr, HeadFault, Header, Places};

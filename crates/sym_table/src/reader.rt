@@ -1,9 +1,14 @@
 //! Rows, one after the other.
-ghost use Rattle.std.specs.Prelude.{◌≡◌, ◌≤◌, ◌+◌, ◌^◌, length, Some, None, IfSome};
+ghost use Rattle.std.specs.Prelude.{◌≡◌, ◌≤◌, ◌+◌, ◌<◌, ◌^◌, length, map, Some, None, IfSome};
+ghost use Rattle.std.specs.List.{All, concat, flat_map};
 ghost use Rattle.std.specs.Option.{is_none};
 ghost use Rattle.csv.specs.Records.{fields_of};
+ghost use Rattle.csv.specs.Reading.{default_config, records_from, strip_bom};
+ghost use Rattle.csv.specs.declared.parser.State.TheVariants as st;
+ghost use Rattle.sym_rows.specs.Pieces.{pieces_left};
+ghost use Rattle.sym_rows.specs.Rows.{IsPiece, rows_of};
 ghost use Rattle.sym_table.specs.FileRows.{csv_rows};
-ghost use Rattle.sym_table.specs.Reading.{IsReading, Reads, ReadsRecord};
+ghost use Rattle.sym_table.specs.Reading.{IsReading, Reads, ReadsRecord, bytes_left};
 
 use crate::mark::without_mark;
 use crate::row::Row;
@@ -11,6 +16,7 @@ use csv::{ByteRecord, Reader, ReaderBuilder};
 use std::alloc::Global;
 use std::marker::Model;
 use sym_base::NoMemory;
+use sym_rows::Pieces;
 
 /// How far a reader is.
 #[derive(Clone, Copy, PartialEq, Eq)]
@@ -24,7 +30,7 @@ pub enum Stage {
 /// after memory ran out.
 #[derive(Drop)]
 pub struct RowReader<'a> {
-    reader: Reader<&'a [u8]>,
+    reader: Reader<Pieces<'a>>,
     stage: Stage,
     // No more rows than this are left.
     most: u64,
@@ -32,20 +38,20 @@ pub struct RowReader<'a> {
 
 impl<'a> Model for RowReader<'a> {
     ghost use Rattle.std.specs.Prelude.{List, ℕ, Option, Some};
-    ghost use Rattle.sym_table.specs.Reading.{Row as OneRow, IsReader, rows_left};
+    ghost use Rattle.sym_table.specs.Reading.{Row as OneRow, IsReader, bytes_left, rows_left};
 
     ghost Value = { Option (List OneRow) };
 
-    ghost view = { λ s. rows_left (λ t. Some t.now) s.stage s.most s.reader };
+    ghost view = { λ s. rows_left bytes_left s.stage s.most s.reader };
 
-    ghost invariant = { λ s. IsReader (λ t. Some t.now) s.stage s.reader };
+    ghost invariant = { λ s. IsReader bytes_left s.stage s.reader };
 }
 
 // Reads a record. Over bytes that lie in memory `csv` has no failure but a refusal of memory.
-fn read_record(reader: &mut Reader<&[u8]>, row: &mut ByteRecord) -> Result<bool, NoMemory>
-    requires { IsReading (λ t. Some t.now) reader.old }
+fn read_record(reader: &mut Reader<Pieces<'_>>, row: &mut ByteRecord) -> Result<bool, NoMemory>
+    requires { IsReading bytes_left reader.old }
     ensures { let row = fields_of row.new in
-        ReadsRecord (λ t. Some t.now) reader.old reader.new row result }
+        ReadsRecord bytes_left reader.old reader.new row result }
 {
     match reader.read_byte_record(row) {
         Ok(found) => Ok(found),
@@ -54,22 +60,39 @@ fn read_record(reader: &mut Reader<&[u8]>, row: &mut ByteRecord) -> Result<bool,
 }
 
 impl<'a> RowReader<'a> {
-    /// The rows of these bytes. It takes no memory.
-    pub fn over(alloc: Global, bytes: &'a [u8]) -> RowReader<'a>
-        requires { length bytes.now ≤ 2 ^ 62 }
-        ensures rows { result ≡ Some (csv_rows bytes.now) }
-        ensures few { IfSome result (λ rows. length rows ≤ length bytes.now + 1) }
+    // At most so many rows of these bytes.
+    fn of(alloc: Global, source: Pieces<'a>, most: u64) -> RowReader<'a>
+        ensures { let bytes = strip_bom (pieces_left source.entry) in
+            result ≡ Some (records_from default_config most st.StartRecord bytes) }
     {
-        let most = without_mark(bytes).len() as u64 + 1;
         let reader = ReaderBuilder::new()
             .has_headers(false)
             .flexible(true)
-            .from_reader(alloc, bytes);
+            .from_reader(alloc, source);
         RowReader {
             reader,
             stage: Stage::Reading,
             most,
         }
+    }
+
+    /// The rows of these bytes. It takes no memory.
+    pub fn over(alloc: Global, bytes: &'a [u8]) -> RowReader<'a>
+        ensures rows { result ≡ Some (csv_rows bytes.now) }
+        ensures few { IfSome result (λ rows. length rows ≤ length bytes.now + 1) }
+    {
+        let most = without_mark(bytes).len() as u64 + 1;
+        RowReader::of(alloc, Pieces::one(alloc, bytes), most)
+    }
+
+    /// The rows of pieces, which are read one after the other. They have `size` bytes in all.
+    pub fn over_pieces(alloc: Global, pieces: Vec<&'a [u8]>, size: u64) -> RowReader<'a>
+        requires pieces { All IsPiece (map (λ piece. piece.now) pieces.items) }
+        requires size { size ≡ length (concat (map (λ piece. piece.now) pieces.items)) }
+        requires few { size < 2 ^ 63 }
+        ensures { result ≡ Some (flat_map rows_of (map (λ piece. piece.now) pieces.entry.items)) }
+    {
+        RowReader::of(alloc, Pieces::of(pieces), size + 1)
     }
 
     /// Whether memory ran out, after which no row is read.

@@ -5,7 +5,7 @@ ghost use Rattle.csv.specs.Records.{fields_of};
 use csv::ByteRecord;
 use std::alloc::Global;
 use std::marker::Model;
-use sym_base::NoMemory;
+use sym_base::{NoMemory, Plain};
 
 /// A row: the bytes of each field. A contract sees a list of byte strings.
 #[derive(Drop)]
@@ -30,6 +30,15 @@ impl Row {
         Row {
             fields: ByteRecord::new(alloc),
         }
+    }
+
+    /// The row of no fields, with room for fields of 512 bytes in all. A row that is read again and
+    /// again is read in one go while it has room.
+    pub fn with_room(alloc: Global) -> Result<Row, NoMemory>
+        ensures { IfOk result (λ r. r ≡ []) }
+    {
+        let fields = ByteRecord::with_capacity(alloc, 512, 16)?;
+        Ok(Row { fields })
     }
 
     /// The row of these fields.
@@ -68,30 +77,29 @@ impl Row {
     {
         RowView {
             fields: &self.fields,
-            first: 0,
-            last: self.fields.len(),
         }
+    }
+}
+
+impl Plain for Row {
+    fn copied(&self, alloc: Global) -> Result<Row, NoMemory> {
+        self.copy(alloc)
     }
 }
 
 /// A row that is read where it lies. A contract sees the list of its fields' bytes.
 #[derive(Drop)]
 pub struct RowView<'a> {
-    pub(crate) fields: &'a ByteRecord,
-    // The row has the fields from `first` up to `last`.
-    pub(crate) first: usize,
-    pub(crate) last: usize,
+    fields: &'a ByteRecord,
 }
 
 impl<'a> Model for RowView<'a> {
-    ghost use Rattle.std.specs.Prelude.{◌≤◌, ◌-◌, List, ℕ, length, take, drop};
+    ghost use Rattle.std.specs.Prelude.{List, ℕ};
     ghost use Rattle.csv.specs.Records.{fields_of};
 
     ghost Value = { List (List ℕ) };
 
-    ghost view = { λ r. take (r.last - r.first) (drop r.first (fields_of r.fields.now)) };
-
-    ghost invariant = { λ r. (r.first ≤ r.last) × (r.last ≤ length (fields_of r.fields.now)) };
+    ghost view = { λ r. fields_of r.fields.now };
 }
 
 impl<'a> RowView<'a> {
@@ -99,17 +107,13 @@ impl<'a> RowView<'a> {
     pub fn len(&self) -> usize
         ensures { result ≡ length self.now }
     {
-        self.last - self.first
+        self.fields.len()
     }
 
     /// The field at `index`, counted from 0; `None` where there are at most `index` fields.
     pub fn get(&self, index: usize) -> Option<&'a [u8]>
         ensures { option_map (λ f. f.now) result ≡ slice_get self.now index }
     {
-        if index < self.last - self.first {
-            self.fields.get(self.first + index)
-        } else {
-            None
-        }
+        self.fields.get(index)
     }
 }

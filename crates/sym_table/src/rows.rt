@@ -1,78 +1,104 @@
 //! The rows of a chunk.
-ghost use Rattle.std.specs.Prelude.{◌≡◌, ◌<◌, ◌++◌, ◌∷◌, ◌==◌, ℕ, List, [], Some, IfOk, OnOk, OnErr, length, slice_get};
-ghost use Rattle.csv.specs.Records.{fields_of, partial_of};
-ghost use Rattle.sym_table.specs.FlatRows.{AreEnds, AreFlat, Grows, IsRowAt};
+ghost use Rattle.std.specs.Prelude.{◌≡◌, ◌+◌, ◌++◌, ◌∷◌, ◌==◌, [], IfOk, IfSome, OnOk, OnErr, length};
+ghost use Rattle.sym_rows.specs.Pieces.{IsQuoted};
+ghost use Rattle.sym_rows.specs.Rows.{BeginsLine, IsPiece, rows_of};
+ghost use Rattle.sym_table.specs.RawRows.{IsClosed, IsRaw};
 
-use crate::row::{Row, RowView};
-use csv::ByteRecord;
+use crate::reader::RowReader;
+use crate::row::Row;
 use std::alloc::Global;
+use std::collections::VecDeque;
 use std::marker::Model;
 use sym_base::NoMemory;
 
-/// Rows, in order. Their fields lie in one piece of memory. A contract sees the list of the rows,
-/// each as the list of its fields' bytes.
+/// Rows, in order. Those of a file are kept as the bytes that they are read from, and are read by a
+/// `RowCursor`. A contract sees the list of the rows, each as the list of its fields' bytes.
 pub struct Rows {
-    // The fields of all rows, one after the other.
-    fields: ByteRecord,
-    // For each row the number of fields up to its end.
-    ends: Vec<usize>,
+    // Bytes of a file, which begin with the end of the line before their first row.
+    raw: Vec<u8>,
+    // How many rows the bytes have.
+    count: usize,
+    // The rows that were added after them.
+    pushed: Vec<Row>,
 }
 
 // Written here so that the crates above don't prove it for each type inside.
 impl Drop for Rows {
     fn drop(self) {
         let Rows {
-            fields: _fields,
-            ends: _ends,
+            raw: _raw,
+            count: _count,
+            pushed: _pushed,
         } = self;
     }
 }
 
 impl Model for Rows {
-    ghost use Rattle.std.specs.Prelude.{List, ℕ};
-    ghost use Rattle.csv.specs.Records.{fields_of};
-    ghost use Rattle.sym_table.specs.FlatRows.{AreFlat, rows_from};
+    ghost use Rattle.std.specs.Prelude.{◌++◌, List, ℕ};
+    ghost use Rattle.sym_rows.specs.Rows.{rows_of};
+    ghost use Rattle.sym_table.specs.RawRows.{AreRaw};
 
     ghost Value = { List (List (List ℕ)) };
 
-    ghost view = { λ r. rows_from 0 r.ends.items (fields_of r.fields) };
+    ghost view = { λ r. rows_of r.raw.items ++ r.pushed.items };
 
-    ghost invariant = { λ r. AreFlat r.ends.items r.fields };
+    ghost invariant = { λ r. AreRaw r.raw.items r.count };
 }
 
-// Adds the fields of a row after others.
-fn add_fields(fields: &mut ByteRecord, row: &ByteRecord) -> Result<(), NoMemory>
-    requires { partial_of fields.old ≡ [] }
-    ensures fields { OnOk result (fields_of fields.new ≡ fields_of fields.old ++ fields_of row.now) }
-    ensures whole { OnOk result (partial_of fields.new ≡ []) }
+// Copies bytes over others. Where they end within quotes, these are closed.
+fn copy_bytes(raw: &mut Vec<u8>, bytes: &[u8], quoted: bool) -> Result<(), NoMemory>
+    requires quoted { IsQuoted quoted bytes.now }
+    requires begins { BeginsLine bytes.now }
+    ensures { OnOk result (IsClosed bytes.now raw.new.items) }
 {
-    'fields: for index in 0..row.len() {
-        if let Some(field) = row.get(index) {
-            fields.push_field(field)?;
-        }
+    raw.clear();
+    raw.extend_from_slice(bytes)?;
+    if quoted {
+        raw.push(b'"')?;
     }
     Ok(())
 }
 
-// Adds a row after others.
-fn add_row(fields: &mut ByteRecord, ends: &mut Vec<usize>, row: &ByteRecord) -> Result<(), NoMemory>
-    requires { AreFlat ends.old.items fields.old }
-    ensures { let row = fields_of row.now in
-        OnOk result (Grows ends.old.items fields.old row ends.new.items fields.new) }
+// Equal rows of their own.
+fn copy_rows(alloc: Global, rows: &[Row]) -> Result<Vec<Row>, NoMemory>
+    ensures { IfOk result (λ copied. copied.items ≡ rows.now) }
 {
-    add_fields(fields, row)?;
-    ends.push(fields.len())?;
+    let mut copied = Vec::with_capacity(alloc, rows.len())?;
+    'rows: for row in rows {
+        copied.push(row.copy(alloc)?)?;
+    }
+    Ok(copied)
+}
+
+// Adds a copy of a row as the last one.
+fn push_copy(rows: &mut Vec<Row>, row: &Row) -> Result<(), NoMemory>
+    ensures { OnOk result (rows.new.items ≡ rows.old.items ++ row.now ∷ []) }
+{
+    let fields = row.fields.clone()?;
+    rows.push(Row { fields })?;
     Ok(())
 }
 
-// Where the fields of the row at `index` begin, and where they end.
-fn bounds(ends: &Vec<usize>, index: usize) -> (usize, usize)
-    requires { index < length ends.now.items }
-    ensures { (fields : List (List ℕ)) → AreEnds 0 ends.now.items (length fields) →
-        IsRowAt ends.now.items fields index result.0 result.1 }
+// Adds copies of the rows of bytes to others.
+fn list_raw(
+    alloc: Global,
+    bytes: &[u8],
+    count: usize,
+    rows: &mut VecDeque<Row>,
+) -> Result<(), NoMemory>
+    requires begins { BeginsLine bytes.now }
+    requires count { count ≡ length (rows_of bytes.now) }
+    ensures { OnOk result (rows.new.items ≡ rows.old.items ++ rows_of bytes.now) }
 {
-    let first = if index == 0 { 0 } else { ends[index - 1] };
-    (first, ends[index])
+    let mut reader = RowReader::over(alloc, bytes);
+    let mut row = Row::new(alloc);
+    'rows: for _row in 0..count {
+        if !reader.read(&mut row)? {
+            return Ok(());
+        }
+        rows.push_back(row.copy(alloc)?)?;
+    }
+    Ok(())
 }
 
 impl Rows {
@@ -81,8 +107,9 @@ impl Rows {
         ensures { result ≡ [] }
     {
         Rows {
-            fields: ByteRecord::new(alloc),
-            ends: Vec::new(alloc),
+            raw: Vec::new(alloc),
+            count: 0,
+            pushed: Vec::new(alloc),
         }
     }
 
@@ -90,37 +117,27 @@ impl Rows {
     pub fn copy(&self, alloc: Global) -> Result<Rows, NoMemory>
         ensures { IfOk result (λ rows. rows ≡ self.now) }
     {
-        let fields = self.fields.clone()?;
-        let mut ends = Vec::with_capacity(alloc, self.ends.len())?;
-        ends.extend_from_slice(self.ends.as_slice())?;
-        Ok(Rows { fields, ends })
+        let mut raw = Vec::with_capacity(alloc, self.raw.len())?;
+        raw.extend_from_slice(self.raw.as_slice())?;
+        Ok(Rows {
+            raw,
+            count: self.count,
+            pushed: copy_rows(alloc, self.pushed.as_slice())?,
+        })
     }
 
     /// The number of rows.
     pub fn len(&self) -> usize
         ensures { result ≡ length self.now }
     {
-        self.ends.len()
+        self.count + self.pushed.len()
     }
 
     /// Whether there are no rows.
     pub fn is_empty(&self) -> bool
         ensures { result ≡ (length self.now == 0) }
     {
-        self.ends.is_empty()
-    }
-
-    /// The row at `index`, counted from 0, where it lies.
-    pub fn row(&self, index: usize) -> RowView<'_>
-        requires { index < length self.now }
-        ensures { slice_get self.now index ≡ Some result }
-    {
-        let (first, last) = bounds(&self.ends, index);
-        RowView {
-            fields: &self.fields,
-            first,
-            last,
-        }
+        self.count == 0 && self.pushed.is_empty()
     }
 
     /// Adds a copy of a row as the last one. After an `Err` there are no rows.
@@ -128,21 +145,71 @@ impl Rows {
         ensures ok { OnOk result (self.new ≡ self.old ++ row.now ∷ []) }
         ensures err { OnErr result (self.new ≡ []) }
     {
-        match add_row(&mut self.fields, &mut self.ends, &row.fields) {
+        match push_copy(&mut self.pushed, row) {
             Ok(()) => Ok(()),
             Err(refused) => {
-                self.fields.clear();
-                self.ends.clear();
+                self.clear();
                 Err(refused)
             }
         }
     }
 
-    /// Drops all rows. Their memory is kept for those that are added later.
+    /// Drops all rows. The memory of those that were read from a file is kept for others.
     pub fn clear(&mut self)
         ensures { self.new ≡ [] }
     {
-        self.fields.clear();
-        self.ends.clear();
+        self.raw.clear();
+        self.count = 0;
+        self.pushed.clear();
+    }
+
+    /// Puts the rows of a file's bytes in the place of all rows. After an `Err` there are no rows.
+    #[tactic(auto, using(crate::proofs::Raws::no_raw, crate::proofs::Raws::nothing_there))]
+    pub(crate) fn set_raw(
+        &mut self,
+        bytes: &[u8],
+        count: usize,
+        quoted: bool,
+    ) -> Result<(), NoMemory>
+        requires begins { BeginsLine bytes.now }
+        requires quoted { IsQuoted quoted bytes.now }
+        requires count { count ≡ length (rows_of bytes.now) }
+        ensures ok { OnOk result (self.new ≡ rows_of bytes.now) }
+        ensures err { OnErr result (self.new ≡ []) }
+    {
+        self.pushed.clear();
+        match copy_bytes(&mut self.raw, bytes, quoted) {
+            Ok(()) => {
+                self.count = count;
+                Ok(())
+            }
+            Err(refused) => {
+                self.raw.clear();
+                self.count = 0;
+                Err(refused)
+            }
+        }
+    }
+
+    /// The bytes of all rows, unless some were added after those of a file.
+    pub(crate) fn raw(&self) -> Option<&[u8]>
+        ensures { IfSome result (λ bytes. IsRaw bytes.now self.now) }
+    {
+        if self.pushed.is_empty() {
+            Some(self.raw.as_slice())
+        } else {
+            None
+        }
+    }
+
+    /// Adds copies of all rows to others.
+    pub(crate) fn list(&self, alloc: Global, rows: &mut VecDeque<Row>) -> Result<(), NoMemory>
+        ensures { OnOk result (rows.new.items ≡ rows.old.items ++ self.now) }
+    {
+        list_raw(alloc, self.raw.as_slice(), self.count, rows)?;
+        'rows: for row in self.pushed.as_slice() {
+            rows.push_back(row.copy(alloc)?)?;
+        }
+        Ok(())
     }
 }

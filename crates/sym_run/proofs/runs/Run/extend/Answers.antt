@@ -2,6 +2,7 @@ use Rattle.std.proofs.Common.{◌≡◌, ◌∙◌, true, false, Option, None, S
 use Rattle.sym_check.specs.Checking.CheckedScripts.{checked_plan}
 use Rattle.sym_table.specs.ChunkRecords.{chunk_records}
 use Rattle.sym_table.specs.declared.bad.Bad.{Bad}
+use Rattle.sym_table.proofs.Stepping.{one_chunk}
 use Rattle.sym_run.specs.Growing.{TakesOn}
 use Rattle.sym_run.specs.Runs.{AreTight, GroupsFit}
 use Rattle.sym_run.proofs.FoundRecords.{run_extended}
@@ -27,6 +28,9 @@ returns-then-is_some-clause-stands c = λ chunks h at.
 pub take_rows-requires-clause-tight : goal.take_rows-requires-clause-tight
 take_rows-requires-clause-tight c =
     subst (AreTight (checked_plan c.args.checked.now) c.args.limit) (sym c.into_map-map.ensures.same) (c.requires.tight (no_bad c.args.self.bad (sym c.is_some.ensures ∙ c.if-is_some.false)))
+
+pub take_rows-requires-clause-rows : goal.take_rows-requires-clause-rows
+take_rows-requires-clause-rows c = one_chunk c.in_ok-cursor.cursor c.from_ref.result.now c.args.chunk.now c.in_ok-cursor.ensures c.from_ref.ensures.value
 
 pub returns-clause-stands : goal.returns-clause-stands
 returns-clause-stands c = λ chunks h at.

@@ -1,12 +1,13 @@
 use Rattle.std.proofs.Common.{Bor, List, ℕ, Some, arith, refl}
 use Rattle.csv.specs.Records.{fields_of}
+use Rattle.sym_table.specs.Reading.{bytes_left}
 use Rattle.sym_table.proofs.Readers.{took, ended, used_up}
 use Rattle.sym_table.proofs.reader.RowReader.read.Goals as goal
 use Rattle.sym_table.proofs.reader.RowReader.read.Goals.{in-Ok-true, in-Ok-false, in-Err}
 
 pub returns-then-self-eq0 : goal.returns-then-self-eq0
 returns-then-self-eq0 c = (
-  used_up (λ (t : Bor (List ℕ)). Some t.now) c.self.inside.stage c.self.inside.most c.self.inside.reader c.args.self.now
+  used_up bytes_left c.self.inside.stage c.self.inside.most c.self.inside.reader c.args.self.now
       c.in-Reading.is c.if-self-eq0.true c.self.view_is,
   refl,
 )
@@ -19,12 +20,12 @@ returns-after-read_record c =
       | in-Ok-true w ↦
           let read = rw (w.in-Ok-true.is, w.in-Ok-true.field-0-test) at call.ensures in
           rw w.result-is (
-          took (λ (t : Bor (List ℕ)). Some t.now) inside.stage inside.most inside.reader call.new.reader (fields_of call.new.row) c.args.self.now c.match-read_record.self
+          took bytes_left inside.stage inside.most inside.reader call.new.reader (fields_of call.new.row) c.args.self.now c.match-read_record.self
           c.in-Reading.is (omega arith) c.self.invariant read c.self.view_is w.self-is)
       | in-Ok-false w ↦
           let read = rw (w.in-Ok-false.is, w.in-Ok-false.field-0-test) at call.ensures in
           rw (w.result-is, w.self-is) (
-            ended (λ (t : Bor (List ℕ)). Some t.now) inside.stage inside.most inside.reader call.new.reader (fields_of call.new.row) c.args.self.now
+            ended bytes_left inside.stage inside.most inside.reader call.new.reader (fields_of call.new.row) c.args.self.now
                 c.in-Reading.is c.self.invariant read c.self.view_is,
             refl,
           )

@@ -1,7 +1,7 @@
 -- The rows so far are the first of those that were left.
 use Rattle.std.proofs.Common.{◌≡◌, ◌++◌, length, List, Some}
 use Rattle.sym_table.specs.Reading.{Row}
-use Rattle.sym_table.proofs.cutter.take_rows.Given as goal
+use Rattle.sym_table.proofs.source.take_rows.Given as goal
 
 abbrev pub invariant-rows : goal.invariant-rows
 invariant-rows l = record {
