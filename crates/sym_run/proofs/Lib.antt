@@ -8,5 +8,6 @@ pub mod JoinedGroups
 pub mod LawfulGroups
 pub mod LedGroups
 pub mod Stepping
+pub mod TakenGroups
 pub mod Taking
 pub mod TightChains

@@ -3,5 +3,6 @@ pub mod Bracketing
 pub mod Chains
 pub mod Growing
 pub mod Holding
+pub mod Leading
 pub mod Runs
 pub mod SavedRuns

@@ -10,6 +10,7 @@ mod chunks;
 mod grouping;
 mod joining;
 mod lawful;
+mod leading;
 mod pushing;
 mod run_groups;
 mod runs;

@@ -11,13 +11,18 @@ ghost use Rattle.sym_run.specs.Runs.{AreTight, GroupsFit, GroupsStandFor, IsFrom
 use crate::applying::apply_all;
 use crate::chunks::take_rows;
 use crate::joining::join_groups;
+use crate::leading::apply_beside;
 use crate::run_groups::RunGroups;
 use std::alloc::Global;
 use std::slice;
+use std::thread::Threads;
 use sym_base::NoMemory;
 use sym_check::Checked;
 use sym_plain::Groups;
 use sym_table::{Bad, Chunk, RowCursor};
+
+// A thread has at least so many groups to lead: with fewer, starting it costs more than it gains.
+const GROUPS_A_THREAD: usize = 256;
 
 /// What the records of neighbouring chunks do to each group, or the first of their rows that is no
 /// record.
@@ -207,6 +212,46 @@ impl Run {
         }
         let mut groups = groups;
         apply_all(alloc, checked, &chains, &mut groups)?;
+        Ok(Applied::Done(groups))
+    }
+
+    /// `apply` by as many threads as there are workers, at most. The run's groups are cut into slices
+    /// of about as many, each of which one thread leads on. With few groups a worker, and with one
+    /// worker, no thread is made.
+    pub fn apply_by<T: Threads + Sync>(
+        self,
+        rt: &T,
+        alloc: Global,
+        checked: &Checked,
+        groups: Groups,
+        workers: u32,
+    ) -> Result<Applied, NoMemory>
+        requires fits { GroupsFit (checked_plan checked.now) self.groups }
+        requires valid { AreValid (checked_plan checked.now) groups }
+        ensures bad { IfOk result (λ applied. bad_of applied ≡ self.bad) }
+        ensures valid { IfOk result (λ applied.
+            IfDone applied (AreValid (checked_plan checked.now))) }
+        ensures groups { (records : List OneRecord) →
+            GroupsStandFor (checked_plan checked.now) records self.groups →
+            IfOk result (λ applied. IfDone applied (λ g.
+            g ≡ after_records (checked_plan checked.now) records groups)) }
+    {
+        let Run {
+            lo: _lo,
+            hi: _hi,
+            groups: chains,
+            bad,
+        } = self;
+        if let Some(bad) = bad {
+            return Ok(Applied::Bad(bad));
+        }
+        let mut groups = groups;
+        let threads = (chains.len() / GROUPS_A_THREAD).min(workers as usize);
+        if threads < 2 {
+            apply_all(alloc, checked, &chains, &mut groups)?;
+        } else {
+            apply_beside(rt, alloc, checked, &chains, &mut groups, threads)?;
+        }
         Ok(Applied::Done(groups))
     }
 }

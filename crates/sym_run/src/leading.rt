@@ -1,0 +1,272 @@
+//! The groups of a run, led by several threads. How they stand is taken out of the groups, led on
+//! beside each other, and put back.
+ghost use Rattle.std.specs.Prelude.{◌≡◌, ◌<◌, ℕ, List, [], ◌∷◌, None, Some, Ok, OnOk, IfOk, length, slice_get, slice_index_or};
+ghost use Rattle.std.specs.List.{All, AllZip};
+ghost use Rattle.std.specs.Map.{keys_of, lookup};
+ghost use Rattle.sym_base.specs.declared.values.record.Record.{Record as OneRecord};
+ghost use Rattle.sym_base.specs.declared.values.value.Key.{Key as OneKey};
+ghost use Rattle.sym_check.specs.Checking.CheckedScripts.{checked_plan};
+ghost use Rattle.sym_check.specs.Meaning.Groups.{is_key};
+ghost use Rattle.sym_check.specs.Meaning.Validity.{IsValidOutcome};
+ghost use Rattle.sym_plain.specs.Pairs.{HaveDistinctKeys, after_records, put};
+ghost use Rattle.sym_run.specs.Applying.{AreValid};
+ghost use Rattle.sym_run.specs.Leading.{AreAlikeBut, ArePlaces, AreTaken, IsAt, IsLedBy, IsTaken, WasLed, put_each, while_out};
+ghost use Rattle.sym_run.specs.Runs.{GroupsFit, GroupsStandFor};
+ghost use Rattle.sym_run.specs.declared.leading.Taken.{Taken as OneTaken};
+
+use crate::run_groups::RunGroups;
+use std::alloc::Global;
+use std::thread::Threads;
+use std::{mem, thread};
+use sym_base::{Fault, FaultKind, Key, NoMemory, Outcome};
+use sym_check::Checked;
+use sym_check::laws::plans::well_formed_plans_keep_states_valid;
+use sym_plain::{Groups, initial};
+
+/// How a group stands while it is out of the groups: its index in them, or none where it is new, and
+/// what leading it came to.
+#[derive(Drop)]
+pub(crate) struct Taken {
+    place: Option<usize>,
+    outcome: Outcome,
+    led: Result<(), NoMemory>,
+}
+
+// A value that lends a checked script and the chains of a run. Threads share it by its bound: that
+// both may be shared is then shown once, where they are handed in.
+trait LendsChains {
+    ghost use Rattle.sym_check.specs.declared.checking.accepted.Checked.{Checked as OneChecked};
+    ghost use Rattle.sym_path.specs.declared.path.Path.{Path as OnePath};
+
+    ghost by: { Self → OneChecked };
+
+    ghost lent: { Self → List (OneKey × List (List OnePath)) };
+
+    fn script(&self) -> &Checked
+        ensures { result.now ≡ by self.now };
+
+    fn chains(&self) -> &RunGroups
+        ensures { result.now ≡ lent self.now };
+}
+
+// The script and the chains of a run.
+#[derive(Clone, Copy)]
+struct Lent<'a> {
+    checked: &'a Checked,
+    chains: &'a RunGroups,
+}
+
+impl<'a> LendsChains for Lent<'a> {
+    ghost by = { λ l. l.checked.now };
+
+    ghost lent = { λ l. l.chains.now };
+
+    fn script(&self) -> &Checked {
+        self.checked
+    }
+
+    fn chains(&self) -> &RunGroups {
+        self.chains
+    }
+}
+
+// Takes out how the group at an index stands. Until it is put back, an ended group is there.
+fn take_at(groups: &mut Groups, index: usize) -> Outcome
+    requires { HaveDistinctKeys groups.old }
+    ensures outcome { (key : OneKey) → slice_get (keys_of groups.old) index ≡ Some key →
+        lookup (is_key key) groups.old ≡ Some result }
+    ensures groups { (key : OneKey) → slice_get (keys_of groups.old) index ≡ Some key →
+        groups.new ≡ put groups.old key while_out }
+{
+    let ended = Outcome::Ended(Fault {
+        kind: FaultKind::Arith,
+        no: 0,
+    });
+    match groups.outcome_at_mut(index) {
+        Some(outcome) => mem::replace(outcome, ended),
+        None => ended,
+    }
+}
+
+// Takes out how the group with this key stands. A new one stands at the initial state, and isn't in
+// the groups yet.
+fn take_group(
+    alloc: Global,
+    checked: &Checked,
+    groups: &mut Groups,
+    key: &Key,
+) -> Result<Taken, NoMemory>
+    requires { AreValid (checked_plan checked.now) groups.old }
+    ensures valid { OnOk result (AreValid (checked_plan checked.now) groups.new) }
+    ensures alike { OnOk result (AreAlikeBut (key.now ∷ []) groups.old groups.new) }
+    ensures taken { IfOk result (IsTaken (checked_plan checked.now) groups.old key.now) }
+{
+    well_formed_plans_keep_states_valid();
+    let _plan = checked.plan();
+    match groups.index_of(key) {
+        Some(index) => Ok(Taken {
+            place: Some(index),
+            outcome: take_at(groups, index),
+            led: Ok(()),
+        }),
+        None => Ok(Taken {
+            place: None,
+            outcome: Outcome::Going(initial(alloc, checked)?),
+            led: Ok(()),
+        }),
+    }
+}
+
+// Takes out how the groups of a run stand, in the order of its keys.
+fn take_all(
+    alloc: Global,
+    checked: &Checked,
+    chains: &RunGroups,
+    groups: &mut Groups,
+) -> Result<Vec<Taken>, NoMemory>
+    requires { AreValid (checked_plan checked.now) groups.old }
+    ensures valid { OnOk result (AreValid (checked_plan checked.now) groups.new) }
+    ensures alike { OnOk result (AreAlikeBut (keys_of chains.now) groups.old groups.new) }
+    ensures taken { let p = checked_plan checked.now in
+        IfOk result (λ taken. AreTaken p groups.old chains.now taken.items) }
+    ensures ready { let p = checked_plan checked.now in
+        IfOk result (λ taken. All (λ one. IsValidOutcome p one.outcome) taken.items) }
+{
+    let mut taken = Vec::with_capacity(alloc, chains.len())?;
+    'groups: for (key, _chain) in chains.map.iter() {
+        taken.push(take_group(alloc, checked, groups, key)?)?;
+    }
+    Ok(taken)
+}
+
+// Leads a group on by the chain of its key, which is the one at this index.
+fn lead_at(alloc: Global, checked: &Checked, chains: &RunGroups, index: usize, taken: &mut Taken)
+    requires fits { GroupsFit (checked_plan checked.now) chains.now }
+    requires valid { IsValidOutcome (checked_plan checked.now) taken.old.outcome }
+    ensures { let group = slice_get chains.now index in
+        IsLedBy (checked_plan checked.now) group taken.old taken.new }
+{
+    if let Some((_key, chain)) = chains.at(index) {
+        taken.led = chain.lead(alloc, checked, &mut taken.outcome);
+    }
+}
+
+// Leads each group on by the chain of its key. So many threads, at most, lead about as many groups
+// each.
+fn lead_all<T: Threads + Sync, S: LendsChains + Sync>(
+    rt: &T,
+    alloc: Global,
+    lender: &S,
+    taken: &mut [Taken],
+    threads: usize,
+)
+    requires threads { 0 < threads }
+    requires fits { GroupsFit (checked_plan (S.by lender.now)) (S.lent lender.now) }
+    requires valid { let p = checked_plan (S.by lender.now) in
+        All (λ one. IsValidOutcome p one.outcome) taken.old }
+    ensures len { length taken.new ≡ length taken.old }
+    ensures led { let p = checked_plan (S.by lender.now) in
+        (i : ℕ) (d : OneTaken) → i < length taken.old →
+        IsLedBy p (slice_get (S.lent lender.now) i)
+        (slice_index_or taken.old i d) (slice_index_or taken.new i d) }
+{
+    thread::for_each_mut(
+        rt,
+        taken,
+        threads,
+        &|index: usize, one: &mut Taken|
+            requires { let p = checked_plan (S.by lender.now) in
+                GroupsFit p (S.lent lender.now) × IsValidOutcome p one.old.outcome }
+            ensures { let p = checked_plan (S.by lender.entry.now) in
+                IsLedBy p (slice_get (S.lent lender.entry.now) index) one.old one.new }
+        { lead_at(alloc, lender.script(), lender.chains(), index, one) },
+    );
+}
+
+// Puts how a group stands in its place.
+fn set_at(groups: &mut Groups, index: usize, outcome: Outcome)
+    ensures { (key : OneKey) → slice_get (keys_of groups.old) index ≡ Some key →
+        groups.new ≡ put groups.old key outcome }
+{
+    // Its clause says that no key stands twice.
+    let _count = groups.len();
+    match groups.outcome_at_mut(index) {
+        Some(held) => *held = outcome,
+        None => {}
+    }
+}
+
+// Puts a group back at its index; a new one goes last, with a copy of its key.
+fn put_back(alloc: Global, groups: &mut Groups, key: &Key, taken: Taken) -> Result<(), NoMemory>
+    requires { IsAt groups.old key.now taken.place }
+    ensures led { OnOk result (WasLed taken) }
+    ensures groups { OnOk result (groups.new ≡ put groups.old key.now taken.outcome) }
+{
+    let Taken {
+        place,
+        outcome,
+        led,
+    } = taken;
+    led?;
+    match place {
+        Some(index) => {
+            set_at(groups, index, outcome);
+            Ok(())
+        }
+        None => groups.begin(alloc, key.copy(alloc)?, outcome),
+    }
+}
+
+// Puts the groups of a run back, in the order of its keys.
+fn put_all(
+    alloc: Global,
+    chains: &RunGroups,
+    groups: &mut Groups,
+    taken: Vec<Taken>,
+) -> Result<(), NoMemory>
+    requires { ArePlaces groups.old chains.now taken.items }
+    ensures led { OnOk result (All WasLed taken.items) }
+    ensures groups { OnOk result (groups.new ≡ put_each chains.now taken.items groups.old) }
+{
+    let mut rest = taken.into_iter();
+    'groups: for (key, _chain) in chains.map.iter() {
+        match rest.next() {
+            Some(one) => put_back(alloc, groups, key, one)?,
+            None => return Ok(()),
+        }
+    }
+    Ok(())
+}
+
+/// `apply_all` by so many threads, at most: the groups of the run are led beside each other, each
+/// once.
+pub(crate) fn apply_beside<T: Threads + Sync>(
+    rt: &T,
+    alloc: Global,
+    checked: &Checked,
+    chains: &RunGroups,
+    groups: &mut Groups,
+    threads: usize,
+) -> Result<(), NoMemory>
+    requires threads { 0 < threads }
+    requires distinct { HaveDistinctKeys chains.now }
+    requires fits { GroupsFit (checked_plan checked.now) chains.now }
+    requires valid { AreValid (checked_plan checked.now) groups.old }
+    ensures valid { OnOk result (AreValid (checked_plan checked.now) groups.new) }
+    ensures groups { (records : List OneRecord) →
+        GroupsStandFor (checked_plan checked.now) records chains.now →
+        OnOk result (groups.new ≡ after_records (checked_plan checked.now) records groups.old) }
+{
+    let mut taken = take_all(alloc, checked, chains, groups)?;
+    lead_all(
+        rt,
+        alloc,
+        &Lent { checked, chains },
+        taken.as_mut_slice(),
+        threads,
+    );
+    put_all(alloc, chains, groups, taken)?;
+    // Its clause says that no key stands twice.
+    let _count = groups.len();
+    Ok(())
+}
