@@ -24,7 +24,7 @@ pub(crate) trait Case {
 }
 
 /// The script of a text; `None` if the text is refused.
-fn accepted(alloc: Global, text: &str) -> Option<Checked> {
+pub(crate) fn accepted(alloc: Global, text: &str) -> Option<Checked> {
     if text.len() >= 10_000 {
         return None;
     }

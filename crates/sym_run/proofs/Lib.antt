@@ -2,6 +2,7 @@ pub mod AppliedRuns
 pub mod Beginning
 pub mod ChainCuts
 pub mod ChainLeads
+pub mod ChainsShared
 pub mod FoundRecords
 pub mod GroupPuts
 pub mod JoinedGroups

@@ -23,8 +23,8 @@ use sym_check::Checked;
 use sym_check::laws::plans::well_formed_plans_keep_states_valid;
 use sym_plain::{Groups, initial};
 
-/// How a group stands while it is out of the groups: its index in them, or none where it is new, and
-/// what leading it came to.
+/// How a group stands while it is out of the groups: its index in them, or none where it is new,
+/// and what leading it came to.
 #[derive(Drop)]
 pub(crate) struct Taken {
     place: Option<usize>,

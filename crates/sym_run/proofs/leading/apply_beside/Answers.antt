@@ -1,11 +1,16 @@
+use denote.Param.Send.{sendable}
 use Rattle.std.proofs.Common.{◌∙◌, List, ap, length, subst, sym}
 use Rattle.std.specs.List.{All}
 use Rattle.sym_check.specs.Checking.CheckedScripts.{checked_plan}
 use Rattle.sym_run.specs.Applying.{AreValid}
 use Rattle.sym_run.specs.Leading.{ArePlaces, WasLed, put_each}
 use Rattle.sym_run.specs.declared.leading.Taken.{Taken}
+use Rattle.sym_run.proofs.ChainsShared.{checked_shared, groups_shared}
 use Rattle.sym_run.proofs.TakenGroups.{back_all, back_valid, led_slice, places_led, written_back}
 use Rattle.sym_run.proofs.leading.apply_beside.Goals as goal
+
+pub lead_all-requires-sync-S : goal.lead_all-requires-sync-S
+lead_all-requires-sync-S g c κs within = search (checked_shared, groups_shared, sendable) depth 60 fits 20000
 
 pub put_all-requires : goal.put_all-requires
 put_all-requires g c =
