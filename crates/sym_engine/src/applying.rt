@@ -51,7 +51,7 @@ impl<'a, G: Gate + Sync> Rounds for PassRounds<'a, G> {
     ) -> Result<Took, NoMemory> {
         let run = self.gate.work_round(rt, alloc, work, self.workers)?;
         let groups = mem::replace(&mut self.groups, Groups::new(alloc));
-        match run.apply(alloc, &work.checked, groups)? {
+        match run.apply_by(rt, alloc, &work.checked, groups, self.workers)? {
             Applied::Done(groups) => {
                 self.groups = groups;
                 Ok(Took::Done)

@@ -117,7 +117,7 @@ impl<'a, G: Gate> Turns for Watched<'a, G> {
             .news
             .work_round(rt, alloc, gate, work, self.task.workers)?;
         let groups = mem::replace(&mut self.groups, Groups::new(alloc));
-        match run.apply(alloc, &work.checked, groups)? {
+        match run.apply_by(rt, alloc, &work.checked, groups, self.task.workers)? {
             Applied::Done(groups) => {
                 let shown = report_rows(alloc, self.task.checked, &groups)?;
                 let partial = Partial {
