@@ -4,8 +4,8 @@
 # - each definition that is named with its file, `NAME` in `FILE`, which each entry of
 #   docs/DEFINITIONS.md is;
 # - each file and name in the table of questions of docs/ARCHITECTURE.md;
-# - in the README's rows on a crate, each call and its clauses, between `fn CALL` and its body:
-#   (`CALL`: `CLAUSE`, `CLAUSE`);
+# - in the rows of docs/PROOFS.md on a crate, each call and its clauses, between `fn CALL` and its
+#   body: (`CALL`: `CLAUSE`, `CLAUSE`);
 # - in a crate's README, docs/ARCHITECTURE.md, docs/DECISIONS.md and CONTRIBUTING.md, each single
 #   name in backticks, in the sources of some crate;
 # - in docs/CALLS.md each public call with its clauses, by calls.py beside this file;
@@ -167,7 +167,7 @@ for document in README.md CONTRIBUTING.md bench/README.md docs/*.md crates/*/REA
 done
 check_glossary docs/DEFINITIONS.md
 check_questions docs/ARCHITECTURE.md
-check_clauses README.md
+check_clauses docs/PROOFS.md
 for document in docs/ARCHITECTURE.md docs/DECISIONS.md CONTRIBUTING.md crates/*/README.md; do
     check_words "$document"
 done
