@@ -32,7 +32,9 @@ files() {
     done
     "$1" "$sources" 644 $parts/SOURCES
     "$1" "$root/symple" 755 bin/symple
+    "$1" "$root/share/symple-prepare" 755 bin/symple-prepare
     "$1" "$root/share/man/symple.1" 644 share/man/man1/symple.1
+    "$1" "$root/share/man/symple-prepare.1" 644 share/man/man1/symple-prepare.1
     "$1" "$root/share/completions/symple.bash" 644 share/bash-completion/completions/symple
     "$1" "$root/share/completions/_symple" 644 share/zsh/site-functions/_symple
     "$1" "$root/share/completions/symple.fish" 644 share/fish/vendor_completions.d/symple.fish

@@ -6,7 +6,9 @@
 # .ci/run, the gate, runs the same scripts after it has proved all, and more.
 cd "$(dirname "$0")/.." || exit 1
 status=0
-checks/dist.sh --sums || status=1
+if [ -e dist/symple ]; then
+    checks/dist.sh --sums || status=1
+fi
 for check in launcher program forms examples agree; do
     "checks/$check.sh" || status=1
 done
