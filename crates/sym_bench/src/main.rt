@@ -1,10 +1,15 @@
-//! The program `sym_bench`: how long exploring takes beside the sequential step, how long paths take
-//! to follow one another and to be settled, and how long a pass takes record by record and by runs.
-//! What it finds is written on standard output, and the processor time on standard error.
+//! The program `sym_bench`: how long exploring takes beside the sequential step, how long paths
+//! take to follow one another and to be settled, and how long a pass takes record by record and by
+//! runs, over a log that is made or read. What it finds is written on standard output, and the
+//! processor time on standard error.
 #![tactic(auto)]
+
+ghost use Rattle.std.specs.Prelude.{◌≤◌, length};
+ghost use Rattle.sym_base.specs.declared.limits.TheConstants as limits;
 
 mod chain;
 mod comparing;
+mod files;
 mod log;
 mod measuring;
 mod passes;
@@ -16,6 +21,7 @@ mod stop;
 mod workloads;
 
 use crate::comparing::compare;
+use crate::files::bytes_of;
 use crate::log::records_of;
 use crate::measuring::{Way, measured};
 use crate::paths::{Kind, Timed, follow_in_turn, settle_in_turn};
@@ -23,10 +29,10 @@ use crate::rounds::CHUNKS;
 use crate::scripts::{LISTS, checked_script, text_of};
 use crate::shown::shown;
 use crate::stop::Stop;
-use crate::workloads::workload_of;
+use crate::workloads::{log_of, workload_of};
 use std::env;
 use std::process::ExitCode;
-use std::rt::Env;
+use std::rt::{Env, Files};
 use std::time::CpuClock;
 use sym_check::Checked;
 
@@ -58,9 +64,9 @@ fn number_at(words: &[String], index: usize) -> Result<u32, Stop> {
 }
 
 /// `explore SCRIPT ROUNDS LIMIT`, `settle apart|touching|equal PATHS LENGTH TURNS`,
-/// `follow moved|copied LENGTH TURNS` or
-/// `pass log|rows|fold|runs|joins WORKLOAD RECORDS LIMIT [CHUNKS]`.
-fn run<R: Env + AllocGlobal + CpuClock + Print + Eprint>(rt: &R) -> Result<(), Stop> {
+/// `follow moved|copied LENGTH TURNS`, `pass WAY WORKLOAD RECORDS LIMIT [CHUNKS]` or
+/// `file WAY SCRIPT FILE LIMIT [CHUNKS]`, where WAY is `log`, `rows`, `fold`, `runs` or `joins`.
+fn run<R: Env + Files + AllocGlobal + CpuClock + Print + Eprint>(rt: &R) -> Result<(), Stop> {
     let words = words_of(rt)?;
     let command = word_at(&words, 0)?;
     if command == "explore" {
@@ -71,6 +77,8 @@ fn run<R: Env + AllocGlobal + CpuClock + Print + Eprint>(rt: &R) -> Result<(), S
         follow(rt, &words)
     } else if command == "pass" {
         pass(rt, &words)
+    } else if command == "file" {
+        file(rt, &words)
     } else {
         Err(Stop::Usage)
     }
@@ -84,7 +92,7 @@ fn explore<R: AllocGlobal + CpuClock + Print + Eprint>(
     let name = word_at(words, 1)?;
     let rounds = number_at(words, 2)?;
     let limit = number_at(words, 3)?;
-    let checked = checked_script(rt.alloc(), text_of(name)?)?;
+    let checked = checked_script(rt.alloc(), text_of(name)?.as_bytes())?;
     explore_script(rt, &checked, name, rounds, limit)
 }
 
@@ -137,7 +145,7 @@ fn settle<R: AllocGlobal + CpuClock + Print + Eprint>(
     let kind = kind_of(word_at(words, 1)?)?;
     let size = (number_at(words, 2)?, number_at(words, 3)?);
     let turns = number_at(words, 4)?;
-    let checked = checked_script(rt.alloc(), LISTS)?;
+    let checked = checked_script(rt.alloc(), LISTS.as_bytes())?;
     settle_lists(rt, &checked, kind, size, turns)
 }
 
@@ -170,7 +178,7 @@ fn follow<R: AllocGlobal + CpuClock + Print + Eprint>(
     let is_moved = is_moved(word_at(words, 1)?)?;
     let length = number_at(words, 2)?;
     let turns = number_at(words, 3)?;
-    let checked = checked_script(rt.alloc(), LISTS)?;
+    let checked = checked_script(rt.alloc(), LISTS.as_bytes())?;
     follow_paths(rt, &checked, is_moved, length, turns)
 }
 
@@ -211,22 +219,35 @@ fn chunks_at(words: &[String], index: usize) -> Result<u32, Stop> {
 
 /// Takes a pass over a log that is made.
 fn pass<R: AllocGlobal + CpuClock + Print + Eprint>(rt: &R, words: &[String]) -> Result<(), Stop> {
-    let way = way_of(word_at(words, 1)?)?;
     let workload = workload_of(word_at(words, 2)?)?;
-    let records = number_at(words, 3)?;
+    let log = log_of(rt.alloc(), workload, number_at(words, 3)?)?;
+    pass_over(rt, words, workload.script.as_bytes(), log.as_bytes())
+}
+
+/// Takes a pass over the log of a file, by the script of another one.
+fn file<R: Files + AllocGlobal + CpuClock + Print + Eprint>(
+    rt: &R,
+    words: &[String],
+) -> Result<(), Stop> {
+    let script = bytes_of(rt, word_at(words, 2)?)?;
+    let log = bytes_of(rt, word_at(words, 3)?)?;
+    pass_over(rt, words, script.as_slice(), log.as_slice())
+}
+
+/// Takes the pass that the words ask for over a log.
+fn pass_over<R: AllocGlobal + CpuClock + Print + Eprint>(
+    rt: &R,
+    words: &[String],
+    script: &[u8],
+    log: &[u8],
+) -> Result<(), Stop>
+    requires { length log.now ≤ limits.FILE_MAX }
+{
+    let way = way_of(word_at(words, 1)?)?;
     let limit = number_at(words, 4)?;
     let most = chunks_at(words, 5)?;
-    let checked = checked_script(rt.alloc(), workload.script)?;
-    let found = measured(
-        rt,
-        rt.alloc(),
-        &checked,
-        workload,
-        way,
-        records,
-        limit,
-        most,
-    )?;
+    let checked = checked_script(rt.alloc(), script)?;
+    let found = measured(rt, rt.alloc(), &checked, log, way, limit, most)?;
     let text = found.text;
     println!(rt; "{text}")?;
     let time = found.time.as_nanos();

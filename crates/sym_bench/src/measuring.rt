@@ -1,4 +1,6 @@
 //! Passes that are measured.
+ghost use Rattle.std.specs.Prelude.{◌≤◌, length};
+ghost use Rattle.sym_base.specs.declared.limits.TheConstants as limits;
 ghost use Rattle.sym_check.specs.Checking.CheckedScripts.{checked_plan};
 ghost use Rattle.sym_table.specs.Rows.{FitsHeader};
 
@@ -6,7 +8,6 @@ use crate::passes::{cut_rows, fold_rows, run_rows};
 use crate::rounds::CHUNK;
 use crate::shown::shown;
 use crate::stop::Stop;
-use crate::workloads::{Workload, log_of};
 use std::alloc::{AllocError, Global};
 use std::time::{CpuClock, Duration};
 use sym_check::Checked;
@@ -16,7 +17,7 @@ use sym_table::Cutter;
 /// What is done with a log.
 #[derive(Clone, Copy)]
 pub(crate) enum Way {
-    /// It is made.
+    /// It is made or read, and no more.
     Log,
     /// Its rows are cut.
     Rows,
@@ -77,21 +78,20 @@ fn gone_over(
     }
 }
 
-/// Makes the log of a workload, of so many records, and goes over it in rounds of at most so many
-/// chunks: the time is that of the latter.
+/// Goes over a log in rounds of at most so many chunks.
 pub(crate) fn measured<R: CpuClock>(
     rt: &R,
     alloc: Global,
     checked: &Checked,
-    workload: Workload,
+    log: &[u8],
     way: Way,
-    records: u32,
     limit: u32,
     most: u32,
-) -> Result<Finding, Stop> {
-    let log = log_of(alloc, workload, records)?;
+) -> Result<Finding, Stop>
+    requires { length log.now ≤ limits.FILE_MAX }
+{
     let start = rt.process_cpu_time()?;
-    let Ok(opened) = Cutter::open(alloc, checked, log.as_bytes(), 1, CHUNK) else {
+    let Ok(opened) = Cutter::open(alloc, checked, log, 1, CHUNK) else {
         return Err(Stop::Input);
     };
     let mut cutter = opened;

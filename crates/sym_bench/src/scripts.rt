@@ -1,6 +1,7 @@
 //! The scripts that are measured.
 use crate::stop::Stop;
 use std::alloc::Global;
+use sym_base::SCRIPT_MAX;
 use sym_check::Checked;
 use sym_uses::checking::checked_text;
 
@@ -45,11 +46,11 @@ pub(crate) fn text_of(name: &str) -> Result<&'static str, Stop> {
 }
 
 /// The plan of a script's text.
-pub(crate) fn checked_script(alloc: Global, text: &'static str) -> Result<Checked, Stop> {
-    if text.len() >= 4_096 {
+pub(crate) fn checked_script(alloc: Global, text: &[u8]) -> Result<Checked, Stop> {
+    if text.len() as u64 > SCRIPT_MAX {
         return Err(Stop::Input);
     }
-    match checked_text(alloc, text.as_bytes()) {
+    match checked_text(alloc, text) {
         Ok(checked) => Ok(checked),
         Err(_) => Err(Stop::Input),
     }

@@ -10,7 +10,7 @@ pub(crate) enum Stop {
     NoMemory,
     /// A script, a record or a path isn't what it should be.
     Input,
-    /// The clock or a stream failed.
+    /// The clock, a file or a stream failed.
     System,
 }
 

@@ -1,10 +1,12 @@
 //! The passes that are measured: their scripts, and the logs that they read.
 ghost use Rattle.std.specs.Prelude.{◌≤◌, IfOk, length};
 ghost use Rattle.std.specs.String.{string_bytes};
+ghost use Rattle.sym_base.specs.declared.limits.TheConstants as limits;
 
 use crate::scripts::SESSIONS;
 use crate::stop::Stop;
 use std::alloc::{AllocError, Global};
+use sym_base::FILE_MAX;
 
 /// The number of records of each user. Each one adds a path that ends.
 const COUNT: &str = "field user: word; group user; state n: int [0..1000000000] = 0; \
@@ -21,9 +23,6 @@ const FUNNEL: &str = "enum action { v, c, b } enum stage { outside, carted } \
 /// One group, with a list of every record.
 const LIST: &str = "field ts: num; state all: nums [0..1000000000]; \
     update { push all ts; } report { records = count(all); last = last(all); }";
-
-/// The most bytes of a log.
-const MOST_BYTES: usize = 67_108_864;
 
 /// A script, and the log that its pass reads.
 #[derive(Clone, Copy)]
@@ -93,10 +92,10 @@ fn log_text(alloc: Global, workload: Workload, records: u32) -> Result<String, A
 
 /// The log of a workload; an error where it has more bytes than a file may have.
 pub(crate) fn log_of(alloc: Global, workload: Workload, records: u32) -> Result<String, Stop>
-    ensures { IfOk result (λ log. length (string_bytes log) ≤ 67108864) }
+    ensures { IfOk result (λ log. length (string_bytes log) ≤ limits.FILE_MAX) }
 {
     let text = log_text(alloc, workload, records)?;
-    if text.len() > MOST_BYTES {
+    if text.len() as u64 > FILE_MAX {
         return Err(Stop::Input);
     }
     Ok(text)

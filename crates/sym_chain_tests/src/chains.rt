@@ -69,7 +69,7 @@ fn has_pairs(checked: &Checked, segments: &[Segment], wanted: Option<u64>) -> bo
 }
 
 fn same_chain(left: &Chain, right: &Chain) -> bool {
-    left.segments() == right.segments()
+    left.kept() == right.kept() && left.segments() == right.segments()
 }
 
 fn same_chains(left: &RunGroups, right: &RunGroups) -> bool {

@@ -6,6 +6,8 @@ mod beside;
 #[cfg(test)]
 mod chains;
 #[cfg(test)]
+mod kept;
+#[cfg(test)]
 mod logs;
 #[cfg(test)]
 mod orders;

@@ -43,19 +43,48 @@ fn split_of(chunks: usize, number: usize) -> (usize, usize)
     (1, 0)
 }
 
+/// How many records of a key runs keep as they are: those at even and at odd depths to the right.
+/// With 0 they are explored at once.
+#[derive(Clone, Copy)]
+struct Keeping {
+    most: u32,
+    other: u32,
+}
+
+const NOTHING: Keeping = Keeping { most: 0, other: 0 };
+
+fn leaf(most: u32) -> JoinTree
+    ensures { chunk_count result ≡ 1 }
+{
+    if most == 0 {
+        JoinTree::Chunk
+    } else {
+        JoinTree::Keeping(most)
+    }
+}
+
 /// The tree of joins with this number, counted from 0, over so many chunks. Over more than eight it
 /// is the one that joins each run with all later ones.
-fn tree(alloc: Global, chunks: usize, number: usize) -> Result<Box<JoinTree>, NoMemory>
+fn tree(
+    alloc: Global,
+    chunks: usize,
+    number: usize,
+    keeping: Keeping,
+) -> Result<Box<JoinTree>, NoMemory>
     requires { 1 ≤ chunks }
     ensures { IfOk result (λ tree. chunk_count tree.value ≡ chunks) }
 {
     if chunks == 1 {
-        return Ok(Box::new(alloc, JoinTree::Chunk)?);
+        return Ok(Box::new(alloc, leaf(keeping.most))?);
     }
     let (left, rest) = split_of(chunks, number);
     let rights = trees_over(chunks - left).max(1);
-    let first = tree(alloc, left, rest / rights)?;
-    let second = tree(alloc, chunks - left, rest % rights)?;
+    let turned = Keeping {
+        most: keeping.other,
+        other: keeping.most,
+    };
+    let first = tree(alloc, left, rest / rights, keeping)?;
+    let second = tree(alloc, chunks - left, rest % rights, turned)?;
     Ok(Box::new(alloc, JoinTree::Joined(first, second))?)
 }
 
@@ -92,13 +121,14 @@ fn order_holds(
     number: usize,
     wanted: &Groups,
     limit: u32,
+    keeping: Keeping,
 ) -> Result<bool, NoMemory>
     requires fit { All (FitsChunk (checked_plan checked.now).fields) chunks.now }
 {
     if chunks.is_empty() || chunks.len() > 64 {
         return Ok(false);
     }
-    let order = tree(alloc, chunks.len(), number)?;
+    let order = tree(alloc, chunks.len(), number, keeping)?;
     let applied = apply_joined(alloc, checked, chunks, &order, Groups::new(alloc), limit)?;
     Ok(is_wanted(&applied, wanted))
 }
@@ -109,11 +139,12 @@ fn orders_hold(
     chunks: &[Chunk],
     wanted: &Groups,
     limit: u32,
+    keeping: Keeping,
 ) -> Result<bool, NoMemory>
     requires fit { All (FitsChunk (checked_plan checked.now).fields) chunks.now }
 {
     'orders: for number in 0..trees_over(chunks.len()).max(1) {
-        if !order_holds(alloc, checked, chunks, number, wanted, limit)? {
+        if !order_holds(alloc, checked, chunks, number, wanted, limit, keeping)? {
             return Ok(false);
         }
     }
@@ -127,6 +158,7 @@ struct Orders {
     log: &'static str,
     rows: u32,
     limit: u32,
+    keeping: Keeping,
 }
 
 impl Case for Orders {
@@ -137,7 +169,7 @@ impl Case for Orders {
     fn holds(&self, alloc: Global, checked: &Checked) -> Result<bool, NoMemory> {
         let wanted = passed(alloc, checked, self.log)?;
         let chunks = chunks_of(alloc, checked, self.log, self.rows)?;
-        orders_hold(alloc, checked, &chunks, &wanted, self.limit)
+        orders_hold(alloc, checked, &chunks, &wanted, self.limit, self.keeping)
     }
 }
 
@@ -148,18 +180,21 @@ fn each_order_of_eight_chunks_gives_the_groups_of_the_pass(rt: HostRuntime) -> R
         log: CHANGES,
         rows: 3,
         limit: 1,
+        keeping: NOTHING,
     };
     let sessions = Orders {
         script: SESSIONS,
         log: VISITS,
         rows: 2,
         limit: 2,
+        keeping: NOTHING,
     };
     let toggles = Orders {
         script: TOGGLE,
         log: NUMBERS,
         rows: 1,
         limit: 1,
+        keeping: NOTHING,
     };
     let cases = [
         sums,
@@ -170,6 +205,58 @@ fn each_order_of_eight_chunks_gives_the_groups_of_the_pass(rt: HostRuntime) -> R
             ..sessions
         },
         toggles,
+    ];
+    check_cases(&rt, rt.alloc(), &cases)
+}
+
+#[test]
+fn each_order_of_runs_that_keep_records_gives_the_groups_of_the_pass(
+    rt: HostRuntime,
+) -> Result<(), Fail> {
+    let kept = Orders {
+        script: SUMS,
+        log: CHANGES,
+        rows: 5,
+        limit: 1,
+        keeping: Keeping { most: 1, other: 1 },
+    };
+    let sessions = Orders {
+        script: SESSIONS,
+        log: VISITS,
+        rows: 4,
+        limit: 16,
+        keeping: Keeping { most: 2, other: 2 },
+    };
+    let cases = [
+        kept,
+        Orders {
+            keeping: Keeping { most: 2, other: 0 },
+            ..kept
+        },
+        Orders {
+            keeping: Keeping { most: 0, other: 2 },
+            ..kept
+        },
+        Orders {
+            keeping: Keeping {
+                most: u32::MAX,
+                other: u32::MAX,
+            },
+            ..kept
+        },
+        sessions,
+        Orders {
+            keeping: Keeping { most: 3, other: 1 },
+            ..sessions
+        },
+        Orders {
+            keeping: Keeping { most: 0, other: 9 },
+            ..sessions
+        },
+        Orders {
+            limit: 1,
+            ..sessions
+        },
     ];
     check_cases(&rt, rt.alloc(), &cases)
 }
@@ -186,7 +273,7 @@ impl Sizes {
         let wanted = passed(alloc, checked, self.log)?;
         let chunks = chunks_of(alloc, checked, self.log, rows)?;
         'limits: for limit in [1, 2, 16, 256] {
-            if !order_holds(alloc, checked, &chunks, 0, &wanted, limit)? {
+            if !order_holds(alloc, checked, &chunks, 0, &wanted, limit, NOTHING)? {
                 return Ok(false);
             }
             if !extended_holds(alloc, checked, &chunks, &wanted, limit)? {
@@ -257,7 +344,7 @@ impl Case for BadRows {
         if chunks.is_empty() || chunks.len() > 64 {
             return Ok(false);
         }
-        let order = tree(alloc, chunks.len(), 0)?;
+        let order = tree(alloc, chunks.len(), 0, NOTHING)?;
         let applied = apply_joined(alloc, checked, &chunks, &order, Groups::new(alloc), 16)?;
         let run = of_chunks(alloc, checked, &chunks, 16)?;
         let extended = run.apply(alloc, checked, Groups::new(alloc))?;

@@ -29,11 +29,13 @@ use Rattle.sym_table.specs.Reading.{Row}
 use Rattle.sym_table.specs.RowRecords.{HaveRecords}
 use Rattle.sym_table.specs.RowRecords as records
 use Rattle.sym_table.proofs.RecordsAgree.{records_are}
-use Rattle.sym_run.specs.Chains.{ChainStandsFor}
+use Rattle.sym_run.specs.Chained.{Chained}
+use Rattle.sym_run.specs.Chains.{SegmentsStandFor}
 use Rattle.sym_run.specs.declared.runs.Run.{Run}
 use Rattle.sym_run.specs.declared.saved.Saved.{Saved}
-use Rattle.sym_run.specs.Runs.{AreTight, GroupsFit, GroupsStandFor, HasFound}
+use Rattle.sym_run.specs.Runs.{AreClosed, AreTight, GroupsFit, GroupsStandFor, HasFound}
 use Rattle.sym_run.specs.SavedRuns.{AreNumbered, EndsWithin, IsLawfulGroup, IsLawfulSaved, IsLawfulSegment}
+use Rattle.sym_run.proofs.KeptRecords.{closed_segments}
 use Rattle.sym_engine.specs.FileRecords.{FileRules, IsFine}
 use Rattle.sym_engine.specs.FileRecords as fine
 use Rattle.sym_engine.specs.FirstProblems.{AllFine}
@@ -41,8 +43,8 @@ use Rattle.sym_engine.specs.FirstProblems as all_fine
 use Rattle.sym_engine.specs.Rounds.{AreWorkers, StandsForAll}
 use Rattle.sym_engine.specs.Saving.{AreSummed}
 
-abbrev Chains : Type 0
-Chains = List (Key × List (List Path))
+abbrev pub Chains : Type 0
+Chains = List (Key × Chained)
 
 -- ---- a round
 pub none_unless : {A : Type 0} (o : Option A) → ((x : A) → o ≡ Some x → ⊥) → o ≡ None
@@ -67,17 +69,19 @@ bad_by p limit (Ok records) bad row groups h some = let other : None ≡ Some ro
 bad_by p limit (Err first) bad row groups h some = let same : Some first ≡ Some row = sym h ∙ some in let one : first ≡ row = cc in ap Err one
 
 pub round_summed : (p : ScriptPlan) (limit workers : ℕ) (cuts : List Chunk) (run : Run) (old left right new : Chains) → StandsForAll p limit cuts run → run.bad ≡ None
-    → left ≡ old → right ≡ run.groups → GroupsFit p new → AreTight p limit new
+    → left ≡ old → ((records : List Record) → GroupsStandFor p records run.groups → GroupsStandFor p records right) → GroupsFit p new → AreTight p limit new
+    → (AreClosed left → AreClosed new)
     → ((first rest : List Record) → GroupsStandFor p first left → GroupsStandFor p rest right → GroupsStandFor p (first ++ rest) new)
     → (records : List Record) × (all_records p cuts ≡ Ok records) × ((before : List Record) → AreSummed p limit old workers before → AreSummed p limit new workers (before ++ records))
-round_summed p limit workers cuts run old left right new h none same own fits tight joins =
+round_summed p limit workers cuts run old left right new h none same own fits tight closed joins =
     let found = summed_by p limit (all_records p cuts) run.bad run.groups (found_all p limit cuts run h) none in (
       found.0,
       found.1,
       λ before stood. record {
         fits = fits;
         tight = tight;
-        stand = joins before found.0 (subst (GroupsStandFor p before) (sym same) stood.stand) (subst (GroupsStandFor p found.0) (sym own) found.2);
+        closed = closed (subst AreClosed (sym same) stood.closed);
+        stand = joins before found.0 (subst (GroupsStandFor p before) (sym same) stood.stand) (own found.0 found.2);
         in_range = stood.in_range;
       },
     )
@@ -91,6 +95,7 @@ none_summed p limit workers groups none in_range =
     subst P (sym none) (record {
       fits = All-nil _;
       tight = All-nil _;
+      closed = All-nil _;
       stand = record { keys_are = refl; each = All-nil _ };
       in_range = in_range;
     })
@@ -193,7 +198,7 @@ segment_lawful p first next found paths w all is =
       };
     }
 
-segments_lawful : (p : ScriptPlan) (first next : ℕ) (found : List Record) (segments : List (List Path)) → IsWellFormed p → All (IsIn first next) found → ChainStandsFor p found segments
+segments_lawful : (p : ScriptPlan) (first next : ℕ) (found : List Record) (segments : List (List Path)) → IsWellFormed p → All (IsIn first next) found → SegmentsStandFor p found segments
     → All (IsLawfulSegment p first next) segments
 segments_lawful p first next found [] w all is = All-nil (IsLawfulSegment p first next)
 segments_lawful p first next found (segment ∷ segments) w all (part, rest, cut, stands, more) =
@@ -202,38 +207,40 @@ segments_lawful p first next found (segment ∷ segments) w all (part, rest, cut
     (segment_lawful p first next part segment w (all_first (IsIn first next) part rest split) stands)
     (segments_lawful p first next rest segments w (all_rest (IsIn first next) part rest split) more)
 
-some_segments : (p : ScriptPlan) (found : List Record) (segments : List (List Path)) → ChainStandsFor p found segments → 1 ≤ length found → 1 ≤ length segments
+some_segments : (p : ScriptPlan) (found : List Record) (segments : List (List Path)) → SegmentsStandFor p found segments → 1 ≤ length found → 1 ≤ length segments
 some_segments p found [] is many = absurd (omega (arith, ap length is))
 some_segments p found (segment ∷ segments) is many = omega arith
 
 -- ---- lawful groups
-pub groups_lawful : (p : ScriptPlan) (first next : ℕ) (found : List Record) (groups : Chains) → IsWellFormed p → All (IsRecord p) found → AreNumbered first next found → GroupsStandFor p found groups
+pub groups_lawful : (p : ScriptPlan) (first next : ℕ) (found : List Record) (groups : Chains) → IsWellFormed p → All (IsRecord p) found → AreNumbered first next found → AreClosed groups → GroupsStandFor p found groups
     → All (IsLawfulGroup p first next) groups
-groups_lawful p first next found groups w kinds numbered stand =
+groups_lawful p first next found groups w kinds numbered closed stand =
     let in_range = numbers_in first first next found (omega arith) numbered in
     let some_keys = subst (All (λ (key : Key). 1 ≤ length (records_of p key found))) (sym stand.keys_are) (some_of p found) in
-    let some = unmapped (λ (g : Key × List (List Path)). g.0) (λ (key : Key). 1 ≤ length (records_of p key found)) groups some_keys in
+    let some = unmapped (λ (g : Key × Chained). g.0) (λ (key : Key). 1 ≤ length (records_of p key found)) groups some_keys in
     let are_keys : All (IsKey p) (keys p found) = unmapped _ (λ (pair : Key × Outcome). IsKey p pair.0) (keys p found) (pass_keys p found kinds) in
-    let key = unmapped (λ (g : Key × List (List Path)). g.0) (IsKey p) groups (subst (All (IsKey p)) (sym stand.keys_are) are_keys) in
+    let key = unmapped (λ (g : Key × Chained). g.0) (IsKey p) groups (subst (All (IsKey p)) (sym stand.keys_are) are_keys) in
     λ k d near.
     let group = slice_index_or groups k d in
     let own = records_of p group.0 found in
+    let segments = closed_segments p own group.1 (closed k d near) (stand.each k d near) in
     record {
       key = key k d near;
       chain = record {
-        some = some_segments p own group.1 (stand.each k d near) (some k d near);
-        each = segments_lawful p first next own group.1 w (All-filter (λ rec. is_key (key_of p rec) group.0) (IsIn first next) found in_range) (stand.each k d near);
+        some = some_segments p own group.1.segments segments (some k d near);
+        closed = closed k d near;
+        each = segments_lawful p first next own group.1.segments w (All-filter (λ rec. is_key (key_of p rec) group.0) (IsIn first next) found in_range) segments;
       };
     }
 
 pub saved_lawful : (p : ScriptPlan) (rules : FileRules) (files : List (List ℕ)) (found : List Record) (saved : Saved) → IsWellFormed p → 1 ≤ saved.first
-    → AllFine p rules saved.first files found → saved.next ≡ saved.first + length found → GroupsStandFor p found saved.groups → IsLawfulSaved p saved
-saved_lawful p rules files found saved w from is last stand =
+    → AllFine p rules saved.first files found → saved.next ≡ saved.first + length found → AreClosed saved.groups → GroupsStandFor p found saved.groups → IsLawfulSaved p saved
+saved_lawful p rules files found saved w from is last closed stand =
     let P : ℕ → Type 0 = λ m. AreNumbered saved.first m found in
     let numbered = subst P (sym last) (files_numbered p rules saved.first files found is) in
     record {
       from = from;
       order = numbered_order saved.first saved.next found numbered;
       distinct = subst (IsDistinct is_key) (sym stand.keys_are) (keys_apart p found);
-      each = groups_lawful p saved.first saved.next found saved.groups w (files_kinds p rules saved.first files found w is) numbered stand;
+      each = groups_lawful p saved.first saved.next found saved.groups w (files_kinds p rules saved.first files found w is) numbered closed stand;
     }

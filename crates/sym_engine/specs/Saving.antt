@@ -3,20 +3,21 @@ use Rattle.std.specs.Prelude.{◌≡◌, ℕ, List}
 use Rattle.sym_base.specs.declared.values.record.Record.{Record}
 use Rattle.sym_base.specs.declared.values.value.Key.{Key}
 use Rattle.sym_check.specs.Plan.ScriptPlans.{ScriptPlan}
-use Rattle.sym_path.specs.declared.path.Path.{Path}
-use Rattle.sym_run.specs.Runs.{AreTight, GroupsFit, GroupsStandFor}
+use Rattle.sym_run.specs.Chained.{Chained}
+use Rattle.sym_run.specs.Runs.{AreClosed, AreTight, GroupsFit, GroupsStandFor}
 use Rattle.sym_run.specs.SavedRuns.{SavedStandsFor}
 use Rattle.sym_run.specs.declared.saved.Saved.{Saved}
 use Rattle.sym_engine.specs.FileRecords.{FileRules}
 use Rattle.sym_engine.specs.Passing.{AllRead, Holds}
 use Rattle.sym_engine.specs.Rounds.{AreWorkers}
 
--- The groups' chains are tight and stand for these records, and the workers who make a run are in
--- their range.
-pub record AreSummed (p : ScriptPlan) (limit : ℕ) (groups : List (Key × List (List Path)))
+-- The groups' chains are tight, keep no records and stand for these ones, and the workers who make a
+-- run are in their range.
+pub record AreSummed (p : ScriptPlan) (limit : ℕ) (groups : List (Key × Chained))
     (workers : ℕ) (records : List Record) : Type 0 where
   pub fits : GroupsFit p groups
   pub tight : AreTight p limit groups
+  pub closed : AreClosed groups
   pub stand : GroupsStandFor p records groups
   pub in_range : AreWorkers workers
 

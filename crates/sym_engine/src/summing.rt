@@ -11,8 +11,8 @@ use std::thread::Threads;
 use sym_base::NoMemory;
 use sym_run::{RunGroups, join_groups};
 
-/// The groups of the runs of the rounds so far, the gate that has the run of each round made, and how
-/// many workers make it.
+/// The groups of the runs of the rounds so far, whose chains keep no records, the gate that has the
+/// run of each round made, and how many workers make it.
 #[derive(Drop)]
 pub(crate) struct SummedRounds<'a, G> {
     gate: &'a G,
@@ -53,6 +53,7 @@ impl<'a, G: Gate + Sync> Rounds for SummedRounds<'a, G> {
         }
         let next = mem::replace(&mut run.groups, RunGroups::new(alloc));
         let earlier = mem::replace(&mut self.groups, RunGroups::new(alloc));
+        let next = next.closed(alloc, &work.checked, work.limit)?;
         let joined = join_groups(alloc, &work.checked, earlier, next, work.limit)?;
         self.groups = joined;
         Ok(Took::Done)

@@ -16,20 +16,24 @@ use std::thread;
 use std::thread::Threads;
 use sym_base::NoMemory;
 use sym_board::{Board, Made, Pass, Piece};
-use sym_run::{Run, of_chunk};
+use sym_run::{Run, Stretch};
 
-// Into how many stretches a round is cut for each worker: so that a worker who is done early takes
-// another one.
-const STRETCHES: u32 = 2;
+// Into how many stretches a round is cut for each worker.
+const STRETCHES: u32 = 1;
 
-// The run of the chunks from `first` up to but without `end`: that of the first one, which takes on
-// the others in turn.
+// How many records of a key several workers keep as they are, each in its stretch, before it
+// explores them. Stepping them is left to the one who applies the runs.
+const KEPT_MOST: u32 = 64;
+
+// The run of the chunks from `first` up to but without `end`, which takes them one after the other.
+// Of a key so many records are kept before they are explored.
 fn run_between<E: Enter>(
     alloc: Global,
     work: &Work,
     worker: u32,
     first: u32,
     end: u32,
+    most: u32,
     hold: &E,
 ) -> Result<Run, NoMemory>
     requires round { IsRound (checked_plan work.now.checked).fields work.now.chunks }
@@ -38,19 +42,12 @@ fn run_between<E: Enter>(
     ensures { IfOk result (StandsFrom work.now first end) }
 {
     let chunks = work.chunks.as_slice();
-    hold.enter(worker, first);
-    let mut run = of_chunk(
-        alloc,
-        &work.checked,
-        &chunks[first as usize],
-        first,
-        work.limit,
-    )?;
-    'chunks: for number in first + 1..end {
+    let mut stretch = Stretch::new(alloc, first, most);
+    'chunks: for number in first..end {
         hold.enter(worker, number);
-        run = run.extend(alloc, &work.checked, &chunks[number as usize], work.limit)?;
+        stretch.take(alloc, &work.checked, &chunks[number as usize], work.limit)?;
     }
-    Ok(run)
+    stretch.finish()
 }
 
 // A worker's number and its pass to the board.
@@ -82,7 +79,7 @@ fn work_stretches<S: LendsStretches + Send, E: Enter>(
     'stretches: while let Some(stretch) = board.claim(&mut pass) {
         let first = stretch * each;
         let end = chunks.min(first + each);
-        let Ok(run) = run_between(alloc, work, number, first, end, hold) else {
+        let Ok(run) = run_between(alloc, work, number, first, end, KEPT_MOST, hold) else {
             return pass;
         };
         let piece = RunPiece {
@@ -194,9 +191,10 @@ fn by_workers<T: Threads + Sync, S: LendsStretches + Send + Sync, E: Enter + Syn
 
 /// The run of all chunks of a round, which is the work's: the first row that is no record, or each
 /// key's chain. As many workers as are asked for, but no more than there are chunks, work at once.
-/// The chunks are cut into a few stretches for each worker, of neighbouring chunks. A worker claims
+/// The chunks are cut into a stretch for each worker, of neighbouring chunks. A worker claims
 /// a stretch, tells `hold` of each of its chunks, makes the stretch's run and joins it with
-/// neighbouring ones that are there, until no stretch is left. With one worker no thread is made.
+/// neighbouring ones that are there, until no stretch is left. With one worker no thread is made, and
+/// no record is explored: there is nobody to work beside.
 /// The result doesn't depend on the number of workers or on who claimed what.
 ///
 /// `NoMemory` where an allocation failed.
@@ -215,7 +213,7 @@ pub fn worked<T: Threads + Sync, E: Enter + Sync>(
 {
     let chunks = work.chunks.len() as u32;
     if workers.min(chunks) == 1 {
-        return run_between(alloc, work, 0, 0, chunks, hold);
+        return run_between(alloc, work, 0, 0, chunks, u32::MAX, hold);
     }
     let each = chunks.div_ceil(workers * STRETCHES);
     by_workers(rt, alloc, &Stretches { work, each }, workers, hold)

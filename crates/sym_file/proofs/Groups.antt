@@ -8,7 +8,7 @@ use Rattle.std.specs.Fmt.{decimal}
 use Rattle.std.specs.List.{All, flat_map}
 use Rattle.sym_base.specs.declared.values.value.Key.{Key}
 use Rattle.sym_check.specs.Plan.ScriptPlans.{ScriptPlan}
-use Rattle.sym_path.specs.declared.path.Path.{Path}
+use Rattle.sym_run.specs.Chained.{Chained}
 use Rattle.sym_plain.specs.Pairs.{HaveDistinctKeys, has_key}
 use Rattle.sym_run.specs.Runs.{added}
 use Rattle.sym_run.specs.declared.saved.Saved.{Saved}
@@ -21,7 +21,7 @@ use Rattle.sym_file.proofs.PathTexts.{IsChainRead, chain_codec, records, starts_
 use Rattle.sym_file.proofs.ValueTexts.{IsWritten, values_codec}
 
 abbrev pub Group : Type 0
-Group = Key × List (List Path)
+Group = Key × Chained
 
 module _ (p : ScriptPlan) where
   abbrev IsKeyRead : Key → Type 0
@@ -88,7 +88,7 @@ module _ (p : ScriptPlan) where
     pub text : bytes ≡ flat_map group_text more ++ rest
     pub each : All IsGroupRead more
 
-  pub with_added : (start : List Group) (key : Key) (chain : List (List Path)) (now : List Group) → added start key chain ≡ Some now → now ≡ start ++ (key, chain) ∷ []
+  pub with_added : (start : List Group) (key : Key) (chain : Chained) (now : List Group) → added start key chain ≡ Some now → now ≡ start ++ (key, chain) ∷ []
   with_added start key chain now e = of (has_key start key) e
     where
       of : (b : Bool) → cond b None (Some (start ++ (key, chain) ∷ [])) ≡ Some now → now ≡ start ++ (key, chain) ∷ []

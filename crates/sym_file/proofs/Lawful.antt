@@ -31,6 +31,7 @@ use Rattle.sym_path.specs.declared.form.Form.TheVariants as form
 use Rattle.sym_path.specs.declared.path.Path.{Path}
 use Rattle.sym_path.specs.declared.path.PathEnd.{PathEnd}
 use Rattle.sym_path.specs.declared.path.PathEnd.TheVariants.{Next, Ended}
+use Rattle.sym_run.specs.Chained.{Chained}
 use Rattle.sym_run.specs.SavedRuns.{IsLawfulChain, IsLawfulGroup, IsLawfulPath, IsLawfulSaved, IsLawfulSegment}
 use Rattle.sym_run.specs.declared.saved.Saved.{Saved}
 use Rattle.sym_file.specs.Reading.{arguments_in, body_at}
@@ -144,12 +145,13 @@ module _ (p : ScriptPlan) where
       each = both_all (IsLawfulPath p first next) IsStoredPath (IsPathOf p) (λ path l t. path_of path l.fits t) paths h.each s.each;
     }
 
-    chain_of_read : (segments : List (List Path)) → IsLawfulChain p first next segments → IsStoredChain segments → IsChainRead p segments
-    chain_of_read segments h s = record {
+    chain_of_read : (chain : Chained) → IsLawfulChain p first next chain → IsStoredChain chain → IsChainRead p chain
+    chain_of_read chain h s = record {
       some = h.some;
+      closed = h.closed;
       each = record {
         many = s.many;
-        each = both_all (IsLawfulSegment p first next) IsStoredSegment (AreStored (IsPathOf p)) segment_of segments h.each s.each;
+        each = both_all (IsLawfulSegment p first next) IsStoredSegment (AreStored (IsPathOf p)) segment_of chain.segments h.each s.each;
       };
     }
 
@@ -244,7 +246,7 @@ module _ (p : ScriptPlan) where
   group_stored : (group : Group) → IsGroupRead p group → IsStoredGroup group
   group_stored group h = record {
     key = values_stored (length p.group) group.0.values h.key;
-    chain = record { many = h.chain.each.many; each = All-weaker (AreStored (IsPathOf p)) IsStoredSegment segment_stored group.1 h.chain.each.each };
+    chain = record { many = h.chain.each.many; each = All-weaker (AreStored (IsPathOf p)) IsStoredSegment segment_stored group.1.segments h.chain.each.each };
   }
 
   pub read_stored : (saved : Saved) → IsBodyRead p saved → IsStored saved

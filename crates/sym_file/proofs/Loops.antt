@@ -3,7 +3,7 @@ use Rattle.std.proofs.Common.{◌≡◌, ℕ, suc, ◌-◌, ◌+◌, ◌≤◌, 
 use Rattle.std.proofs.lemmas.List.{append-nil, drop_all}
 use Rattle.sym_base.specs.declared.values.value.Key.{Key}
 use Rattle.sym_check.specs.Plan.ScriptPlans.{ScriptPlan}
-use Rattle.sym_path.specs.declared.path.Path.{Path}
+use Rattle.sym_run.specs.Chained.{Chained}
 use Rattle.sym_run.specs.Runs.{added}
 use Rattle.sym_file.specs.Reading.{Fails, Read, ◌>>=◌, each, group_at, groups_at, many}
 use Rattle.sym_file.specs.declared.saved_err.SavedErr.{SavedErr}
@@ -76,10 +76,10 @@ left_from xs i x within is = rw add-one (drop-cons xs i x within ∙ ap (λ y. y
 
 -- ---- groups, after those that are there
 abbrev Group : Type 0
-Group = Key × List (List Path)
+Group = Key × Chained
 
 module _ (p : ScriptPlan) (count i : ℕ) (groups : List Group) (bytes : List ℕ) (total : Read (List Group)) where
-  pub groups_go_on : (key : Key) (chain : List (List Path)) (after : List ℕ) (more : List Group) → i < count → group_at p bytes ≡ Some ((key, chain), after) → added groups key chain ≡ Some more
+  pub groups_go_on : (key : Key) (chain : Chained) (after : List ℕ) (more : List Group) → i < count → group_at p bytes ≡ Some ((key, chain), after) → added groups key chain ≡ Some more
       → groups_at p (count - i) groups bytes ≡ total → groups_at p (count - (i + 1)) more after ≡ total
   unfolding groups_at
   groups_go_on key chain after more lt h new so_far =
@@ -87,7 +87,7 @@ module _ (p : ScriptPlan) (count i : ℕ) (groups : List Group) (bytes : List �
       let one : groups_at p (count - i) groups bytes ≡ groups_at p (count - (i + 1)) more after = rw (k, h, new) refl in
       sym one ∙ so_far
 
-  pub key_twice : (key : Key) (chain : List (List Path)) (after : List ℕ) → i < count → group_at p bytes ≡ Some ((key, chain), after) → added groups key chain ≡ None
+  pub key_twice : (key : Key) (chain : Chained) (after : List ℕ) → i < count → group_at p bytes ≡ Some ((key, chain), after) → added groups key chain ≡ None
       → groups_at p (count - i) groups bytes ≡ total → total ≡ None
   unfolding groups_at
   key_twice key chain after lt h twice so_far =

@@ -6,7 +6,8 @@ use Rattle.sym_path.specs.declared.part.Part.TheVariants as part
 use Rattle.sym_path.specs.declared.path.Path.{Path}
 use Rattle.sym_pred.specs.Facts.{FactMap}
 use Rattle.sym_pred.specs.declared.literal.Literal.{Literal}
-use Rattle.sym_run.specs.Chains.{chain_of}
+use Rattle.sym_run.specs.Chained.{Chained}
+use Rattle.sym_run.specs.Chains.{chain_of, closed_chain}
 use Rattle.sym_file.specs.Making.{facts_of}
 use Rattle.sym_file.specs.Reading.{Fails, Read, ◌>>=◌, apart, chain_in, facts_in, literal_at, many, segment_at}
 use Rattle.sym_file.specs.declared.saved_err.SavedErr.{SavedErr}
@@ -40,11 +41,11 @@ module _ (p : ScriptPlan) (bytes : List ℕ) where
       item_read (apart (literal_at p parts)) bytes facts_with l rest h
       ∙ ap (λ (known : Option FactMap). known >>= λ g. Some (part.Facts g, rest)) is
 
-  abbrev chain_with : List (List Path) × List ℕ → Read (List (List Path))
+  abbrev chain_with : List (List Path) × List ℕ → Read Chained
   chain_with segments = chain_of segments.0 >>= λ chain. Some (chain, segments.1)
 
   pub segment_fails : (e : SavedErr) → Fails e (segment_at p bytes) → Fails e (chain_in p 1 bytes)
   segment_fails e h = item_fails (segment_at p) bytes chain_with e h
 
-  pub segment_read : (segment : List Path) (rest : List ℕ) → segment_at p bytes ≡ Some (segment, rest) → chain_in p 1 bytes ≡ Some (segment ∷ [], rest)
+  pub segment_read : (segment : List Path) (rest : List ℕ) → segment_at p bytes ≡ Some (segment, rest) → chain_in p 1 bytes ≡ Some (closed_chain (segment ∷ []), rest)
   segment_read segment rest h = item_read (segment_at p) bytes chain_with segment rest h

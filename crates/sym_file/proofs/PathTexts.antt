@@ -13,7 +13,9 @@ use Rattle.sym_path.specs.declared.form.Form.{Form}
 use Rattle.sym_path.specs.declared.path.Path.{Path}
 use Rattle.sym_path.specs.declared.path.PathEnd.{PathEnd}
 use Rattle.sym_path.specs.declared.path.PathEnd.TheVariants.{Next, Ended}
-use Rattle.sym_run.specs.Chains.{chain_of}
+use Rattle.sym_base.specs.declared.values.record.Record.{Record}
+use Rattle.sym_run.specs.Chained.{Chained}
+use Rattle.sym_run.specs.Chains.{chain_of, closed_chain}
 use Rattle.sym_file.specs.Reading.{Read, ◌>>=◌, after, apart, arith_at, below_at, chain_at, each, end_at, form_at, listed_at, many, nat_at, next_at, over_at, part_at, path_at, segment_at}
 use Rattle.sym_file.specs.Stored.{AreStored, IsStoredFault}
 use Rattle.sym_file.specs.Texts.{chain_text, end_text, form_text, line_end, listed, part_text, path_text, segment_text, spaced}
@@ -248,39 +250,42 @@ module _ (p : ScriptPlan) where
   segments_codec : Codec (λ segments. listed (codes "chain ") segment_text segments) (AreStored (AreStored (IsPathOf p))) (listed_at (codes "chain ") (segment_at p))
   segments_codec = listed_codec (codes "chain ") segment_text (AreStored (IsPathOf p)) (segment_at p) segment_codec segment_starts segment_some
 
-  -- A chain of one segment or more.
-  pub record IsChainRead (segments : List (List Path)) : Type 0 where
-    pub some : 1 ≤ length segments
-    pub each : AreStored (AreStored (IsPathOf p)) segments
+  -- A chain of one segment or more, which keeps no records.
+  pub record IsChainRead (chain : Chained) : Type 0 where
+    pub some : 1 ≤ length chain.segments
+    pub each : AreStored (AreStored (IsPathOf p)) chain.segments
+    pub closed : chain.kept ≡ []
 
-  same_chain : (segments chain : List (List Path)) → chain_of segments ≡ Some chain → segments ≡ chain
+  same_chain : (segments : List (List Path)) (chain : Chained) → chain_of segments ≡ Some chain → closed_chain segments ≡ chain
   same_chain [] chain e = absurd cc
-  same_chain (s ∷ ss) chain e = some_is (s ∷ ss) chain e
+  same_chain (s ∷ ss) chain e = some_is (closed_chain (s ∷ ss)) chain e
 
-  chain_some : (segments chain : List (List Path)) → chain_of segments ≡ Some chain → 1 ≤ length chain
+  chain_some : (segments : List (List Path)) (chain : Chained) → chain_of segments ≡ Some chain → 1 ≤ length segments
   chain_some [] chain e = absurd cc
-  chain_some (s ∷ ss) chain e = subst (λ (c : List (List Path)). 1 ≤ length c) (some_is (s ∷ ss) chain e) (omega arith)
+  chain_some (s ∷ ss) chain e = omega arith
 
-  chain_there : (segments : List (List Path)) → 1 ≤ length segments → chain_of segments ≡ Some segments
+  chain_there : (segments : List (List Path)) → 1 ≤ length segments → chain_of segments ≡ Some (closed_chain segments)
   chain_there [] some = absurd (omega (arith, some))
   chain_there (s ∷ ss) some = refl
 
-  chain_takes : (bytes : List ℕ) (chain : List (List Path)) (rest : List ℕ) → Few bytes → chain_at p bytes ≡ Some (chain, rest) → Takes chain_text IsChainRead bytes chain rest
+  chain_takes : (bytes : List ℕ) (chain : Chained) (rest : List ℕ) → Few bytes → chain_at p bytes ≡ Some (chain, rest) → Takes chain_text IsChainRead bytes chain rest
   unfolding chain_at chain_text
   chain_takes bytes chain rest few e =
       let a = bound (listed_at (codes "chain ") (segment_at p) bytes) (λ ss. chain_of ss.0 >>= λ c. Some (c, ss.1)) (chain, rest) e in
       let b = bound (chain_of a.0.0) (λ c. Some (c, a.0.1)) (chain, rest) a.2 in
       let t = segments_codec.takes bytes a.0.0 a.0.1 few a.1 in
-      let same : a.0.0 ≡ b.0 = same_chain a.0.0 b.0 b.1 in
-      subst (λ (r : List (List Path) × List ℕ). Takes chain_text IsChainRead bytes r.0 r.1) (some_is (b.0, a.0.1) (chain, rest) b.2)
+      let same : closed_chain a.0.0 ≡ b.0 = same_chain a.0.0 b.0 b.1 in
+      subst (λ (r : Chained × List ℕ). Takes chain_text IsChainRead bytes r.0 r.1) (ap (λ (c : Chained). (c, a.0.1)) same ∙ some_is (b.0, a.0.1) (chain, rest) b.2)
       (record {
-        text_is = t.text_is ∙ ap (λ (ss : List (List Path)). listed (codes "chain ") segment_text ss ++ a.0.1) same;
-        is_so = record { some = chain_some a.0.0 b.0 b.1; each = subst (AreStored (AreStored (IsPathOf p))) same t.is_so };
+        text_is = t.text_is;
+        is_so = record { some = chain_some a.0.0 b.0 b.1; each = t.is_so; closed = refl };
       })
 
-  chain_again : (chain : List (List Path)) (rest : List ℕ) → IsChainRead chain → Ends rest → chain_at p (chain_text chain ++ rest) ≡ Some (chain, rest)
+  chain_again : (chain : Chained) (rest : List ℕ) → IsChainRead chain → Ends rest → chain_at p (chain_text chain ++ rest) ≡ Some (chain, rest)
   unfolding chain_at chain_text
-  chain_again chain rest is ends = rw (segments_codec.again chain rest is.each ends, chain_there chain is.some) refl
+  chain_again chain rest is ends =
+      let same : closed_chain chain.segments ≡ chain = ap (λ (kept : List Record). record { segments = chain.segments; kept = kept }) (sym is.closed) in
+      rw (segments_codec.again chain.segments rest is.each ends, chain_there chain.segments is.some) (ap (λ (c : Chained). Some (c, rest)) same)
 
   pub chain_codec : Codec chain_text IsChainRead (chain_at p)
   chain_codec = record { takes = chain_takes; again = chain_again }

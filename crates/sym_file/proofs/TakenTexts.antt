@@ -12,7 +12,7 @@ use Rattle.sym_check.specs.Meaning.Groups.{is_among, is_key}
 use Rattle.sym_check.proofs.Keys.{keys_equiv}
 use Rattle.sym_check.specs.Plan.ScriptPlans.{ScriptPlan}
 use Rattle.sym_check.specs.Plan.WellFormed.{IsWellFormed}
-use Rattle.sym_path.specs.declared.path.Path.{Path}
+use Rattle.sym_run.specs.Chained.{Chained}
 use Rattle.sym_plain.specs.Pairs.{HaveDistinctKeys, put, standing}
 use Rattle.sym_run.specs.Runs.{added}
 use Rattle.sym_run.specs.SavedRuns.{IsLawfulGroup, IsLawfulSaved}
@@ -38,7 +38,7 @@ on_done : (i : ℕ) (led : Option Outcome) (next other : Outcome → Taken) (now
 on_done i None next other now result later e = absurd cc
 on_done i (Some o) next other now result later e = later o e
 
-keys_last : (groups : List Group) (key : Key) (chain : List (List Path)) → keys_of (groups ++ (key, chain) ∷ []) ≡ keys_of groups ++ key ∷ []
+keys_last : (groups : List Group) (key : Key) (chain : Chained) → keys_of (groups ++ (key, chain) ∷ []) ≡ keys_of groups ++ key ∷ []
 keys_last [] key chain = refl
 keys_last (g ∷ groups) key chain = ap (λ (ks : List Key). g.0 ∷ ks) (keys_last groups key chain)
 
@@ -47,7 +47,7 @@ unfolding IsDistinct
 no_keys = tt
 
 module _ (p : ScriptPlan) where
-  abbrev led_of : Key → List (List Path) → Pairs → Option Outcome
+  abbrev led_of : Key → Chained → Pairs → Option Outcome
   led_of key chain totals = led_through (test_truth p.tests) chain (standing p (lookup (is_key key) totals))
 
   -- ---- totals after more groups
@@ -61,7 +61,7 @@ module _ (p : ScriptPlan) where
       on_done i (led_of g.0 g.1 old) (λ o. taken p (suc i) groups (put old g.0 o)) (λ o. taken p (suc i) (groups ++ more) (put old g.0 o)) now (taken p (i + suc (length groups)) more now)
       (λ o is. taken_append groups more (suc i) (put old g.0 o) now is ∙ ap (λ (n : ℕ). taken p n more now) one) e
 
-  module _ (groups : List Group) (key : Key) (chain : List (List Path)) (old mid : Pairs) (so_far : taken p 0 groups old ≡ Done mid) where
+  module _ (groups : List Group) (key : Key) (chain : Chained) (old mid : Pairs) (so_far : taken p 0 groups old ≡ Done mid) where
     one_more : (new : Pairs) → IsTaken key mid (led_of key chain mid) true new → taken p 0 (groups ++ (key, chain) ∷ []) old ≡ Done new
     one_more new h =
         taken_append groups ((key, chain) ∷ []) 0 old mid so_far
@@ -88,7 +88,7 @@ module _ (p : ScriptPlan) where
       let others = groups_front n b.0 a.0.1 all rest b.2 in
       (a.0.0 ∷ others.0, others.1 ∙ ap (λ (gs : List Group). gs ++ others.0) now ∙ append_assoc start (a.0.0 ∷ []) others.0)
 
-  next_of : (count i : ℕ) (groups : List Group) (bytes rest : List ℕ) (key : Key) (chain : List (List Path)) (after : List ℕ) (all : List Group) (end : List ℕ) → i < count → group_at p rest ≡ Some ((key, chain), after)
+  next_of : (count i : ℕ) (groups : List Group) (bytes rest : List ℕ) (key : Key) (chain : Chained) (after : List ℕ) (all : List Group) (end : List ℕ) → i < count → group_at p rest ≡ Some ((key, chain), after)
       → groups_at p (count - i) groups rest ≡ groups_at p count [] bytes → groups_at p count [] bytes ≡ Some (all, end) → (more : List Group) × (all ≡ groups ++ (key, chain) ∷ more)
   unfolding groups_at
   next_of count i groups bytes rest key chain after all end lt h reads read =
@@ -161,7 +161,7 @@ module _ (p : ScriptPlan) where
         unread error.Malformed f = not_read (groups_stop p count i is.groups rest (groups_at p count [] bytes) error.Malformed within f is.reads)
         unread error.NoMemory f = tt
 
-        module _ (key : Key) (chain : List (List Path)) (after : List ℕ) (one : group_at p rest ≡ Some ((key, chain), after)) where
+        module _ (key : Key) (chain : Chained) (after : List ℕ) (one : group_at p rest ≡ Some ((key, chain), after)) where
           pub unlawful_group : (IsLawfulGroup p first next (key, chain) → ⊥) → NoLawful
           unlawful_group none groups end read each =
               let more = next_of count i is.groups bytes rest key chain after groups end within one is.reads read in

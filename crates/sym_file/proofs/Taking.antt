@@ -6,7 +6,7 @@ use Rattle.std.specs.Map.{keys_of, lookup, values_of}
 use Rattle.std.proofs.lemmas.List.{drop_all}
 use Rattle.std.proofs.lemmas.Option.{get_or_from_slice_get, slice_get_within}
 use Rattle.std.proofs.lemmas.Result.{IfOk-weaker}
-use Rattle.std.proofs.lemmas.List.Elements.{All-cons, All-head, All-tail, All-weaker}
+use Rattle.std.proofs.lemmas.List.Elements.{All-cons, All-head, All-nil, All-tail, All-weaker}
 use Rattle.sym_base.specs.Tests.{Truth}
 use Rattle.sym_base.specs.declared.values.memory.NoMemory.{NoMemory}
 use Rattle.sym_base.specs.declared.values.value.Key.{Key}
@@ -18,7 +18,7 @@ use Rattle.sym_base.specs.declared.values.state.Outcome.TheVariants as outcome
 use Rattle.sym_check.specs.Meaning.Conditions.{test_truth}
 use Rattle.sym_check.specs.Meaning.Groups.{is_key, records_of}
 use Rattle.sym_check.specs.Meaning.Updates.{after, initial}
-use Rattle.sym_check.specs.Meaning.Validity.{IsValid, IsValidOutcome}
+use Rattle.sym_check.specs.Meaning.Validity.{IsRecord, IsValid, IsValidOutcome}
 use Rattle.sym_check.specs.Plan.ScriptPlans.{ScriptPlan}
 use Rattle.sym_path.specs.Admitting.{Admits, admits}
 use Rattle.sym_path.specs.Following.{end_after}
@@ -37,13 +37,15 @@ use Rattle.sym_plain.specs.Pairs.{HaveDistinctKeys, after_keys, after_records, p
 use Rattle.sym_plain.proofs.Apart.{groups_apart}
 use Rattle.sym_plain.proofs.Pairs.{indexed-lookup, indexed-put}
 use Rattle.sym_run.specs.Applying.{AreValid}
-use Rattle.sym_run.specs.Chains.{ChainFits, ChainStandsFor}
-use Rattle.sym_run.specs.Runs.{GroupsStandFor}
+use Rattle.sym_run.specs.Chained.{Chained}
+use Rattle.sym_run.specs.Chains.{ChainFits, ChainStandsFor, IsClosed, SegmentsStandFor}
+use Rattle.sym_run.specs.Runs.{AreClosed, GroupsStandFor}
 use Rattle.sym_run.specs.SavedRuns.{IsLawfulGroup, IsLawfulPath, IsLawfulSegment}
 use Rattle.sym_run.proofs.GroupPuts.{absent_key, all_found, all_put}
+use Rattle.sym_run.proofs.KeptRecords.{closed_segments}
 use Rattle.sym_file.specs.declared.totals.Taken.{Taken}
 use Rattle.sym_file.specs.declared.totals.Taken.TheVariants.{Done, Gap}
-use Rattle.sym_file.specs.Totals.{IsLed, IsTaken, first_of, led_by, led_through, taken, taken_on}
+use Rattle.sym_file.specs.Totals.{IsLed, IsTaken, first_of, led_by, led_in_turn, led_through, taken, taken_on}
 use Rattle.sym_file.proofs.Loops.{left_from}
 
 -- ---- the first path for a state
@@ -82,17 +84,17 @@ led_path truth paths s o new index path is first at gives =
 -- ---- one segment after the other
 module _ (truth : Truth) (segments : List (List Path)) (i : ℕ) (outcome : Outcome) (all : Option Outcome) where
   module _ (segment : List Path) (within : i < length segments) (is : segment ≡ get_or segments i segment) where
-    next_led : led_through truth (drop i segments) outcome ≡ option_and_then (led_through truth (drop (i + 1) segments)) (led_by truth segment outcome)
-    next_led = ap (λ (ss : List (List Path)). led_through truth ss outcome) (left_from segments i segment within is)
+    next_led : led_in_turn truth (drop i segments) outcome ≡ option_and_then (led_in_turn truth (drop (i + 1) segments)) (led_by truth segment outcome)
+    next_led = ap (λ (ss : List (List Path)). led_in_turn truth ss outcome) (left_from segments i segment within is)
 
-    pub led_more : (now : Outcome) → led_by truth segment outcome ≡ Some now → led_through truth (drop i segments) outcome ≡ all → led_through truth (drop (i + 1) segments) now ≡ all
-    led_more now led so_far = sym (next_led ∙ ap (λ (o : Option Outcome). option_and_then (led_through truth (drop (i + 1) segments)) o) led) ∙ so_far
+    pub led_more : (now : Outcome) → led_by truth segment outcome ≡ Some now → led_in_turn truth (drop i segments) outcome ≡ all → led_in_turn truth (drop (i + 1) segments) now ≡ all
+    led_more now led so_far = sym (next_led ∙ ap (λ (o : Option Outcome). option_and_then (led_in_turn truth (drop (i + 1) segments)) o) led) ∙ so_far
 
-    pub led_stops : led_by truth segment outcome ≡ None → led_through truth (drop i segments) outcome ≡ all → all ≡ None
-    led_stops led so_far = sym so_far ∙ next_led ∙ ap (λ (o : Option Outcome). option_and_then (led_through truth (drop (i + 1) segments)) o) led
+    pub led_stops : led_by truth segment outcome ≡ None → led_in_turn truth (drop i segments) outcome ≡ all → all ≡ None
+    led_stops led so_far = sym so_far ∙ next_led ∙ ap (λ (o : Option Outcome). option_and_then (led_in_turn truth (drop (i + 1) segments)) o) led
 
-  pub led_all : length segments ≤ i → led_through truth (drop i segments) outcome ≡ all → all ≡ Some outcome
-  led_all past so_far = sym so_far ∙ ap (λ (ss : List (List Path)). led_through truth ss outcome) (drop_all i segments past)
+  pub led_all : length segments ≤ i → led_in_turn truth (drop i segments) outcome ≡ all → all ≡ Some outcome
+  led_all past so_far = sym so_far ∙ ap (λ (ss : List (List Path)). led_in_turn truth ss outcome) (drop_all i segments past)
 
 pub led_yes : (b : Bool) (now : Outcome) (led : Option Outcome) → b ≡ true → IsLed b now led → led ≡ Some now
 led_yes true now led e h = h
@@ -111,19 +113,23 @@ after_valid : (p : ScriptPlan) (records : List Record) (segment : List Path) (o 
 after_valid p records segment (Going s) h valid = outcome_valid p records segment s h valid
 after_valid p records segment (outcome.Ended fault) h valid = subst (IsValidOutcome p) (sym (ended_stays p records fault)) tt
 
-chain_led : (p : ScriptPlan) (records : List Record) (segments : List (List Path)) (o : Outcome) → ChainStandsFor p records segments → IsValidOutcome p o
-    → (led_through (test_truth p.tests) segments o ≡ Some (after p records o)) × IsValidOutcome p (after p records o)
-chain_led p records [] o h valid =
+segments_led : (p : ScriptPlan) (records : List Record) (segments : List (List Path)) (o : Outcome) → SegmentsStandFor p records segments → IsValidOutcome p o
+    → (led_in_turn (test_truth p.tests) segments o ≡ Some (after p records o)) × IsValidOutcome p (after p records o)
+segments_led p records [] o h valid =
     (ap (λ (rs : List Record). Some (after p rs o)) (sym h), subst (λ (rs : List Record). IsValidOutcome p (after p rs o)) (sym h) valid)
-chain_led p records (segment ∷ segments) o h valid =
+segments_led p records (segment ∷ segments) o h valid =
     let first = h.0 in
     let rest = h.1 in
     let one = led_stands p first segment o h.3 valid in
-    let others = chain_led p rest segments (after p first o) h.4 (after_valid p first segment o h.3 valid) in
+    let others = segments_led p rest segments (after p first o) h.4 (after_valid p first segment o h.3 valid) in
     let whole : after p rest (after p first o) ≡ after p records o = sym (after_append p first rest o) ∙ ap (λ (rs : List Record). after p rs o) (sym h.2) in (
-      ap (λ (led : Option Outcome). option_and_then (led_through (test_truth p.tests) segments) led) one ∙ others.0 ∙ ap Some whole,
+      ap (λ (led : Option Outcome). option_and_then (led_in_turn (test_truth p.tests) segments) led) one ∙ others.0 ∙ ap Some whole,
       subst (IsValidOutcome p) whole others.1,
     )
+
+chain_led : (p : ScriptPlan) (records : List Record) (chain : Chained) (o : Outcome) → IsClosed chain → ChainStandsFor p records chain → IsValidOutcome p o
+    → (led_through (test_truth p.tests) chain o ≡ Some (after p records o)) × IsValidOutcome p (after p records o)
+chain_led p records chain o closed h valid = segments_led p records chain.segments o (closed_segments p records chain closed h) valid
 
 -- ---- groups
 standing_valid : (p : ScriptPlan) (key : Key) (totals : List (Key × Outcome)) → IsValid p (initial p) → AreValid p totals → IsValidOutcome p (standing p (lookup (is_key key) totals))
@@ -137,21 +143,22 @@ put_valid : (p : ScriptPlan) (key : Key) (o : Outcome) (totals : List (Key × Ou
 put_valid p key o totals valid all =
     all_put (λ (k : Key) (v : Outcome). IsValidOutcome p v) (λ (k : Key) (v : Outcome). IsValidOutcome p v) key o (λ j u e h. h) (λ j e. valid) totals (same_key key) all
 
-taken_stands : (p : ScriptPlan) (records : List Record) (groups : List (Key × List (List Path))) (index : ℕ) (totals : List (Key × Outcome)) → IsValid p (initial p) → AreValid p totals
-    → All (λ group. ChainStandsFor p (records_of p group.0 records) group.1) groups → taken p index groups totals ≡ Done (after_keys p records (keys_of groups) totals)
-taken_stands p records [] index totals first valid each = refl
-taken_stands p records (g ∷ groups) index totals first valid each =
-    let led = chain_led p (records_of p g.0 records) g.1 (standing p (lookup (is_key g.0) totals)) (All-head (λ group. ChainStandsFor p (records_of p group.0 records) group.1) g groups each) (standing_valid p g.0 totals first valid) in
+taken_stands : (p : ScriptPlan) (records : List Record) (groups : List (Key × Chained)) (index : ℕ) (totals : List (Key × Outcome)) → IsValid p (initial p) → AreValid p totals
+    → AreClosed groups → All (λ group. ChainStandsFor p (records_of p group.0 records) group.1) groups → taken p index groups totals ≡ Done (after_keys p records (keys_of groups) totals)
+taken_stands p records [] index totals first valid closed each = refl
+taken_stands p records (g ∷ groups) index totals first valid closed each =
+    let led = chain_led p (records_of p g.0 records) g.1 (standing p (lookup (is_key g.0) totals)) (All-head (λ group. IsClosed group.1) g groups closed) (All-head (λ group. ChainStandsFor p (records_of p group.0 records) group.1) g groups each) (standing_valid p g.0 totals first valid) in
     ap (λ (o : Option Outcome). taken_on index (λ now. taken p (suc index) groups (put totals g.0 now)) o) led.0
     ∙ taken_stands p records groups (suc index) (put totals g.0 (after p (records_of p g.0 records) (standing p (lookup (is_key g.0) totals)))) first
     (put_valid p g.0 (after p (records_of p g.0 records) (standing p (lookup (is_key g.0) totals))) totals led.1 valid)
+    (All-tail (λ group. IsClosed group.1) g groups closed)
     (All-tail (λ group. ChainStandsFor p (records_of p group.0 records) group.1) g groups each)
 
 -- Where the groups stand for records, nothing is a gap.
-pub taken_records : (p : ScriptPlan) (records : List Record) (groups : List (Key × List (List Path))) (totals : List (Key × Outcome)) → IsValid p (initial p) → AreValid p totals → GroupsStandFor p records groups
+pub taken_records : (p : ScriptPlan) (records : List Record) (groups : List (Key × Chained)) (totals : List (Key × Outcome)) → IsValid p (initial p) → AreValid p totals → AreClosed groups → GroupsStandFor p records groups
     → taken p 0 groups totals ≡ Done (after_records p records totals)
-taken_records p records groups totals first valid h =
-    taken_stands p records groups 0 totals first valid h.each
+taken_records p records groups totals first valid closed h =
+    taken_stands p records groups 0 totals first valid closed h.each
     ∙ ap (λ (ks : List Key). Done (after_keys p records ks totals)) h.keys_are
     ∙ ap Done (sym (groups_apart p records totals))
 
@@ -164,7 +171,7 @@ put_new : (key : Key) (groups : List (Key × Outcome)) (now : Outcome) → looku
 put_new key groups now none =
     sym (ap (λ (t : Bool). cond t (map (λ q. cond (is_key key q.0) (q.0, now) q) groups) (groups ++ (key, now) ∷ [])) (absent_key key groups none))
 
-module _ (p : ScriptPlan) (key : Key) (chain : List (List Path)) (old : List (Key × Outcome)) where
+module _ (p : ScriptPlan) (key : Key) (chain : Chained) (old : List (Key × Outcome)) where
   -- A new group begins with the initial state.
   pub begun_not : (s : State) (now : Outcome) → s ≡ initial p → IsLed false now (led_through (test_truth p.tests) chain (Going s)) → led_through (test_truth p.tests) chain (standing p None) ≡ None
   begun_not s now is h = sym (ap (λ (t : State). led_through (test_truth p.tests) chain (Going t)) is) ∙ h
@@ -220,19 +227,27 @@ valid_set p (g ∷ groups) (suc index) o h v =
     (valid_set p groups index o (All-tail (λ (group : Key × Outcome). IsValidOutcome p group.1) g groups h) v)
 
 -- The chain of a lawful group fits the script.
-pub chain_fits : (p : ScriptPlan) (first next : ℕ) (groups : List (Key × List (List Path))) (index : ℕ) (key : Key) (chain : List (List Path)) → All (IsLawfulGroup p first next) groups → slice_get groups index ≡ Some (key, chain) → ChainFits p chain
+pub chain_fits : (p : ScriptPlan) (first next : ℕ) (groups : List (Key × Chained)) (index : ℕ) (key : Key) (chain : Chained) → All (IsLawfulGroup p first next) groups → slice_get groups index ≡ Some (key, chain) → ChainFits p chain
 chain_fits p first next groups index key chain each there =
     let group : IsLawfulGroup p first next (key, chain) = all_at (IsLawfulGroup p first next) groups index (key, chain) each there in
-    All-weaker (IsLawfulSegment p first next) (SegmentFits p) (λ paths h. All-weaker (IsLawfulPath p first next) (PathFits p) (λ path l. l.fits) paths h.each) chain group.chain.each
+    record {
+      segments = All-weaker (IsLawfulSegment p first next) (SegmentFits p) (λ paths h. All-weaker (IsLawfulPath p first next) (PathFits p) (λ path l. l.fits) paths h.each) chain.segments group.chain.each;
+      kept = subst (All (IsRecord p)) (sym group.chain.closed) (All-nil (IsRecord p));
+    }
+
+-- The chains of lawful groups keep no records.
+pub lawful_closed : (p : ScriptPlan) (first next : ℕ) (groups : List (Key × Chained)) → All (IsLawfulGroup p first next) groups → AreClosed groups
+lawful_closed p first next groups each =
+    All-weaker (IsLawfulGroup p first next) (λ group. IsClosed group.1) (λ group h. h.chain.closed) groups each
 
 -- ---- one group after the other
 abbrev Chains : Type 0
-Chains = List (Key × List (List Path))
+Chains = List (Key × Chained)
 
 left_at : {A : Type 0} (xs : List A) (i : ℕ) (x : A) → slice_get xs i ≡ Some x → drop i xs ≡ x ∷ drop (i + 1) xs
 left_at xs i x e = left_from xs i x (slice_get_within xs i x e) (sym (get_or_from_slice_get xs i x x e))
 
-module _ (p : ScriptPlan) (groups : Chains) (key : Key) (chain : List (List Path)) (index : ℕ) (old new : List (Key × Outcome)) (all : Taken) where
+module _ (p : ScriptPlan) (groups : Chains) (key : Key) (chain : Chained) (index : ℕ) (old new : List (Key × Outcome)) (all : Taken) where
   abbrev led : Option Outcome
   led = led_through (test_truth p.tests) chain (standing p (lookup (is_key key) old))
 

@@ -23,6 +23,7 @@ use Rattle.sym_path.specs.declared.form.Form.TheVariants as form
 use Rattle.sym_path.specs.declared.path.Path.{Path}
 use Rattle.sym_path.specs.declared.path.PathEnd.{PathEnd}
 use Rattle.sym_path.specs.declared.path.PathEnd.TheVariants.{Next, Ended}
+use Rattle.sym_run.specs.Chained.{Chained}
 use Rattle.sym_run.specs.Chains.{chain_of}
 use Rattle.sym_run.specs.Runs.{added}
 use Rattle.sym_run.specs.declared.saved.Saved.{Saved}
@@ -317,13 +318,13 @@ unfoldable pub segment_at : ScriptPlan → List ℕ → Read (List Path)
 segment_at p bytes = listed_at (codes "segment ") (path_at p) bytes
 
 -- So many segments, of which there is one at least.
-abbrev pub chain_in : ScriptPlan → ℕ → List ℕ → Read (List (List Path))
+abbrev pub chain_in : ScriptPlan → ℕ → List ℕ → Read Chained
 chain_in p count bytes = do
   segments ← many (segment_at p) count bytes
   chain ← chain_of segments.0
   Some (chain, segments.1)
 
-unfoldable pub chain_at : ScriptPlan → List ℕ → Read (List (List Path))
+unfoldable pub chain_at : ScriptPlan → List ℕ → Read Chained
 chain_at p bytes = do
   segments ← listed_at (codes "chain ") (segment_at p) bytes
   chain ← chain_of segments.0
@@ -336,15 +337,15 @@ key_at p bytes = do
   rest ← after line_end values.1
   Some (record { values = values.0 }, rest)
 
-unfoldable pub group_at : ScriptPlan → List ℕ → Read (Key × List (List Path))
+unfoldable pub group_at : ScriptPlan → List ℕ → Read (Key × Chained)
 group_at p bytes = do
   key ← key_at p bytes
   chain ← chain_at p key.1
   Some ((key.0, chain.0), chain.1)
 
 -- So many groups, after those that are there; none where a key stands twice.
-unfoldable pub groups_at : ScriptPlan → ℕ → List (Key × List (List Path)) → List ℕ
-    → Read (List (Key × List (List Path)))
+unfoldable pub groups_at : ScriptPlan → ℕ → List (Key × Chained) → List ℕ
+    → Read (List (Key × Chained))
 groups_at p zero groups bytes = Some (groups, bytes)
 groups_at p (suc n) groups bytes = do
   group ← group_at p bytes

@@ -20,6 +20,7 @@ use Rattle.sym_path.specs.declared.part.Part.TheVariants as part
 use Rattle.sym_path.specs.declared.form.Form.{Form}
 use Rattle.sym_path.specs.declared.form.Form.TheVariants as form
 use Rattle.sym_path.specs.declared.path.Path.{Path}
+use Rattle.sym_run.specs.Chained.{Chained}
 use Rattle.sym_path.specs.declared.path.PathEnd.{PathEnd}
 use Rattle.sym_path.specs.declared.path.PathEnd.TheVariants.{Next, Ended}
 use Rattle.sym_run.specs.declared.saved.Saved.{Saved}
@@ -82,10 +83,10 @@ pub record IsStoredPath (path : Path) : Type 0 where
 abbrev pub IsStoredSegment : List Path → Type 0
 IsStoredSegment paths = AreStored IsStoredPath paths
 
-abbrev pub IsStoredChain : List (List Path) → Type 0
-IsStoredChain segments = AreStored IsStoredSegment segments
+abbrev pub IsStoredChain : Chained → Type 0
+IsStoredChain chain = AreStored IsStoredSegment chain.segments
 
-pub record IsStoredGroup (group : Key × List (List Path)) : Type 0 where
+pub record IsStoredGroup (group : Key × Chained) : Type 0 where
   pub key : All IsStoredValue group.0.values
   pub chain : IsStoredChain group.1
 

@@ -4,7 +4,7 @@ use Rattle.std.specs.List.{All}
 use Rattle.sym_base.specs.declared.values.value.Key.{Key}
 use Rattle.sym_base.specs.declared.values.state.Outcome.{Outcome}
 use Rattle.sym_check.specs.Plan.ScriptPlans.{ScriptPlan}
-use Rattle.sym_path.specs.declared.path.Path.{Path}
+use Rattle.sym_run.specs.Chained.{Chained}
 use Rattle.sym_plain.specs.Pairs.{HaveDistinctKeys}
 use Rattle.sym_run.specs.SavedRuns.{IsLawfulGroup, IsLawfulSaved}
 use Rattle.sym_run.specs.declared.saved.Saved.{Saved}
@@ -82,7 +82,7 @@ Stops error.NoMemory P = Unit {0}
 -- The groups that were read are lawful, and led all totals on; or else one was a gap.
 pub record AreGroupsLed (p : ScriptPlan) (first next count : ℕ) (bytes : List ℕ) (old new : Pairs)
     (rest : List ℕ) : Type 0 where
-  pub groups : List (Key × List (List Path))
+  pub groups : List (Key × Chained)
   pub read : groups_at p count [] bytes ≡ Some (groups, rest)
   pub each : All (IsLawfulGroup p first next) groups
   pub distinct : HaveDistinctKeys groups
@@ -93,7 +93,7 @@ abbrev pub GroupsLead : ScriptPlan → ℕ → ℕ → ℕ → List ℕ → Pair
 GroupsLead p first next count bytes old new None rest =
     AreGroupsLed p first next count bytes old new rest
 GroupsLead p first next count bytes old new (Some gap) rest =
-    (groups : List (Key × List (List Path))) (end : List ℕ)
+    (groups : List (Key × Chained)) (end : List ℕ)
     → groups_at p count [] bytes ≡ Some (groups, end) → taken p 0 groups old ≡ taking.Gap gap
 
 abbrev pub LeadsGroups : {X : Type 0} → ScriptPlan → ℕ → ℕ → ℕ → List ℕ → Pairs → Pairs
@@ -101,7 +101,7 @@ abbrev pub LeadsGroups : {X : Type 0} → ScriptPlan → ℕ → ℕ → ℕ →
 LeadsGroups p first next count bytes old new view (Ok x) =
     GroupsLead p first next count bytes old new (view x).0 (view x).1
 LeadsGroups p first next count bytes old new view (Err e) =
-    Stops e ((groups : List (Key × List (List Path))) (end : List ℕ)
+    Stops e ((groups : List (Key × Chained)) (end : List ℕ)
     → groups_at p count [] bytes ≡ Some (groups, end)
     → All (IsLawfulGroup p first next) groups → ⊥)
 

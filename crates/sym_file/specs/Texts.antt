@@ -23,6 +23,7 @@ use Rattle.sym_path.specs.declared.part.Part.TheVariants as part
 use Rattle.sym_path.specs.declared.form.Form.{Form}
 use Rattle.sym_path.specs.declared.form.Form.TheVariants as form
 use Rattle.sym_path.specs.declared.path.Path.{Path}
+use Rattle.sym_run.specs.Chained.{Chained}
 use Rattle.sym_path.specs.declared.path.PathEnd.{PathEnd}
 use Rattle.sym_path.specs.declared.path.PathEnd.TheVariants.{Next, Ended}
 use Rattle.sym_run.specs.declared.saved.Saved.{Saved}
@@ -126,13 +127,14 @@ listed word text items = word ++ decimal (length items) ++ line_end ++ flat_map 
 unfoldable pub segment_text : List Path → List ℕ
 segment_text paths = listed (codes "segment ") path_text paths
 
-unfoldable pub chain_text : List (List Path) → List ℕ
-chain_text segments = listed (codes "chain ") segment_text segments
+-- The segments alone: a lawful chain keeps no records after them.
+unfoldable pub chain_text : Chained → List ℕ
+chain_text chain = listed (codes "chain ") segment_text chain.segments
 
 abbrev pub key_text : Key → List ℕ
 key_text key = codes "key" ++ spaced value_text key.values ++ line_end
 
-unfoldable pub group_text : Key × List (List Path) → List ℕ
+unfoldable pub group_text : Key × Chained → List ℕ
 group_text group = key_text group.0 ++ chain_text group.1
 
 -- ---- the file

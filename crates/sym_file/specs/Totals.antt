@@ -11,6 +11,7 @@ use Rattle.sym_check.specs.Plan.ScriptPlans.{ScriptPlan}
 use Rattle.sym_path.specs.Giving.{outcomes}
 use Rattle.sym_path.specs.declared.path.Path.{Path}
 use Rattle.sym_plain.specs.Pairs.{put, standing}
+use Rattle.sym_run.specs.Chained.{Chained}
 use Rattle.sym_file.specs.declared.totals.Taken.{Taken}
 use Rattle.sym_file.specs.declared.totals.Taken.TheVariants.{Done, Gap}
 
@@ -24,11 +25,14 @@ abbrev pub led_by : Truth → List Path → Outcome → Option Outcome
 led_by truth paths (Going s) = first_of (outcomes truth paths s)
 led_by truth paths (Ended fault) = Some (Ended fault)
 
--- The same of the segments of a chain in turn.
-abbrev pub led_through : Truth → List (List Path) → Outcome → Option Outcome
-led_through truth [] outcome = Some outcome
-led_through truth (segment ∷ segments) outcome =
-    option_and_then (led_through truth segments) (led_by truth segment outcome)
+-- The same of segments in turn, and of those of a chain.
+abbrev pub led_in_turn : Truth → List (List Path) → Outcome → Option Outcome
+led_in_turn truth [] outcome = Some outcome
+led_in_turn truth (segment ∷ segments) outcome =
+    option_and_then (led_in_turn truth segments) (led_by truth segment outcome)
+
+abbrev pub led_through : Truth → Chained → Outcome → Option Outcome
+led_through truth chain outcome = led_in_turn truth chain.segments outcome
 
 -- What groups come to by the chains of a list of groups, which are counted from `index` on. The
 -- first whose chain has no path for how its group stands is a gap.
@@ -36,7 +40,7 @@ abbrev pub taken_on : ℕ → (Outcome → Taken) → Option Outcome → Taken
 taken_on index more None = Gap index
 taken_on index more (Some outcome) = more outcome
 
-abbrev pub taken : ScriptPlan → ℕ → List (Key × List (List Path)) → List (Key × Outcome) → Taken
+abbrev pub taken : ScriptPlan → ℕ → List (Key × Chained) → List (Key × Outcome) → Taken
 taken p index [] totals = Done totals
 taken p index (group ∷ groups) totals =
     taken_on index (λ outcome. taken p (suc index) groups (put totals group.0 outcome))

@@ -90,7 +90,8 @@ fn put_body(out: &mut Vec<u8>, saved: &Saved) -> Result<(), NoMemory>
     put(out, b"end\n")
 }
 
-/// The text of a saved run of the script. It is made whole before it is given.
+/// The text of a saved run of the script. It is made whole before it is given. Of a chain it has the
+/// segments alone: what a chain keeps isn't written, and a lawful saved run keeps nothing.
 pub fn write_saved(alloc: Global, checked: &Checked, saved: &Saved) -> Result<Vec<u8>, NoMemory>
     ensures text { IfOk result (λ bytes.
         bytes.items ≡ saved_text (printed checked.now) saved.now) }

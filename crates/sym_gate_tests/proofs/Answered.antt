@@ -14,7 +14,7 @@ use Rattle.sym_run.specs.declared.runs.Applied.{Applied}
 use Rattle.sym_run.specs.declared.runs.Applied.TheVariants as applied
 use Rattle.sym_run.specs.declared.runs.Run.{Run}
 use Rattle.sym_run.specs.Applying.{AreValid, IfDone, bad_of}
-use Rattle.sym_run.specs.Runs.{AreTight, GroupsStandFor}
+use Rattle.sym_run.specs.Runs.{AreTight, GroupsFit, GroupsStandFor}
 use Rattle.sym_run.proofs.FoundRecords.{run_tight}
 use Rattle.sym_engine.specs.declared.rounds.Work.{Work}
 use Rattle.sym_engine.specs.Rounds.{StandsForAll, round_records}
@@ -50,3 +50,11 @@ part_tight work lo hi r run is stands none =
     let P : Result Run NoMemory → Type 0 = λ x. IfOk x (StandsFrom work lo hi) in
     let made : StandsFrom work lo hi run = subst P is stands in
     run_tight (checked_plan work.checked) work.limit work.chunks run made.stands none
+
+-- They fit the script.
+pub part_fits : (work : Work) (lo hi : ℕ) (r : Result Run NoMemory) (run : Run) → r ≡ Ok run → IfOk r (StandsFrom work lo hi)
+    → GroupsFit (checked_plan work.checked) run.groups
+part_fits work lo hi r run is stands =
+    let P : Result Run NoMemory → Type 0 = λ x. IfOk x (StandsFrom work lo hi) in
+    let made : StandsFrom work lo hi run = subst P is stands in
+    made.stands.fits

@@ -12,7 +12,8 @@ use crate::groups::Groups;
 use crate::keys::{record_key, set_key};
 use crate::report::shown::shown_columns;
 use crate::states::first_state;
-use crate::steps::step_of;
+use crate::steps::{advance as take_step, step_of};
+use crate::update::buffers::Buffers;
 use std::alloc::Global;
 use sym_base::{Columns, Key, NoMemory, Outcome, Record, State};
 use sym_check::Checked;
@@ -35,6 +36,22 @@ pub fn step(
     ensures { IfOk result (λ o. o ≡ step (checked_plan checked.now) (Going state) rec.now) }
 {
     step_of(alloc, checked.plan(), state, rec)
+}
+
+/// Makes the step that a group with this outcome makes at a record, where the outcome lies, over
+/// the memory that the step before left in the buffers: `step` for callers who step many groups, or
+/// one many times. A group that has ended stays as it is. After an `Err` the outcome is
+/// unspecified.
+pub fn advance(
+    alloc: Global,
+    checked: &Checked,
+    outcome: &mut Outcome,
+    rec: &Record,
+    buffers: &mut Buffers,
+) -> Result<(), NoMemory>
+    ensures { OnOk result (outcome.new ≡ step (checked_plan checked.now) outcome.old rec.now) }
+{
+    take_step(alloc, checked.plan(), outcome, rec, buffers)
 }
 
 /// The columns of the report for a state, in order.

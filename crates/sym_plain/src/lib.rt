@@ -12,7 +12,7 @@ mod states;
 mod steps;
 mod update;
 
-pub use calls::{columns, fold, fold_into, initial, key_into, key_of, step};
+pub use calls::{advance, columns, fold, fold_into, initial, key_into, key_of, step};
 pub use groups::Groups;
 pub use report::shown::{kind_labels, value_column};
 pub use update::buffers::Buffers;

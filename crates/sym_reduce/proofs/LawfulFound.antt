@@ -52,6 +52,9 @@ use Rattle.sym_path.specs.Taking.{HasOneLabel, HasOneNumber, IsTakenOn, LabelIsT
 use Rattle.sym_path.proofs.Checks.{form_decided, kinds_decided, part_decided}
 use Rattle.sym_path.proofs.FollowingTaken.{own_zip}
 use Rattle.sym_path.proofs.NarrowedFits.{label_free, label_taken, number_free, number_taken}
+use Rattle.sym_base.specs.declared.values.record.Record.{Record}
+use Rattle.sym_run.specs.Chained.{Chained}
+use Rattle.sym_run.specs.Chains.{IsClosed}
 use Rattle.sym_run.specs.SavedRuns.{EndsWithin, IsLawfulChain, IsLawfulGroup, IsLawfulPath, IsLawfulSaved, IsLawfulSegment}
 use Rattle.sym_run.specs.declared.saved.Saved.{Saved}
 use Rattle.sym_file.specs.Deciding.{number_decided}
@@ -341,12 +344,19 @@ module _ (p : ScriptPlan) where
     lawful_segment paths =
         like (λ h. record { some = h.0; each = h.1 }) (λ h. (h.some, h.each)) (both (at_most 1 (length paths)) (all (IsLawfulPath p first next) lawful_path paths))
 
-    lawful_chain : (segments : List (List Path)) → Decided (IsLawfulChain p first next segments)
-    lawful_chain segments =
-        like (λ h. record { some = h.0; each = h.1 }) (λ h. (h.some, h.each))
-        (both (at_most 1 (length segments)) (all (IsLawfulSegment p first next) lawful_segment segments))
+    keeps_none : (chain : Chained) → Decided (IsClosed chain)
+    keeps_none chain = of chain.kept refl
+      where
+        of : (kept : List Record) → chain.kept ≡ kept → Decided (IsClosed chain)
+        of [] e = inl e
+        of (rec ∷ kept) e = inr (λ (none : chain.kept ≡ []). let other : (rec ∷ kept) ≡ [] = sym e ∙ none in cc)
 
-    lawful_group : (group : Key × List (List Path)) → Decided (IsLawfulGroup p first next group)
+    lawful_chain : (chain : Chained) → Decided (IsLawfulChain p first next chain)
+    lawful_chain chain =
+        like (λ h. record { some = h.0; each = h.1.0; closed = h.1.1 }) (λ h. (h.some, (h.each, h.closed)))
+        (both (at_most 1 (length chain.segments)) (both (all (IsLawfulSegment p first next) lawful_segment chain.segments) (keeps_none chain)))
+
+    lawful_group : (group : Key × Chained) → Decided (IsLawfulGroup p first next group)
     lawful_group group = like (λ h. record { key = h.0; chain = h.1 }) (λ h. (h.key, h.chain)) (both (key_found p group.0) (lawful_chain group.1))
 
   pub lawful_found : (saved : Saved) → Decided (IsLawfulSaved p saved)

@@ -8,7 +8,7 @@ use Rattle.sym_check.specs.Meaning.Conditions.{test_truth}
 use Rattle.sym_check.specs.Meaning.Groups.{is_key}
 use Rattle.sym_check.specs.Meaning.Validity.{IsKey}
 use Rattle.sym_check.specs.Plan.ScriptPlans.{ScriptPlan}
-use Rattle.sym_path.specs.declared.path.Path.{Path}
+use Rattle.sym_run.specs.Chained.{Chained}
 use Rattle.sym_plain.specs.Pairs.{has_key, put, standing}
 use Rattle.sym_run.specs.declared.saved.Saved.{Saved}
 use Rattle.sym_run.specs.SavedRuns.{IsLawfulSaved}
@@ -19,7 +19,7 @@ use Rattle.sym_reduce.specs.Reducing.{AreReduced, IsTakenFile, Pairs}
 use Rattle.sym_reduce.specs.Reducing as runs
 
 abbrev Chains : Type 0
-Chains = List (Key × List (List Path))
+Chains = List (Key × Chained)
 
 -- ---- a gap is at one of the groups
 module _ (p : ScriptPlan) where
@@ -53,7 +53,7 @@ module _ (p : ScriptPlan) where
       by true = changed key now totals h
       by false = All-append HasKind totals ((key, now) ∷ []) h (All-cons HasKind (key, now) [] is (All-nil HasKind))
 
-  abbrev KeyIs : Key × List (List Path) → Type 0
+  abbrev KeyIs : Key × Chained → Type 0
   KeyIs group = IsKey p group.0
 
   kinds_step : (i : ℕ) (more : Pairs) (led : Option Outcome) (next : Outcome → Taken) → ((o : Outcome) → next o ≡ taking.Done more → All HasKind more) → taken_on i next led ≡ taking.Done more

@@ -7,7 +7,7 @@ use Rattle.sym_base.specs.declared.values.record.Record.{Record}
 use Rattle.sym_base.specs.declared.values.state.Outcome.{Outcome}
 use Rattle.sym_check.specs.Plan.ScriptPlans.{ScriptPlan}
 use Rattle.sym_plain.specs.Pairs.{after_records}
-use Rattle.sym_path.specs.declared.path.Path.{Path}
+use Rattle.sym_run.specs.Chained.{Chained}
 use Rattle.sym_table.specs.declared.bad.Bad.{Bad as BadRow}
 use Rattle.sym_table.specs.declared.chunk.Chunk.{Chunk}
 use Rattle.sym_table.specs.ChunkRecords.{all_records}
@@ -17,7 +17,7 @@ use Rattle.sym_run.specs.declared.runs.Run.{Run}
 use Rattle.sym_run.specs.Applying.{IfDone, applied_to, bad_of}
 use Rattle.sym_run.specs.Runs.{GroupsStandFor, HasFound, IsFromTo, StandsForChunks}
 
-applied_found : (p : ScriptPlan) (limit : ℕ) (found : Result (List Record) BadRow) (bad : Option BadRow) (chains : List (Key × List (List Path))) (groups : List (Key × Outcome)) (applied : Applied)
+applied_found : (p : ScriptPlan) (limit : ℕ) (found : Result (List Record) BadRow) (bad : Option BadRow) (chains : List (Key × Chained)) (groups : List (Key × Outcome)) (applied : Applied)
     → HasFound p limit found bad chains → bad_of applied ≡ bad
     → ((records : List Record) → GroupsStandFor p records chains → IfDone applied (λ g. g ≡ after_records p records groups))
     → applied ≡ applied_to p found groups

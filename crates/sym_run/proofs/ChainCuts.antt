@@ -5,31 +5,31 @@ use Rattle.sym_base.specs.declared.values.record.Record.{Record}
 use Rattle.sym_check.specs.Plan.ScriptPlans.{ScriptPlan}
 use Rattle.sym_path.specs.declared.path.Path.{Path}
 use Rattle.sym_path.specs.Standing.{StandsFor}
-use Rattle.sym_run.specs.Chains.{ChainStandsFor}
+use Rattle.sym_run.specs.Chains.{SegmentsStandFor}
 
 -- The segments stand for the first records, and one more for the rest.
 pub record IsCut (p : ScriptPlan) (records : List Record) (segments : List (List Path)) (segment : List Path) : Type 0 where
   pub first : List Record
   pub rest : List Record
   pub all : records ≡ first ++ rest
-  pub whole : ChainStandsFor p first segments
+  pub whole : SegmentsStandFor p first segments
   pub last : StandsFor p rest segment
 
-pub cut_of : (p : ScriptPlan) (first rest : List Record) (segments : List (List Path)) (segment : List Path) → ChainStandsFor p first segments → StandsFor p rest segment → IsCut p (first ++ rest) segments segment
+pub cut_of : (p : ScriptPlan) (first rest : List Record) (segments : List (List Path)) (segment : List Path) → SegmentsStandFor p first segments → StandsFor p rest segment → IsCut p (first ++ rest) segments segment
 cut_of p first rest segments segment whole last = record { first = first; rest = rest; all = refl; whole = whole; last = last }
 
 -- A segment more stands for more records.
-chain_push : (p : ScriptPlan) (records : List Record) (segments : List (List Path)) (more : List Record) (segment : List Path) → ChainStandsFor p records segments → StandsFor p more segment → ChainStandsFor p (records ++ more) (segments ++ segment ∷ [])
+chain_push : (p : ScriptPlan) (records : List Record) (segments : List (List Path)) (more : List Record) (segment : List Path) → SegmentsStandFor p records segments → StandsFor p more segment → SegmentsStandFor p (records ++ more) (segments ++ segment ∷ [])
 chain_push p records [] more segment h s = (more, [], ap (λ (rs : List Record). rs ++ more) h ∙ sym (append-nil more), s, refl)
 chain_push p records (first ∷ segments) more segment h s =
     (h.0, h.1 ++ more, ap (λ (rs : List Record). rs ++ more) h.2 ∙ append_assoc h.0 h.1 more, h.3, chain_push p h.1 segments more segment h.4 s)
 
-pub cut_whole : (p : ScriptPlan) (records : List Record) (segments : List (List Path)) (segment : List Path) → IsCut p records segments segment → ChainStandsFor p records (segments ++ segment ∷ [])
+pub cut_whole : (p : ScriptPlan) (records : List Record) (segments : List (List Path)) (segment : List Path) → IsCut p records segments segment → SegmentsStandFor p records (segments ++ segment ∷ [])
 cut_whole p records segments segment h =
-    subst (λ (rs : List Record). ChainStandsFor p rs (segments ++ segment ∷ [])) (sym h.all) (chain_push p h.first segments h.rest segment h.whole h.last)
+    subst (λ (rs : List Record). SegmentsStandFor p rs (segments ++ segment ∷ [])) (sym h.all) (chain_push p h.first segments h.rest segment h.whole h.last)
 
 -- The last segment of a chain stands for the last records.
-pub cut_last : (p : ScriptPlan) (records : List Record) (segments : List (List Path)) (segment : List Path) → ChainStandsFor p records (segments ++ segment ∷ []) → IsCut p records segments segment
+pub cut_last : (p : ScriptPlan) (records : List Record) (segments : List (List Path)) (segment : List Path) → SegmentsStandFor p records (segments ++ segment ∷ []) → IsCut p records segments segment
 cut_last p records [] segment h = record {
   first = [];
   rest = h.0;

@@ -8,15 +8,15 @@ use Rattle.sym_check.specs.Meaning.Updates.{after}
 use Rattle.sym_check.proofs.PlanLaws.{after_append}
 use Rattle.sym_path.specs.declared.path.Path.{Path}
 use Rattle.sym_path.specs.Standing.{StandsFor}
-use Rattle.sym_run.specs.Chains.{ChainStandsFor}
+use Rattle.sym_run.specs.Chains.{SegmentsStandFor}
 
 -- The records for which the segments from an index on stand lead to where all lead.
 pub record IsLed (p : ScriptPlan) (segments : List (List Path)) (outcome end : Outcome) : Type 0 where
   pub rest : List Record
-  pub stand : ChainStandsFor p rest segments
+  pub stand : SegmentsStandFor p rest segments
   pub leads : after p rest outcome ≡ end
 
-pub led_none : (p : ScriptPlan) (records : List Record) (segments : List (List Path)) (outcome : Outcome) → ChainStandsFor p records segments → IsLed p segments outcome (after p records outcome)
+pub led_none : (p : ScriptPlan) (records : List Record) (segments : List (List Path)) (outcome : Outcome) → SegmentsStandFor p records segments → IsLed p segments outcome (after p records outcome)
 led_none p records segments outcome h = record { rest = records; stand = h; leads = refl }
 
 -- The item of a list at an index, before what is left.

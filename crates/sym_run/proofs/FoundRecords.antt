@@ -1,5 +1,6 @@
 -- The records of neighbouring chunks, or the first of their rows that is none.
-use Rattle.std.proofs.Common.{◌≡◌, ◌∙◌, ap, ap₂, sym, refl, subst, arith, ℕ, false, is_some, ◌+◌, ◌-◌, ◌≤◌, List, [], ◌∷◌, ◌++◌, Option, Some, None, Result, Ok, Err, take, drop}
+use Rattle.std.proofs.Common.{◌≡◌, ◌∙◌, ap, ap₂, sym, refl, subst, arith, ℕ, false, is_some, ◌+◌, ◌-◌, ◌≤◌, List, [], ◌∷◌, ◌++◌, Option, Some, None, Result, Ok, Err, length, take, drop}
+use Rattle.std.proofs.lemmas.List.Elements.{All-nil}
 use Rattle.std.proofs.Math.Seq.{take-add}
 use Rattle.std.proofs.lemmas.List.{append-nil, append_assoc, drop-drop}
 use Rattle.std.specs.Option.{option_or}
@@ -8,7 +9,7 @@ use Rattle.std.proofs.lemmas.Option.{slice_get_within}
 use Rattle.sym_base.specs.declared.values.value.Key.{Key}
 use Rattle.sym_base.specs.declared.values.record.Record.{Record}
 use Rattle.sym_check.specs.Plan.ScriptPlans.{ScriptPlan}
-use Rattle.sym_path.specs.declared.path.Path.{Path}
+use Rattle.sym_run.specs.Chained.{Chained}
 use Rattle.sym_table.specs.declared.bad.Bad.{Bad}
 use Rattle.sym_table.specs.declared.chunk.Chunk.{Chunk}
 use Rattle.sym_table.specs.ChunkRecords.{all_records, chunk_records}
@@ -62,7 +63,7 @@ both_none None (Some b) e = cc
 both_none (Some b) next e = cc
 
 -- What two runs found, in one: the first bad row of the left, or else of the right, or the joined groups.
-pub found_joined : (p : ScriptPlan) (limit : ℕ) (found others : Result (List Record) Bad) (bad next : Option Bad) (left right groups : List (Key × List (List Path)))
+pub found_joined : (p : ScriptPlan) (limit : ℕ) (found others : Result (List Record) Bad) (bad next : Option Bad) (left right groups : List (Key × Chained))
     → HasFound p limit found bad left → HasFound p limit others next right
     → (bad ≡ None → next ≡ None → AreTight p limit groups)
     → (bad ≡ None → next ≡ None → (first rest : List Record) → GroupsStandFor p first left → GroupsStandFor p rest right → GroupsStandFor p (first ++ rest) groups)
@@ -96,6 +97,21 @@ run_joined p limit chunks left right joined meet h k ends bad fits tight stand =
           h.found k.found tight stand));
     }
 
+-- The run of no chunks.
+pub run_of_none : (p : ScriptPlan) (limit : ℕ) (chunks : List Chunk) (n : ℕ) (run : Run) → n ≤ length chunks → IsFromTo n n run → run.groups ≡ [] → run.bad ≡ None → StandsForChunks p limit chunks run
+run_of_none p limit chunks n run within ends none bad =
+    let from = ends.from in
+    let to = ends.to in
+    let nothing : n - n ≡ 0 = omega arith in
+    let part : slice_range chunks run.lo run.hi ≡ [] = ap₂ (λ (lo hi : ℕ). slice_range chunks lo hi) from to ∙ ap (λ (m : ℕ). take m (drop n chunks)) nothing in
+    record {
+      order = omega arith;
+      within = omega arith;
+      fits = subst (GroupsFit p) (sym none) (All-nil _);
+      found = subst (λ (r : Result (List Record) Bad). HasFound p limit r run.bad run.groups) (sym (ap (all_records p) part))
+          (bad, subst (AreTight p limit) (sym none) (All-nil _), subst (GroupsStandFor p []) (sym none) (record { keys_are = refl; each = All-nil _ }));
+    }
+
 -- The run of one chunk.
 pub run_of_one : (p : ScriptPlan) (limit : ℕ) (chunks : List Chunk) (n : ℕ) (c : Chunk) (run : Run) → slice_get chunks n ≡ Some c → IsFromTo n (n + 1) run → GroupsFit p run.groups
     → HasFound p limit (chunk_records p c) run.bad run.groups → StandsForChunks p limit chunks run
@@ -115,7 +131,7 @@ run_of_one p limit chunks n c run at ends fits found =
     }
 
 -- What a run found that goes on over rows, where no row before them is bad, and where one is.
-found_on : (p : ScriptPlan) (limit : ℕ) (found next : Result (List Record) Bad) (bad last : Option Bad) (old groups : List (Key × List (List Path)))
+found_on : (p : ScriptPlan) (limit : ℕ) (found next : Result (List Record) Bad) (bad last : Option Bad) (old groups : List (Key × Chained))
     → HasFound p limit found bad old → (bad ≡ None → TakesOn p limit next old last groups) → ((b : Bad) → bad ≡ Some b → last ≡ Some b) → HasFound p limit (in_turn found next) last groups
 found_on p limit (Ok first) (Ok rest) bad last old groups h takes stays = let k = takes h.0 in (k.0, k.1, k.2 first h.2)
 found_on p limit (Ok first) (Err other) bad last old groups h takes stays = takes h.0

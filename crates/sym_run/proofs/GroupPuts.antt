@@ -9,7 +9,7 @@ use Rattle.indexmap.specs.IndexMap.{insert_entry}
 use Rattle.sym_base.specs.declared.values.value.Key.{Key}
 use Rattle.sym_check.specs.Meaning.Groups.{is_among, is_key}
 use Rattle.sym_check.proofs.Keys.{equal_keys, keys_equiv}
-use Rattle.sym_path.specs.declared.path.Path.{Path}
+use Rattle.sym_run.specs.Chained.{Chained}
 use Rattle.sym_plain.specs.Pairs.{HaveDistinctKeys, has_key, put}
 use Rattle.sym_plain.proofs.Pairs.{insert-put}
 use Rattle.sym_run.specs.Runs.{added}
@@ -101,15 +101,15 @@ module _ {V : Type 0} where
       ∙ new_key done q rest (IsDistinct-tail is_key x.0 (keys_of (done ++ q ∷ rest)) h)
 
 -- ---- a group more
-module _ (groups : List (Key × List (List Path))) (key : Key) (chain : List (List Path)) (found : Option (List (List Path))) where
-  abbrev last : List (Key × List (List Path))
+module _ (groups : List (Key × Chained)) (key : Key) (chain : Chained) (found : Option Chained) where
+  abbrev last : List (Key × Chained)
   last = groups ++ (key, chain) ∷ []
 
   pub added_none : found ≡ lookup (is_key key) groups → is_some found ≡ true → None ≡ added groups key chain
   added_none e h =
       sym (ap (λ (b : Bool). if b then None else Some last) (sym (is_some-lookup (is_key key) groups) ∙ ap is_some (sym e) ∙ h))
 
-  pub added_some : (new : List (Key × List (List Path))) → found ≡ lookup (is_key key) groups → is_some found ≡ false → HaveDistinctKeys groups → new ≡ insert_entry is_key groups key chain → Some new ≡ added groups key chain
+  pub added_some : (new : List (Key × Chained)) → found ≡ lookup (is_key key) groups → is_some found ≡ false → HaveDistinctKeys groups → new ≡ insert_entry is_key groups key chain → Some new ≡ added groups key chain
   added_some new e h distinct is =
       let absent : has_key groups key ≡ false = sym (is_some-lookup (is_key key) groups) ∙ ap is_some (sym e) ∙ h in
       ap Some (is ∙ insert-put groups key chain distinct ∙ ap (λ (b : Bool). if b then map (at_key key chain) groups else last) absent)

@@ -10,16 +10,16 @@ use Rattle.sym_check.specs.Meaning.Groups.{is_among, is_key, key_of, keys, not_a
 use Rattle.sym_check.specs.Plan.ScriptPlans.{ScriptPlan}
 use Rattle.sym_check.proofs.GroupLaws.{keys_append, none_of, records_of_append}
 use Rattle.sym_check.proofs.Keys.{equal_keys, keys_equiv, same_key}
-use Rattle.sym_path.specs.declared.path.Path.{Path}
+use Rattle.sym_run.specs.Chained.{Chained}
 use Rattle.sym_plain.specs.Pairs.{put}
 use Rattle.sym_plain.proofs.Puts.{lookup-put, lookup-put-same}
-use Rattle.sym_run.specs.Chains.{ChainFits, ChainStandsFor, IsTight}
-use Rattle.sym_run.specs.Growing.{AreJoined, FoundStandsFor, Grows}
-use Rattle.sym_run.specs.Runs.{AreTight, GroupsFit, GroupsStandFor}
+use Rattle.sym_run.specs.Chains.{ChainFits, ChainStandsFor, IsClosed, IsTight}
+use Rattle.sym_run.specs.Growing.{AreJoined, FoundIsClosed, FoundStandsFor, Grows, GrowsByChain, GrowsByOne}
+use Rattle.sym_run.specs.Runs.{AreClosed, AreTight, GroupsFit, GroupsStandFor}
 use Rattle.sym_run.proofs.GroupPuts.{absent_key, all_found, all_put, keys-put}
 
 abbrev pub Chains : Type 0
-Chains = List (Key × List (List Path))
+Chains = List (Key × Chained)
 
 -- ---- keys among others
 among-append : (k : Key) (xs ys : List Key) → is_among k (xs ++ ys) ≡ (is_among k xs || is_among k ys)
@@ -64,7 +64,7 @@ among_last j k done e =
     of false = refl
 
 -- The keys of groups that take on those of one more, after the keys `ks`.
-pub grown_keys : (ks done : List Key) (k : Key) (old : Chains) (chain : List (List Path)) → is_among k done ≡ false
+pub grown_keys : (ks done : List Key) (k : Key) (old : Chains) (chain : Chained) → is_among k done ≡ false
     → keys_of old ≡ ks ++ not_among ks done
     → keys_of (put old k chain) ≡ ks ++ not_among ks (done ++ k ∷ [])
 grown_keys ks done k old chain apart e =
@@ -96,7 +96,7 @@ module _ (p : ScriptPlan) (limit : ℕ) (first rest : List Record) where
       none_before true e g = cc
       none_before false e g = e
 
-      of : (found : Option (List (List Path))) → lookup (is_key k) old ≡ found → FoundStandsFor p (records_of p k first) found
+      of : (found : Option Chained) → lookup (is_key k) old ≡ found → FoundStandsFor p (records_of p k first) found
       of None e =
           none_of p k first (none_before (is_among k (keys p first)) refl
           (sym (among-append k (keys p first) (not_among (keys p first) done)) ∙ ap (is_among k) (sym h.keys_are) ∙ absent_key k old e))
@@ -106,11 +106,11 @@ module _ (p : ScriptPlan) (limit : ℕ) (first rest : List Record) where
           (all_found (λ j u. ChainStandsFor p (taken p first rest done j) u) k v old h.each e)
 
   -- One key further.
-  pub joined_on : (done : List Key) (k : Key) (Adds : List Record → Type 0) (old new : Chains) → is_among k done ≡ false → Grows p limit k Adds old new → Adds (records_of p k rest)
+  pub joined_on : (done : List Key) (k : Key) (Adds : List Record → Type 0) (Closes : Type 0) (old new : Chains) → is_among k done ≡ false → Grows p limit k Adds Closes old new → Adds (records_of p k rest)
       → AreJoined p first rest done old → AreJoined p first rest (done ++ k ∷ []) new
-  joined_on done k Adds old new apart g adds h = record {
+  joined_on done k Adds Closes old new apart g adds h = record {
     keys_are = ap keys_of g.is ∙ grown_keys (keys p first) done k old g.chain apart h.keys_are;
-    each = subst (λ (groups : Chains). All (λ (group : Key × List (List Path)). ChainStandsFor p (taken p first rest (done ++ k ∷ []) group.0) group.1) groups) (sym g.is)
+    each = subst (λ (groups : Chains). All (λ (group : Key × Chained). ChainStandsFor p (taken p first rest (done ++ k ∷ []) group.0) group.1) groups) (sym g.is)
         (all_put (λ j u. ChainStandsFor p (taken p first rest done j) u) (λ j u. ChainStandsFor p (taken p first rest (done ++ k ∷ []) j) u) k g.chain
         (λ j u e s. subst (λ (b : Bool). ChainStandsFor p (records_of p j first ++ (if b then records_of p j rest else [])) u) (sym (among_other j k done e)) s)
         (λ j e. subst (λ (i : Key). ChainStandsFor p (taken p first rest (done ++ k ∷ []) i) g.chain) (equal_keys k j e)
@@ -123,8 +123,8 @@ module _ (p : ScriptPlan) (limit : ℕ) (first rest : List Record) where
   pub joined_none : (groups : Chains) → GroupsStandFor p first groups → AreJoined p first rest [] groups
   joined_none groups h = record {
     keys_are = h.keys_are ∙ sym (append-nil (keys p first));
-    each = All-weaker (λ (group : Key × List (List Path)). ChainStandsFor p (records_of p group.0 first) group.1)
-        (λ (group : Key × List (List Path)). ChainStandsFor p (taken p first rest [] group.0) group.1)
+    each = All-weaker (λ (group : Key × Chained). ChainStandsFor p (records_of p group.0 first) group.1)
+        (λ (group : Key × Chained). ChainStandsFor p (taken p first rest [] group.0) group.1)
         (λ group s. subst (λ (rs : List Record). ChainStandsFor p rs group.1) (sym (append-nil (records_of p group.0 first))) s) groups h.each;
   }
 
@@ -138,22 +138,22 @@ module _ (p : ScriptPlan) (limit : ℕ) (first rest : List Record) where
   pub joined_all : (groups : Chains) → AreJoined p first rest (keys p rest) groups → GroupsStandFor p (first ++ rest) groups
   joined_all groups h = record {
     keys_are = h.keys_are ∙ sym (keys_append p first rest);
-    each = All-weaker (λ (group : Key × List (List Path)). ChainStandsFor p (taken p first rest (keys p rest) group.0) group.1)
-        (λ (group : Key × List (List Path)). ChainStandsFor p (records_of p group.0 (first ++ rest)) group.1)
+    each = All-weaker (λ (group : Key × Chained). ChainStandsFor p (taken p first rest (keys p rest) group.0) group.1)
+        (λ (group : Key × Chained). ChainStandsFor p (records_of p group.0 (first ++ rest)) group.1)
         (λ group s. subst (λ (rs : List Record). ChainStandsFor p rs group.1) (taken_all group.0) s) groups h.each;
   }
 
 -- ---- whatever records the chains of a key stand for
 -- What was found, or else the other.
-abbrev of_more : Option (List (List Path)) → Option (List (List Path)) → Option (List (List Path))
+abbrev of_more : Option Chained → Option Chained → Option Chained
 of_more None other = other
 of_more (Some u) other = Some u
 
-more_none : (o : Option (List (List Path))) → of_more o None ≡ o
+more_none : (o : Option Chained) → of_more o None ≡ o
 more_none None = refl
 more_none (Some u) = refl
 
-lookup-last : (j k : Key) (u : List (List Path)) (xs : Chains) → lookup (is_key j) (xs ++ (k, u) ∷ []) ≡ of_more (lookup (is_key j) xs) (cond (is_key j k) (Some u) None)
+lookup-last : (j k : Key) (u : Chained) (xs : Chains) → lookup (is_key j) (xs ++ (k, u) ∷ []) ≡ of_more (lookup (is_key j) xs) (cond (is_key j k) (Some u) None)
 lookup-last j k u [] = refl
 lookup-last j k u (x ∷ xs) = of (is_key j x.0) (lookup-last j k u xs)
   where
@@ -179,8 +179,8 @@ pub take_none : (p : ScriptPlan) (left : Chains) → TakeOn p left [] left
 take_none p left key first rest h none =
     subst (λ (rs : List Record). FoundStandsFor p rs (lookup (is_key key) left)) (sym (ap (λ (rs : List Record). first ++ rs) none ∙ append-nil first)) h
 
-pub take_more : (p : ScriptPlan) (limit : ℕ) (left done old new : Chains) (k : Key) (chain : List (List Path)) → is_among k (keys_of done) ≡ false
-    → Grows p limit k (λ rest. ChainStandsFor p rest chain) old new → TakeOn p left done old → TakeOn p left (done ++ (k, chain) ∷ []) new
+pub take_more : (p : ScriptPlan) (limit : ℕ) (left done old new : Chains) (k : Key) (chain : Chained) → is_among k (keys_of done) ≡ false
+    → GrowsByChain p limit k chain old new → TakeOn p left done old → TakeOn p left (done ++ (k, chain) ∷ []) new
 take_more p limit left done old new k chain apart g h key first rest a b = of (is_key key k) refl
   where
     of : (t : Bool) → is_key key k ≡ t → FoundStandsFor p (first ++ rest) (lookup (is_key key) new)
@@ -188,7 +188,7 @@ take_more p limit left done old new k chain apart g h key first rest a b = of (i
         let same : key ≡ k = equal_keys key k e in
         let none : lookup (is_key key) done ≡ None = rw same (among_none k done apart) in
         let found : lookup (is_key key) (done ++ (k, chain) ∷ []) ≡ Some chain =
-        lookup-last key k chain done ∙ ap (λ (o : Option (List (List Path))). of_more o (cond (is_key key k) (Some chain) None)) none
+        lookup-last key k chain done ∙ ap (λ (o : Option Chained). of_more o (cond (is_key key k) (Some chain) None)) none
         ∙ ap (λ (t : Bool). cond t (Some chain) None) e in
         let adds : ChainStandsFor p rest chain = subst (FoundStandsFor p rest) found b in
         let before : FoundStandsFor p first (lookup (is_key key) old) =
@@ -204,19 +204,31 @@ take_more p limit left done old new k chain apart g h key first rest a b = of (i
         subst (FoundStandsFor p (first ++ rest)) (sym now) (h key first rest a (subst (FoundStandsFor p rest) found b))
 
 -- The groups of one record more.
-pub one_record : (p : ScriptPlan) (limit : ℕ) (records : List Record) (rec : Record) (old new : Chains) → Grows p limit (key_of p rec) (λ rest. rest ≡ rec ∷ []) old new → GroupsStandFor p records old
+pub one_record : (p : ScriptPlan) (limit most : ℕ) (records : List Record) (rec : Record) (old new : Chains) → GrowsByOne p limit most (key_of p rec) rec old new → GroupsStandFor p records old
     → GroupsStandFor p (records ++ rec ∷ []) new
-one_record p limit records rec old new g h =
+one_record p limit most records rec old new g h =
     joined_all p limit records (rec ∷ []) new
-    (joined_on p limit records (rec ∷ []) [] (key_of p rec) (λ rest. rest ≡ rec ∷ []) old new refl g
+    (joined_on p limit records (rec ∷ []) [] (key_of p rec) (λ rest. rest ≡ rec ∷ []) (most ≡ 0) old new refl g
     (ap (λ (b : Bool). cond b (rec ∷ []) []) (same_key (key_of p rec)))
     (joined_none p limit records (rec ∷ []) old h))
 
 -- ---- what a key that takes on records keeps of all groups
-pub grown_fit : (p : ScriptPlan) (limit : ℕ) (k : Key) (Adds : List Record → Type 0) (old new : Chains) → Grows p limit k Adds old new → GroupsFit p old → GroupsFit p new
-grown_fit p limit k Adds old new g h =
+pub grown_fit : (p : ScriptPlan) (limit : ℕ) (k : Key) (Adds : List Record → Type 0) (Closes : Type 0) (old new : Chains) → Grows p limit k Adds Closes old new → GroupsFit p old → GroupsFit p new
+grown_fit p limit k Adds Closes old new g h =
     subst (GroupsFit p) (sym g.is) (all_put (λ j u. ChainFits p u) (λ j u. ChainFits p u) k g.chain (λ j u e s. s) (λ j e. g.fits) old (same_key k) h)
 
-pub grown_tight : (p : ScriptPlan) (limit : ℕ) (k : Key) (Adds : List Record → Type 0) (old new : Chains) → Grows p limit k Adds old new → AreTight p limit old → AreTight p limit new
-grown_tight p limit k Adds old new g h =
+pub grown_tight : (p : ScriptPlan) (limit : ℕ) (k : Key) (Adds : List Record → Type 0) (Closes : Type 0) (old new : Chains) → Grows p limit k Adds Closes old new → AreTight p limit old → AreTight p limit new
+grown_tight p limit k Adds Closes old new g h =
     subst (AreTight p limit) (sym g.is) (all_put (λ j u. IsTight p limit u) (λ j u. IsTight p limit u) k g.chain (λ j u e s. s) (λ j e. g.tight) old (same_key k) h)
+
+found_closed : (k : Key) (groups : Chains) → AreClosed groups → FoundIsClosed (lookup (is_key k) groups)
+found_closed k groups h = of (lookup (is_key k) groups) refl
+  where
+    of : (found : Option Chained) → lookup (is_key k) groups ≡ found → FoundIsClosed found
+    of None e = tt
+    of (Some u) e = all_found (λ (j : Key) (u : Chained). IsClosed u) k u groups h e
+
+pub grown_closed : (p : ScriptPlan) (limit : ℕ) (k : Key) (Adds : List Record → Type 0) (Closes : Type 0) (old new : Chains) → Grows p limit k Adds Closes old new → Closes → AreClosed old → AreClosed new
+grown_closed p limit k Adds Closes old new g closes h =
+    subst AreClosed (sym g.is)
+    (all_put (λ (j : Key) (u : Chained). IsClosed u) (λ (j : Key) (u : Chained). IsClosed u) k g.chain (λ j u e s. s) (λ j e. g.closed closes (found_closed k old h)) old (same_key k) h)

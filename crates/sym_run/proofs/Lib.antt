@@ -3,12 +3,16 @@ pub mod Beginning
 pub mod ChainCuts
 pub mod ChainLeads
 pub mod ChainsShared
+pub mod ClosedGroups
+pub mod CutRecords
 pub mod FoundRecords
 pub mod GroupPuts
 pub mod JoinedGroups
+pub mod KeptRecords
 pub mod LawfulGroups
 pub mod LedGroups
 pub mod Stepping
 pub mod TakenGroups
+pub mod TakenRecords
 pub mod Taking
 pub mod TightChains

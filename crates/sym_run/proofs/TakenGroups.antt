@@ -1,5 +1,5 @@
 -- Groups that are taken out, led beside each other, and put back.
-use Rattle.std.proofs.Common.{◌≡◌, ◌∙◌, ap, ap₂, sym, refl, subst, arith, ℕ, zero, suc, ◌<◌, Bool, true, false, true≢false, ◌||◌, if◌then◌else◌, List, [], ◌∷◌, ◌++◌, drop, length, take, Option, Some, None, is_some, Ok, OnOk}
+use Rattle.std.proofs.Common.{◌≡◌, ◌∙◌, ap, ap₂, sym, refl, subst, arith, ℕ, zero, suc, ◌<◌, Bool, true, false, true≢false, ◌||◌, if◌then◌else◌, List, [], ◌∷◌, ◌++◌, drop, length, take, Option, Some, None, is_some, OnOk}
 use Rattle.std.proofs.lemmas.List.{append_assoc, append-nil, take_at}
 use Rattle.std.proofs.lemmas.List.Elements.{All-cons, All-head, All-nil, All-tail}
 use Rattle.std.proofs.lemmas.Map.Keys.{IsDistinct-head, IsDistinct-tail}
@@ -16,7 +16,7 @@ use Rattle.sym_check.specs.Meaning.Updates.{after}
 use Rattle.sym_check.specs.Meaning.Validity.{IsValidOutcome}
 use Rattle.sym_check.specs.Plan.ScriptPlans.{ScriptPlan}
 use Rattle.sym_check.proofs.Keys.{equal_keys, keys_equiv, same_key}
-use Rattle.sym_path.specs.declared.path.Path.{Path}
+use Rattle.sym_run.specs.Chained.{Chained}
 use Rattle.sym_plain.specs.Pairs.{HaveDistinctKeys, after_keys, after_records, has_key, put, standing, stepped_by}
 use Rattle.sym_plain.proofs.Apart.{groups_apart}
 use Rattle.sym_plain.proofs.Pairs.{indexed-lookup}
@@ -29,7 +29,7 @@ use Rattle.sym_run.specs.declared.leading.Taken.{Taken}
 use Rattle.sym_run.proofs.GroupPuts.{all_put, keys-put, new_key}
 
 abbrev pub Chains : Type 0
-Chains = List (Key × List (List Path))
+Chains = List (Key × Chained)
 
 abbrev pub Groups : Type 0
 Groups = List (Key × Outcome)
@@ -42,7 +42,7 @@ none_of j k ks h = of (is_key j k) (is_among j ks) h
     of true c e = absurd (true≢false e)
     of false c e = (refl, e)
 
-none_of_more : (j : Key) (xs : Chains) (q : Key × List (List Path)) → is_among j (keys_of (xs ++ q ∷ [])) ≡ false → (is_among j (keys_of xs) ≡ false) × (is_key j q.0 ≡ false)
+none_of_more : (j : Key) (xs : Chains) (q : Key × Chained) → is_among j (keys_of (xs ++ q ∷ [])) ≡ false → (is_among j (keys_of xs) ≡ false) × (is_key j q.0 ≡ false)
 none_of_more j [] q h = (refl, (none_of j q.0 [] h).0)
 none_of_more j (x ∷ xs) q h =
     let both = none_of j x.0 (keys_of (xs ++ q ∷ [])) h in
@@ -157,7 +157,7 @@ all_at P (y ∷ xs) zero x h at = let same : x ≡ y = cc in subst P (sym same) 
 all_at P (y ∷ xs) (suc i) x h at = all_at P xs i x (All-tail P y xs h) at
 
 -- ---- taking out
-zip_last : {A B : Type 0} (R : A → B → Type 0) (xs : List A) (ys : List B) (x : A) (y : B) → AllZip R xs ys → R x y → AllZip R (xs ++ x ∷ []) (ys ++ y ∷ [])
+pub zip_last : {A B : Type 0} (R : A → B → Type 0) (xs : List A) (ys : List B) (x : A) (y : B) → AllZip R xs ys → R x y → AllZip R (xs ++ x ∷ []) (ys ++ y ∷ [])
 zip_last R [] [] x y h r = (r, tt)
 zip_last R [] (b ∷ ys) x y h r = absurd h
 zip_last R (a ∷ xs) [] x y h r = absurd h
@@ -174,7 +174,7 @@ pub record IsTaking (p : ScriptPlan) (chains others : Chains) (first groups : Gr
 pub taking_none : (p : ScriptPlan) (chains : Chains) (groups : Groups) → AreValid p groups → IsTaking p chains chains groups groups []
 taking_none p chains groups valid = record { done = []; all = refl; valid = valid; alike = alike_same [] groups; each = tt }
 
-pub taking_on : (p : ScriptPlan) (chains others : Chains) (first old new : Groups) (taken : List Taken) (q : Key × List (List Path)) (one : Taken) → IsTaking p chains (q ∷ others) first old taken → HaveDistinctKeys chains
+pub taking_on : (p : ScriptPlan) (chains others : Chains) (first old new : Groups) (taken : List Taken) (q : Key × Chained) (one : Taken) → IsTaking p chains (q ∷ others) first old taken → HaveDistinctKeys chains
     → AreValid p new → AreAlikeBut (q.0 ∷ []) old new → IsTaken p old q.0 one → IsTaking p chains others first new (taken ++ one ∷ [])
 taking_on p chains others first old new taken q one h distinct valid alike is =
     let apart : is_among q.0 (keys_of h.done) ≡ false = new_key h.done q others (subst HaveDistinctKeys (sym h.all) distinct) in
@@ -190,7 +190,7 @@ taking_on p chains others first old new taken q one h distinct valid alike is =
             alike.others j (ap (λ (b : Bool). b || false) both.1) ∙ h.alike.others j both.0;
       };
       each =
-          zip_last (λ (group : Key × List (List Path)) (t : Taken). IsTaken p first group.0 t) h.done taken q one h.each
+          zip_last (λ (group : Key × Chained) (t : Taken). IsTaken p first group.0 t) h.done taken q one h.each
           (record {
             place = same_place old first q.0 one.place (sym h.alike.keys_are) is.place;
             outcome = is.outcome ∙ ap (standing p) same;
@@ -213,7 +213,7 @@ taken_valid p groups [] (one ∷ taken) h = absurd h
 taken_valid p groups (q ∷ chains) [] h = absurd h
 taken_valid p groups (q ∷ chains) (one ∷ taken) h = All-cons (λ (one : Taken). IsValidOutcome p one.outcome) one taken h.0.valid (taken_valid p groups chains taken h.1)
 
-led_one : (p : ScriptPlan) (groups : Groups) (q : Key × List (List Path)) (old new : Taken) → IsTaken p groups q.0 old → IsLed p q.1 old new → IsLedFrom p groups q new
+led_one : (p : ScriptPlan) (groups : Groups) (q : Key × Chained) (old new : Taken) → IsTaken p groups q.0 old → IsLed p q.1 old new → IsLedFrom p groups q new
 led_one p groups q old new h led = record {
   place = subst (IsAt groups q.0) (sym led.place) h.place;
   valid = led.valid;
@@ -261,7 +261,7 @@ pub record IsPutting (chains others : Chains) (first groups : Groups) (taken res
 pub putting_none : (chains : Chains) (groups : Groups) (taken : List Taken) → HaveDistinctKeys chains → ArePlaces groups chains taken → IsPutting chains chains groups groups taken taken
 putting_none chains groups taken distinct places = record { distinct = distinct; places = places; led = λ all. all; puts = refl }
 
-pub putting_on : (chains others : Chains) (first old new : Groups) (taken rest : List Taken) (q : Key × List (List Path)) (one : Taken) → IsPutting chains (q ∷ others) first old taken (one ∷ rest) → WasLed one
+pub putting_on : (chains others : Chains) (first old new : Groups) (taken rest : List Taken) (q : Key × Chained) (one : Taken) → IsPutting chains (q ∷ others) first old taken (one ∷ rest) → WasLed one
     → new ≡ put old q.0 one.outcome → IsPutting chains others first new taken rest
 putting_on chains others first old new taken rest q one h led is =
     subst (λ (groups : Groups). IsPutting chains others first groups taken rest) (sym is)
@@ -272,7 +272,7 @@ putting_on chains others first old new taken rest q one h led is =
       puts = h.puts;
     })
 
-pub putting_stops : (chains others : Chains) (first groups : Groups) (taken : List Taken) (q : Key × List (List Path)) → IsPutting chains (q ∷ others) first groups taken [] → ⊥
+pub putting_stops : (chains others : Chains) (first groups : Groups) (taken : List Taken) (q : Key × Chained) → IsPutting chains (q ∷ others) first groups taken [] → ⊥
 putting_stops chains others first groups taken q h = h.places
 
 pub putting_led : (chains : Chains) (first groups : Groups) (taken rest : List Taken) → IsPutting chains [] first groups taken rest → All WasLed taken
@@ -282,7 +282,7 @@ putting_led chains first groups taken (one ∷ rest) h = absurd h.places
 -- ---- what it comes to
 module _ (p : ScriptPlan) (records : List Record) (first : Groups) where
   back : (others : Chains) (taken : List Taken) (was now : Groups) → HaveDistinctKeys others → AllZip (IsLedFrom p first) others taken → All WasLed taken
-      → All (λ (group : Key × List (List Path)). ChainStandsFor p (records_of p group.0 records) group.1) others → AreAlikeBut (keys_of others) was now
+      → All (λ (group : Key × Chained). ChainStandsFor p (records_of p group.0 records) group.1) others → AreAlikeBut (keys_of others) was now
       → ((key : Key) → is_among key (keys_of others) ≡ true → lookup (is_key key) was ≡ lookup (is_key key) first)
       → AreAlikeBut [] (after_keys p records (keys_of others) was) (put_each others taken now)
   back [] taken was now apart led ok stand alike agree = alike
@@ -292,12 +292,12 @@ module _ (p : ScriptPlan) (records : List Record) (first : Groups) where
       let o : Outcome = one.outcome in
       let is : o ≡ after p rs (standing p (lookup (is_key q.0) first)) =
       IfOk-at_ok (λ _. o ≡ after p rs (standing p (lookup (is_key q.0) first))) (All-head WasLed one taken ok)
-      (led.0.value rs (All-head (λ (group : Key × List (List Path)). ChainStandsFor p (records_of p group.0 records) group.1) q others stand)) in
+      (led.0.value rs (All-head (λ (group : Key × Chained). ChainStandsFor p (records_of p group.0 records) group.1) q others stand)) in
       let there : lookup (is_key q.0) was ≡ lookup (is_key q.0) first = agree q.0 (ap (λ (b : Bool). b || is_among q.0 (keys_of others)) (same_key q.0)) in
       let next : stepped_by p records q.0 was ≡ put was q.0 o = ap (put was q.0) (ap (λ (r : Option Outcome). after p rs (standing p r)) there ∙ sym is) in
       subst (λ (w : Groups). AreAlikeBut [] (after_keys p records (keys_of others) w) (put_each others taken (put now q.0 o))) (sym next)
       (back others taken (put was q.0 o) (put now q.0 o) (IsDistinct-tail is_key q.0 (keys_of others) apart) led.1 (All-tail WasLed one taken ok)
-      (All-tail (λ (group : Key × List (List Path)). ChainStandsFor p (records_of p group.0 records) group.1) q others stand)
+      (All-tail (λ (group : Key × Chained). ChainStandsFor p (records_of p group.0 records) group.1) q others stand)
       (put_both (keys_of others) q.0 o was now alike)
       (λ key e.
       lookup-put key q.0 o was (unlike_one q.0 (keys_of others) key (IsDistinct-head is_key q.0 (keys_of others) apart) e)

@@ -10,7 +10,7 @@ use Rattle.sym_path.specs.declared.path.Path.{Path}
 use Rattle.sym_path.specs.Composing.{IsComposition}
 use Rattle.sym_path.specs.Within.{HaveFewPairs}
 use Rattle.sym_path.proofs.PairCounts.{pairs_same}
-use Rattle.sym_run.specs.Chains.{HasFewPaths, AreApart, IsTight}
+use Rattle.sym_run.specs.Chains.{HasFewPaths, AreApart, SegmentsAreTight}
 
 -- What holds of all holds of those before the last, and of the last.
 pub all_front : {A : Type 0} (P : A → Type 0) (xs : List A) (x : A) → All P (xs ++ x ∷ []) → All P xs
@@ -44,23 +44,23 @@ module _ {A : Type 0} (R : A → A → Type 0) where
       ])
 
 -- ---- chains
-pub tight_none : (p : ScriptPlan) (limit : ℕ) → IsTight p limit []
+pub tight_none : (p : ScriptPlan) (limit : ℕ) → SegmentsAreTight p limit []
 tight_none p limit = record { few = All-nil (HasFewPaths p limit); apart = λ k d lt. absurd (omega arith) }
 
-pub tight_one : (p : ScriptPlan) (limit : ℕ) (segment : List Path) → HasFewPaths p limit segment → IsTight p limit (segment ∷ [])
+pub tight_one : (p : ScriptPlan) (limit : ℕ) (segment : List Path) → HasFewPaths p limit segment → SegmentsAreTight p limit (segment ∷ [])
 tight_one p limit segment few = record {
   few = All-cons (HasFewPaths p limit) segment [] few (All-nil (HasFewPaths p limit));
   apart = λ k d lt. absurd (omega arith);
 }
 
-pub tight_front : (p : ScriptPlan) (limit : ℕ) (segments : List (List Path)) (segment : List Path) → IsTight p limit (segments ++ segment ∷ []) → IsTight p limit segments
+pub tight_front : (p : ScriptPlan) (limit : ℕ) (segments : List (List Path)) (segment : List Path) → SegmentsAreTight p limit (segments ++ segment ∷ []) → SegmentsAreTight p limit segments
 tight_front p limit segments segment h = record {
   few = all_front (HasFewPaths p limit) segments segment h.few;
   apart = adjacent_front (AreApart p limit) segments segment h.apart;
 }
 
-pub tight_push : (p : ScriptPlan) (limit : ℕ) (segments : List (List Path)) (left right : List Path) → IsTight p limit (segments ++ left ∷ []) → HasFewPaths p limit right → AreApart p limit left right
-    → IsTight p limit ((segments ++ left ∷ []) ++ right ∷ [])
+pub tight_push : (p : ScriptPlan) (limit : ℕ) (segments : List (List Path)) (left right : List Path) → SegmentsAreTight p limit (segments ++ left ∷ []) → HasFewPaths p limit right → AreApart p limit left right
+    → SegmentsAreTight p limit ((segments ++ left ∷ []) ++ right ∷ [])
 tight_push p limit segments left right h few more = record {
   few = All-push (HasFewPaths p limit) (segments ++ left ∷ []) right h.few few;
   apart = adjacent_push (AreApart p limit) segments left right more h.apart;

@@ -6,51 +6,84 @@ use Rattle.sym_base.specs.declared.values.value.Key.{Key}
 use Rattle.sym_base.specs.declared.values.record.Record.{Record}
 use Rattle.sym_check.specs.Meaning.Groups.{is_among, is_key, keys, not_among, records_of}
 use Rattle.sym_check.specs.Plan.ScriptPlans.{ScriptPlan}
-use Rattle.sym_path.specs.declared.path.Path.{Path}
+use Rattle.sym_run.specs.Chained.{Chained}
 use Rattle.sym_plain.specs.Pairs.{put}
 use Rattle.sym_table.specs.declared.bad.Bad.{Bad}
-use Rattle.sym_run.specs.Chains.{ChainFits, ChainStandsFor, IsTight}
+use Rattle.sym_run.specs.Chains.{ChainFits, ChainStandsFor, IsClosed, IsTight}
 use Rattle.sym_run.specs.Runs.{AreTight, GroupsStandFor}
 
+-- What the right chain keeps was put after what the left one keeps.
+pub record IsKeptAfter (left right chain : Chained) : Type 0 where
+  pub segments : chain.segments ≡ left.segments
+  pub kept : chain.kept ≡ left.kept ++ right.kept
+
+-- A chain takes on one record: it fits and is tight, and stands for the records for which the old
+-- one stood, whatever these are, and then this one.
+pub record TakesOne (p : ScriptPlan) (limit : ℕ) (rec : Record) (old new : Chained) : Type 0 where
+  pub fits : ChainFits p new
+  pub tight : IsTight p limit new
+  pub stands : (records : List Record) → ChainStandsFor p records old →
+      ChainStandsFor p (records ++ rec ∷ []) new
+
 -- What was found for a key stands for its records: a chain, or no group where there are none.
-abbrev pub FoundStandsFor : ScriptPlan → List Record → Option (List (List Path)) → Type 0
+abbrev pub FoundStandsFor : ScriptPlan → List Record → Option Chained → Type 0
 FoundStandsFor p records None = records ≡ []
 FoundStandsFor p records (Some chain) = ChainStandsFor p records chain
 
--- A key's chain takes on records, which `Adds` says. A new key goes last, and all others stay.
+-- What was found for a key keeps no records.
+abbrev pub FoundIsClosed : Option Chained → Type 0
+FoundIsClosed None = Unit {0}
+FoundIsClosed (Some chain) = IsClosed chain
+
+-- A key's chain takes on records, which `Adds` says. A new key goes last, and all others stay. A
+-- chain that was closed stays so where `Closes` holds.
 pub record Grows (p : ScriptPlan) (limit : ℕ) (key : Key) (Adds : List Record → Type 0)
-    (old new : List (Key × List (List Path))) : Type 0 where
-  pub chain : List (List Path)
+    (Closes : Type 0) (old new : List (Key × Chained)) : Type 0 where
+  pub chain : Chained
   pub is : new ≡ put old key chain
   pub fits : ChainFits p chain
   pub tight : IsTight p limit chain
   pub stands : (first rest : List Record) → FoundStandsFor p first (lookup (is_key key) old) →
       Adds rest → ChainStandsFor p (first ++ rest) chain
+  pub closed : Closes → FoundIsClosed (lookup (is_key key) old) → IsClosed chain
 
 -- There is no group with the key, and the groups stay.
-pub record IsAbsent (key : Key) (old new : List (Key × List (List Path))) : Type 0 where
+pub record IsAbsent (key : Key) (old new : List (Key × Chained)) : Type 0 where
   pub none : lookup (is_key key) old ≡ None
   pub same : new ≡ old
 
--- The chain of a key that is there takes on the record; where it isn't there, the groups stay.
-abbrev pub GrowsIf : ScriptPlan → ℕ → Key → Record
-    → List (Key × List (List Path)) → Bool → List (Key × List (List Path)) → Type 0
-GrowsIf p limit key rec old true new = Grows p limit key (λ rest. rest ≡ rec ∷ []) old new
-GrowsIf p limit key rec old false new = IsAbsent key old new
+-- The chain of a key takes on one record, of which it keeps none where at most `most` records are
+-- to be kept and that is 0.
+abbrev pub GrowsByOne : ScriptPlan → ℕ → ℕ → Key → Record
+    → List (Key × Chained) → List (Key × Chained) → Type 0
+GrowsByOne p limit most key rec old new =
+    Grows p limit key (λ rest. rest ≡ rec ∷ []) (most ≡ 0) old new
 
--- The chain of a key that is there takes on the other's records; where it isn't there, the groups
--- stay and the other chain is given back.
-abbrev pub JoinsUnless : ScriptPlan → ℕ → Key → List (List Path)
-    → List (Key × List (List Path)) → Option (List (List Path)) → List (Key × List (List Path))
+-- The same where the key is there; where it isn't, the groups stay.
+abbrev pub GrowsIf : ScriptPlan → ℕ → ℕ → Key → Record
+    → List (Key × Chained) → Bool → List (Key × Chained) → Type 0
+GrowsIf p limit most key rec old true new = GrowsByOne p limit most key rec old new
+GrowsIf p limit most key rec old false new = IsAbsent key old new
+
+-- The chain of a key takes on the records of another chain.
+abbrev pub GrowsByChain : ScriptPlan → ℕ → Key → Chained
+    → List (Key × Chained) → List (Key × Chained) → Type 0
+GrowsByChain p limit key right old new =
+    Grows p limit key (λ rest. ChainStandsFor p rest right) (IsClosed right) old new
+
+-- The same where the key is there; where it isn't, the groups stay and the other chain is given
+-- back.
+abbrev pub JoinsUnless : ScriptPlan → ℕ → Key → Chained
+    → List (Key × Chained) → Option Chained → List (Key × Chained)
     → Type 0
 JoinsUnless p limit key right old None new =
-    Grows p limit key (λ rest. ChainStandsFor p rest right) old new
+    GrowsByChain p limit key right old new
 JoinsUnless p limit key right old (Some chain) new = IsAbsent key old new × (chain ≡ right)
 
 -- Groups take on what was found of rows. Where all rows are records, these come after the records
 -- for which the groups stood, whatever these are; else there is the first row that is none.
 abbrev pub TakesOn : ScriptPlan → ℕ → Result (List Record) Bad
-    → List (Key × List (List Path)) → Option Bad → List (Key × List (List Path)) → Type 0
+    → List (Key × Chained) → Option Bad → List (Key × Chained) → Type 0
 TakesOn p limit (Ok records) old bad new =
     (bad ≡ None) × AreTight p limit new
     × ((before : List Record) → GroupsStandFor p before old →
@@ -59,7 +92,7 @@ TakesOn p limit (Err first) old bad new = bad ≡ Some first
 
 -- The groups of the first records have taken on the other records of these keys.
 pub record AreJoined (p : ScriptPlan) (first rest : List Record) (ks : List Key)
-    (groups : List (Key × List (List Path))) : Type 0 where
+    (groups : List (Key × Chained)) : Type 0 where
   pub keys_are : keys_of groups ≡ keys p first ++ not_among (keys p first) ks
   pub each : All (λ group. ChainStandsFor p (records_of p group.0 first
       ++ (if is_among group.0 ks then records_of p group.0 rest else [])) group.1) groups
@@ -68,7 +101,7 @@ pub record AreJoined (p : ScriptPlan) (first rest : List Record) (ks : List Key)
 -- stands for the records for which the left one stood and then those of the right one, whatever
 -- these are.
 pub record AreBoth (p : ScriptPlan)
-    (left right groups : List (Key × List (List Path))) : Type 0 where
+    (left right groups : List (Key × Chained)) : Type 0 where
   pub keys_are : keys_of groups ≡ keys_of left ++ not_among (keys_of left) (keys_of right)
   pub each : (key : Key) (first rest : List Record) →
       FoundStandsFor p first (lookup (is_key key) left) →

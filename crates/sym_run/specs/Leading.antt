@@ -11,7 +11,7 @@ use Rattle.sym_check.specs.Plan.ScriptPlans.{ScriptPlan}
 use Rattle.sym_check.specs.Meaning.Groups.{is_among, is_key}
 use Rattle.sym_check.specs.Meaning.Updates.{after}
 use Rattle.sym_check.specs.Meaning.Validity.{IsValidOutcome}
-use Rattle.sym_path.specs.declared.path.Path.{Path}
+use Rattle.sym_run.specs.Chained.{Chained}
 use Rattle.sym_plain.specs.Pairs.{put, standing}
 use Rattle.sym_run.specs.Chains.{ChainStandsFor}
 use Rattle.sym_run.specs.declared.leading.Taken.{Taken}
@@ -39,12 +39,12 @@ pub record IsTaken (p : ScriptPlan) (groups : List (Key × Outcome)) (key : Key)
   pub valid : IsValidOutcome p taken.outcome
 
 -- The same of each of these groups.
-abbrev pub AreTaken : ScriptPlan → List (Key × Outcome) → List (Key × List (List Path))
+abbrev pub AreTaken : ScriptPlan → List (Key × Outcome) → List (Key × Chained)
     → List Taken → Type 0
 AreTaken p groups chains taken = AllZip (λ group one. IsTaken p groups group.0 one) chains taken
 
 -- Each key is where it was when it was taken out.
-abbrev pub ArePlaces : List (Key × Outcome) → List (Key × List (List Path)) → List Taken → Type 0
+abbrev pub ArePlaces : List (Key × Outcome) → List (Key × Chained) → List Taken → Type 0
 ArePlaces groups chains taken = AllZip (λ group one. IsAt groups group.0 one.place) chains taken
 
 -- No allocation failed as it was led.
@@ -52,20 +52,20 @@ abbrev pub WasLed : Taken → Type 0
 WasLed taken = taken.led ≡ Ok tt
 
 -- The outcome was led on by a chain, unless an allocation failed.
-pub record IsLed (p : ScriptPlan) (chain : List (List Path)) (old new : Taken) : Type 0 where
+pub record IsLed (p : ScriptPlan) (chain : Chained) (old new : Taken) : Type 0 where
   pub place : new.place ≡ old.place
   pub valid : OnOk new.led (IsValidOutcome p new.outcome)
   pub value : (records : List Record) → ChainStandsFor p records chain →
       OnOk new.led (new.outcome ≡ after p records old.outcome)
 
 -- The same by the chain of a group, if there is one.
-abbrev pub IsLedBy : ScriptPlan → Option (Key × List (List Path)) → Taken → Taken → Type 0
+abbrev pub IsLedBy : ScriptPlan → Option (Key × Chained) → Taken → Taken → Type 0
 IsLedBy p None old new = new ≡ old
 IsLedBy p (Some group) old new = IsLed p group.1 old new
 
 -- What was taken out of groups for a key was led on by its chain, and still belongs where it was.
 pub record IsLedFrom (p : ScriptPlan) (groups : List (Key × Outcome))
-    (group : Key × List (List Path)) (taken : Taken) : Type 0 where
+    (group : Key × Chained) (taken : Taken) : Type 0 where
   pub place : IsAt groups group.0 taken.place
   pub valid : OnOk taken.led (IsValidOutcome p taken.outcome)
   pub value : (records : List Record) → ChainStandsFor p records group.1 →
@@ -73,7 +73,7 @@ pub record IsLedFrom (p : ScriptPlan) (groups : List (Key × Outcome))
       (taken.outcome ≡ after p records (standing p (lookup (is_key group.0) groups)))
 
 -- The groups where each of these keys has the outcome that was taken out for it.
-abbrev pub put_each : List (Key × List (List Path)) → List Taken → List (Key × Outcome)
+abbrev pub put_each : List (Key × Chained) → List Taken → List (Key × Outcome)
     → List (Key × Outcome)
 put_each [] taken groups = groups
 put_each (group ∷ chains) [] groups = groups

@@ -1,8 +1,12 @@
 pub mod Applying
 pub mod Bracketing
+pub mod Chained
 pub mod Chains
+pub mod Covering
 pub mod Growing
 pub mod Holding
+pub mod Keeping
 pub mod Leading
+pub mod RunCode
 pub mod Runs
 pub mod SavedRuns

@@ -10,6 +10,8 @@ use Rattle.sym_path.specs.declared.path.Path.{Path}
 use Rattle.sym_path.specs.declared.path.PathEnd.{PathEnd}
 use Rattle.sym_path.specs.declared.path.PathEnd.TheVariants.{Next, Ended}
 use Rattle.sym_plain.specs.Pairs.{HaveDistinctKeys}
+use Rattle.sym_run.specs.Chained.{Chained}
+use Rattle.sym_run.specs.Chains.{IsClosed}
 use Rattle.sym_run.specs.Runs.{GroupsStandFor}
 use Rattle.sym_run.specs.declared.saved.Saved.{Saved}
 
@@ -28,15 +30,15 @@ pub record IsLawfulSegment (p : ScriptPlan) (first next : ℕ) (paths : List Pat
   pub some : 1 ≤ length paths
   pub each : All (IsLawfulPath p first next) paths
 
--- A chain has one or more segments.
-pub record IsLawfulChain (p : ScriptPlan) (first next : ℕ)
-    (segments : List (List Path)) : Type 0 where
-  pub some : 1 ≤ length segments
-  pub each : All (IsLawfulSegment p first next) segments
+-- A chain has one or more segments, and keeps no records.
+pub record IsLawfulChain (p : ScriptPlan) (first next : ℕ) (chain : Chained) : Type 0 where
+  pub some : 1 ≤ length chain.segments
+  pub each : All (IsLawfulSegment p first next) chain.segments
+  pub closed : IsClosed chain
 
 -- A group's key is of the script's kinds, and its chain is lawful.
 pub record IsLawfulGroup (p : ScriptPlan) (first next : ℕ)
-    (group : Key × List (List Path)) : Type 0 where
+    (group : Key × Chained) : Type 0 where
   pub key : IsKey p group.0
   pub chain : IsLawfulChain p first next group.1
 

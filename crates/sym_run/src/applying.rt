@@ -11,6 +11,7 @@ ghost use Rattle.sym_run.specs.Runs.{GroupsFit, GroupsStandFor};
 
 use crate::chains::Chain;
 use crate::run_groups::RunGroups;
+use crate::steps::Stepper;
 use std::alloc::Global;
 use sym_base::{Key, NoMemory, Outcome};
 use sym_check::Checked;
@@ -24,6 +25,7 @@ fn lead_on(
     groups: &mut Groups,
     key: &Key,
     chain: &Chain,
+    stepper: &mut Stepper,
 ) -> Result<bool, NoMemory>
     requires fits { ChainFits (checked_plan checked.now) chain.now }
     requires valid { AreValid (checked_plan checked.now) groups.old }
@@ -36,7 +38,7 @@ fn lead_on(
 {
     match groups.outcome_mut(key) {
         Some(outcome) => {
-            chain.lead(alloc, checked, outcome)?;
+            chain.lead_with(alloc, checked, outcome, stepper)?;
             Ok(true)
         }
         None => Ok(false),
@@ -50,6 +52,7 @@ fn begin(
     groups: &mut Groups,
     key: &Key,
     chain: &Chain,
+    stepper: &mut Stepper,
 ) -> Result<(), NoMemory>
     requires fits { ChainFits (checked_plan checked.now) chain.now }
     requires valid { AreValid (checked_plan checked.now) groups.old }
@@ -62,7 +65,7 @@ fn begin(
     well_formed_plans_keep_states_valid();
     let _plan = checked.plan();
     let mut outcome = Outcome::Going(initial(alloc, checked)?);
-    chain.lead(alloc, checked, &mut outcome)?;
+    chain.lead_with(alloc, checked, &mut outcome, stepper)?;
     groups.begin(alloc, key.copy(alloc)?, outcome)
 }
 
@@ -73,6 +76,7 @@ fn apply_group(
     groups: &mut Groups,
     key: &Key,
     chain: &Chain,
+    stepper: &mut Stepper,
 ) -> Result<(), NoMemory>
     requires fits { ChainFits (checked_plan checked.now) chain.now }
     requires valid { AreValid (checked_plan checked.now) groups.old }
@@ -81,10 +85,10 @@ fn apply_group(
         ChainStandsFor (checked_plan checked.now) records chain.now →
         OnOk result (groups.new ≡ led_on (checked_plan checked.now) records key.now groups.old) }
 {
-    if lead_on(alloc, checked, groups, key, chain)? {
+    if lead_on(alloc, checked, groups, key, chain, stepper)? {
         return Ok(());
     }
-    begin(alloc, checked, groups, key, chain)
+    begin(alloc, checked, groups, key, chain, stepper)
 }
 
 /// Leads the groups on by the chains of a run. They are let go together after it, with their keys:
@@ -102,8 +106,9 @@ pub(crate) fn apply_all(
         GroupsStandFor (checked_plan checked.now) records chains.now →
         OnOk result (groups.new ≡ after_records (checked_plan checked.now) records groups.old) }
 {
+    let mut stepper = Stepper::new(alloc);
     'groups: for (key, chain) in chains.map.iter() {
-        apply_group(alloc, checked, groups, key, chain)?;
+        apply_group(alloc, checked, groups, key, chain, &mut stepper)?;
     }
     Ok(())
 }

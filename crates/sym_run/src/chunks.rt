@@ -1,5 +1,5 @@
-//! The run of one chunk.
-ghost use Rattle.std.specs.Prelude.{◌≡◌, ◌<◌, ◌≤◌, ◌+◌, All, List, Some, IfNone, IfOk, length, slice_get};
+//! Runs that take on the rows of a chunk.
+ghost use Rattle.std.specs.Prelude.{◌≡◌, ◌<◌, ◌≤◌, ◌+◌, All, List, None, Some, IfNone, IfOk, length, slice_get};
 ghost use Rattle.sym_check.specs.Checking.CheckedScripts.{checked_plan};
 ghost use Rattle.sym_plain.specs.Pairs.{HaveDistinctKeys};
 ghost use Rattle.sym_table.specs.ChunkRecords.{chunk_records};
@@ -7,22 +7,44 @@ ghost use Rattle.sym_table.specs.Reading.{HasNext, Passes};
 ghost use Rattle.sym_table.specs.Rows.{FitsChunk};
 ghost use Rattle.sym_table.specs.declared.chunk.Chunk.{Chunk as OneChunk};
 ghost use Rattle.sym_run.specs.Growing.{TakesOn};
-ghost use Rattle.sym_run.specs.Runs.{AreTight, GroupsFit, IsFromTo, StandsForChunks};
+ghost use Rattle.sym_run.specs.Runs.{AreClosed, AreTight, GroupsFit, IsFromTo, StandsForChunks};
 
 use crate::chains::Chain;
-use crate::grouping::take_record;
-use crate::run_groups::RunGroups;
+use crate::grouping::{Taking, take_record};
 use crate::runs::Run;
 use indexmap::IndexMap;
 use std::alloc::Global;
-use std::slice;
 use sym_base::{Fields, Key, NoMemory, Record, Values};
 use sym_check::Checked;
-use sym_explore::Scratch;
 use sym_table::{Bad, Chunk, Row, RowCursor, decode_into};
 
+/// Memory that is used again for each row.
+#[derive(Drop)]
+pub(crate) struct Memory {
+    key: Key,
+    rec: Record,
+    taking: Taking,
+}
+
+impl Memory {
+    /// None of it. It takes no memory.
+    pub(crate) fn new(alloc: Global) -> Memory {
+        Memory {
+            key: Key {
+                values: Values::new(alloc),
+            },
+            rec: Record {
+                no: 0,
+                fields: Fields::new(alloc),
+            },
+            taking: Taking::new(alloc),
+        }
+    }
+}
+
 /// Takes the records of a chunk's rows, which the cursor has next, into the chains of their keys,
-/// after those that these stand for, up to the first row that is no record.
+/// after those that these stand for, up to the first row that is no record. A key's first `most`
+/// records are kept as they are.
 pub(crate) fn take_rows(
     alloc: Global,
     checked: &Checked,
@@ -30,6 +52,8 @@ pub(crate) fn take_rows(
     chunk: &Chunk,
     map: &mut IndexMap<Key, Chain>,
     limit: u32,
+    most: u32,
+    memory: &mut Memory,
 ) -> Result<Option<Bad>, NoMemory>
     requires chunk { FitsChunk (checked_plan checked.now).fields chunk.now }
     requires rows { HasNext chunk.now.rows cursor.old }
@@ -39,36 +63,47 @@ pub(crate) fn take_rows(
     ensures found { let p = checked_plan checked.now in IfOk result (λ bad.
         TakesOn p limit (chunk_records p chunk.now) map.old.entries bad map.new.entries) }
     ensures fits { IfOk result (λ bad. GroupsFit (checked_plan checked.now) map.new.entries) }
+    ensures closed { most ≡ 0 → AreClosed map.old.entries →
+        IfOk result (λ bad. AreClosed map.new.entries) }
     ensures distinct { HaveDistinctKeys map.new.entries }
     ensures passes { IfOk result (λ bad.
         IfNone bad (Passes chunk.now.rows cursor.old cursor.new)) }
 {
-    let mut key = Key {
-        values: Values::new(alloc),
-    };
-    let mut scratch = Scratch::new(alloc);
-    let mut rec = Record {
-        no: 0,
-        fields: Fields::new(alloc),
-    };
     let mut row = Row::with_room(alloc)?;
     'rows: for index in 0..chunk.rows.len() {
         let no = chunk.first_no + index as u64;
         if !cursor.read(&mut row)? {
             return Ok(None);
         }
-        let bad = decode_into(alloc, checked, &chunk.header, &row.view(), no, &mut rec)?;
+        let bad = decode_into(
+            alloc,
+            checked,
+            &chunk.header,
+            &row.view(),
+            no,
+            &mut memory.rec,
+        )?;
         if bad.is_some() {
             return Ok(bad);
         }
-        take_record(alloc, checked, map, &rec, limit, &mut key, &mut scratch)?;
+        take_record(
+            alloc,
+            checked,
+            map,
+            &memory.rec,
+            limit,
+            most,
+            &mut memory.key,
+            &mut memory.taking,
+        )?;
     }
     Ok(None)
 }
 
 /// The run of the chunk with this number. Each row that is a record is taken into the chain of its
 /// key: the last segment is extended, or, if that gives more than `limit` paths, the record's own
-/// is pushed. The first row that is no record ends the run. Rows are read where they are.
+/// is pushed. The first row that is no record ends the run. Rows are read where they are. No record
+/// is kept as it is.
 pub fn of_chunk(
     alloc: Global,
     checked: &Checked,
@@ -82,16 +117,9 @@ pub fn of_chunk(
     ensures fits { IfOk result (λ run. GroupsFit (checked_plan checked.now) run.groups) }
     ensures stands { (chunks : List OneChunk) → slice_get chunks number ≡ Some chunk.now →
         IfOk result (StandsForChunks (checked_plan checked.now) limit chunks) }
+    ensures closed { IfOk result (λ run. AreClosed run.groups) }
 {
-    let mut map = IndexMap::new(alloc);
-    let mut cursor = RowCursor::over(alloc, slice::from_ref(chunk))?;
-    let bad = take_rows(alloc, checked, &mut cursor, chunk, &mut map, limit)?;
-    Ok(Run {
-        lo: number,
-        hi: number + 1,
-        groups: RunGroups::of_map(map),
-        bad,
-    })
+    Run::none(alloc, number).extend(alloc, checked, chunk, limit)
 }
 
 /// The run of all of the chunks: that of the first one, which takes on the others in turn. For
@@ -107,6 +135,7 @@ pub fn of_chunks(
     requires few { length chunks.now ≤ 64 }
     ensures chunks { IfOk result (IsFromTo 0 (length chunks.now)) }
     ensures stands { IfOk result (StandsForChunks (checked_plan checked.now) limit chunks.now) }
+    ensures closed { IfOk result (λ run. AreClosed run.groups) }
 {
     let mut run = of_chunk(alloc, checked, &chunks[0], 0, limit)?;
     'chunks: for number in 1..chunks.len() {

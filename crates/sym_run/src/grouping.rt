@@ -1,88 +1,174 @@
 //! Records that are taken into the chains of their keys.
-ghost use Rattle.std.specs.Prelude.{◌≡◌, ◌++◌, ◌∷◌, [], List, None, IfOk, OnOk};
+ghost use Rattle.std.specs.Prelude.{◌≡◌, ◌≤◌, ◌++◌, ◌∷◌, [], List, None, IfOk, IfSome, OnOk, length};
 ghost use Rattle.std.specs.Map.{lookup};
 ghost use Rattle.sym_base.specs.declared.values.record.Record.{Record as OneRecord};
 ghost use Rattle.sym_check.specs.Checking.CheckedScripts.{checked_plan};
 ghost use Rattle.sym_check.specs.Meaning.Groups.{is_key, key_of};
 ghost use Rattle.sym_check.specs.Meaning.Validity.{IsRecord};
 ghost use Rattle.sym_plain.specs.Pairs.{HaveDistinctKeys};
-ghost use Rattle.sym_run.specs.Chains.{ChainFits, ChainStandsFor, IsTight};
-ghost use Rattle.sym_run.specs.Growing.{Grows, GrowsIf};
+ghost use Rattle.sym_run.specs.Chains.{ChainFits, ChainStandsFor, IsClosed, IsTight};
+ghost use Rattle.sym_run.specs.Covering.{Covers};
+ghost use Rattle.sym_run.specs.Growing.{GrowsByOne, GrowsIf, TakesOne};
 ghost use Rattle.sym_run.specs.Runs.{AreTight, GroupsFit};
 
-use crate::chains::{Chain, Held};
-use crate::pushing::push_onto;
+use crate::chains::Chain;
+use crate::covering::{Exploring, cover, take_on};
+use crate::pushing::push_segment;
 use indexmap::IndexMap;
 use std::alloc::Global;
 use std::mem;
 use sym_base::{Key, NoMemory, Record};
 use sym_check::Checked;
-use sym_explore::{Extension, Scratch, extend_within, fresh_with};
+use sym_explore::fresh_with;
 use sym_path::Segment;
 use sym_plain::key_into;
 
-/// The chain of some segments and one more, which is extended by the record, or after which the
-/// record's own segment is pushed.
-fn extend_last(
-    alloc: Global,
-    checked: &Checked,
-    segments: Vec<Segment>,
-    last: Segment,
-    rec: &Record,
-    limit: u32,
-    scratch: &mut Scratch,
-) -> Result<Chain, NoMemory>
-    requires rec { IsRecord (checked_plan checked.now) rec.now }
-    requires chain { ChainFits (checked_plan checked.now) (segments.items ++ last ∷ []) }
-    requires tight { IsTight (checked_plan checked.now) limit (segments.items ++ last ∷ []) }
-    ensures fits { IfOk result (ChainFits (checked_plan checked.now)) }
-    ensures tight { IfOk result (IsTight (checked_plan checked.now) limit) }
-    ensures stands { (records : List OneRecord) →
-        ChainStandsFor (checked_plan checked.now) records (segments.items ++ last ∷ []) →
-        IfOk result (ChainStandsFor (checked_plan checked.now) (records ++ rec.now ∷ [])) }
-{
-    let mut segments = segments;
-    match extend_within(alloc, checked, last, rec, limit, scratch)? {
-        Extension::Fits(longer) => push_onto(alloc, checked, segments, longer, limit),
-        Extension::Over(last) => {
-            segments.push(last)?;
-            let own = fresh_with(alloc, checked, rec, scratch)?;
-            push_onto(alloc, checked, segments, own, limit)
+/// After so many keys whose kept records had no segment within the limit, no other key's are
+/// explored.
+const FAILED_MOST: u32 = 4;
+
+/// What the records that are taken use again.
+#[derive(Drop)]
+pub(crate) struct Taking {
+    exploring: Exploring,
+    /// How many keys there were whose kept records had no segment within the limit.
+    failed: u32,
+}
+
+impl Taking {
+    /// Nothing yet. It takes no memory.
+    pub(crate) fn new(alloc: Global) -> Taking {
+        Taking {
+            exploring: Exploring::new(alloc),
+            failed: 0,
         }
     }
 }
 
-/// The chain of a chain's records and one more.
-fn take_on(
+/// The chain of the records of a chain, of which one segment covers those that were kept, and one
+/// record more.
+fn take_covered(
+    alloc: Global,
+    checked: &Checked,
+    chain: Chain,
+    segment: Segment,
+    rec: &Record,
+    limit: u32,
+    taking: &mut Taking,
+) -> Result<Chain, NoMemory>
+    requires rec { IsRecord (checked_plan checked.now) rec.now }
+    requires fits { ChainFits (checked_plan checked.now) chain }
+    requires tight { IsTight (checked_plan checked.now) limit chain }
+    requires covers { Covers (checked_plan checked.now) limit chain.kept segment }
+    ensures { IfOk result (TakesOne (checked_plan checked.now) limit rec.now chain) }
+{
+    let (segments, _kept) = chain.into_parts();
+    let scratch = &mut taking.exploring.scratch;
+    let segments = push_segment(alloc, checked, segments, segment, limit)?;
+    let segments = take_on(alloc, checked, segments, rec, limit, scratch)?;
+    Ok(Chain::of_segments(alloc, segments))
+}
+
+/// The chain of a closed chain's records and one more.
+fn take_explored(
     alloc: Global,
     checked: &Checked,
     chain: Chain,
     rec: &Record,
     limit: u32,
-    scratch: &mut Scratch,
+    taking: &mut Taking,
 ) -> Result<Chain, NoMemory>
     requires rec { IsRecord (checked_plan checked.now) rec.now }
-    requires chain { ChainFits (checked_plan checked.now) chain }
+    requires fits { ChainFits (checked_plan checked.now) chain }
     requires tight { IsTight (checked_plan checked.now) limit chain }
-    ensures fits { IfOk result (ChainFits (checked_plan checked.now)) }
-    ensures tight { IfOk result (IsTight (checked_plan checked.now) limit) }
-    ensures stands { (records : List OneRecord) →
-        ChainStandsFor (checked_plan checked.now) records chain →
-        IfOk result (ChainStandsFor (checked_plan checked.now) (records ++ rec.now ∷ [])) }
+    requires closed { IsClosed chain }
+    ensures longer { IfOk result (TakesOne (checked_plan checked.now) limit rec.now chain) }
+    ensures closed { IfOk result IsClosed }
 {
-    match chain.into_held() {
-        Held::One(last) => {
-            let none = Vec::new(alloc);
-            extend_last(alloc, checked, none, last, rec, limit, scratch)
-        }
-        Held::More(segments) => {
-            let mut segments = segments;
-            match segments.pop() {
-                Some(last) => extend_last(alloc, checked, segments, last, rec, limit, scratch),
-                None => unreachable!(),
-            }
-        }
+    let (segments, _none) = chain.into_parts();
+    let scratch = &mut taking.exploring.scratch;
+    let segments = take_on(alloc, checked, segments, rec, limit, scratch)?;
+    Ok(Chain::of_segments(alloc, segments))
+}
+
+/// A segment of the records that a chain keeps, where they are to be explored now: as many as may be
+/// kept are, and few other keys had no such segment.
+fn covering(
+    alloc: Global,
+    checked: &Checked,
+    chain: &Chain,
+    limit: u32,
+    most: u32,
+    taking: &mut Taking,
+) -> Result<Option<Segment>, NoMemory>
+    requires fits { ChainFits (checked_plan checked.now) chain.now }
+    requires some { 1 ≤ length chain.now.kept }
+    ensures { IfOk result (λ segment.
+        IfSome segment (Covers (checked_plan checked.now) limit chain.now.kept)) }
+{
+    if chain.kept() != most as usize || FAILED_MOST <= taking.failed {
+        return Ok(None);
     }
+    let kept = chain.kept_records();
+    let segment = cover(alloc, checked, kept, limit, &mut taking.exploring)?;
+    if segment.is_none() {
+        taking.failed += 1;
+    }
+    Ok(segment)
+}
+
+/// Takes a record into a chain that keeps some: it is kept after them, or all are explored.
+fn take_kept(
+    alloc: Global,
+    checked: &Checked,
+    chain: &mut Chain,
+    rec: &Record,
+    limit: u32,
+    most: u32,
+    taking: &mut Taking,
+) -> Result<(), NoMemory>
+    requires rec { IsRecord (checked_plan checked.now) rec.now }
+    requires fits { ChainFits (checked_plan checked.now) chain.old }
+    requires tight { IsTight (checked_plan checked.now) limit chain.old }
+    requires some { 1 ≤ length chain.old.kept }
+    ensures { OnOk result (TakesOne (checked_plan checked.now) limit rec.now chain.old chain.new) }
+{
+    match covering(alloc, checked, chain, limit, most, taking)? {
+        Some(segment) => {
+            let none = Chain::of_one(alloc, Segment::of(Vec::new(alloc)));
+            let old = mem::replace(chain, none);
+            *chain = take_covered(alloc, checked, old, segment, rec, limit, taking)?;
+            Ok(())
+        }
+        None => chain.keep(alloc, rec),
+    }
+}
+
+/// Takes a record into a chain: it is kept after the others that are kept, where there are some, or
+/// explored.
+fn take_into(
+    alloc: Global,
+    checked: &Checked,
+    chain: &mut Chain,
+    rec: &Record,
+    limit: u32,
+    most: u32,
+    taking: &mut Taking,
+) -> Result<(), NoMemory>
+    requires rec { IsRecord (checked_plan checked.now) rec.now }
+    requires fits { ChainFits (checked_plan checked.now) chain.old }
+    requires tight { IsTight (checked_plan checked.now) limit chain.old }
+    ensures longer { OnOk result
+        (TakesOne (checked_plan checked.now) limit rec.now chain.old chain.new) }
+    ensures closed { OnOk result (IsClosed chain.old → IsClosed chain.new) }
+{
+    if !chain.is_closed() {
+        return take_kept(alloc, checked, chain, rec, limit, most, taking);
+    }
+    let none = Chain::of_one(alloc, Segment::of(Vec::new(alloc)));
+    let old = mem::replace(chain, none);
+    *chain = take_explored(alloc, checked, old, rec, limit, taking)?;
+    Ok(())
 }
 
 /// Whether there is a group with this key, whose chain then takes on the record.
@@ -93,69 +179,95 @@ fn lengthen(
     key: &Key,
     rec: &Record,
     limit: u32,
-    scratch: &mut Scratch,
+    most: u32,
+    taking: &mut Taking,
 ) -> Result<bool, NoMemory>
     requires rec { IsRecord (checked_plan checked.now) rec.now }
     requires fits { GroupsFit (checked_plan checked.now) map.old.entries }
     requires tight { AreTight (checked_plan checked.now) limit map.old.entries }
-    ensures grows { IfOk result (λ there. GrowsIf (checked_plan checked.now) limit key.now rec.now
-        map.old.entries there map.new.entries) }
+    ensures grows { IfOk result (λ there. GrowsIf (checked_plan checked.now) limit most key.now
+        rec.now map.old.entries there map.new.entries) }
     ensures distinct { HaveDistinctKeys map.new.entries }
 {
     match map.get_mut(key) {
         Some(chain) => {
-            let old = mem::replace(chain, Chain::of_one(Segment::of(Vec::new(alloc))));
-            *chain = take_on(alloc, checked, old, rec, limit, scratch)?;
+            take_into(alloc, checked, chain, rec, limit, most, taking)?;
             Ok(true)
         }
         None => Ok(false),
     }
 }
 
-/// A new group with the record's own segment, which goes last. The key is copied.
+/// The chain of one record, which is kept if any may be, and else explored.
+fn first_chain(
+    alloc: Global,
+    checked: &Checked,
+    rec: &Record,
+    _limit: u32,
+    most: u32,
+    taking: &mut Taking,
+) -> Result<Chain, NoMemory>
+    requires rec { IsRecord (checked_plan checked.now) rec.now }
+    ensures fits { IfOk result (ChainFits (checked_plan checked.now)) }
+    ensures tight { IfOk result (IsTight (checked_plan checked.now) _limit) }
+    ensures stands { IfOk result (ChainStandsFor (checked_plan checked.now) (rec.now ∷ [])) }
+    ensures closed { most ≡ 0 → IfOk result IsClosed }
+{
+    if most != 0 {
+        return Chain::of_record(alloc, rec);
+    }
+    let own = fresh_with(alloc, checked, rec, &mut taking.exploring.scratch)?;
+    Ok(Chain::of_one(alloc, own))
+}
+
+/// A new group with the record's chain, which goes last. The key is copied.
 fn begin(
     alloc: Global,
     checked: &Checked,
     map: &mut IndexMap<Key, Chain>,
     key: &Key,
     rec: &Record,
-    _limit: u32,
-    scratch: &mut Scratch,
+    limit: u32,
+    most: u32,
+    taking: &mut Taking,
 ) -> Result<(), NoMemory>
     requires rec { IsRecord (checked_plan checked.now) rec.now }
     requires new { lookup (is_key key.now) map.old.entries ≡ None }
     requires distinct { HaveDistinctKeys map.old.entries }
-    ensures grows { OnOk result (Grows (checked_plan checked.now) _limit key.now
-        (λ rest. rest ≡ rec.now ∷ []) map.old.entries map.new.entries) }
+    ensures grows { OnOk result (GrowsByOne (checked_plan checked.now) limit most key.now rec.now
+        map.old.entries map.new.entries) }
     ensures distinct { HaveDistinctKeys map.new.entries }
 {
-    let segment = fresh_with(alloc, checked, rec, scratch)?;
-    map.insert(key.copy(alloc)?, Chain::of_one(segment))?;
+    let chain = first_chain(alloc, checked, rec, limit, most, taking)?;
+    map.insert(key.copy(alloc)?, chain)?;
     Ok(())
 }
 
-/// Takes a record into the chain of its key. The key is written over the one that is given.
+/// Takes a record into the chain of its key. A key's first `most` records are kept as they are; the
+/// next one has all of them explored, where their segment stays within the limit. The key is
+/// written over the one that is given.
 pub(crate) fn take_record(
     alloc: Global,
     checked: &Checked,
     map: &mut IndexMap<Key, Chain>,
     rec: &Record,
     limit: u32,
+    most: u32,
     key: &mut Key,
-    scratch: &mut Scratch,
+    taking: &mut Taking,
 ) -> Result<(), NoMemory>
     requires rec { IsRecord (checked_plan checked.now) rec.now }
     requires fits { GroupsFit (checked_plan checked.now) map.old.entries }
     requires tight { AreTight (checked_plan checked.now) limit map.old.entries }
     requires distinct { HaveDistinctKeys map.old.entries }
     ensures grows { let p = checked_plan checked.now in
-        OnOk result (Grows p limit (key_of p rec.now)
-        (λ rest. rest ≡ rec.now ∷ []) map.old.entries map.new.entries) }
+        OnOk result (GrowsByOne p limit most (key_of p rec.now) rec.now
+        map.old.entries map.new.entries) }
     ensures distinct { HaveDistinctKeys map.new.entries }
 {
     key_into(alloc, checked, rec, key)?;
-    if lengthen(alloc, checked, map, key, rec, limit, scratch)? {
+    if lengthen(alloc, checked, map, key, rec, limit, most, taking)? {
         return Ok(());
     }
-    begin(alloc, checked, map, key, rec, limit, scratch)
+    begin(alloc, checked, map, key, rec, limit, most, taking)
 }

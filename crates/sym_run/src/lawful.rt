@@ -81,15 +81,16 @@ fn is_lawful_segment(checked: &Checked, first: u64, next: u64, segment: &Segment
 fn is_lawful_chain(checked: &Checked, first: u64, next: u64, chain: &Chain) -> bool
     ensures { IsTrue result ↔ IsLawfulChain (checked_plan checked.now) first next chain.now }
 {
-    chain
-        .segments()
-        .iter()
-        .all(|segment| is_lawful_segment(checked, first, next, segment))
+    chain.is_closed()
+        && chain
+            .segments()
+            .iter()
+            .all(|segment| is_lawful_segment(checked, first, next, segment))
 }
 
 /// Whether a group may be one of a saved run of the records numbered from `first` on, before `next`:
-/// its key is of the script's kinds, no segment is empty, each path fits the script, and each fault
-/// came at one of these records. It takes no memory.
+/// its key is of the script's kinds, its chain keeps no records, no segment is empty, each path fits
+/// the script, and each fault came at one of these records. It takes no memory.
 pub fn is_lawful_group(checked: &Checked, first: u64, next: u64, key: &Key, chain: &Chain) -> bool
     ensures { IsTrue result ↔
         IsLawfulGroup (checked_plan checked.now) first next (key.now, chain.now) }

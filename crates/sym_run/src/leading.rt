@@ -36,11 +36,11 @@ pub(crate) struct Taken {
 // both may be shared is then shown once, where they are handed in.
 trait LendsChains {
     ghost use Rattle.sym_check.specs.declared.checking.accepted.Checked.{Checked as OneChecked};
-    ghost use Rattle.sym_path.specs.declared.path.Path.{Path as OnePath};
+    ghost use Rattle.sym_run.specs.Chained.{Chained};
 
     ghost by: { Self → OneChecked };
 
-    ghost lent: { Self → List (OneKey × List (List OnePath)) };
+    ghost lent: { Self → List (OneKey × Chained) };
 
     fn script(&self) -> &Checked
         ensures { result.now ≡ by self.now };

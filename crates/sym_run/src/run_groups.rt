@@ -1,15 +1,19 @@
 //! The chains of a run, by group.
-ghost use Rattle.std.specs.Prelude.{◌≡◌, [], IfOk, length, slice_get};
+ghost use Rattle.std.specs.Prelude.{◌≡◌, [], List, IfOk, length, slice_get};
+ghost use Rattle.std.specs.List.{AllZip};
 ghost use Rattle.std.specs.Map.Iter.{deref_pair};
 ghost use Rattle.std.specs.Option.{option_map};
 ghost use Rattle.sym_plain.specs.Pairs.{HaveDistinctKeys};
-ghost use Rattle.sym_run.specs.Runs.{added};
+ghost use Rattle.sym_base.specs.declared.values.record.Record.{Record as OneRecord};
+ghost use Rattle.sym_check.specs.Checking.CheckedScripts.{checked_plan};
+ghost use Rattle.sym_run.specs.Runs.{added, AreClosed, AreTight, GroupsFit, GroupsStandFor, IsClosing};
 
 use crate::chains::Chain;
 use indexmap::IndexMap;
 use std::alloc::Global;
 use std::marker::Model;
 use sym_base::{Key, NoMemory};
+use sym_check::Checked;
 
 // The entries are inserted in order, each with the hash of its key.
 fn copy_map(alloc: Global, map: &IndexMap<Key, Chain>) -> Result<IndexMap<Key, Chain>, NoMemory>
@@ -38,15 +42,14 @@ impl Drop for RunGroups {
 impl Model for RunGroups {
     ghost use Rattle.std.specs.Prelude.{List};
     ghost use Rattle.sym_base.specs.declared.values.value.Key.{Key as OneKey};
-    ghost use Rattle.sym_path.specs.declared.path.Path.{Path as OnePath};
     ghost use Rattle.sym_base.specs.contracts.values.value.Key as key;
-    ghost use Rattle.sym_path.specs.contracts.path.Path as path;
     ghost use Rattle.std.specs.Coded.{coded_list, coded×};
+    ghost use Rattle.sym_run.specs.Chained.{Chained, chained_code};
     ghost use Rattle.sym_plain.specs.Pairs.{HaveDistinctKeys};
 
-    ghost Value = { List (OneKey × List (List OnePath)) };
+    ghost Value = { List (OneKey × Chained) };
 
-    ghost coded = { coded_list (coded× (key.the_row).coded (coded_list (coded_list (path.the_row).coded))) };
+    ghost coded = { coded_list (coded× (key.the_row).coded chained_code) };
 
     ghost view = { λ groups. groups.map.entries };
 
@@ -106,6 +109,27 @@ impl RunGroups {
             return Ok(None);
         }
         Ok(Some(RunGroups::of_map(map)))
+    }
+
+    /// The groups with what their chains keep explored, so that segments cover all records
+    /// (`Chain::closed`). Keys and chains are moved.
+    pub fn closed(self, alloc: Global, checked: &Checked, limit: u32) -> Result<RunGroups, NoMemory>
+        requires fits { GroupsFit (checked_plan checked.now) self }
+        requires tight { AreTight (checked_plan checked.now) limit self }
+        ensures closed { IfOk result AreClosed }
+        ensures fits { IfOk result (GroupsFit (checked_plan checked.now)) }
+        ensures tight { IfOk result (AreTight (checked_plan checked.now) limit) }
+        ensures each { IfOk result (AllZip (IsClosing (checked_plan checked.now)) self) }
+        ensures stands { (records : List OneRecord) →
+            GroupsStandFor (checked_plan checked.now) records self →
+            IfOk result (GroupsStandFor (checked_plan checked.now) records) }
+    {
+        let map = self.into_map();
+        let mut closed = IndexMap::with_capacity(alloc, map.len())?;
+        'groups: for (key, chain) in map {
+            drop(closed.insert(key, chain.closed(alloc, checked, limit)?)?);
+        }
+        Ok(RunGroups::of_map(closed))
     }
 
     /// Equal groups of their own.

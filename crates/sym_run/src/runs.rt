@@ -1,15 +1,15 @@
 //! Runs of chunks: their groups, or the first of their rows that is no record.
-ghost use Rattle.std.specs.Prelude.{◌≡◌, ◌<◌, ◌+◌, List, None, Some, IfOk, slice_get};
+ghost use Rattle.std.specs.Prelude.{◌≡◌, ◌<◌, ◌+◌, [], List, None, Some, IfErr, IfOk, OnOk, slice_get};
 ghost use Rattle.sym_base.specs.declared.values.record.Record.{Record as OneRecord};
 ghost use Rattle.sym_check.specs.Checking.CheckedScripts.{checked_plan};
 ghost use Rattle.sym_plain.specs.Pairs.{after_records};
 ghost use Rattle.sym_table.specs.declared.chunk.Chunk.{Chunk as OneChunk};
 ghost use Rattle.sym_table.specs.Rows.{FitsChunk};
 ghost use Rattle.sym_run.specs.Applying.{AreValid, IfDone, bad_of};
-ghost use Rattle.sym_run.specs.Runs.{AreTight, GroupsFit, GroupsStandFor, IsFromTo, StandsForChunks};
+ghost use Rattle.sym_run.specs.Runs.{AreClosed, AreTight, GroupsFit, GroupsStandFor, IsFromTo, StandsForChunks};
 
 use crate::applying::apply_all;
-use crate::chunks::take_rows;
+use crate::chunks::{Memory, take_rows};
 use crate::joining::join_groups;
 use crate::leading::apply_beside;
 use crate::run_groups::RunGroups;
@@ -72,6 +72,20 @@ impl Applied {
 }
 
 impl Run {
+    /// The run of no chunks, before the one with this number. It takes no memory.
+    pub(crate) fn none(alloc: Global, number: u32) -> Run
+        ensures ends { IsFromTo number number result }
+        ensures groups { result.groups ≡ [] }
+        ensures bad { result.bad ≡ None }
+    {
+        Run {
+            lo: number,
+            hi: number,
+            groups: RunGroups::new(alloc),
+            bad: None,
+        }
+    }
+
     /// An equal run of its own.
     pub fn copy(&self, alloc: Global) -> Result<Run, NoMemory>
         ensures { IfOk result (λ run. run ≡ self.now) }
@@ -85,8 +99,8 @@ impl Run {
     }
 
     /// The run of this one's chunks and then the right one's. The left's bad row comes before the
-    /// right's, and so do its keys; the chains of a key in both are joined. Keys and chains are
-    /// moved.
+    /// right's, and so do its keys; the chains of a key in both are joined. What the left one keeps
+    /// of a key is explored only where the right one has segments of it. Keys and chains are moved.
     pub fn join(
         self,
         alloc: Global,
@@ -106,6 +120,8 @@ impl Run {
             StandsForChunks (checked_plan checked.now) limit chunks self →
             StandsForChunks (checked_plan checked.now) limit chunks right →
             IfOk result (StandsForChunks (checked_plan checked.now) limit chunks) }
+        ensures closed { AreClosed self.groups → AreClosed right.groups →
+            IfOk result (λ run. AreClosed run.groups) }
     {
         let Run {
             lo,
@@ -138,8 +154,8 @@ impl Run {
 
     /// The run of this one's chunks and then the next chunk: `join` with that chunk's run, which
     /// isn't made. The chains take on the chunk's records where they are, so that no segment begins
-    /// anew with the chunk, and a key that is there isn't copied. Where the run has a bad row, the
-    /// chunk isn't read.
+    /// anew with the chunk, and a key that is there isn't copied. A chain that keeps records keeps
+    /// more of them, and no other chain does. Where the run has a bad row, the chunk isn't read.
     pub fn extend(
         self,
         alloc: Global,
@@ -157,6 +173,34 @@ impl Run {
             StandsForChunks (checked_plan checked.now) limit chunks self →
             slice_get chunks self.hi ≡ Some chunk.now →
             IfOk result (StandsForChunks (checked_plan checked.now) limit chunks) }
+        ensures closed { AreClosed self.groups → IfOk result (λ run. AreClosed run.groups) }
+    {
+        self.extend_with(alloc, checked, chunk, limit, 0, &mut Memory::new(alloc))
+    }
+
+    /// `extend` that keeps the first `most` records of a key as they are, with memory that is used
+    /// again.
+    pub(crate) fn extend_with(
+        self,
+        alloc: Global,
+        checked: &Checked,
+        chunk: &Chunk,
+        limit: u32,
+        most: u32,
+        memory: &mut Memory,
+    ) -> Result<Run, NoMemory>
+        requires chunk { FitsChunk (checked_plan checked.now).fields chunk.now }
+        requires number { self.hi < 64 }
+        requires fits { GroupsFit (checked_plan checked.now) self.groups }
+        requires tight { self.bad ≡ None → AreTight (checked_plan checked.now) limit self.groups }
+        ensures chunks { IfOk result (IsFromTo self.lo (self.hi + 1)) }
+        ensures fits { IfOk result (λ run. GroupsFit (checked_plan checked.now) run.groups) }
+        ensures stands { (chunks : List OneChunk) →
+            StandsForChunks (checked_plan checked.now) limit chunks self →
+            slice_get chunks self.hi ≡ Some chunk.now →
+            IfOk result (StandsForChunks (checked_plan checked.now) limit chunks) }
+        ensures closed { most ≡ 0 → AreClosed self.groups →
+            IfOk result (λ run. AreClosed run.groups) }
     {
         let Run {
             lo,
@@ -174,13 +218,40 @@ impl Run {
         }
         let mut map = groups.into_map();
         let mut cursor = RowCursor::over(alloc, slice::from_ref(chunk))?;
-        let bad = take_rows(alloc, checked, &mut cursor, chunk, &mut map, limit)?;
+        let bad = take_rows(
+            alloc,
+            checked,
+            &mut cursor,
+            chunk,
+            &mut map,
+            limit,
+            most,
+            memory,
+        )?;
         Ok(Run {
             lo,
             hi: hi + 1,
             groups: RunGroups::of_map(map),
             bad,
         })
+    }
+
+    /// The chains by group, or the run's bad row. It takes no memory.
+    fn chains_or_bad(self) -> Result<RunGroups, Bad>
+        ensures chains { IfOk result (λ chains. chains ≡ self.groups) }
+        ensures none { OnOk result (self.bad ≡ None) }
+        ensures bad { IfErr result (λ bad. self.bad ≡ Some bad) }
+    {
+        let Run {
+            lo: _lo,
+            hi: _hi,
+            groups,
+            bad,
+        } = self;
+        match bad {
+            None => Ok(groups),
+            Some(bad) => Err(bad),
+        }
     }
 
     /// The groups after the run's records; `Bad` exactly where the run has a bad row. A group that
@@ -201,15 +272,10 @@ impl Run {
             IfOk result (λ applied. IfDone applied (λ g.
             g ≡ after_records (checked_plan checked.now) records groups)) }
     {
-        let Run {
-            lo: _lo,
-            hi: _hi,
-            groups: chains,
-            bad,
-        } = self;
-        if let Some(bad) = bad {
-            return Ok(Applied::Bad(bad));
-        }
+        let chains = match self.chains_or_bad() {
+            Ok(chains) => chains,
+            Err(bad) => return Ok(Applied::Bad(bad)),
+        };
         let mut groups = groups;
         apply_all(alloc, checked, &chains, &mut groups)?;
         Ok(Applied::Done(groups))
@@ -236,15 +302,10 @@ impl Run {
             IfOk result (λ applied. IfDone applied (λ g.
             g ≡ after_records (checked_plan checked.now) records groups)) }
     {
-        let Run {
-            lo: _lo,
-            hi: _hi,
-            groups: chains,
-            bad,
-        } = self;
-        if let Some(bad) = bad {
-            return Ok(Applied::Bad(bad));
-        }
+        let chains = match self.chains_or_bad() {
+            Ok(chains) => chains,
+            Err(bad) => return Ok(Applied::Bad(bad)),
+        };
         let mut groups = groups;
         let threads = (chains.len() / GROUPS_A_THREAD).min(workers as usize);
         if threads < 2 {

@@ -43,8 +43,8 @@ impl Saved {
     }
 
     /// Whether the saved run is lawful: its numbers are in order, from 1 or more on, its keys are of
-    /// the script's kinds, no chain or segment is empty, each path fits the script, and each fault
-    /// came at a record of its own. It takes no memory.
+    /// the script's kinds, no chain or segment is empty, no chain keeps records, each path fits the
+    /// script, and each fault came at a record of its own. It takes no memory.
     pub fn is_lawful(&self, checked: &Checked) -> bool
         ensures { IsTrue result ↔ IsLawfulSaved (checked_plan checked.now) self.now }
     {

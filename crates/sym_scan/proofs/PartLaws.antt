@@ -73,6 +73,11 @@ runs_fit p limit chunks from to [] a = All-nil (λ ran. GroupsFit p ran.run.grou
 runs_fit p limit chunks from to (ran ∷ runs) a =
     All-cons (λ x. GroupsFit p x.run.groups) ran runs a.1.stands.fits (runs_fit p limit chunks (from + ran.part.count) to runs a.2)
 
+-- Of runs that fit each one does.
+pub run_fits : (p : ScriptPlan) (before : List PartRun) (ran : PartRun) (rest : List PartRun) → All (λ (one : PartRun). GroupsFit p one.run.groups) (before ++ ran ∷ rest) → GroupsFit p ran.run.groups
+run_fits p [] ran rest h = All-head (λ (one : PartRun). GroupsFit p one.run.groups) ran rest h
+run_fits p (first ∷ before) ran rest h = run_fits p before ran rest (All-tail (λ (one : PartRun). GroupsFit p one.run.groups) first (before ++ ran ∷ rest) h)
+
 -- The runs up to a place, and the next one.
 pub record IsNextRun (p : ScriptPlan) (limit : ℕ) (chunks : List Chunk) (from to : ℕ) (runs : List PartRun) (ran : PartRun) : Type 0 where
   pub mid : ℕ

@@ -13,7 +13,7 @@ use Rattle.sym_engine.specs.FileRecords as fine
 use Rattle.sym_engine.specs.FirstProblems.{AllFine}
 use Rattle.sym_engine.specs.FirstProblems as all_fine
 use Rattle.sym_engine.proofs.FilesAgree.{files_records}
-use Rattle.sym_file.proofs.Taking.{taken_records}
+use Rattle.sym_file.proofs.Taking.{lawful_closed, taken_records}
 use Rattle.sym_file.specs.declared.totals.Taken.TheVariants as taking
 use Rattle.sym_parse.specs.Printed.{script_text}
 use Rattle.sym_plain.proofs.Apart.{pass_more}
@@ -160,7 +160,8 @@ module _ (program : Program) (formed : IsWellFormed program.plan) (shown : Row �
       let saved = m.saved in
       let own : saved.first ≡ first = m.first_is ∙ is.first_is in
       let next : saved.next ≡ first + length records = next_is saved.first saved.next records m.stands.numbered ∙ ap (λ (n : ℕ). n + length records) own in
-      let led = taken_records p records saved.groups (pass p before) (initial_valid p formed) (pass_outcomes p before formed kinds) m.stands.groups in
+      let closed = lawful_closed p saved.first saved.next saved.groups m.file.is.lawful.each in
+      let led = taken_records p records saved.groups (pass p before) (initial_valid p formed) (pass_outcomes p before formed kinds) closed m.stands.groups in
       let A : ℕ → Type 0 = λ n. AreReduced (script_text program.tree) p size n (pass p (before ++ records)) texts later.0 (pass p (before ++ records ++ rest)) in
       let B : List Record → Type 0 = λ rs. AreReduced (script_text program.tree) p size first (pass p before) (text ∷ texts) later.0 (pass p rs) in (
         later.0,

@@ -19,7 +19,7 @@ returns-clause-lawful g c =
     let all = c.in_ok-next.ensures.taken in
     let begun = none_summed p c.args.options.now.limit c.new-rounds.result.workers c.new-rounds.result.groups c.new-rounds.ensures.groups (search rules) in
     saved_lawful p (rules_of c.args.options.now.max_bytes (g.G.Gate.shown c.new-rounds.result.gate.now)) all.files all.records _ (subst IsWellFormed c.plan-plan.ensures.same c.plan-plan.ensures.well_formed) c.requires.some
-    all.fine all.stands.0 (all.stands.1 [] begun).stand
+    all.fine all.stands.0 (all.stands.1 [] begun).closed (all.stands.1 [] begun).stand
 
 pub returns-clause-tight : goal.returns-clause-tight
 returns-clause-tight g c =

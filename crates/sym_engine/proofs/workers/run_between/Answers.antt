@@ -4,9 +4,9 @@ use Rattle.sym_run.proofs.FoundRecords.{run_tight}
 use Rattle.sym_engine.proofs.RoundRuns.{chunk_at}
 use Rattle.sym_engine.proofs.workers.run_between.Goals as goal
 
-pub extend-requires-clause-tight : goal.extend-requires-clause-tight
-extend-requires-clause-tight g c = λ none.
-    run_tight (checked_plan c.args.work.now.checked) c.args.work.now.limit c.args.work.now.chunks c.chunks.run c.chunks.invariant.stands none
+pub take-requires-clause-tight : goal.take-requires-clause-tight
+take-requires-clause-tight g c = λ none.
+    run_tight (checked_plan c.args.work.now.checked) c.args.work.now.limit c.args.work.now.chunks c.chunks.stretch c.chunks.invariant.stands none
 
 pub chunks-preserved : goal.chunks-preserved
 chunks-preserved g c =
@@ -17,8 +17,8 @@ chunks-preserved g c =
     chunk_at cuts items c.chunks.number c.index-chunks-number.result c.as_slice-chunks.ensures near c.index-chunks-number.is in
     record {
       ends = record {
-        from = c.in_ok-run-2.ensures.chunks.from ∙ c.chunks.invariant.ends.from;
-        to = c.in_ok-run-2.ensures.chunks.to ∙ ap (λ (n : ℕ). n + 1) c.chunks.invariant.ends.to;
+        from = c.in_ok-take.ensures.chunks.from ∙ c.chunks.invariant.ends.from;
+        to = c.in_ok-take.ensures.chunks.to ∙ ap (λ (n : ℕ). n + 1) c.chunks.invariant.ends.to;
       };
-      stands = c.in_ok-run-2.ensures.stands cuts c.chunks.invariant.stands (ap (slice_get cuts) c.chunks.invariant.ends.to ∙ at);
+      stands = c.in_ok-take.ensures.stands cuts c.chunks.invariant.stands (ap (slice_get cuts) c.chunks.invariant.ends.to ∙ at);
     }

@@ -5,6 +5,6 @@ use Rattle.sym_engine.proofs.workers.run_between.Given as goal
 
 abbrev pub invariant-chunks : goal.invariant-chunks
 invariant-chunks g l = record {
-  ends : IsFromTo l.fn.first l.number l.run;
-  stands : StandsForChunks (checked_plan l.fn.work.checked) l.fn.work.limit l.fn.work.chunks l.run;
+  ends : IsFromTo l.fn.first l.number l.stretch;
+  stands : StandsForChunks (checked_plan l.fn.work.checked) l.fn.work.limit l.fn.work.chunks l.stretch;
 }

@@ -7,13 +7,13 @@ use Rattle.sym_check.proofs.Keys.{same_key}
 use Rattle.sym_run.proofs.GroupPuts.{all_found, all_put}
 use Rattle.sym_run.proofs.applying.lead_on.Goals as goal
 
-pub lead-requires-clause-valid : goal.lead-requires-clause-valid
-lead-requires-clause-valid c =
+pub lead_with-requires-clause-valid : goal.lead_with-requires-clause-valid
+lead_with-requires-clause-valid c =
     let p = checked_plan c.args.checked.now in
     all_found (λ (k : Key) (o : Outcome). IsValidOutcome p o) c.args.key.now c.in-Some.outcome.now c.args.groups.now c.requires.valid (sym c.in-Some.ensures.outcome)
 
-pub returns-in_ok-lead-in-Some-clause-valid : goal.returns-in_ok-lead-in-Some-clause-valid
-returns-in_ok-lead-in-Some-clause-valid c =
+pub returns-in_ok-lead_with-in-Some-clause-valid : goal.returns-in_ok-lead_with-in-Some-clause-valid
+returns-in_ok-lead_with-in-Some-clause-valid c =
     let p = checked_plan c.args.checked.now in
-    all_put (λ (k : Key) (o : Outcome). IsValidOutcome p o) (λ (k : Key) (o : Outcome). IsValidOutcome p o) c.args.key.now c.lead.new.outcome
-    (λ j o e s. s) (λ j e. c.in_ok-lead-in-Some.ensures.valid) c.args.groups.now (same_key c.args.key.now) c.requires.valid
+    all_put (λ (k : Key) (o : Outcome). IsValidOutcome p o) (λ (k : Key) (o : Outcome). IsValidOutcome p o) c.args.key.now c.lead_with.new.outcome
+    (λ j o e s. s) (λ j e. c.in_ok-lead_with-in-Some.ensures.valid) c.args.groups.now (same_key c.args.key.now) c.requires.valid

@@ -18,3 +18,10 @@ returns-in-Chunk-clause-stands t c =
     let within : c.args.first < length c.args.chunks.now = omega (arith, fits) in
     let at : slice_get c.args.chunks.now c.args.first ≡ Some c.index-chunks-first.result = slice_get_read c.args.chunks.now (length c.args.chunks.now) c.args.first c.index-chunks-first.result refl within c.index-chunks-first.is in
     c.of_chunk.ensures.stands c.args.chunks.now at
+
+pub returns-in-Keeping-clause-stands : goal.returns-in-Keeping-clause-stands
+returns-in-Keeping-clause-stands t c =
+    let fits = rw c.in-Keeping.is at c.requires.within in
+    let within : c.args.first < length c.args.chunks.now = omega (arith, fits) in
+    let at : slice_get c.args.chunks.now c.args.first ≡ Some c.index-chunks-first-in-Keeping.result = slice_get_read c.args.chunks.now (length c.args.chunks.now) c.args.first c.index-chunks-first-in-Keeping.result refl within c.index-chunks-first-in-Keeping.is in
+    c.keep_chunk.ensures.stands c.args.chunks.now at

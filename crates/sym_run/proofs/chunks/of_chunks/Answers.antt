@@ -1,4 +1,4 @@
-use Rattle.std.proofs.Common.{◌≡◌, ◌∙◌, ◌<◌, ◌+◌, ℕ, Some, length, refl, sym, ap, arith}
+use Rattle.std.proofs.Common.{◌≡◌, ◌∙◌, ◌<◌, ◌+◌, ℕ, Some, length, refl, ap, arith}
 use Rattle.std.proofs.lemmas.Option.{slice_get_read}
 use Rattle.std.specs.Prelude.{slice_get}
 use Rattle.sym_check.specs.Checking.CheckedScripts.{checked_plan}
@@ -18,4 +18,5 @@ chunks-preserved c =
         to = c.in_ok-run-2.ensures.chunks.to ∙ ap (λ (n : ℕ). n + 1) c.chunks.invariant.ends.to;
       };
       stands = c.in_ok-run-2.ensures.stands c.args.chunks.now c.chunks.invariant.stands (ap (slice_get c.args.chunks.now) c.chunks.invariant.ends.to ∙ at);
+      closed = c.in_ok-run-2.ensures.closed c.chunks.invariant.closed;
     }

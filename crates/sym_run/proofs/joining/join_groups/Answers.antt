@@ -1,10 +1,10 @@
-use Rattle.std.proofs.Common.{◌∙◌, ◌++◌, List, sym, subst}
+use Rattle.std.proofs.Common.{◌∙◌, ◌++◌, sym, subst}
 use Rattle.sym_base.specs.declared.values.value.Key.{Key}
 use Rattle.sym_check.specs.Checking.CheckedScripts.{checked_plan}
-use Rattle.sym_path.specs.declared.path.Path.{Path}
+use Rattle.sym_run.specs.Chained.{Chained}
 use Rattle.sym_plain.specs.Pairs.{HaveDistinctKeys}
 use Rattle.sym_run.specs.Growing.{AreBoth}
-use Rattle.sym_run.specs.Runs.{AreTight, GroupsStandFor}
+use Rattle.sym_run.specs.Runs.{AreClosed, AreTight, GroupsFit, GroupsStandFor}
 use Rattle.sym_run.proofs.JoinedGroups.{Chains}
 use Rattle.sym_run.proofs.Stepping.{IsJoining, joining_all, joining_both, joining_none, joining_on, next_fits, next_tight}
 use Rattle.sym_run.proofs.joining.join_groups.Goals as goal
@@ -24,7 +24,7 @@ groups-init c =
 pub join_group-requires-clause-right : goal.join_group-requires-clause-right
 join_group-requires-clause-right c =
     let p = checked_plan c.args.checked.now in
-    let q : Key × List (List Path) = (c.in-Some.key, c.in-Some.chain) in
+    let q : Key × Chained = (c.in-Some.key, c.in-Some.chain) in
     next_fits p c.args.limit c.args.left c.args.right c.next.new.self c.groups.map.entries q
     (subst (λ (others : Chains). IsJoining p c.args.limit c.args.left c.args.right others c.groups.map.entries) c.in-Some.ensures.steps c.groups.invariant.joining)
     c.requires.right
@@ -32,7 +32,7 @@ join_group-requires-clause-right c =
 pub join_group-requires-clause-tight_right : goal.join_group-requires-clause-tight_right
 join_group-requires-clause-tight_right c =
     let p = checked_plan c.args.checked.now in
-    let q : Key × List (List Path) = (c.in-Some.key, c.in-Some.chain) in
+    let q : Key × Chained = (c.in-Some.key, c.in-Some.chain) in
     next_tight p c.args.limit c.args.left c.args.right c.next.new.self c.groups.map.entries q
     (subst (λ (others : Chains). IsJoining p c.args.limit c.args.left c.args.right others c.groups.map.entries) c.in-Some.ensures.steps c.groups.invariant.joining)
     c.requires.tight_right
@@ -40,7 +40,7 @@ join_group-requires-clause-tight_right c =
 pub groups-preserved : goal.groups-preserved
 groups-preserved c =
     let p = checked_plan c.args.checked.now in
-    let q : Key × List (List Path) = (c.in-Some.key, c.in-Some.chain) in
+    let q : Key × Chained = (c.in-Some.key, c.in-Some.chain) in
     record {
       joining =
           joining_on p c.args.limit c.args.left c.args.right c.next.new.self c.groups.map.entries c.join_group.new.map.entries q
@@ -49,6 +49,9 @@ groups-preserved c =
           c.in_ok-join_group.ensures.joins;
       distinct = c.join_group.ensures.distinct;
     }
+
+pub returns-clause-fits : goal.returns-clause-fits
+returns-clause-fits c = subst (GroupsFit (checked_plan c.args.checked.now)) (sym c.of_map.ensures) c.groups.invariant.joining.fits
 
 pub returns-clause-tight : goal.returns-clause-tight
 returns-clause-tight c = subst (AreTight (checked_plan c.args.checked.now) c.args.limit) (sym c.of_map.ensures) c.groups.invariant.joining.tight
@@ -67,3 +70,6 @@ returns-clause-both c =
     subst (AreBoth p c.args.left c.args.right) (sym c.of_map.ensures)
     (joining_both p c.args.limit c.args.left c.args.right c.groups.map.entries
     (subst (λ (others : Chains). IsJoining p c.args.limit c.args.left c.args.right others c.groups.map.entries) c.in-None.ensures.steps.0 c.groups.invariant.joining))
+
+pub returns-clause-closed : goal.returns-clause-closed
+returns-clause-closed c = λ left right. subst AreClosed (sym c.of_map.ensures) (c.groups.invariant.joining.closed left right)

@@ -1,7 +1,7 @@
-use Rattle.std.proofs.Common.{List, ◌≡◌, ◌∙◌, [], ◌∷◌, ◌++◌, ap, ap₂, sym, subst, append_assoc}
+use Rattle.std.proofs.Common.{◌≡◌, ◌∙◌, [], ◌∷◌, ◌++◌, ap, ap₂, sym, subst, append_assoc}
 use Rattle.indexmap.specs.IndexMap.{insert_entry}
 use Rattle.sym_base.specs.declared.values.value.Key.{Key}
-use Rattle.sym_path.specs.declared.path.Path.{Path}
+use Rattle.sym_run.specs.Chained.{Chained}
 use Rattle.sym_check.specs.Meaning.Groups.{is_key}
 use Rattle.sym_plain.specs.Pairs.{HaveDistinctKeys}
 use Rattle.sym_plain.proofs.Pairs.{insert-next}
@@ -11,7 +11,7 @@ pub entries-preserved : goal.entries-preserved
 entries-preserved c =
     let done = c.entries.copied.entries in
     let left = c.next.new.self in
-    let p : Key × List (List Path) = (c.in-Some.key.now, c.in-Some.chain.now) in
+    let p : Key × Chained = (c.in-Some.key.now, c.in-Some.chain.now) in
     let all : done ++ p ∷ left ≡ c.args.map.now.entries =
     ap (λ ps. done ++ ps) (sym c.in-Some.ensures.steps) ∙ c.entries.invariant in
     let apart = subst HaveDistinctKeys (sym all) c.iter-key-items.ensures.unique in

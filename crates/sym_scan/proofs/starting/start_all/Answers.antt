@@ -1,14 +1,23 @@
-use Rattle.std.proofs.Common.{◌≡◌, ◌∙◌, ℕ, ◌+◌, List, [], ◌∷◌, ◌++◌, length, ap, append-nil, append_assoc, subst, sym}
+use Rattle.std.proofs.Common.{◌≡◌, ◌∙◌, ℕ, ◌+◌, List, [], ◌∷◌, ◌++◌, All, length, ap, append-nil, append_assoc, subst, sym}
 use Rattle.std.proofs.lemmas.List.{nil_from_length}
 use Rattle.std.specs.Vec.Iter.{into_iter_items}
 use Rattle.sym_check.specs.Checking.CheckedScripts.{checked_plan}
 use Rattle.sym_table.specs.ChunkRecords.{all_records}
+use Rattle.sym_run.specs.Runs.{GroupsFit}
 use Rattle.sym_scan.specs.declared.starting.PartRun.{PartRun}
 use Rattle.sym_scan.specs.declared.starting.PartStarts.{PartStarts}
 use Rattle.sym_scan.specs.declared.starting.Started.{Started}
 use Rattle.sym_scan.specs.Parts.{AreRuns, StartsFrom, part_chunks}
-use Rattle.sym_scan.proofs.PartLaws.{IsStarting, first_runs, next_run, starting_all, starting_bad, starting_on}
+use Rattle.sym_scan.proofs.PartLaws.{IsStarting, first_runs, next_run, run_fits, starting_all, starting_bad, starting_on}
 use Rattle.sym_scan.proofs.starting.start_all.Goals as goal
+
+pub start-requires-clause-fits : goal.start-requires-clause-fits
+start-requires-clause-fits c =
+    let p = checked_plan c.args.checked.now in
+    let ran : PartRun = c.in-Some.ran in
+    let rest : List PartRun = into_iter_items c.next.new.self in
+    let all : c.parts.yielded ++ ran ∷ rest ≡ c.args.runs.items = ap (λ (others : List PartRun). c.parts.yielded ++ others) (sym c.in-Some.ensures.steps.0) ∙ c.parts.invariant.all in
+    run_fits p c.parts.yielded ran rest (subst (All (λ (one : PartRun). GroupsFit p one.run.groups)) (sym all) c.requires.fits)
 
 pub parts-preserved : goal.parts-preserved
 parts-preserved c =

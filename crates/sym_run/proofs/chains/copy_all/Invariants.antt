@@ -1,5 +1,0 @@
-use Rattle.std.proofs.Common.{◌≡◌, take}
-use Rattle.sym_run.proofs.chains.copy_all.Given as goal
-
-abbrev pub invariant-segments : goal.invariant-segments
-invariant-segments l = l.copied.items ≡ take l.segment-index l.segments
