@@ -8,24 +8,15 @@
 # Usage: bench/counter.sh [RECORDS]
 set -eu
 
-records=${1:-5000000}
-turns=${TURNS:-3}
 here=$(CDPATH='' cd -P "$(dirname "$0")" && pwd)
-root=$(dirname "$here")
-timer=/usr/bin/time
+# shellcheck source=bench/setup.sh
+. "$here/setup.sh"
 
-stop() {
-    echo "bench/counter.sh: $1" >&2
-    exit 1
-}
+records=${1:-5000000}
 
 awk=$(command -v mawk || command -v gawk) || stop "there is neither mawk nor gawk"
-command -v rustc >/dev/null || stop "there is no rustc"
-[ -x "$timer" ] || stop "there is no $timer"
-
-work=$(mktemp -d)
-trap 'rm -rf "$work"' EXIT
-trap 'exit 1' HUP INT TERM
+needs rustc "$timer"
+find_symple
 
 # Runs one of the programs over the log.
 run() {
@@ -47,9 +38,6 @@ measure() {
     echo "$1 $(((end - begin) / 1000)) $(cat "$work/used")" >>"$work/turns"
 }
 
-# The launcher builds the program if it has to; its own few milliseconds are not measured.
-"$root/symple" run "$here/counter.symple" /dev/null >"$work/report"
-symple=$("$root/symple" --version | sed -n 's/^path //p')
 rustc -O -o "$work/counter" "$here/counter.rs"
 "$awk" -v records="$records" -f "$here/records.awk" >"$work/log.csv"
 

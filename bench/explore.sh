@@ -12,8 +12,9 @@
 set -eu
 
 here=$(CDPATH='' cd -P "$(dirname "$0")" && pwd)
-# shellcheck source=bench/sym_bench.sh
-. "$here/sym_bench.sh"
+# shellcheck source=bench/setup.sh
+. "$here/setup.sh"
+find_sym_bench
 
 # The least nanoseconds of a step and of a record explored, of some runs.
 least() {
@@ -27,7 +28,7 @@ least() {
 
 # The instructions of a run.
 count() {
-    valgrind --tool=callgrind --callgrind-out-file=/dev/null "$program" "$@" 2>&1 >/dev/null |
+    valgrind --tool=callgrind --callgrind-out-file=/dev/null "$sym_bench" "$@" 2>&1 >/dev/null |
         awk '/Collected/ { print $4 }'
 }
 
@@ -36,7 +37,7 @@ measure() {
     : >"$work/times"
     turn=1
     while [ "$turn" -le "$turns" ]; do
-        "$program" explore "$script" "$thousands" "$limit" >"$work/found" 2>>"$work/times" ||
+        "$sym_bench" explore "$script" "$thousands" "$limit" >"$work/found" 2>>"$work/times" ||
             stop "$script failed"
         turn=$((turn + 1))
     done
@@ -58,7 +59,7 @@ measure sessions 100 1
 measure counter 100 1
 
 [ "${1:-}" = --instructions ] || exit 0
-command -v valgrind >/dev/null || stop "there is no valgrind"
+needs valgrind
 echo "instructions of a record, explored and stepped"
 for script in sessions modes counter mirror; do
     few=$(count explore $script 10 16)

@@ -10,52 +10,38 @@
 # Usage: bench/forms.sh [--instructions] [GROUPS]
 set -eu
 
-turns=${TURNS:-3}
+here=$(CDPATH='' cd -P "$(dirname "$0")" && pwd)
+# shellcheck source=bench/setup.sh
+. "$here/setup.sh"
+
 starts=200
 programs="pass table csv pairs"
-here=$(CDPATH='' cd -P "$(dirname "$0")" && pwd)
-root=$(dirname "$here")
-timer=/usr/bin/time
-
-stop() {
-    echo "bench/forms.sh: $1" >&2
-    exit 1
-}
-
 instructions=no
 if [ "${1:-}" = --instructions ]; then
     instructions=yes
     shift
 fi
 groups=${1:-98304}
-for tool in mawk "$timer"; do
-    command -v "$tool" >/dev/null || stop "there is no $tool"
-done
-[ $instructions = no ] || command -v valgrind >/dev/null || stop "there is no valgrind"
-
-work=$(mktemp -d)
-trap 'rm -rf "$work"' EXIT
-trap 'exit 1' HUP INT TERM
+needs mawk "$timer"
+[ $instructions = no ] || needs valgrind
+find_symple
 
 # run COMMAND..: the program over the log, in the form of `form`, by a command that begins it. The
 # pass alone ends with the status of a bad record.
 run() {
     if [ "$form" = pass ]; then
         status=0
-        "$@" "$program" run "$here/forms.symple" "$work/log.csv" "$work/bad.csv" \
+        "$@" "$symple" run "$here/forms.symple" "$work/log.csv" "$work/bad.csv" \
             >"$work/report" 2>"$work/line" || status=$?
         if [ "$status" -ne 4 ] || [ -s "$work/report" ]; then
             stop "the pass alone wrote a report"
         fi
     else
-        "$@" "$program" run --form "$form" "$here/forms.symple" "$work/log.csv" >"$work/report" ||
+        "$@" "$symple" run --form "$form" "$here/forms.symple" "$work/log.csv" >"$work/report" ||
             stop "the run in the form $form failed"
     fi
 }
 
-# The launcher builds the program if it has to; its own few milliseconds are not measured.
-"$root/symple" run "$here/forms.symple" /dev/null >"$work/report"
-program=$("$root/symple" --version | sed -n 's/^path //p')
 mawk -v groups="$groups" 'BEGIN {
     print "user,x"
     for (turn = 0; turn < 10; turn++)
@@ -120,7 +106,7 @@ fi
 begin=$(date +%s%N)
 start=1
 while [ "$start" -le "$starts" ]; do
-    "$program" run "$here/forms.symple" "$work/log.csv" >"$work/report"
+    "$symple" run "$here/forms.symple" "$work/log.csv" >"$work/report"
     start=$((start + 1))
 done
 end=$(date +%s%N)

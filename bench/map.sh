@@ -16,23 +16,17 @@
 set -eu
 
 here=$(CDPATH='' cd -P "$(dirname "$0")" && pwd)
-# shellcheck source=bench/sym_bench.sh
-. "$here/sym_bench.sh"
+# shellcheck source=bench/setup.sh
+. "$here/setup.sh"
+needs mawk "$timer"
+find_symple
+find_sym_bench
 
 records=${1:-4000000}
 parts=16
 users=98304
 most_bytes=268435456
-root=$(dirname "$here")
 script=$here/sessions.symple
-timer=/usr/bin/time
-
-for tool in mawk "$timer"; do
-    command -v "$tool" >/dev/null || stop "there is no $tool"
-done
-# The launcher builds the program if it has to; its own few milliseconds are not measured.
-"$root/symple" run "$script" /dev/null >"$work/report"
-symple=$("$root/symple" --version | sed -n 's/^path //p')
 
 # measure WAY ARGUMENTS..: runs symple, its output to $work/WAY.out, and notes its microseconds and
 # its kilobytes.
@@ -48,7 +42,7 @@ measure() {
 
 # The same of the sequential pass over as many records.
 measure_sequential() {
-    "$timer" -o "$work/used" -f '%M' "$program" pass fold users $((parts * users)) 16 \
+    "$timer" -o "$work/used" -f '%M' "$sym_bench" pass fold users $((parts * users)) 16 \
         >"$work/found" 2>"$work/said" || stop "the sequential pass failed"
     echo "sequential $(($(cut -d' ' -f2 "$work/said") / 1000)) $(tail -n 1 "$work/used")" \
         >>"$work/turns"

@@ -9,20 +9,13 @@
 set -eu
 
 here=$(CDPATH='' cd -P "$(dirname "$0")" && pwd)
-root=$(dirname "$here")
-program=${1-}
-
-stop() {
-    echo "bench/parse.sh: $1" >&2
-    exit 1
-}
+# shellcheck source=bench/setup.sh
+. "$here/setup.sh"
 
 awk=$(command -v mawk || command -v gawk) || stop "there is neither mawk nor gawk"
-command -v valgrind >/dev/null || stop "there is no valgrind"
-
-work=$(mktemp -d)
-trap 'rm -rf "$work"' EXIT
-trap 'exit 1' HUP INT TERM
+needs valgrind
+[ -z "${1-}" ] || SYMPLE_PROGRAM=$1
+find_symple
 
 # The instructions of a command, whatever its status.
 count() {
@@ -31,18 +24,12 @@ count() {
 }
 
 read_by_symple() {
-    count "$program" run "$1" /dev/null
+    count "$symple" run "$1" /dev/null
 }
 
 read_by_awk() {
     count "$awk" '{ bytes += length($0) + 1 } END { print bytes }' "$1"
 }
-
-# The launcher builds the program where no other is named.
-if [ -z "$program" ]; then
-    "$root/symple" run "$here/counter.symple" /dev/null >/dev/null
-    program=$("$root/symple" --version | sed -n 's/^path //p')
-fi
 
 : >"$work/none"
 start_symple=$(read_by_symple "$work/none")

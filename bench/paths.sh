@@ -11,8 +11,9 @@
 set -eu
 
 here=$(CDPATH='' cd -P "$(dirname "$0")" && pwd)
-# shellcheck source=bench/sym_bench.sh
-. "$here/sym_bench.sh"
+# shellcheck source=bench/setup.sh
+. "$here/setup.sh"
+find_sym_bench
 
 # measure PATHS WORD..: the least nanoseconds a path of some runs of these words.
 measure() {
@@ -21,7 +22,7 @@ measure() {
     : >"$work/times"
     turn=1
     while [ "$turn" -le "$turns" ]; do
-        "$program" "$@" >"$work/found" 2>>"$work/times" || stop "$* failed"
+        "$sym_bench" "$@" >"$work/found" 2>>"$work/times" || stop "$* failed"
         turn=$((turn + 1))
     done
     awk -v paths="$paths" '

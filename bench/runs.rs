@@ -1,30 +1,172 @@
-//! What the passes of bench/runs.sh come to, written by hand with the standard library, for files
-//! without quotes: finds the columns by the header, tests the number of fields, that a time is a
-//! number in its range, a user UTF-8 and an action one of the three, and folds the records by user.
-//! Prints how many groups there are, and the first and the last one's cells.
-//! Usage: runs sessions|count|funnel|list FILE
+//! What the scripts of bench/workers.sh and bench/runs.sh come to, written by hand with the
+//! standard library, for files without quotes: finds the columns by the header, tests the number of
+//! fields, that a time is a number in its range, a user UTF-8 and an action one of the three, and
+//! folds the records by user. Prints how many groups there are, and the first and the last one's
+//! cells.
+//! Usage: runs sessions|count|funnel|list|shop FILE
 
 use std::collections::HashMap;
 use std::collections::hash_map::Entry;
 use std::process::ExitCode;
 
 const MOST: i64 = 1_000_000_000_000;
-const PAUSE: i64 = 30;
 
-#[derive(Clone, Copy, PartialEq)]
-enum Workload {
-    Sessions,
-    Count,
-    Funnel,
-    List,
+/// A record: its time, its user and its action.
+struct Record<'a> {
+    time: i64,
+    user: &'a str,
+    action: u8,
 }
 
-/// The state of a group: what was last, a number or a stage, and a list.
+/// The state of a group.
+trait State: Default {
+    /// Which of the three columns are read.
+    const TIME: bool = true;
+    const USER: bool = true;
+    const ACTION: bool = false;
+
+    fn step(&mut self, record: &Record);
+
+    /// Its cells, as `sym_bench` prints them.
+    fn cells(&self) -> String;
+}
+
 #[derive(Default)]
-struct State {
+struct Sessions {
     last: i64,
-    number: i64,
-    list: Vec<i64>,
+    open: i64,
+    done: Vec<i64>,
+}
+
+impl State for Sessions {
+    fn step(&mut self, record: &Record) {
+        if record.time - self.last > 30 {
+            self.done.push(self.open);
+            self.open = 1;
+        } else {
+            self.open += 1;
+        }
+        self.last = record.time;
+    }
+
+    fn cells(&self) -> String {
+        format!("at (1) {} [{}]", self.open, self.done.len())
+    }
+}
+
+#[derive(Default)]
+struct Count(i64);
+
+impl State for Count {
+    const TIME: bool = false;
+
+    fn step(&mut self, _record: &Record) {
+        self.0 += 1;
+    }
+
+    fn cells(&self) -> String {
+        format!("at {}", self.0)
+    }
+}
+
+#[derive(Default)]
+struct Funnel {
+    carted: bool,
+    bought: Vec<i64>,
+}
+
+impl State for Funnel {
+    const ACTION: bool = true;
+
+    fn step(&mut self, record: &Record) {
+        if record.action == b'c' {
+            self.carted = true;
+        } else if record.action == b'b' && self.carted {
+            self.bought.push(record.time);
+            self.carted = false;
+        }
+    }
+
+    fn cells(&self) -> String {
+        format!("at {} [{}]", u8::from(self.carted), self.bought.len())
+    }
+}
+
+#[derive(Default)]
+struct List(Vec<i64>);
+
+impl State for List {
+    const USER: bool = false;
+
+    fn step(&mut self, record: &Record) {
+        self.0.push(record.time);
+    }
+
+    fn cells(&self) -> String {
+        format!("at [{}]", self.0.len())
+    }
+}
+
+#[derive(Clone, Copy, Default, PartialEq)]
+enum Stage {
+    #[default]
+    Looking,
+    Carted,
+    Paid,
+}
+
+#[derive(Default)]
+struct Shop {
+    last: i64,
+    carted_at: i64,
+    stage: Stage,
+    soon: bool,
+    pages: i64,
+    views: i64,
+    visits: Vec<i64>,
+    bought: Vec<i64>,
+}
+
+impl State for Shop {
+    const ACTION: bool = true;
+
+    fn step(&mut self, record: &Record) {
+        if record.time - self.last > 600 {
+            self.visits.push(self.pages);
+            self.pages = 1;
+            self.views = 0;
+            self.stage = Stage::Looking;
+        } else {
+            self.pages += 1;
+        }
+        match (record.action, self.stage) {
+            (b'v', _) => self.views += 1,
+            (b'c', Stage::Looking) => {
+                self.stage = Stage::Carted;
+                self.carted_at = record.time;
+            }
+            (b'b', Stage::Carted) => {
+                self.bought.push(self.views);
+                self.stage = Stage::Paid;
+                self.views = 0;
+                self.soon = record.time - self.carted_at <= 300;
+            }
+            _ => {}
+        }
+        self.last = record.time;
+    }
+
+    fn cells(&self) -> String {
+        format!(
+            "at (1) (1) {} {} {} {} [{}] [{}]",
+            self.stage as u8,
+            u8::from(self.soon),
+            self.pages,
+            self.views,
+            self.visits.len(),
+            self.bought.len()
+        )
+    }
 }
 
 /// The one column with this name.
@@ -58,13 +200,6 @@ fn number(text: &[u8]) -> Option<i64> {
     Some(if negative { -size } else { size })
 }
 
-/// A record: its time, its user and its action.
-struct Record<'a> {
-    time: i64,
-    user: &'a str,
-    action: u8,
-}
-
 /// The columns of the fields, and the number of columns.
 struct Header {
     time: Option<usize>,
@@ -73,14 +208,14 @@ struct Header {
     columns: usize,
 }
 
-fn header(workload: Workload, line: &[u8]) -> Option<Header> {
+fn header<S: State>(line: &[u8]) -> Option<Header> {
     let wanted = |name: &[u8], needed: bool| -> Option<Option<usize>> {
         if needed { Some(Some(column(line, name)?)) } else { Some(None) }
     };
     Some(Header {
-        time: wanted(b"ts", workload != Workload::Count)?,
-        user: wanted(b"user", workload != Workload::List)?,
-        action: wanted(b"what", workload == Workload::Funnel)?,
+        time: wanted(b"ts", S::TIME)?,
+        user: wanted(b"user", S::USER)?,
+        action: wanted(b"what", S::ACTION)?,
         columns: line.split(|byte| *byte == b',').count(),
     })
 }
@@ -108,70 +243,44 @@ fn record<'a>(header: &Header, line: &'a [u8]) -> Option<Record<'a>> {
     }
 }
 
-fn step(workload: Workload, state: &mut State, record: &Record) {
-    match workload {
-        Workload::Sessions => {
-            if record.time - state.last > PAUSE {
-                state.list.push(state.number);
-                state.number = 1;
-            } else {
-                state.number += 1;
-            }
-            state.last = record.time;
-        }
-        Workload::Count => state.number += 1,
-        Workload::Funnel => {
-            if record.action == b'c' {
-                state.number = 1;
-            } else if record.action == b'b' && state.number == 1 {
-                state.list.push(record.time);
-                state.number = 0;
-            }
-        }
-        Workload::List => state.list.push(record.time),
-    }
-}
-
 /// The groups in order of their first records, or None for a bad file.
-fn fold(workload: Workload, bytes: &[u8]) -> Option<Vec<State>> {
+fn fold<S: State>(bytes: &[u8]) -> Option<Vec<S>> {
     let mut lines = bytes.split(|byte| *byte == b'\n').filter(|line| !line.is_empty());
     let mut places = HashMap::new();
     let mut groups = Vec::new();
     let Some(first) = lines.next() else {
         return Some(groups);
     };
-    let header = header(workload, first)?;
+    let header = header::<S>(first)?;
     for line in lines {
         let record = record(&header, line)?;
         let place = match places.entry(record.user) {
             Entry::Occupied(found) => *found.get(),
             Entry::Vacant(free) => {
-                groups.push(State::default());
+                groups.push(S::default());
                 *free.insert(groups.len() - 1)
             }
         };
-        step(workload, &mut groups[place], &record);
+        groups[place].step(&record);
     }
     Some(groups)
 }
 
-fn cells(workload: Workload, state: &State) -> String {
-    let (number, size) = (state.number, state.list.len());
-    match workload {
-        Workload::Sessions => format!("at (1) {number} [{size}]"),
-        Workload::Count => format!("at {number}"),
-        Workload::Funnel => format!("at {number} [{size}]"),
-        Workload::List => format!("at [{size}]"),
-    }
+/// How many groups a file has, and the first and the last one's cells.
+fn found<S: State>(bytes: &[u8]) -> Option<String> {
+    let groups = fold::<S>(bytes)?;
+    let (first, last) = (groups.first()?.cells(), groups.last()?.cells());
+    Some(format!("{} groups; first {first}; last {last}", groups.len()))
 }
 
 fn main() -> ExitCode {
     let mut words = std::env::args().skip(1);
-    let workload = match words.next().as_deref() {
-        Some("sessions") => Workload::Sessions,
-        Some("count") => Workload::Count,
-        Some("funnel") => Workload::Funnel,
-        Some("list") => Workload::List,
+    let found = match words.next().as_deref() {
+        Some("sessions") => found::<Sessions>,
+        Some("count") => found::<Count>,
+        Some("funnel") => found::<Funnel>,
+        Some("list") => found::<List>,
+        Some("shop") => found::<Shop>,
         _ => return ExitCode::from(2),
     };
     let Some(path) = words.next() else {
@@ -180,17 +289,9 @@ fn main() -> ExitCode {
     let Ok(bytes) = std::fs::read(path) else {
         return ExitCode::from(5);
     };
-    let Some(groups) = fold(workload, &bytes) else {
+    let Some(text) = found(&bytes) else {
         return ExitCode::from(4);
     };
-    let (Some(first), Some(last)) = (groups.first(), groups.last()) else {
-        return ExitCode::from(4);
-    };
-    println!(
-        "{} groups; first {}; last {}",
-        groups.len(),
-        cells(workload, first),
-        cells(workload, last)
-    );
+    println!("{text}");
     ExitCode::SUCCESS
 }

@@ -14,8 +14,9 @@
 set -eu
 
 here=$(CDPATH='' cd -P "$(dirname "$0")" && pwd)
-# shellcheck source=bench/sym_bench.sh
-. "$here/sym_bench.sh"
+# shellcheck source=bench/setup.sh
+. "$here/setup.sh"
+find_sym_bench
 
 limit=16
 workloads="sessions users count funnel list"
@@ -23,7 +24,7 @@ workloads="sessions users count funnel list"
 # The instructions of the pass of a workload over so many records, and over none.
 count() {
     valgrind --tool=callgrind --callgrind-out-file=/dev/null \
-        "$program" pass "$1" "$2" "$3" $limit 2>&1 >/dev/null | awk '/Collected/ { print $4 }'
+        "$sym_bench" pass "$1" "$2" "$3" $limit 2>&1 >/dev/null | awk '/Collected/ { print $4 }'
 }
 
 # What a record takes: the way's instructions less those of making the log.
@@ -33,7 +34,7 @@ of_record() {
 
 if [ "${1:-}" = --instructions ]; then
     records=${2:-65536}
-    command -v valgrind >/dev/null || stop "there is no valgrind"
+    needs valgrind
     printf '%-9s %7s %7s %7s %6s\n' workload rows fold runs ratio
     for workload in $workloads; do
         rows=$(of_record rows "$workload")
@@ -46,9 +47,7 @@ if [ "${1:-}" = --instructions ]; then
 fi
 
 records=${1:-4000000}
-for tool in rustc gawk mawk; do
-    command -v "$tool" >/dev/null || stop "there is no $tool"
-done
+needs rustc gawk mawk
 rustc -O -o "$work/runs" "$here/runs.rs"
 
 # The users of a workload's log, and whether it has actions.
@@ -76,25 +75,25 @@ note() {
 
 for workload in $workloads; do
     acts=0
-    if [ $workload = funnel ]; then acts=1; fi
+    if [ "$workload" = funnel ]; then acts=1; fi
     log=$work/log.csv
-    mawk -v records="$records" -v users="$(users_of $workload)" -v acts=$acts \
+    mawk -v records="$records" -v users="$(users_of "$workload")" -v acts=$acts \
         -f "$here/visits.awk" >"$log"
     turn=1
     while [ "$turn" -le "$turns" ]; do
         for way in fold rows runs; do
-            "$program" pass $way $workload "$records" $limit >"$work/found" 2>"$work/took" ||
+            "$sym_bench" pass $way "$workload" "$records" $limit >"$work/found" 2>"$work/took" ||
                 stop "$way of $workload failed"
-            note $way $workload "$(cut -d' ' -f2 "$work/took")"
+            note $way "$workload" "$(cut -d' ' -f2 "$work/took")"
         done
         for peer in gawk mawk rust; do
             begin=$(date +%s%N)
             if [ $peer = rust ]; then
-                "$work/runs" "$(name_of $workload)" "$log" >"$work/found"
+                "$work/runs" "$(name_of "$workload")" "$log" >"$work/found"
             else
-                $peer -v workload="$(name_of $workload)" -f "$here/runs.awk" "$log" >"$work/found"
+                $peer -v workload="$(name_of "$workload")" -f "$here/runs.awk" "$log" >"$work/found"
             fi
-            note $peer $workload $(($(date +%s%N) - begin))
+            note $peer "$workload" $(($(date +%s%N) - begin))
         done
         turn=$((turn + 1))
     done

@@ -14,9 +14,10 @@ set -eu
 here=$(CDPATH='' cd -P "$(dirname "$0")" && pwd)
 # shellcheck source=bench/setup.sh
 . "$here/setup.sh"
+needs mawk "$timer"
+find_symple
 
 records=${1:-1000000}
-turns=${TURNS:-3}
 programs="run none thousandth every report pass"
 
 # run WAY: one of the programs; it writes $work/text, and what it took to $work/used.

@@ -11,9 +11,10 @@ set -eu
 here=$(CDPATH='' cd -P "$(dirname "$0")" && pwd)
 # shellcheck source=bench/setup.sh
 . "$here/setup.sh"
+needs mawk "$timer"
+find_symple
 
 records=${1:-4000000}
-turns=${TURNS:-3}
 script=$here/sessions.symple
 
 # turn NAME ARGUMENTS..: one run with these arguments, its time and memory added to NAME.turns.
