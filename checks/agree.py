@@ -376,7 +376,7 @@ class Maker:
     # Files.
 
     def bad(self):
-        return self.chance(0.004)
+        return not self.long and self.chance(0.004)
 
     def value(self, kind, has_default):
         if has_default and self.chance(0.2):
@@ -426,7 +426,9 @@ class Maker:
         rows = [",".join(self.quoted(header) for header, _ in named)]
         if rows == [""]:
             rows = ['""']
-        many = self.pick([0, 1, 2, 3, 5, 8, 8, 13, 21, 40])
+        # A long file has no bad row, and so many of a group that workers explore them.
+        self.long = self.chance(0.1)
+        many = 300 if self.long else self.pick([0, 1, 2, 3, 5, 8, 8, 13, 21, 40])
         rows += [self.row([column for _, column in named]) for _ in range(many)]
         text = end.join(rows) + self.pick([end, end, ""])
         if self.chance(0.03):

@@ -200,7 +200,7 @@ try_distributed() {
 find_program
 
 for document in README.md docs/TUTORIAL.md docs/LOGS.md docs/LANGUAGE.md docs/MESSAGES.md \
-    docs/FORMS.md docs/TRACES.md docs/TOOLS.md; do
+    docs/FORMS.md docs/TRACES.md docs/TOOLS.md docs/QUERIES.md examples/queries/*/README.md; do
     if [ -e "$document" ]; then
         run_document "$document"
     fi
