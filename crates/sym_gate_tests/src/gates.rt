@@ -67,7 +67,7 @@ fn of_two<T: Threads + Wait + Sync>(
     course_of(rt, alloc, TWO, worked, wanted, hold)
 }
 
-// A round of three chunks, the first of which is held until both others are claimed.
+// A round of three chunks, the first of which is held until the last one is claimed.
 fn of_three<T: Threads + Wait + Sync>(
     rt: &T,
     alloc: Global,
@@ -80,7 +80,7 @@ fn of_three<T: Threads + Wait + Sync>(
         groups: 2,
         bad: None,
     };
-    let hold = Holder::new(Until::TwoChunks, turns);
+    let hold = Holder::new(Until::LastChunk, turns);
     course_of(rt, alloc, THREE, worked, wanted, hold)
 }
 
@@ -101,11 +101,6 @@ const ONE_WORKER: Worked = Worked {
 
 const SERIAL: Worked = Worked {
     body: Body::Serial,
-    workers: 2,
-};
-
-const HALVES: Worked = Worked {
-    body: Body::Halves,
     workers: 2,
 };
 
@@ -133,7 +128,7 @@ fn a_body_on_one_thread_is_seen(rt: HostRuntime) -> Result<(), Fail> {
 }
 
 #[test]
-fn one_worker_claims_all_that_the_other_leaves(rt: HostRuntime) -> Result<(), Fail> {
+fn the_other_worker_takes_the_next_stretch(rt: HostRuntime) -> Result<(), Fail> {
     assert_eq!(rt;
         of_three(&rt, rt.alloc(), TWO_WORKERS, TURNS)?,
         Course::Through
@@ -141,16 +136,6 @@ fn one_worker_claims_all_that_the_other_leaves(rt: HostRuntime) -> Result<(), Fa
     assert_eq!(rt;
         of_three(&rt, rt.alloc(), BY_THE_GATE, TURNS)?,
         Course::Through
-    );
-    Ok(())
-}
-
-#[test]
-fn a_body_whose_workers_have_their_parts_beforehand_is_seen(rt: HostRuntime) -> Result<(), Fail> {
-    assert_eq!(rt; of_two(&rt, rt.alloc(), HALVES, TURNS)?, Course::Through);
-    assert_eq!(rt;
-        of_three(&rt, rt.alloc(), HALVES, FEW_TURNS)?,
-        Course::GaveUp
     );
     assert_eq!(rt;
         of_three(&rt, rt.alloc(), SERIAL, FEW_TURNS)?,

@@ -14,8 +14,8 @@ pub(crate) enum Until {
     Now,
     /// Until the other one of two workers has claimed a chunk.
     OtherWorker,
-    /// Until the second and the third chunk are claimed.
-    TwoChunks,
+    /// Until the third chunk is claimed.
+    LastChunk,
 }
 
 /// Notes the chunks that are claimed, and holds the worker of the first one. A hold ends by itself
@@ -65,7 +65,7 @@ impl Holder {
             Until::Now => true,
             Until::OtherWorker if worker % 2 == 0 => self.odd.load(Ordering::SeqCst),
             Until::OtherWorker => self.even.load(Ordering::SeqCst),
-            Until::TwoChunks => self.claims.load(Ordering::SeqCst) & 0xff0 == 0x110,
+            Until::LastChunk => self.claims.load(Ordering::SeqCst) & 0xf00 == 0x100,
         }
     }
 
