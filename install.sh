@@ -27,7 +27,7 @@ usage() {
 # files COMMAND: calls it with each file here, its mode, and its place below the prefix.
 files() {
     "$1" "$program" 755 $parts/symple
-    for file in usage.txt explain.sh script.awk csv.awk input.awk; do
+    for file in usage.txt version.sh script.awk csv.awk input.awk refused.sh explain.sh; do
         "$1" "$root/share/launcher/$file" 644 $parts/$file
     done
     "$1" "$sources" 644 $parts/SOURCES
