@@ -543,7 +543,7 @@ try_build() {
 }
 
 # What the launcher takes of a processor beside the program, in milliseconds: far less than reading
-# all of the code. By hand, on a machine that is idle, it is 3 to 5.
+# all of the code. By hand, on a machine that is idle, it is 2 to 4.
 try_cost() {
     if [ "$program" != "$root/dist/symple" ]; then
         skipped "dist/symple isn't what the launcher runs: what it takes isn't measured"

@@ -398,7 +398,7 @@ try_stops() {
     is 3 'people,at\n3,0\nsymple-prepare: stopped,,\n' \
         "symple-prepare: $work/log.csv:3: at: not a time\n" 'stopped'
     cp "$out" "$work/cut.csv"
-    run ./symple run examples/lift.symple "$work/cut.csv"
+    run "$program" run examples/lift.symple "$work/cut.csv"
     is 4 '' "symple: $work/cut.csv: record 2: 3 fields\n" 'a log that is cut off is taken'
     bytes 'people\n3\n"4' >"$work/log.csv"
     run "$prepare" "$work/log.csv"
@@ -428,7 +428,7 @@ try_manual() {
 try_templates() {
     for script in share/templates/*.symple; do
         name=${script%.symple}
-        run ./symple run "$script" "$name.csv"
+        run "$program" run "$script" "$name.csv"
         diff "$name.report" "$out" >&2
         note $? "$script: another report than $name.report"
         [ "$status" -le 1 ]
@@ -438,8 +438,7 @@ try_templates() {
     done
 }
 
-# Builds the program where it has to be built, so that it isn't built within a trial.
-./symple run examples/counter.symple examples/counter.csv >/dev/null || exit 1
+find_program
 
 try_times
 try_epochs
