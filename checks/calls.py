@@ -1,7 +1,7 @@
 #!/usr/bin/env python3
-"""Compares docs/CALLS.md with the sources: each public call of the crates has its row, each row
-names a call that is there, each clause in a row is a clause of that call, and nothing that a call
-could change is said to be the same.
+"""Compares docs/CALLS.md with the sources: each public call of the crates has its row, or is in a
+list below the rows, and each name there is a call; each clause in a row is a clause of that call;
+and nothing that a call could change is said to be the same.
 
     calls.py [--list]
 
@@ -250,14 +250,30 @@ class Row:
         return found
 
 
+# The lists of calls without rows of their own: how each begins, and what a row would say.
+LISTS = {
+    "These may only run out of memory, and change nothing: ": ["NoMemory", "free", "same"],
+    "These refuse nothing: ": ["none", "", ""],
+}
+
+
 def rows():
     """The rows of the document. One without a call goes on with the call of the row before."""
     crate, names = None, []
+    cells_of_list = None
     with open(os.path.join(ROOT, "docs", "CALLS.md"), encoding="utf-8") as file:
         for number, line in enumerate(file, 1):
             match = re.match(r"^## `(\w+)`$", line)
             if match:
                 crate = match.group(1)
+            if line == "\n":
+                cells_of_list = None
+            for beginning, cells in LISTS.items():
+                if line.startswith(beginning):
+                    cells_of_list = cells
+            if cells_of_list and crate is not None:
+                yield Row(crate, re.findall(r"`([\w:]+)`", line), cells_of_list, number)
+                continue
             cells = [cell.strip() for cell in line.strip().split("|")[1:-1]]
             if crate is None or len(cells) != 4 or cells[0] in ("Call", "---"):
                 continue
