@@ -153,6 +153,9 @@ try_formats() {
     refuses 't\n1\n' "--time t:%Q: the format doesn't parse: 'Q' is a bad directive in format '%Q'" \
         --time t:%Q
     refuses 't\n1\n' '--time t:%d.%m.: the format has no year, month or day' --time t:%d.%m.
+    run "$prepare" --time 't:%Y-%m-%d %d' "$work/log.csv"
+    [ "$status" -eq 2 ] && [ ! -s "$out" ] && grep -q "the format doesn't parse" "$work/err"
+    note $? "a format that has a directive twice: status $status"
     refuses 't\n1\n' '--time t:%Y-%m-%d %I: the format has an hour of twelve without %p' \
         --time 't:%Y-%m-%d %I'
     refuses 't\n1\n' "--time t:%Y-%m-%d %Z: %Z isn't taken, since names of zones are ambiguous; use --zone" \
@@ -248,6 +251,58 @@ end
             note $? "$name $options: other records beside those that are rejected"
         done
     done
+}
+
+# The times of Python's strptime for the same texts, of which many aren't times, or have other widths
+# than usual. They are made of few parts, so that what was learned of two texts serves a third one.
+try_many_formats() {
+    python3 - "$prepare" "$work" <<'end'
+import csv, datetime, random, subprocess, sys
+
+random.seed(11)
+prepare, work = sys.argv[1:]
+epoch = datetime.datetime(1970, 1, 1, tzinfo=datetime.timezone.utc)
+months = "Jan Feb mar DEC Mai".split()
+failed = 0
+for form in ["%d/%b/%Y:%H:%M:%S %z", "%Y-%m-%d %H:%M:%S", "%Y%m%d%H%M%S", "%H:%M:%S %d.%m.%Y",
+             "%b %d %H:%M:%S %Y", "%S %Y-%m-%d", "%d.%m.%Y %H:%M", "%Y-%m-%dT%H:%M:%S.%f%z",
+             "%z %Y-%m-%d %H:%M:%S"]:
+    texts = []
+    for _ in range(3000):
+        width = random.choice([2, 2, 2, 2, 2, 1])
+        text = form
+        for directive, value in {
+            "%Y": random.choice(["2026", "2024", "1969", "26"] + ["2026"] * 9),
+            "%m": f"{random.choice([0, 2, 3, 11, 13]):0{width}}",
+            "%d": f"{random.choice([0, 1, 9, 29, 31]):0{width}}",
+            "%b": random.choice(months),
+            "%H": f"{random.choice([0, 23, 24]):0{width}}",
+            "%M": f"{random.choice([0, 59, 60]):0{width}}",
+            "%S": f"{random.choice([0, 7, 30, 59, 60, 61, 62]):0{width}}",
+            "%f": random.choice(["0", "25", "123456"]),
+            "%z": random.choice(["Z", "+0200", "-05:30", "+02:00:30", "+0060", "z", "+2500", ""]),
+        }.items():
+            text = text.replace(directive, value)
+        texts.append(random.choice(["", "", "", "", "", " "]) + text)
+    wanted = []
+    for text in texts:
+        try:
+            time = datetime.datetime.strptime(text.strip(), form)
+        except ValueError:
+            continue
+        if time.tzinfo is None:
+            time = time.replace(tzinfo=datetime.timezone.utc)
+        wanted.append((time - epoch) // datetime.timedelta(seconds=1))
+    with open(f"{work}/forms.csv", "w", encoding="utf-8") as log:
+        log.write("t\n" + "".join(text + "\n" for text in texts))
+    command = [prepare, "--time", f"t:{form}", "--rejects", f"{work}/rejects", f"{work}/forms.csv"]
+    lines = subprocess.run(command, stdout=subprocess.PIPE, stderr=subprocess.DEVNULL).stdout
+    if lines.decode().split() != ["t"] + [str(number) for number in wanted] or len(wanted) < 99:
+        print(form, len(wanted), file=sys.stderr)
+        failed = 1
+sys.exit(failed)
+end
+    note $? "--time: other seconds than those of Python's strptime"
 }
 
 # The times of GNU date for the same texts.
@@ -444,6 +499,7 @@ try_times
 try_epochs
 try_zones
 try_formats
+try_many_formats
 try_decimals
 try_rows
 try_long_logs
