@@ -266,10 +266,17 @@ months = "Jan Feb mar DEC Mai".split()
 failed = 0
 for form in ["%d/%b/%Y:%H:%M:%S %z", "%Y-%m-%d %H:%M:%S", "%Y%m%d%H%M%S", "%H:%M:%S %d.%m.%Y",
              "%b %d %H:%M:%S %Y", "%S %Y-%m-%d", "%d.%m.%Y %H:%M", "%Y-%m-%dT%H:%M:%S.%f%z",
-             "%z %Y-%m-%d %H:%M:%S"]:
+             "%z %Y-%m-%d %H:%M:%S", "iso %Y-%m-%d %H:%M:%S%z"]:
+    option = form
+    widths = [2, 2, 2, 2, 2, 1]
+    offsets = ["Z", "+0200", "-05:30", "+02:00:30", "+0060", "z", "+2500", ""]
+    if form.startswith("iso "):
+        option, form = form.split(" ", 1)
+        widths = [2]
+        offsets = ["Z", "+0200", "-05:30", "+0060", "+2500"]
     texts = []
     for _ in range(3000):
-        width = random.choice([2, 2, 2, 2, 2, 1])
+        width = random.choice(widths)
         text = form
         for directive, value in {
             "%Y": random.choice(["2026", "2024", "1969", "26"] + ["2026"] * 9),
@@ -280,7 +287,7 @@ for form in ["%d/%b/%Y:%H:%M:%S %z", "%Y-%m-%d %H:%M:%S", "%Y%m%d%H%M%S", "%H:%M
             "%M": f"{random.choice([0, 59, 60]):0{width}}",
             "%S": f"{random.choice([0, 7, 30, 59, 60, 61, 62]):0{width}}",
             "%f": random.choice(["0", "25", "123456"]),
-            "%z": random.choice(["Z", "+0200", "-05:30", "+02:00:30", "+0060", "z", "+2500", ""]),
+            "%z": random.choice(offsets),
         }.items():
             text = text.replace(directive, value)
         texts.append(random.choice(["", "", "", "", "", " "]) + text)
@@ -295,10 +302,10 @@ for form in ["%d/%b/%Y:%H:%M:%S %z", "%Y-%m-%d %H:%M:%S", "%Y%m%d%H%M%S", "%H:%M
         wanted.append((time - epoch) // datetime.timedelta(seconds=1))
     with open(f"{work}/forms.csv", "w", encoding="utf-8") as log:
         log.write("t\n" + "".join(text + "\n" for text in texts))
-    command = [prepare, "--time", f"t:{form}", "--rejects", f"{work}/rejects", f"{work}/forms.csv"]
+    command = [prepare, "--time", f"t:{option}", "--rejects", f"{work}/rejects", f"{work}/forms.csv"]
     lines = subprocess.run(command, stdout=subprocess.PIPE, stderr=subprocess.DEVNULL).stdout
     if lines.decode().split() != ["t"] + [str(number) for number in wanted] or len(wanted) < 99:
-        print(form, len(wanted), file=sys.stderr)
+        print(option, len(wanted), file=sys.stderr)
         failed = 1
 sys.exit(failed)
 end
