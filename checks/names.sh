@@ -9,6 +9,7 @@
 # - in a crate's README, docs/ARCHITECTURE.md, docs/DECISIONS.md and CONTRIBUTING.md, each single
 #   name in backticks, in the sources of some crate;
 # - in docs/CALLS.md each public call with its clauses, by calls.py beside this file;
+# - each file that a link leads to, and the heading there;
 # - each text that a mutant changes, on one line of its file.
 # The last line counts what was looked up and what is missing.
 # shellcheck disable=SC2016 # the backticks are those of the documents
@@ -191,6 +192,50 @@ check_mutants() {
     done
 }
 check_mutants
+
+# Each link of the documents leads to a file, or to one of its headings.
+check_links() {
+    awk '
+        # The name by which a heading is linked to.
+        function anchor(heading) {
+            sub(/^#+ +/, "", heading)
+            heading = tolower(heading)
+            gsub(/[^a-z0-9_ -]/, "", heading)
+            gsub(/ /, "-", heading)
+            return heading
+        }
+        FNR == 1 {
+            folder = FILENAME
+            sub(/[^\/]*$/, "", folder)
+        }
+        /^#+ / { print "anchor " FILENAME "#" anchor($0) }
+        /^    / { next }
+        {
+            gsub(/`[^`]*`/, "")
+            while (match($0, /\]\([^) ]+\)/)) {
+                link = substr($0, RSTART + 2, RLENGTH - 3)
+                $0 = substr($0, RSTART + RLENGTH)
+                if (link ~ /^[a-z]+:\/\//)
+                    continue
+                link = link ~ /^#/ ? FILENAME link : folder link
+                while (sub(/[^\/]+\/\.\.\//, "", link))
+                    ;
+                print "link " link
+            }
+        }
+    ' "$@" | sort -u >"$work/linked"
+    sed -n 's/^anchor //p' "$work/linked" >"$work/anchors"
+    sed -n 's/^link //p' "$work/linked" >"$work/links"
+    while read -r link; do
+        case $link in
+            *.md#*) grep -qxF "$link" "$work/anchors" ;;
+            *) [ -e "$link" ] ;;
+        esac
+        note $? "a link leads to $link, which isn't there"
+    done <"$work/links"
+}
+check_links README.md CONTRIBUTING.md docs/*.md bench/README.md dist/README.md share/README.md \
+    share/templates/README.md examples/queries/*/README.md crates/*/README.md
 
 python3 "$here/calls.py"
 note $? "docs/CALLS.md: not the calls of the sources"
