@@ -96,15 +96,15 @@ function on_number(value) {
     value = trimmed(value)
     if (value == "")
         say("it is empty: field x: num else 0; gives it a number")
-    else if (value ~ /^[-+]?[0-9]+$/)
-        say("numbers are from -10^12 to 10^12, and this one isn't; of epoch milliseconds take a" \
-            " base off, or cut them to seconds")
-    else if (value ~ /^[0-9][0-9][0-9][0-9]-[0-9][0-9]-[0-9][0-9]/ ||
+    else if (value ~ /^[-+]?[0-9]+$/) {
+        say("numbers are from -10^12 to 10^12, and this one isn't")
+        say("symple-prepare --time COLUMN:ms makes seconds of epoch milliseconds")
+    } else if (value ~ /^[0-9][0-9][0-9][0-9]-[0-9][0-9]-[0-9][0-9]/ ||
         value ~ /^[0-9]+[\/.][0-9]+[\/.][0-9]+/ || value ~ /^[0-9]+:[0-9][0-9]/)
-        say("a time has to be a number, such as seconds: see \"Preparing a log\" in the manual")
+        say("a time has to be a number: symple-prepare --time COLUMN makes seconds of it")
     else if (value ~ /^[-+]?[0-9]*\.[0-9]+$/ || value ~ /^[-+]?[0-9]+,[0-9]$/ ||
         value ~ /^[-+]?[0-9]+,[0-9][0-9]$/)
-        say("numbers are whole: let the log count hundredths, 150 for 1.5")
+        say("numbers are whole: symple-prepare --scale COLUMN:2 makes hundredths, 150 of 1.5")
     else if (value ~ /^[-+]?[0-9]+([,'_ ][0-9][0-9][0-9])+$/)
         say("a number has digits alone, without signs between them")
     else
