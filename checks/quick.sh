@@ -7,9 +7,7 @@
 # .ci/run, the gate, runs the same scripts after it has proved all, and more.
 cd "$(dirname "$0")/.." || exit 1
 status=0
-if [ -e dist/symple ]; then
-    checks/dist.sh --sums || status=1
-fi
+checks/dist.sh --sums || status=1
 for check in launcher program forms examples queries agree; do
     "checks/$check.sh" || status=1
 done
