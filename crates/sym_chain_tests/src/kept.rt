@@ -70,7 +70,7 @@ fn stretched(
 {
     let mut stretch = Stretch::new(alloc, 0, most);
     stretch.take(alloc, checked, chunk, limit)?;
-    stretch.finish()
+    stretch.finish(alloc, checked, limit)
 }
 
 /// Whether so many records are kept, and segments cover some exactly where none are.

@@ -1,5 +1,5 @@
 -- The stretches of a round, and what their runs stand for.
-use Rattle.std.proofs.Common.{◌≡◌, ◌∙◌, ℕ, ◌+◌, ◌*◌, ◌≤◌, ◌<◌, List, None, length, min, sym, subst, arith}
+use Rattle.std.proofs.Common.{◌≡◌, ◌∙◌, ℕ, ◌+◌, ◌*◌, ◌≤◌, ◌<◌, List, None, Result, Ok, Err, IfOk, length, min, sym, subst, arith}
 use Rattle.std.specs.Int.{div_ceil}
 use Rattle.std.proofs.lemmas.Grind.{div_ceil_times}
 use Rattle.std.proofs.Math.Nat.{mul-le-mul_right}
@@ -24,6 +24,12 @@ stretched chunks each count some is =
           omega (arith, bounds.1, most);
       all = bounds.0;
     })
+
+-- What finishing an open run of these chunks gives.
+pub finished : {E : Type 0} (work : Work) (first end lo hi : ℕ) (r : Result Run E) → lo ≡ first → hi ≡ end → IfOk r (IsFromTo lo hi) → IfOk r (StandsForChunks (checked_plan work.checked) work.limit work.chunks)
+    → IfOk r (StandsFrom work first end)
+finished work first end lo hi (Ok run) from to ends stands = record { ends = record { from = ends.from ∙ from; to = ends.to ∙ to }; stands = stands }
+finished work first end lo hi (Err e) from to ends stands = tt
 
 -- The run of a stretch's chunks, where the work is an equal one.
 pub of_stretch : (work lent : Work) (each size len count number end : ℕ) (run : Run) → work ≡ lent → each ≡ size → len ≡ length work.chunks → AreStretches (length lent.chunks) size count → number < count

@@ -47,7 +47,7 @@ fn run_between<E: Enter>(
         hold.enter(worker, number);
         stretch.take(alloc, &work.checked, &chunks[number as usize], work.limit)?;
     }
-    stretch.finish()
+    stretch.finish(alloc, &work.checked, work.limit)
 }
 
 // A worker's number and its pass to the board.

@@ -1,7 +1,8 @@
--- Groups whose chains are closed, one after the other.
-use Rattle.std.proofs.Common.{◌≡◌, ◌∙◌, ap, ap₂, sym, refl, subst, ℕ, List, [], ◌∷◌, ◌++◌, All}
+-- Groups whose chains are closed, one after the other: those of a run, and open ones.
+use Rattle.std.proofs.Common.{◌≡◌, ◌∙◌, ap, ap₂, sym, refl, subst, ℕ, List, [], ◌∷◌, ◌++◌, All, map}
 use Rattle.std.proofs.lemmas.List.{append_assoc, append-nil}
-use Rattle.std.proofs.lemmas.List.Elements.{All-cons, All-head, All-nil, All-push, All-tail}
+use Rattle.std.proofs.lemmas.List.Elements.{All-cons, All-nil}
+use Rattle.std.proofs.lemmas.Slice.Zip.{all_zipped_more}
 use Rattle.std.specs.List.{AllZip, IsDistinct}
 use Rattle.std.specs.Map.{keys_of}
 use Rattle.indexmap.specs.IndexMap.{insert_entry}
@@ -9,85 +10,104 @@ use Rattle.sym_base.specs.declared.values.value.Key.{Key}
 use Rattle.sym_base.specs.declared.values.record.Record.{Record}
 use Rattle.sym_check.specs.Meaning.Groups.{is_key, records_of}
 use Rattle.sym_check.specs.Plan.ScriptPlans.{ScriptPlan}
+use Rattle.sym_path.proofs.Lists.{zip_all}
 use Rattle.sym_plain.specs.Pairs.{HaveDistinctKeys}
 use Rattle.sym_plain.proofs.Pairs.{insert-next}
 use Rattle.sym_run.specs.Chained.{Chained}
 use Rattle.sym_run.specs.Chains.{ChainFits, ChainStandsFor, IsClosed, IsTight}
-use Rattle.sym_run.specs.Runs.{AreClosed, AreTight, GroupsFit, GroupsStandFor, IsClosing}
+use Rattle.sym_run.specs.Kinds.{EachIsClosed, EachStandsFor, Kind}
+use Rattle.sym_run.specs.Runs.{AreClosed, AreTight, GroupsFit, GroupsStandFor}
 use Rattle.sym_run.proofs.GroupPuts.{all_split}
-use Rattle.sym_run.proofs.JoinedGroups.{Chains}
-use Rattle.sym_run.proofs.TakenGroups.{zip_last}
 
-keys-both : (xs ys : Chains) → keys_of (xs ++ ys) ≡ keys_of xs ++ keys_of ys
+keys-both : {V : Type 0} (xs ys : List (Key × V)) → keys_of (xs ++ ys) ≡ keys_of xs ++ keys_of ys
 keys-both [] ys = refl
 keys-both (x ∷ xs) ys = ap (λ (ks : List Key). x.0 ∷ ks) (keys-both xs ys)
 
-closing_keys : (p : ScriptPlan) (old new : Chains) → AllZip (IsClosing p) old new → keys_of new ≡ keys_of old
-closing_keys p [] [] h = refl
-closing_keys p [] (y ∷ ys) h = absurd h
-closing_keys p (x ∷ xs) [] h = absurd h
-closing_keys p (x ∷ xs) (y ∷ ys) h = ap₂ (λ (k : Key) (ks : List Key). k ∷ ks) h.0.key (closing_keys p xs ys h.1)
+keys-with : {V W : Type 0} (now : W) (xs : List (Key × V)) → keys_of (map (λ (q : Key × V). (q.0, now)) xs) ≡ keys_of xs
+keys-with now [] = refl
+keys-with now (x ∷ xs) = ap (λ (ks : List Key). x.0 ∷ ks) (keys-with now xs)
 
-closing_stand : (p : ScriptPlan) (records : List Record) (old new : Chains) → AllZip (IsClosing p) old new → All (λ group. ChainStandsFor p (records_of p group.0 records) group.1) old
-    → All (λ group. ChainStandsFor p (records_of p group.0 records) group.1) new
-closing_stand p records [] [] h s = All-nil _
-closing_stand p records [] (y ∷ ys) h s = absurd h
-closing_stand p records (x ∷ xs) [] h s = absurd h
-closing_stand p records (x ∷ xs) (y ∷ ys) h s =
-    All-cons (λ (group : Key × Chained). ChainStandsFor p (records_of p group.0 records) group.1) y ys
-    (subst (λ (k : Key). ChainStandsFor p (records_of p k records) y.1) (sym h.0.key)
-    (h.0.stands (records_of p x.0 records) (All-head (λ (group : Key × Chained). ChainStandsFor p (records_of p group.0 records) group.1) x xs s)))
-    (closing_stand p records xs ys h.1 (All-tail (λ (group : Key × Chained). ChainStandsFor p (records_of p group.0 records) group.1) x xs s))
+pub all_units : {A : Type 0} (xs : List A) → All (λ (x : A). Unit {0}) xs
+all_units {A} [] = All-nil (λ (x : A). Unit {0})
+all_units {A} (x ∷ xs) = All-cons (λ (x : A). Unit {0}) x xs tt (all_units xs)
+
+-- Chains as they stand, which closing leaves without kept records whatever they keep.
+abbrev pub kept_kind : Kind Chained
+kept_kind = record { fits = ChainFits; tight = IsTight; stands = ChainStandsFor; closed = λ chain. Unit {0} }
+
+-- A group with its chain closed: the key is the same, and the chain fits, is tight, and stands for the
+-- records for which the old one stood.
+pub record IsClosedTo {C : Type 0} (kind : Kind C) (p : ScriptPlan) (limit : ℕ) (old : Key × C) (new : Key × Chained) : Type 0 where
+  pub key : new.0 ≡ old.0
+  pub fits : ChainFits p new.1
+  pub tight : IsTight p limit new.1
+  pub closed : kind.closed old.1 → IsClosed new.1
+  pub stands : (records : List Record) → kind.stands p records old.1 → ChainStandsFor p records new.1
 
 -- The first groups are closed; the others are left.
-pub record AreClosing (p : ScriptPlan) (limit : ℕ) (old others new : Chains) : Type 0 where
-  pub done : Chains
-  pub all : done ++ others ≡ old
-  pub each : AllZip (IsClosing p) done new
-  pub closed : AreClosed new
-  pub fits : GroupsFit p new
-  pub tight : AreTight p limit new
+pub record AreClosing {C : Type 0} (kind : Kind C) (p : ScriptPlan) (limit : ℕ) (old left : List (Key × C)) (new : List (Key × Chained)) : Type 0 where
+  pub done : List (Key × C)
+  pub all : done ++ left ≡ old
+  pub each : AllZip (IsClosedTo kind p limit) done new
 
-pub closing_none : (p : ScriptPlan) (limit : ℕ) (old : Chains) → AreClosing p limit old old []
-closing_none p limit old = record { done = []; all = refl; each = tt; closed = All-nil _; fits = All-nil _; tight = All-nil _ }
+module _ {C : Type 0} (kind : Kind C) (p : ScriptPlan) (limit : ℕ) where
+  abbrev To : Key × C → Key × Chained → Type 0
+  To old new = IsClosedTo kind p limit old new
 
--- The next chain that is left fits and is tight.
-pub left_fits : (p : ScriptPlan) (limit : ℕ) (old others new : Chains) (q : Key × Chained) → AreClosing p limit old (q ∷ others) new → GroupsFit p old → ChainFits p q.1
-left_fits p limit old others new q h fits =
-    all_split (λ (group : Key × Chained). ChainFits p group.1) h.done q others (subst (GroupsFit p) (sym h.all) fits)
+  abbrev Closing : List (Key × C) → List (Key × C) → List (Key × Chained) → Type 0
+  Closing old left new = AreClosing kind p limit old left new
 
-pub left_tight : (p : ScriptPlan) (limit : ℕ) (old others new : Chains) (q : Key × Chained) → AreClosing p limit old (q ∷ others) new → AreTight p limit old → IsTight p limit q.1
-left_tight p limit old others new q h tight =
-    all_split (λ (group : Key × Chained). IsTight p limit group.1) h.done q others (subst (AreTight p limit) (sym h.all) tight)
+  -- ---- one after the other
+  pub closing_none : (old left : List (Key × C)) (new : List (Key × Chained)) → left ≡ old → new ≡ [] → Closing old left new
+  closing_none old left new all none = record { done = []; all = all; each = subst (AllZip To []) (sym none) tt }
 
--- One group further.
-pub closing_on : (p : ScriptPlan) (limit : ℕ) (old others before after : Chains) (key : Key) (chain now : Chained) → AreClosing p limit old ((key, chain) ∷ others) before → HaveDistinctKeys old
-    → after ≡ insert_entry is_key before key now → IsClosed now → ChainFits p now → IsTight p limit now
-    → ((records : List Record) → ChainStandsFor p records chain → ChainStandsFor p records now) → AreClosing p limit old others after
-closing_on p limit old others before after key chain now h distinct is closed fits tight stands =
-    let keys : keys_of old ≡ keys_of (before ++ (key, now) ∷ others) =
-    ap keys_of (sym h.all) ∙ keys-both h.done ((key, chain) ∷ others)
-    ∙ ap (λ (ks : List Key). ks ++ key ∷ keys_of others) (sym (closing_keys p h.done before h.each)) ∙ sym (keys-both before ((key, now) ∷ others)) in
-    let apart : HaveDistinctKeys (before ++ (key, now) ∷ others) = subst (IsDistinct is_key) keys distinct in
-    let last : after ≡ before ++ (key, now) ∷ [] = is ∙ insert-next before (key, now) others apart in
-    record {
-      done = h.done ++ (key, chain) ∷ [];
-      all = append_assoc h.done ((key, chain) ∷ []) others ∙ h.all;
-      each = subst (AllZip (IsClosing p) (h.done ++ (key, chain) ∷ [])) (sym last)
-          (zip_last (IsClosing p) h.done before (key, chain) (key, now) h.each (record { key = refl; closed = closed; stands = stands }));
-      closed = subst AreClosed (sym last) (All-push (λ (group : Key × Chained). IsClosed group.1) before (key, now) h.closed closed);
-      fits = subst (GroupsFit p) (sym last) (All-push (λ (group : Key × Chained). ChainFits p group.1) before (key, now) h.fits fits);
-      tight = subst (AreTight p limit) (sym last) (All-push (λ (group : Key × Chained). IsTight p limit group.1) before (key, now) h.tight tight);
-    }
+  -- What holds of all groups holds of the next one that is left.
+  pub left_has : (P : Key × C → Type 0) (old left others : List (Key × C)) (new : List (Key × Chained)) (q : Key × C) → Closing old left new → left ≡ q ∷ others → All P old → P q
+  left_has P old left others new q h next all = all_split P h.done q others (subst (All P) (sym h.all ∙ ap (λ (gs : List (Key × C)). h.done ++ gs) next) all)
 
-pub closing_all : (p : ScriptPlan) (limit : ℕ) (old new : Chains) → AreClosing p limit old [] new → AllZip (IsClosing p) old new
-closing_all p limit old new h = subst (λ (gs : Chains). AllZip (IsClosing p) gs new) (sym (append-nil h.done) ∙ h.all) h.each
+  closing_keys : (old : List (Key × C)) (new : List (Key × Chained)) → AllZip To old new → keys_of new ≡ keys_of old
+  closing_keys [] [] h = refl
+  closing_keys [] (y ∷ ys) h = absurd h
+  closing_keys (x ∷ xs) [] h = absurd h
+  closing_keys (x ∷ xs) (y ∷ ys) h = ap₂ (λ (k : Key) (ks : List Key). k ∷ ks) h.0.key (closing_keys xs ys h.1)
 
-pub closing_groups : (p : ScriptPlan) (records : List Record) (old new : Chains) → AllZip (IsClosing p) old new → GroupsStandFor p records old → GroupsStandFor p records new
-closing_groups p records old new h s = record {
-  keys_are = closing_keys p old new h ∙ s.keys_are;
-  each = closing_stand p records old new h s.each;
-}
+  -- One group further.
+  pub closing_on : (old left others : List (Key × C)) (before after : List (Key × Chained)) (key : Key) (chain : C) (now : Chained) → Closing old left before → left ≡ (key, chain) ∷ others → HaveDistinctKeys old
+      → after ≡ insert_entry is_key before key now → To (key, chain) (key, now) → Closing old others after
+  closing_on old left others before after key chain now h next distinct is to =
+      let all : h.done ++ (key, chain) ∷ others ≡ old = ap (λ (gs : List (Key × C)). h.done ++ gs) (sym next) ∙ h.all in
+      let rest : List (Key × Chained) = map (λ (q : Key × C). (q.0, now)) others in
+      let same : keys_of old ≡ keys_of (before ++ (key, now) ∷ rest) =
+      ap keys_of (sym all) ∙ keys-both h.done ((key, chain) ∷ others)
+      ∙ ap (λ (ks : List Key). ks ++ key ∷ keys_of others) (sym (closing_keys h.done before h.each))
+      ∙ ap (λ (ks : List Key). keys_of before ++ key ∷ ks) (sym (keys-with now others)) ∙ sym (keys-both before ((key, now) ∷ rest)) in
+      let last : after ≡ before ++ (key, now) ∷ [] = is ∙ insert-next before (key, now) rest (subst (IsDistinct is_key) same distinct) in
+      record {
+        done = h.done ++ (key, chain) ∷ [];
+        all = append_assoc h.done ((key, chain) ∷ []) others ∙ all;
+        each = subst (AllZip To (h.done ++ (key, chain) ∷ [])) (sym last) (all_zipped_more To h.done before (key, chain) (key, now) h.each to);
+      }
 
-pub closing_distinct : (p : ScriptPlan) (limit : ℕ) (old new : Chains) → AreClosing p limit old [] new → HaveDistinctKeys old → HaveDistinctKeys new
-closing_distinct p limit old new h distinct = subst (IsDistinct is_key) (sym (closing_keys p old new (closing_all p limit old new h))) distinct
+  pub closing_all : (old left : List (Key × C)) (new : List (Key × Chained)) → Closing old left new → left ≡ [] → AllZip To old new
+  closing_all old left new h none =
+      subst (λ (gs : List (Key × C)). AllZip To gs new) (sym (append-nil h.done) ∙ ap (λ (gs : List (Key × C)). h.done ++ gs) (sym none) ∙ h.all) h.each
+
+  -- ---- all of them
+  pub closed_distinct : (old : List (Key × C)) (new : List (Key × Chained)) → AllZip To old new → HaveDistinctKeys old → HaveDistinctKeys new
+  closed_distinct old new h distinct = subst (IsDistinct is_key) (sym (closing_keys old new h)) distinct
+
+  pub closed_fit : (old : List (Key × C)) (new : List (Key × Chained)) → AllZip To old new → GroupsFit p new
+  closed_fit old new h = zip_all To (λ (group : Key × C). Unit {0}) (λ (group : Key × Chained). ChainFits p group.1) old new (λ x y to u. to.fits) h (all_units old)
+
+  pub closed_tight : (old : List (Key × C)) (new : List (Key × Chained)) → AllZip To old new → AreTight p limit new
+  closed_tight old new h = zip_all To (λ (group : Key × C). Unit {0}) (λ (group : Key × Chained). IsTight p limit group.1) old new (λ x y to u. to.tight) h (all_units old)
+
+  pub closed_close : (old : List (Key × C)) (new : List (Key × Chained)) → AllZip To old new → EachIsClosed kind old → AreClosed new
+  closed_close old new h closes = zip_all To (λ (group : Key × C). kind.closed group.1) (λ (group : Key × Chained). IsClosed group.1) old new (λ x y to one. to.closed one) h closes
+
+  pub closed_stand : (records : List Record) (old : List (Key × C)) (new : List (Key × Chained)) → AllZip To old new → EachStandsFor kind p records old → GroupsStandFor p records new
+  closed_stand records old new h stand = record {
+    keys_are = closing_keys old new h ∙ stand.keys_are;
+    each = zip_all To (λ (group : Key × C). kind.stands p (records_of p group.0 records) group.1) (λ (group : Key × Chained). ChainStandsFor p (records_of p group.0 records) group.1) old new
+        (λ x y to one. subst (λ (k : Key). ChainStandsFor p (records_of p k records) y.1) (sym to.key) (to.stands (records_of p x.0 records) one)) h stand.each;
+  }

@@ -16,8 +16,11 @@ use Rattle.sym_table.specs.ChunkRecords.{all_records, chunk_records}
 use Rattle.sym_table.specs.RowRecords.{in_turn}
 use Rattle.sym_path.proofs.Lists.{drop_get}
 use Rattle.sym_run.specs.declared.runs.Run.{Run}
+use Rattle.sym_run.specs.declared.opened.Open.{Open}
 use Rattle.sym_run.specs.Growing.{TakesOn}
-use Rattle.sym_run.specs.Runs.{AreTight, GroupsFit, GroupsStandFor, HasFound, IsFromTo, StandsForChunks}
+use Rattle.sym_run.specs.Kinds.{EachFits, EachIsTight, EachStandsFor, Kind}
+use Rattle.sym_run.specs.Opened.{OpenGroupsAreTight, OpenGroupsFit, open_kind}
+use Rattle.sym_run.specs.Runs.{AreTight, GroupsFit, GroupsStandFor, HasFound, HaveFound, IsFromTo, StandForChunks, StandsForChunks, chain_kind}
 
 abbrev Found : Type 0
 Found = Result (List Record) Bad
@@ -97,67 +100,69 @@ run_joined p limit chunks left right joined meet h k ends bad fits tight stand =
           h.found k.found tight stand));
     }
 
+-- What no chunks come to.
+pub found_none : {C : Type 0} (kind : Kind C) (p : ScriptPlan) (limit : ℕ) (chunks : List Chunk) (n : ℕ) → n ≤ length chunks → StandForChunks kind p limit chunks n n [] None
+found_none kind p limit chunks n within =
+    let nothing : n - n ≡ 0 = omega arith in
+    let part : slice_range chunks n n ≡ [] = ap (λ (m : ℕ). take m (drop n chunks)) nothing in
+    record {
+      order = omega arith;
+      within = within;
+      fits = All-nil _;
+      found = subst (λ (r : Result (List Record) Bad). HaveFound kind p limit r None []) (sym (ap (all_records p) part)) (refl, All-nil _, record { keys_are = refl; each = All-nil _ });
+    }
+
 -- The run of no chunks.
 pub run_of_none : (p : ScriptPlan) (limit : ℕ) (chunks : List Chunk) (n : ℕ) (run : Run) → n ≤ length chunks → IsFromTo n n run → run.groups ≡ [] → run.bad ≡ None → StandsForChunks p limit chunks run
 run_of_none p limit chunks n run within ends none bad =
     let from = ends.from in
     let to = ends.to in
-    let nothing : n - n ≡ 0 = omega arith in
-    let part : slice_range chunks run.lo run.hi ≡ [] = ap₂ (λ (lo hi : ℕ). slice_range chunks lo hi) from to ∙ ap (λ (m : ℕ). take m (drop n chunks)) nothing in
-    record {
-      order = omega arith;
-      within = omega arith;
-      fits = subst (GroupsFit p) (sym none) (All-nil _);
-      found = subst (λ (r : Result (List Record) Bad). HasFound p limit r run.bad run.groups) (sym (ap (all_records p) part))
-          (bad, subst (AreTight p limit) (sym none) (All-nil _), subst (GroupsStandFor p []) (sym none) (record { keys_are = refl; each = All-nil _ }));
-    }
+    rw (from, to, none, bad) (found_none chain_kind p limit chunks n within)
 
--- The run of one chunk.
-pub run_of_one : (p : ScriptPlan) (limit : ℕ) (chunks : List Chunk) (n : ℕ) (c : Chunk) (run : Run) → slice_get chunks n ≡ Some c → IsFromTo n (n + 1) run → GroupsFit p run.groups
-    → HasFound p limit (chunk_records p c) run.bad run.groups → StandsForChunks p limit chunks run
-run_of_one p limit chunks n c run at ends fits found =
-    let within = slice_get_within chunks n c at in
-    let from = ends.from in
-    let to = ends.to in
-    let one : (n + 1) - n ≡ 1 = omega arith in
-    let part : slice_range chunks run.lo run.hi ≡ c ∷ [] =
-    ap₂ (λ (lo hi : ℕ). slice_range chunks lo hi) from to
-    ∙ ap₂ (λ (m : ℕ) (cs : List Chunk). take m cs) one (drop_get chunks n c at) in
-    record {
-      order = omega arith;
-      within = omega arith;
-      fits = fits;
-      found = subst (λ (r : Result (List Record) Bad). HasFound p limit r run.bad run.groups) (sym (ap (all_records p) part ∙ none_after (chunk_records p c))) found;
-    }
-
--- What a run found that goes on over rows, where no row before them is bad, and where one is.
-found_on : (p : ScriptPlan) (limit : ℕ) (found next : Result (List Record) Bad) (bad last : Option Bad) (old groups : List (Key × Chained))
-    → HasFound p limit found bad old → (bad ≡ None → TakesOn p limit next old last groups) → ((b : Bad) → bad ≡ Some b → last ≡ Some b) → HasFound p limit (in_turn found next) last groups
+-- What groups found that go on over rows, where no row before them is bad, and where one is.
+found_on : (p : ScriptPlan) (limit : ℕ) (found next : Result (List Record) Bad) (bad last : Option Bad) (old groups : List (Key × Open))
+    → HaveFound open_kind p limit found bad old → (bad ≡ None → TakesOn p limit next old last groups) → ((b : Bad) → bad ≡ Some b → last ≡ Some b) → HaveFound open_kind p limit (in_turn found next) last groups
 found_on p limit (Ok first) (Ok rest) bad last old groups h takes stays = let k = takes h.0 in (k.0, k.1, k.2 first h.2)
 found_on p limit (Ok first) (Err other) bad last old groups h takes stays = takes h.0
 found_on p limit (Err first) next bad last old groups h takes stays = stays first h
 
--- A run and the chunk after it.
-pub run_extended : (p : ScriptPlan) (limit : ℕ) (chunks : List Chunk) (c : Chunk) (run longer : Run) → StandsForChunks p limit chunks run → slice_get chunks run.hi ≡ Some c
-    → IsFromTo run.lo (run.hi + 1) longer → GroupsFit p longer.groups
-    → (run.bad ≡ None → TakesOn p limit (chunk_records p c) run.groups longer.bad longer.groups) → ((b : Bad) → run.bad ≡ Some b → longer.bad ≡ Some b)
-    → StandsForChunks p limit chunks longer
-run_extended p limit chunks c run longer h at ends fits takes stays =
-    let within = slice_get_within chunks run.hi c at in
+-- Some chunks and the one after them.
+pub found_extended : (p : ScriptPlan) (limit : ℕ) (chunks : List Chunk) (c : Chunk) (lo hi : ℕ) (old groups : List (Key × Open)) (bad last : Option Bad) → StandForChunks open_kind p limit chunks lo hi old bad → slice_get chunks hi ≡ Some c
+    → OpenGroupsFit p groups → (bad ≡ None → TakesOn p limit (chunk_records p c) old last groups) → ((b : Bad) → bad ≡ Some b → last ≡ Some b)
+    → StandForChunks open_kind p limit chunks lo (hi + 1) groups last
+found_extended p limit chunks c lo hi old groups bad last h at fits takes stays =
+    let within = slice_get_within chunks hi c at in
     let order = h.order in
-    let one : (run.hi + 1) - run.hi ≡ 1 = omega arith in
-    let part : slice_range chunks run.hi (run.hi + 1) ≡ c ∷ [] = ap₂ (λ (m : ℕ) (cs : List Chunk). take m cs) one (drop_get chunks run.hi c at) in
-    let whole : all_records p (slice_range chunks longer.lo longer.hi) ≡ in_turn (all_records p (slice_range chunks run.lo run.hi)) (chunk_records p c) =
-    ap₂ (λ (lo hi : ℕ). all_records p (slice_range chunks lo hi)) ends.from ends.to
-    ∙ found_in_turn p chunks run.lo run.hi (run.hi + 1) order (omega arith)
-    ∙ ap (in_turn (all_records p (slice_range chunks run.lo run.hi))) (ap (all_records p) part ∙ none_after (chunk_records p c)) in
+    let one : (hi + 1) - hi ≡ 1 = omega arith in
+    let part : slice_range chunks hi (hi + 1) ≡ c ∷ [] = ap₂ (λ (m : ℕ) (cs : List Chunk). take m cs) one (drop_get chunks hi c at) in
+    let whole : all_records p (slice_range chunks lo (hi + 1)) ≡ in_turn (all_records p (slice_range chunks lo hi)) (chunk_records p c) =
+    found_in_turn p chunks lo hi (hi + 1) order (omega arith)
+    ∙ ap (in_turn (all_records p (slice_range chunks lo hi))) (ap (all_records p) part ∙ none_after (chunk_records p c)) in
     record {
-      order = rw (ends.from, ends.to) (omega arith);
-      within = rw ends.to (omega arith);
+      order = omega arith;
+      within = omega arith;
       fits = fits;
-      found = subst (λ (r : Result (List Record) Bad). HasFound p limit r longer.bad longer.groups) (sym whole)
-          (found_on p limit (all_records p (slice_range chunks run.lo run.hi)) (chunk_records p c) run.bad longer.bad run.groups longer.groups h.found takes stays);
+      found = subst (λ (r : Result (List Record) Bad). HaveFound open_kind p limit r last groups) (sym whole)
+          (found_on p limit (all_records p (slice_range chunks lo hi)) (chunk_records p c) bad last old groups h.found takes stays);
     }
+
+-- What groups of one form found, groups of another form found that fit, are tight and stand for what
+-- the former stand for.
+found_as : {C D : Type 0} (kind : Kind C) (other : Kind D) (p : ScriptPlan) (limit : ℕ) (found : Result (List Record) Bad) (bad : Option Bad) (old : List (Key × C)) (new : List (Key × D))
+    → HaveFound kind p limit found bad old → (bad ≡ None → EachIsTight kind p limit old → EachIsTight other p limit new)
+    → (bad ≡ None → (records : List Record) → EachStandsFor kind p records old → EachStandsFor other p records new) → HaveFound other p limit found bad new
+found_as kind other p limit (Ok records) bad old new h tight stand = (h.0, tight h.0 h.1, stand h.0 records h.2)
+found_as kind other p limit (Err first) bad old new h tight stand = h
+
+pub stand_as : {C D : Type 0} (kind : Kind C) (other : Kind D) (p : ScriptPlan) (limit : ℕ) (chunks : List Chunk) (lo hi : ℕ) (old : List (Key × C)) (new : List (Key × D)) (bad : Option Bad)
+    → StandForChunks kind p limit chunks lo hi old bad → EachFits other p new → (bad ≡ None → EachIsTight kind p limit old → EachIsTight other p limit new)
+    → (bad ≡ None → (records : List Record) → EachStandsFor kind p records old → EachStandsFor other p records new) → StandForChunks other p limit chunks lo hi new bad
+stand_as kind other p limit chunks lo hi old new bad h fits tight stand = record {
+  order = h.order;
+  within = h.within;
+  fits = fits;
+  found = found_as kind other p limit (all_records p (slice_range chunks lo hi)) bad old new h.found tight stand;
+}
 
 -- The chains of a run without a bad row are tight.
 pub run_tight : (p : ScriptPlan) (limit : ℕ) (chunks : List Chunk) (run : Run) → StandsForChunks p limit chunks run → run.bad ≡ None → AreTight p limit run.groups
@@ -166,3 +171,8 @@ run_tight p limit chunks run h none = of (all_records p (slice_range chunks run.
     of : (found : Result (List Record) Bad) → HasFound p limit found run.bad run.groups → AreTight p limit run.groups
     of (Ok records) found = found.1
     of (Err bad) found = let other : Some bad ≡ None = sym found ∙ none in absurd (cc)
+
+-- Groups that have taken on rows, none of which is bad, are tight.
+pub taken_tight : (p : ScriptPlan) (limit : ℕ) (found : Result (List Record) Bad) (bad : Option Bad) (old new : List (Key × Open)) → TakesOn p limit found old bad new → bad ≡ None → OpenGroupsAreTight p limit new
+taken_tight p limit (Ok records) bad old new h none = h.1
+taken_tight p limit (Err first) bad old new h none = let other : Some first ≡ None = sym h ∙ none in absurd (cc)

@@ -6,16 +6,16 @@ use Rattle.std.specs.List.{All, filter}
 use Rattle.std.specs.Map.{keys_of, lookup}
 use Rattle.sym_base.specs.declared.values.value.Key.{Key}
 use Rattle.sym_base.specs.declared.values.record.Record.{Record}
-use Rattle.sym_check.specs.Meaning.Groups.{is_among, is_key, key_of, keys, not_among, records_of}
+use Rattle.sym_check.specs.Meaning.Groups.{is_among, is_key, keys, not_among, records_of}
 use Rattle.sym_check.specs.Plan.ScriptPlans.{ScriptPlan}
 use Rattle.sym_check.proofs.GroupLaws.{keys_append, none_of, records_of_append}
 use Rattle.sym_check.proofs.Keys.{equal_keys, keys_equiv, same_key}
 use Rattle.sym_run.specs.Chained.{Chained}
 use Rattle.sym_plain.specs.Pairs.{put}
 use Rattle.sym_plain.proofs.Puts.{lookup-put, lookup-put-same}
-use Rattle.sym_run.specs.Chains.{ChainFits, ChainStandsFor, IsClosed, IsTight}
-use Rattle.sym_run.specs.Growing.{AreJoined, FoundIsClosed, FoundStandsFor, Grows, GrowsByChain, GrowsByOne}
-use Rattle.sym_run.specs.Runs.{AreClosed, AreTight, GroupsFit, GroupsStandFor}
+use Rattle.sym_run.specs.Chains.{ChainStandsFor}
+use Rattle.sym_run.specs.Growing.{AreJoined, FoundIsClosed, FoundStands, FoundStandsFor, Grows, GrowsByChain}
+use Rattle.sym_run.specs.Kinds.{EachFits, EachIsClosed, EachIsTight, EachStandsFor, Kind}
 use Rattle.sym_run.proofs.GroupPuts.{absent_key, all_found, all_put, keys-put}
 
 abbrev pub Chains : Type 0
@@ -64,7 +64,7 @@ among_last j k done e =
     of false = refl
 
 -- The keys of groups that take on those of one more, after the keys `ks`.
-pub grown_keys : (ks done : List Key) (k : Key) (old : Chains) (chain : Chained) → is_among k done ≡ false
+pub grown_keys : {C : Type 0} (ks done : List Key) (k : Key) (old : List (Key × C)) (chain : C) → is_among k done ≡ false
     → keys_of old ≡ ks ++ not_among ks done
     → keys_of (put old k chain) ≡ ks ++ not_among ks (done ++ k ∷ [])
 grown_keys ks done k old chain apart e =
@@ -86,61 +86,61 @@ grown_keys ks done k old chain apart e =
 abbrev taken : ScriptPlan → List Record → List Record → List Key → Key → List Record
 taken p first rest done k = records_of p k first ++ (if is_among k done then records_of p k rest else [])
 
-module _ (p : ScriptPlan) (limit : ℕ) (first rest : List Record) where
+taken_all : (p : ScriptPlan) (first rest : List Record) (k : Key) → taken p first rest (keys p rest) k ≡ records_of p k (first ++ rest)
+taken_all p first rest k = ap (λ (rs : List Record). records_of p k first ++ rs) (of (is_among k (keys p rest)) refl) ∙ sym (records_of_append p k first rest)
+  where
+    of : (b : Bool) → is_among k (keys p rest) ≡ b → (if b then records_of p k rest else []) ≡ records_of p k rest
+    of true e = refl
+    of false e = sym (none_of p k rest e)
+
+module _ {C : Type 0} (kind : Kind C) (p : ScriptPlan) (limit : ℕ) (first rest : List Record) where
   -- What was found for a key stands for its records among the first ones.
-  found_stands : (done : List Key) (k : Key) (old : Chains) → is_among k done ≡ false → AreJoined p first rest done old
-      → FoundStandsFor p (records_of p k first) (lookup (is_key k) old)
+  found_stands : (done : List Key) (k : Key) (old : List (Key × C)) → is_among k done ≡ false → AreJoined kind p first rest done old
+      → FoundStands kind p (records_of p k first) (lookup (is_key k) old)
   found_stands done k old apart h = of (lookup (is_key k) old) refl
     where
       none_before : (b : Bool) → is_among k (keys p first) ≡ b → (b || is_among k (not_among (keys p first) done)) ≡ false → is_among k (keys p first) ≡ false
       none_before true e g = cc
       none_before false e g = e
 
-      of : (found : Option Chained) → lookup (is_key k) old ≡ found → FoundStandsFor p (records_of p k first) found
+      of : (found : Option C) → lookup (is_key k) old ≡ found → FoundStands kind p (records_of p k first) found
       of None e =
           none_of p k first (none_before (is_among k (keys p first)) refl
           (sym (among-append k (keys p first) (not_among (keys p first) done)) ∙ ap (is_among k) (sym h.keys_are) ∙ absent_key k old e))
       of (Some v) e =
-          subst (λ (rs : List Record). ChainStandsFor p rs v)
+          subst (λ (rs : List Record). kind.stands p rs v)
           (ap (λ (b : Bool). records_of p k first ++ (if b then records_of p k rest else [])) apart ∙ append-nil (records_of p k first))
-          (all_found (λ j u. ChainStandsFor p (taken p first rest done j) u) k v old h.each e)
+          (all_found (λ j u. kind.stands p (taken p first rest done j) u) k v old h.each e)
 
   -- One key further.
-  pub joined_on : (done : List Key) (k : Key) (Adds : List Record → Type 0) (Closes : Type 0) (old new : Chains) → is_among k done ≡ false → Grows p limit k Adds Closes old new → Adds (records_of p k rest)
-      → AreJoined p first rest done old → AreJoined p first rest (done ++ k ∷ []) new
+  pub joined_on : (done : List Key) (k : Key) (Adds : List Record → Type 0) (Closes : Type 0) (old new : List (Key × C)) → is_among k done ≡ false → Grows kind p limit k Adds Closes old new → Adds (records_of p k rest)
+      → AreJoined kind p first rest done old → AreJoined kind p first rest (done ++ k ∷ []) new
   joined_on done k Adds Closes old new apart g adds h = record {
     keys_are = ap keys_of g.is ∙ grown_keys (keys p first) done k old g.chain apart h.keys_are;
-    each = subst (λ (groups : Chains). All (λ (group : Key × Chained). ChainStandsFor p (taken p first rest (done ++ k ∷ []) group.0) group.1) groups) (sym g.is)
-        (all_put (λ j u. ChainStandsFor p (taken p first rest done j) u) (λ j u. ChainStandsFor p (taken p first rest (done ++ k ∷ []) j) u) k g.chain
-        (λ j u e s. subst (λ (b : Bool). ChainStandsFor p (records_of p j first ++ (if b then records_of p j rest else [])) u) (sym (among_other j k done e)) s)
-        (λ j e. subst (λ (i : Key). ChainStandsFor p (taken p first rest (done ++ k ∷ []) i) g.chain) (equal_keys k j e)
-        (subst (λ (b : Bool). ChainStandsFor p (records_of p k first ++ (if b then records_of p k rest else [])) g.chain) (sym (among_last k k done (same_key k)))
+    each = subst (λ (groups : List (Key × C)). All (λ (group : Key × C). kind.stands p (taken p first rest (done ++ k ∷ []) group.0) group.1) groups) (sym g.is)
+        (all_put (λ j u. kind.stands p (taken p first rest done j) u) (λ j u. kind.stands p (taken p first rest (done ++ k ∷ []) j) u) k g.chain
+        (λ j u e s. subst (λ (b : Bool). kind.stands p (records_of p j first ++ (if b then records_of p j rest else [])) u) (sym (among_other j k done e)) s)
+        (λ j e. subst (λ (i : Key). kind.stands p (taken p first rest (done ++ k ∷ []) i) g.chain) (equal_keys k j e)
+        (subst (λ (b : Bool). kind.stands p (records_of p k first ++ (if b then records_of p k rest else [])) g.chain) (sym (among_last k k done (same_key k)))
         (g.stands (records_of p k first) (records_of p k rest) (found_stands done k old apart h) adds)))
         old (same_key k) h.each);
   }
 
   -- At first, and at the end.
-  pub joined_none : (groups : Chains) → GroupsStandFor p first groups → AreJoined p first rest [] groups
+  pub joined_none : (groups : List (Key × C)) → EachStandsFor kind p first groups → AreJoined kind p first rest [] groups
   joined_none groups h = record {
     keys_are = h.keys_are ∙ sym (append-nil (keys p first));
-    each = All-weaker (λ (group : Key × Chained). ChainStandsFor p (records_of p group.0 first) group.1)
-        (λ (group : Key × Chained). ChainStandsFor p (taken p first rest [] group.0) group.1)
-        (λ group s. subst (λ (rs : List Record). ChainStandsFor p rs group.1) (sym (append-nil (records_of p group.0 first))) s) groups h.each;
+    each = All-weaker (λ (group : Key × C). kind.stands p (records_of p group.0 first) group.1)
+        (λ (group : Key × C). kind.stands p (taken p first rest [] group.0) group.1)
+        (λ group s. subst (λ (rs : List Record). kind.stands p rs group.1) (sym (append-nil (records_of p group.0 first))) s) groups h.each;
   }
 
-  taken_all : (k : Key) → taken p first rest (keys p rest) k ≡ records_of p k (first ++ rest)
-  taken_all k = ap (λ (rs : List Record). records_of p k first ++ rs) (of (is_among k (keys p rest)) refl) ∙ sym (records_of_append p k first rest)
-    where
-      of : (b : Bool) → is_among k (keys p rest) ≡ b → (if b then records_of p k rest else []) ≡ records_of p k rest
-      of true e = refl
-      of false e = sym (none_of p k rest e)
-
-  pub joined_all : (groups : Chains) → AreJoined p first rest (keys p rest) groups → GroupsStandFor p (first ++ rest) groups
+  pub joined_all : (groups : List (Key × C)) → AreJoined kind p first rest (keys p rest) groups → EachStandsFor kind p (first ++ rest) groups
   joined_all groups h = record {
     keys_are = h.keys_are ∙ sym (keys_append p first rest);
-    each = All-weaker (λ (group : Key × Chained). ChainStandsFor p (taken p first rest (keys p rest) group.0) group.1)
-        (λ (group : Key × Chained). ChainStandsFor p (records_of p group.0 (first ++ rest)) group.1)
-        (λ group s. subst (λ (rs : List Record). ChainStandsFor p rs group.1) (taken_all group.0) s) groups h.each;
+    each = All-weaker (λ (group : Key × C). kind.stands p (taken p first rest (keys p rest) group.0) group.1)
+        (λ (group : Key × C). kind.stands p (records_of p group.0 (first ++ rest)) group.1)
+        (λ group s. subst (λ (rs : List Record). kind.stands p rs group.1) (taken_all p first rest group.0) s) groups h.each;
   }
 
 -- ---- whatever records the chains of a key stand for
@@ -203,32 +203,22 @@ take_more p limit left done old new k chain apart g h key first rest a b = of (i
         let now : lookup (is_key key) new ≡ lookup (is_key key) old = ap (lookup (is_key key)) g.is ∙ lookup-put key k g.chain old e in
         subst (FoundStandsFor p (first ++ rest)) (sym now) (h key first rest a (subst (FoundStandsFor p rest) found b))
 
--- The groups of one record more.
-pub one_record : (p : ScriptPlan) (limit most : ℕ) (records : List Record) (rec : Record) (old new : Chains) → GrowsByOne p limit most (key_of p rec) rec old new → GroupsStandFor p records old
-    → GroupsStandFor p (records ++ rec ∷ []) new
-one_record p limit most records rec old new g h =
-    joined_all p limit records (rec ∷ []) new
-    (joined_on p limit records (rec ∷ []) [] (key_of p rec) (λ rest. rest ≡ rec ∷ []) (most ≡ 0) old new refl g
-    (ap (λ (b : Bool). cond b (rec ∷ []) []) (same_key (key_of p rec)))
-    (joined_none p limit records (rec ∷ []) old h))
-
 -- ---- what a key that takes on records keeps of all groups
-pub grown_fit : (p : ScriptPlan) (limit : ℕ) (k : Key) (Adds : List Record → Type 0) (Closes : Type 0) (old new : Chains) → Grows p limit k Adds Closes old new → GroupsFit p old → GroupsFit p new
-grown_fit p limit k Adds Closes old new g h =
-    subst (GroupsFit p) (sym g.is) (all_put (λ j u. ChainFits p u) (λ j u. ChainFits p u) k g.chain (λ j u e s. s) (λ j e. g.fits) old (same_key k) h)
-
-pub grown_tight : (p : ScriptPlan) (limit : ℕ) (k : Key) (Adds : List Record → Type 0) (Closes : Type 0) (old new : Chains) → Grows p limit k Adds Closes old new → AreTight p limit old → AreTight p limit new
-grown_tight p limit k Adds Closes old new g h =
-    subst (AreTight p limit) (sym g.is) (all_put (λ j u. IsTight p limit u) (λ j u. IsTight p limit u) k g.chain (λ j u e s. s) (λ j e. g.tight) old (same_key k) h)
-
-found_closed : (k : Key) (groups : Chains) → AreClosed groups → FoundIsClosed (lookup (is_key k) groups)
-found_closed k groups h = of (lookup (is_key k) groups) refl
+found_closed : {C : Type 0} (kind : Kind C) (k : Key) (groups : List (Key × C)) → EachIsClosed kind groups → FoundIsClosed kind (lookup (is_key k) groups)
+found_closed {C} kind k groups h = of (lookup (is_key k) groups) refl
   where
-    of : (found : Option Chained) → lookup (is_key k) groups ≡ found → FoundIsClosed found
+    of : (found : Option C) → lookup (is_key k) groups ≡ found → FoundIsClosed kind found
     of None e = tt
-    of (Some u) e = all_found (λ (j : Key) (u : Chained). IsClosed u) k u groups h e
+    of (Some u) e = all_found (λ (j : Key) (u : C). kind.closed u) k u groups h e
 
-pub grown_closed : (p : ScriptPlan) (limit : ℕ) (k : Key) (Adds : List Record → Type 0) (Closes : Type 0) (old new : Chains) → Grows p limit k Adds Closes old new → Closes → AreClosed old → AreClosed new
-grown_closed p limit k Adds Closes old new g closes h =
-    subst AreClosed (sym g.is)
-    (all_put (λ (j : Key) (u : Chained). IsClosed u) (λ (j : Key) (u : Chained). IsClosed u) k g.chain (λ j u e s. s) (λ j e. g.closed closes (found_closed k old h)) old (same_key k) h)
+module _ {C : Type 0} (kind : Kind C) (p : ScriptPlan) (limit : ℕ) (k : Key) (Adds : List Record → Type 0) (Closes : Type 0) (old new : List (Key × C)) (g : Grows kind p limit k Adds Closes old new) where
+  pub grown_fit : EachFits kind p old → EachFits kind p new
+  grown_fit h = subst (EachFits kind p) (sym g.is) (all_put (λ j u. kind.fits p u) (λ j u. kind.fits p u) k g.chain (λ j u e s. s) (λ j e. g.fits) old (same_key k) h)
+
+  pub grown_tight : EachIsTight kind p limit old → EachIsTight kind p limit new
+  grown_tight h = subst (EachIsTight kind p limit) (sym g.is) (all_put (λ j u. kind.tight p limit u) (λ j u. kind.tight p limit u) k g.chain (λ j u e s. s) (λ j e. g.tight) old (same_key k) h)
+
+  pub grown_closed : Closes → EachIsClosed kind old → EachIsClosed kind new
+  grown_closed closes h =
+      subst (EachIsClosed kind) (sym g.is)
+      (all_put (λ (j : Key) (u : C). kind.closed u) (λ (j : Key) (u : C). kind.closed u) k g.chain (λ j u e s. s) (λ j e. g.closed closes (found_closed kind k old h)) old (same_key k) h)

@@ -23,6 +23,7 @@ use Rattle.sym_run.specs.Chained.{Chained}
 use Rattle.sym_run.specs.Chains.{ChainFits, ChainStandsFor, IsClosed, IsTight, SegmentsAreTight, SegmentsFit, SegmentsStandFor, closed_chain}
 use Rattle.sym_run.specs.Growing.{TakesOne}
 use Rattle.sym_run.specs.Keeping.{AreAsWide, AreKeptAs, AreWide, IsKeptAs}
+use Rattle.sym_run.specs.declared.opened.Open.TheVariants as opened
 
 -- What holds of two lists, place by place, and of two others holds of both put together.
 pub zip_append : {A B : Type 0} (R : A → B → Type 0) (xs others : List A) (ys more : List B) → AllZip R xs ys → AllZip R others more → AllZip R (xs ++ others) (ys ++ more)
@@ -132,9 +133,9 @@ chain_led p chain records outcome led end h leads is =
     ∙ ap (λ (rs : List Record). after p rs outcome) (sym h.cut)
 
 -- ---- a record more that is kept
-pub kept_longer : (p : ScriptPlan) (limit : ℕ) (rec : Record) (old new : Chained) → IsRecord p rec → ChainFits p old → IsTight p limit old
-    → new.segments ≡ old.segments → new.kept ≡ old.kept ++ rec ∷ [] → TakesOne p limit rec old new
-kept_longer p limit rec old new is fits tight segments kept = record {
+pub kept_longer : (p : ScriptPlan) (limit : ℕ) (rec : Record) (old new : Chained) → IsRecord p rec → ChainFits p old → IsTight p limit old → 1 ≤ length old.kept
+    → new.segments ≡ old.segments → new.kept ≡ old.kept ++ rec ∷ [] → TakesOne p limit rec (opened.Chain old) (opened.Chain new)
+kept_longer p limit rec old new is fits tight some segments kept = record {
   fits = record {
     segments = subst (SegmentsFit p) (sym segments) fits.segments;
     kept = subst (All (IsRecord p)) (sym kept) (All-push (IsRecord p) old.kept rec fits.kept is);
@@ -148,6 +149,7 @@ kept_longer p limit rec old new is fits tight segments kept = record {
     kept = subst (AreKeptAs p (h.rest ++ rec ∷ [])) (sym kept)
         (zip_append (IsKeptAs p) h.rest (rec ∷ []) old.kept (rec ∷ []) h.kept (same_record p rec, tt));
   };
+  closed = λ none. absurd (omega (arith, ap length none, some));
 }
 
 -- The chain that keeps one record.

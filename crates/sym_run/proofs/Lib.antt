@@ -11,6 +11,8 @@ pub mod JoinedGroups
 pub mod KeptRecords
 pub mod LawfulGroups
 pub mod LedGroups
+pub mod OpenGroups
+pub mod OpenedChains
 pub mod Stepping
 pub mod TakenGroups
 pub mod TakenRecords

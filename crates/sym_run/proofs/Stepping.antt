@@ -14,7 +14,7 @@ use Rattle.sym_plain.proofs.Apart.{groups_apart}
 use Rattle.sym_run.specs.Applying.{AreValid, led_on}
 use Rattle.sym_run.specs.Chains.{ChainFits, ChainStandsFor, IsClosed, IsTight}
 use Rattle.sym_run.specs.Growing.{AreBoth, AreJoined, FoundStandsFor, GrowsByChain}
-use Rattle.sym_run.specs.Runs.{AreClosed, AreTight, GroupsFit, GroupsStandFor}
+use Rattle.sym_run.specs.Runs.{AreClosed, AreTight, GroupsFit, GroupsStandFor, chain_kind}
 use Rattle.sym_run.proofs.GroupPuts.{all_split, new_key}
 use Rattle.sym_run.proofs.JoinedGroups.{Chains, TakeOn, grown_closed, grown_fit, grown_keys, grown_tight, joined_all, joined_none, joined_on, take_more, take_none}
 
@@ -30,7 +30,7 @@ pub record IsJoining (p : ScriptPlan) (limit : ℕ) (left right others groups : 
   pub fits : GroupsFit p groups
   pub tight : AreTight p limit groups
   pub closed : AreClosed left → AreClosed right → AreClosed groups
-  pub stand : (first rest : List Record) → GroupsStandFor p first left → GroupsStandFor p rest right → AreJoined p first rest (keys_of done) groups
+  pub stand : (first rest : List Record) → GroupsStandFor p first left → GroupsStandFor p rest right → AreJoined chain_kind p first rest (keys_of done) groups
   pub keys_are : keys_of groups ≡ keys_of left ++ not_among (keys_of left) (keys_of done)
   pub take : TakeOn p left done groups
 
@@ -41,7 +41,7 @@ joining_none p limit left right fits tight = record {
   fits = fits;
   tight = tight;
   closed = λ a b. a;
-  stand = λ first rest h k. joined_none p limit first rest left h;
+  stand = λ first rest h k. joined_none chain_kind p limit first rest left h;
   keys_are = sym (append-nil (keys_of left));
   take = take_none p left;
 }
@@ -63,15 +63,15 @@ joining_on p limit left right others old new q h distinct g =
     record {
       done = h.done ++ q ∷ [];
       all = all;
-      fits = grown_fit p limit q.0 (λ rest. ChainStandsFor p rest q.1) (IsClosed q.1) old new g h.fits;
-      tight = grown_tight p limit q.0 (λ rest. ChainStandsFor p rest q.1) (IsClosed q.1) old new g h.tight;
+      fits = grown_fit chain_kind p limit q.0 (λ rest. ChainStandsFor p rest q.1) (IsClosed q.1) old new g h.fits;
+      tight = grown_tight chain_kind p limit q.0 (λ rest. ChainStandsFor p rest q.1) (IsClosed q.1) old new g h.tight;
       closed = λ a b.
-          grown_closed p limit q.0 (λ rest. ChainStandsFor p rest q.1) (IsClosed q.1) old new g
+          grown_closed chain_kind p limit q.0 (λ rest. ChainStandsFor p rest q.1) (IsClosed q.1) old new g
           (all_split (λ (group : Key × Chained). IsClosed group.1) h.done q others (subst AreClosed (sym h.all) b))
           (h.closed a b);
       stand = λ first rest a b.
-          subst (λ (ks : List Key). AreJoined p first rest ks new) (sym (keys-both h.done (q ∷ [])))
-          (joined_on p limit first rest (keys_of h.done) q.0 (λ rest. ChainStandsFor p rest q.1) (IsClosed q.1) old new
+          subst (λ (ks : List Key). AreJoined chain_kind p first rest ks new) (sym (keys-both h.done (q ∷ [])))
+          (joined_on chain_kind p limit first rest (keys_of h.done) q.0 (λ rest. ChainStandsFor p rest q.1) (IsClosed q.1) old new
           apart g
           (all_split (λ (group : Key × Chained). ChainStandsFor p (records_of p group.0 rest) group.1) h.done q others
           (subst (All (λ (group : Key × Chained). ChainStandsFor p (records_of p group.0 rest) group.1)) (sym h.all) b.each))
@@ -87,8 +87,8 @@ pub joining_all : (p : ScriptPlan) (limit : ℕ) (left right groups : Chains) �
     → GroupsStandFor p (first ++ rest) groups
 joining_all p limit left right groups h first rest a b =
     let done : h.done ≡ right = sym (append-nil h.done) ∙ h.all in
-    joined_all p limit first rest groups
-    (subst (λ (ks : List Key). AreJoined p first rest ks groups) (ap keys_of done ∙ b.keys_are) (h.stand first rest a b))
+    joined_all chain_kind p limit first rest groups
+    (subst (λ (ks : List Key). AreJoined chain_kind p first rest ks groups) (ap keys_of done ∙ b.keys_are) (h.stand first rest a b))
 
 pub joining_both : (p : ScriptPlan) (limit : ℕ) (left right groups : Chains) → IsJoining p limit left right [] groups → AreBoth p left right groups
 joining_both p limit left right groups h =

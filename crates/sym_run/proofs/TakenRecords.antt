@@ -1,34 +1,45 @@
--- Chains that take on one record more.
-use Rattle.std.proofs.Common.{◌≡◌, sym, subst, ℕ, List, [], ◌∷◌, ◌++◌}
+-- Open chains that take on one record more.
+use Rattle.std.proofs.Common.{◌≡◌, ◌≤◌, ◌∙◌, ap, sym, subst, ℕ, max, List, [], ◌∷◌, ◌++◌, Result, Ok, Err, IfOk, length, map}
+use Rattle.std.proofs.lemmas.List.{append_assoc, length-map}
 use Rattle.sym_base.specs.declared.values.record.Record.{Record}
+use Rattle.sym_check.specs.Meaning.PathBounds.{path_bound}
 use Rattle.sym_check.specs.Plan.ScriptPlans.{ScriptPlan}
+use Rattle.sym_known.specs.Holding.{AllFit, KnownPath, KnownStandsFor, stepped}
 use Rattle.sym_path.specs.declared.path.Path.{Path}
-use Rattle.sym_run.specs.Chained.{Chained}
-use Rattle.sym_run.specs.Chains.{IsClosed, SegmentsAreTight, SegmentsFit, SegmentsStandFor, closed_chain}
+use Rattle.sym_run.specs.Chains.{SegmentsStandFor}
 use Rattle.sym_run.specs.Growing.{TakesOne}
-use Rattle.sym_run.proofs.KeptRecords.{closed_fits, closed_segments, closed_stands, covered_stands}
+use Rattle.sym_run.specs.Opened.{KeepsNone, KnownChainFits, KnownChainIsTight, OpenFits, OpenIsTight, OpenStandsFor}
+use Rattle.sym_run.specs.declared.opened.Open.{Open}
+use Rattle.sym_run.specs.declared.opened.Open.TheVariants as opened
 
--- Segments cover what the chain keeps, and then the record.
-pub taken_covered : (p : ScriptPlan) (limit : ℕ) (rec : Record) (old new : Chained) (covered longer : List (List Path)) → new ≡ closed_chain longer
-    → ((first : List Record) → SegmentsStandFor p first old.segments → SegmentsStandFor p (first ++ old.kept) covered)
-    → ((records : List Record) → SegmentsStandFor p records covered → SegmentsStandFor p (records ++ rec ∷ []) longer)
-    → SegmentsFit p longer → SegmentsAreTight p limit longer → TakesOne p limit rec old new
-taken_covered p limit rec old new covered longer is covers grows fits tight =
-    subst (TakesOne p limit rec old) (sym is)
-    (record {
-      fits = closed_fits p longer fits;
-      tight = tight;
-      stands = λ records h. closed_stands p (records ++ rec ∷ []) longer (grows records (covered_stands p old covered covers records h));
-    })
+-- Segments that cover a chain's records and one more are opened.
+pub taken_explored : {E : Type 0} (p : ScriptPlan) (limit : ℕ) (rec : Record) (old : Open) (longer : List (List Path)) (r : Result Open E)
+    → ((records : List Record) → OpenStandsFor p records old → SegmentsStandFor p (records ++ rec ∷ []) longer)
+    → IfOk r (OpenFits p) → IfOk r (OpenIsTight p limit) → ((records : List Record) → SegmentsStandFor p records longer → IfOk r (OpenStandsFor p records)) → IfOk r KeepsNone → IfOk r (TakesOne p limit rec old)
+taken_explored p limit rec old longer (Ok new) grows fits tight stands none = record {
+  fits = fits;
+  tight = tight;
+  stands = λ records h. stands (records ++ rec ∷ []) (grows records h);
+  closed = λ before. none;
+}
+taken_explored p limit rec old longer (Err e) grows fits tight stands none = tt
 
--- A closed chain is explored further.
-pub taken_explored : (p : ScriptPlan) (limit : ℕ) (rec : Record) (old new : Chained) (longer : List (List Path)) → new ≡ closed_chain longer → IsClosed old
-    → ((records : List Record) → SegmentsStandFor p records old.segments → SegmentsStandFor p (records ++ rec ∷ []) longer)
-    → SegmentsFit p longer → SegmentsAreTight p limit longer → TakesOne p limit rec old new
-taken_explored p limit rec old new longer is closed grows fits tight =
-    subst (TakesOne p limit rec old) (sym is)
-    (record {
-      fits = closed_fits p longer fits;
-      tight = tight;
-      stands = λ records h. closed_stands p (records ++ rec ∷ []) longer (grows records (closed_segments p records old closed h));
-    })
+-- The states of known paths make the record's step.
+pub taken_stepped : (p : ScriptPlan) (limit : ℕ) (rec : Record) (segments : List (List Path)) (old new : List KnownPath) → KnownChainFits p segments old → KnownChainIsTight p limit segments old
+    → new ≡ map (stepped p rec) old → AllFit p new → ((records : List Record) → KnownStandsFor p records old → KnownStandsFor p (records ++ rec ∷ []) new)
+    → TakesOne p limit rec (opened.Known segments old) (opened.Known segments new)
+taken_stepped p limit rec segments old new fits tight is all steps = record {
+  fits = record { before = fits.before; after = all };
+  tight = record {
+    before = tight.before;
+    few = subst (λ (n : ℕ). n ≤ max limit (path_bound p)) (sym (ap length is ∙ length-map old (stepped p rec))) tight.few;
+  };
+  stands = λ records h. record {
+    first = h.first;
+    rest = h.rest ++ rec ∷ [];
+    cut = ap (λ (rs : List Record). rs ++ rec ∷ []) h.cut ∙ append_assoc h.first h.rest (rec ∷ []);
+    before = h.before;
+    after = steps h.rest h.after;
+  };
+  closed = λ none. tt;
+}

@@ -6,7 +6,10 @@ pub mod Covering
 pub mod Growing
 pub mod Holding
 pub mod Keeping
+pub mod Kinds
 pub mod Leading
+pub mod OpenRuns
+pub mod Opened
 pub mod RunCode
 pub mod Runs
 pub mod SavedRuns

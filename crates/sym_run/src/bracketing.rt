@@ -47,7 +47,7 @@ fn keep_chunk(
 {
     let mut stretch = Stretch::new(alloc, number, most);
     stretch.take(alloc, checked, chunk, limit)?;
-    stretch.finish()
+    stretch.finish(alloc, checked, limit)
 }
 
 /// The run of as many chunks as the tree has, from the one with this number on, joined in the order

@@ -7,10 +7,11 @@ ghost use Rattle.sym_table.specs.Reading.{HasNext, Passes};
 ghost use Rattle.sym_table.specs.Rows.{FitsChunk};
 ghost use Rattle.sym_table.specs.declared.chunk.Chunk.{Chunk as OneChunk};
 ghost use Rattle.sym_run.specs.Growing.{TakesOn};
-ghost use Rattle.sym_run.specs.Runs.{AreClosed, AreTight, GroupsFit, IsFromTo, StandsForChunks};
+ghost use Rattle.sym_run.specs.Opened.{OpenGroupsAreTight, OpenGroupsFit, OpenGroupsKeepNone};
+ghost use Rattle.sym_run.specs.Runs.{AreClosed, GroupsFit, IsFromTo, StandsForChunks};
 
-use crate::chains::Chain;
 use crate::grouping::{Taking, take_record};
+use crate::opened::Open;
 use crate::runs::Run;
 use indexmap::IndexMap;
 use std::alloc::Global;
@@ -50,21 +51,21 @@ pub(crate) fn take_rows(
     checked: &Checked,
     cursor: &mut RowCursor<'_>,
     chunk: &Chunk,
-    map: &mut IndexMap<Key, Chain>,
+    map: &mut IndexMap<Key, Open>,
     limit: u32,
     most: u32,
     memory: &mut Memory,
 ) -> Result<Option<Bad>, NoMemory>
     requires chunk { FitsChunk (checked_plan checked.now).fields chunk.now }
     requires rows { HasNext chunk.now.rows cursor.old }
-    requires fits { GroupsFit (checked_plan checked.now) map.old.entries }
-    requires tight { AreTight (checked_plan checked.now) limit map.old.entries }
+    requires fits { OpenGroupsFit (checked_plan checked.now) map.old.entries }
+    requires tight { OpenGroupsAreTight (checked_plan checked.now) limit map.old.entries }
     requires distinct { HaveDistinctKeys map.old.entries }
     ensures found { let p = checked_plan checked.now in IfOk result (λ bad.
         TakesOn p limit (chunk_records p chunk.now) map.old.entries bad map.new.entries) }
-    ensures fits { IfOk result (λ bad. GroupsFit (checked_plan checked.now) map.new.entries) }
-    ensures closed { most ≡ 0 → AreClosed map.old.entries →
-        IfOk result (λ bad. AreClosed map.new.entries) }
+    ensures fits { IfOk result (λ bad. OpenGroupsFit (checked_plan checked.now) map.new.entries) }
+    ensures closed { most ≡ 0 → OpenGroupsKeepNone map.old.entries →
+        IfOk result (λ bad. OpenGroupsKeepNone map.new.entries) }
     ensures distinct { HaveDistinctKeys map.new.entries }
     ensures passes { IfOk result (λ bad.
         IfNone bad (Passes chunk.now.rows cursor.old cursor.new)) }

@@ -1,18 +1,19 @@
 //! Records that are taken into the chains of their keys.
-ghost use Rattle.std.specs.Prelude.{◌≡◌, ◌≤◌, ◌++◌, ◌∷◌, [], List, None, IfOk, IfSome, OnOk, length};
+ghost use Rattle.std.specs.Prelude.{◌≡◌, ◌≤◌, ◌∷◌, [], None, IfOk, IfSome, OnOk, length};
 ghost use Rattle.std.specs.Map.{lookup};
-ghost use Rattle.sym_base.specs.declared.values.record.Record.{Record as OneRecord};
 ghost use Rattle.sym_check.specs.Checking.CheckedScripts.{checked_plan};
 ghost use Rattle.sym_check.specs.Meaning.Groups.{is_key, key_of};
 ghost use Rattle.sym_check.specs.Meaning.Validity.{IsRecord};
 ghost use Rattle.sym_plain.specs.Pairs.{HaveDistinctKeys};
 ghost use Rattle.sym_run.specs.Chains.{ChainFits, ChainStandsFor, IsClosed, IsTight};
 ghost use Rattle.sym_run.specs.Covering.{Covers};
-ghost use Rattle.sym_run.specs.Growing.{GrowsByOne, GrowsIf, TakesOne};
-ghost use Rattle.sym_run.specs.Runs.{AreTight, GroupsFit};
+ghost use Rattle.sym_run.specs.Growing.{GrowsByOne, GrowsIf, TakesOne, placed};
+ghost use Rattle.sym_run.specs.Opened.{OpenFits, OpenGroupsAreTight, OpenGroupsFit, OpenIsTight};
+ghost use Rattle.sym_run.specs.declared.opened.Open.TheVariants as opened;
 
 use crate::chains::Chain;
 use crate::covering::{Exploring, cover, take_on};
+use crate::opened::{Open, open_last};
 use crate::pushing::push_segment;
 use indexmap::IndexMap;
 use std::alloc::Global;
@@ -20,19 +21,27 @@ use std::mem;
 use sym_base::{Key, NoMemory, Record};
 use sym_check::Checked;
 use sym_explore::fresh_with;
+use sym_known::are_known;
 use sym_path::Segment;
-use sym_plain::key_into;
+use sym_plain::{Buffers, key_into};
 
-/// After so many keys whose kept records had no segment within the limit, no other key's are
+/// After so many keys whose kept records had no segment that was worth it, no other key's are
 /// explored.
 const FAILED_MOST: u32 = 4;
+
+/// So many groups can be led by several threads. Stepping what they keep then costs less than
+/// exploring it.
+const GROUPS_MANY: usize = 32;
 
 /// What the records that are taken use again.
 #[derive(Drop)]
 pub(crate) struct Taking {
     exploring: Exploring,
-    /// How many keys there were whose kept records had no segment within the limit.
+    buffers: Buffers,
+    /// How many keys there were whose kept records had no segment that was worth it.
     failed: u32,
+    /// How many groups there are.
+    groups: usize,
 }
 
 impl Taking {
@@ -40,7 +49,9 @@ impl Taking {
     pub(crate) fn new(alloc: Global) -> Taking {
         Taking {
             exploring: Exploring::new(alloc),
+            buffers: Buffers::new(alloc),
             failed: 0,
+            groups: 0,
         }
     }
 }
@@ -55,18 +66,19 @@ fn take_covered(
     rec: &Record,
     limit: u32,
     taking: &mut Taking,
-) -> Result<Chain, NoMemory>
+) -> Result<Open, NoMemory>
     requires rec { IsRecord (checked_plan checked.now) rec.now }
     requires fits { ChainFits (checked_plan checked.now) chain }
     requires tight { IsTight (checked_plan checked.now) limit chain }
     requires covers { Covers (checked_plan checked.now) limit chain.kept segment }
-    ensures { IfOk result (TakesOne (checked_plan checked.now) limit rec.now chain) }
+    ensures { IfOk result
+        (TakesOne (checked_plan checked.now) limit rec.now (opened.Chain chain)) }
 {
     let (segments, _kept) = chain.into_parts();
     let scratch = &mut taking.exploring.scratch;
     let segments = push_segment(alloc, checked, segments, segment, limit)?;
     let segments = take_on(alloc, checked, segments, rec, limit, scratch)?;
-    Ok(Chain::of_segments(alloc, segments))
+    open_last(alloc, checked, segments, limit)
 }
 
 /// The chain of a closed chain's records and one more.
@@ -77,22 +89,23 @@ fn take_explored(
     rec: &Record,
     limit: u32,
     taking: &mut Taking,
-) -> Result<Chain, NoMemory>
+) -> Result<Open, NoMemory>
     requires rec { IsRecord (checked_plan checked.now) rec.now }
     requires fits { ChainFits (checked_plan checked.now) chain }
     requires tight { IsTight (checked_plan checked.now) limit chain }
     requires closed { IsClosed chain }
-    ensures longer { IfOk result (TakesOne (checked_plan checked.now) limit rec.now chain) }
-    ensures closed { IfOk result IsClosed }
+    ensures { IfOk result
+        (TakesOne (checked_plan checked.now) limit rec.now (opened.Chain chain)) }
 {
     let (segments, _none) = chain.into_parts();
     let scratch = &mut taking.exploring.scratch;
     let segments = take_on(alloc, checked, segments, rec, limit, scratch)?;
-    Ok(Chain::of_segments(alloc, segments))
+    open_last(alloc, checked, segments, limit)
 }
 
-/// A segment of the records that a chain keeps, where they are to be explored now: as many as may be
-/// kept are, and few other keys had no such segment.
+/// A segment of the records that a chain keeps, where they are to be explored now and it is worth
+/// it: as many as may be kept are, few other keys had no such segment, and the segment's cells are
+/// known or there are few groups.
 fn covering(
     alloc: Global,
     checked: &Checked,
@@ -110,14 +123,17 @@ fn covering(
         return Ok(None);
     }
     let kept = chain.kept_records();
-    let segment = cover(alloc, checked, kept, limit, &mut taking.exploring)?;
-    if segment.is_none() {
-        taking.failed += 1;
+    if let Some(segment) = cover(alloc, checked, kept, limit, &mut taking.exploring)? {
+        if taking.groups < GROUPS_MANY || are_known(&segment) {
+            return Ok(Some(segment));
+        }
     }
-    Ok(segment)
+    taking.failed += 1;
+    Ok(None)
 }
 
-/// Takes a record into a chain that keeps some: it is kept after them, or all are explored.
+/// Takes a record into a chain that keeps some: it is kept after them, or all are explored. The
+/// chain that takes this one's place, or none where this one takes the record.
 fn take_kept(
     alloc: Global,
     checked: &Checked,
@@ -126,27 +142,31 @@ fn take_kept(
     limit: u32,
     most: u32,
     taking: &mut Taking,
-) -> Result<(), NoMemory>
+) -> Result<Option<Open>, NoMemory>
     requires rec { IsRecord (checked_plan checked.now) rec.now }
     requires fits { ChainFits (checked_plan checked.now) chain.old }
     requires tight { IsTight (checked_plan checked.now) limit chain.old }
     requires some { 1 ≤ length chain.old.kept }
-    ensures { OnOk result (TakesOne (checked_plan checked.now) limit rec.now chain.old chain.new) }
+    ensures { IfOk result (λ next. TakesOne (checked_plan checked.now) limit rec.now
+        (opened.Chain chain.old) (placed next (opened.Chain chain.new))) }
 {
     match covering(alloc, checked, chain, limit, most, taking)? {
         Some(segment) => {
             let none = Chain::of_one(alloc, Segment::of(Vec::new(alloc)));
             let old = mem::replace(chain, none);
-            *chain = take_covered(alloc, checked, old, segment, rec, limit, taking)?;
-            Ok(())
+            let next = take_covered(alloc, checked, old, segment, rec, limit, taking)?;
+            Ok(Some(next))
         }
-        None => chain.keep(alloc, rec),
+        None => {
+            chain.keep(alloc, rec)?;
+            Ok(None)
+        }
     }
 }
 
 /// Takes a record into a chain: it is kept after the others that are kept, where there are some, or
-/// explored.
-fn take_into(
+/// explored. The chain that takes this one's place, or none where this one takes the record.
+fn take_into_chain(
     alloc: Global,
     checked: &Checked,
     chain: &mut Chain,
@@ -154,20 +174,67 @@ fn take_into(
     limit: u32,
     most: u32,
     taking: &mut Taking,
-) -> Result<(), NoMemory>
+) -> Result<Option<Open>, NoMemory>
     requires rec { IsRecord (checked_plan checked.now) rec.now }
     requires fits { ChainFits (checked_plan checked.now) chain.old }
     requires tight { IsTight (checked_plan checked.now) limit chain.old }
-    ensures longer { OnOk result
-        (TakesOne (checked_plan checked.now) limit rec.now chain.old chain.new) }
-    ensures closed { OnOk result (IsClosed chain.old → IsClosed chain.new) }
+    ensures { IfOk result (λ next. TakesOne (checked_plan checked.now) limit rec.now
+        (opened.Chain chain.old) (placed next (opened.Chain chain.new))) }
 {
     if !chain.is_closed() {
         return take_kept(alloc, checked, chain, rec, limit, most, taking);
     }
     let none = Chain::of_one(alloc, Segment::of(Vec::new(alloc)));
     let old = mem::replace(chain, none);
-    *chain = take_explored(alloc, checked, old, rec, limit, taking)?;
+    let next = take_explored(alloc, checked, old, rec, limit, taking)?;
+    Ok(Some(next))
+}
+
+/// Takes a record into an open chain: its states make their steps, or the chain takes it. The chain
+/// that takes this one's place, or none where this one takes the record.
+fn take_open(
+    alloc: Global,
+    checked: &Checked,
+    chain: &mut Open,
+    rec: &Record,
+    limit: u32,
+    most: u32,
+    taking: &mut Taking,
+) -> Result<Option<Open>, NoMemory>
+    requires rec { IsRecord (checked_plan checked.now) rec.now }
+    requires fits { OpenFits (checked_plan checked.now) chain.old }
+    requires tight { OpenIsTight (checked_plan checked.now) limit chain.old }
+    ensures { IfOk result (λ next. TakesOne (checked_plan checked.now) limit rec.now
+        chain.old (placed next chain.new)) }
+{
+    match chain {
+        Open::Known(_, known) => {
+            known.step(alloc, checked, rec, &mut taking.buffers)?;
+            Ok(None)
+        }
+        Open::Chain(chain) => take_into_chain(alloc, checked, chain, rec, limit, most, taking),
+    }
+}
+
+/// Takes a record into an open chain. After an `Err` it is unspecified.
+fn take_into(
+    alloc: Global,
+    checked: &Checked,
+    chain: &mut Open,
+    rec: &Record,
+    limit: u32,
+    most: u32,
+    taking: &mut Taking,
+) -> Result<(), NoMemory>
+    requires rec { IsRecord (checked_plan checked.now) rec.now }
+    requires fits { OpenFits (checked_plan checked.now) chain.old }
+    requires tight { OpenIsTight (checked_plan checked.now) limit chain.old }
+    ensures { OnOk result
+        (TakesOne (checked_plan checked.now) limit rec.now chain.old chain.new) }
+{
+    if let Some(next) = take_open(alloc, checked, chain, rec, limit, most, taking)? {
+        *chain = next;
+    }
     Ok(())
 }
 
@@ -175,7 +242,7 @@ fn take_into(
 fn lengthen(
     alloc: Global,
     checked: &Checked,
-    map: &mut IndexMap<Key, Chain>,
+    map: &mut IndexMap<Key, Open>,
     key: &Key,
     rec: &Record,
     limit: u32,
@@ -183,12 +250,13 @@ fn lengthen(
     taking: &mut Taking,
 ) -> Result<bool, NoMemory>
     requires rec { IsRecord (checked_plan checked.now) rec.now }
-    requires fits { GroupsFit (checked_plan checked.now) map.old.entries }
-    requires tight { AreTight (checked_plan checked.now) limit map.old.entries }
+    requires fits { OpenGroupsFit (checked_plan checked.now) map.old.entries }
+    requires tight { OpenGroupsAreTight (checked_plan checked.now) limit map.old.entries }
     ensures grows { IfOk result (λ there. GrowsIf (checked_plan checked.now) limit most key.now
         rec.now map.old.entries there map.new.entries) }
     ensures distinct { HaveDistinctKeys map.new.entries }
 {
+    taking.groups = map.len();
     match map.get_mut(key) {
         Some(chain) => {
             take_into(alloc, checked, chain, rec, limit, most, taking)?;
@@ -224,7 +292,7 @@ fn first_chain(
 fn begin(
     alloc: Global,
     checked: &Checked,
-    map: &mut IndexMap<Key, Chain>,
+    map: &mut IndexMap<Key, Open>,
     key: &Key,
     rec: &Record,
     limit: u32,
@@ -239,7 +307,7 @@ fn begin(
     ensures distinct { HaveDistinctKeys map.new.entries }
 {
     let chain = first_chain(alloc, checked, rec, limit, most, taking)?;
-    map.insert(key.copy(alloc)?, chain)?;
+    map.insert(key.copy(alloc)?, Open::Chain(chain))?;
     Ok(())
 }
 
@@ -249,7 +317,7 @@ fn begin(
 pub(crate) fn take_record(
     alloc: Global,
     checked: &Checked,
-    map: &mut IndexMap<Key, Chain>,
+    map: &mut IndexMap<Key, Open>,
     rec: &Record,
     limit: u32,
     most: u32,
@@ -257,8 +325,8 @@ pub(crate) fn take_record(
     taking: &mut Taking,
 ) -> Result<(), NoMemory>
     requires rec { IsRecord (checked_plan checked.now) rec.now }
-    requires fits { GroupsFit (checked_plan checked.now) map.old.entries }
-    requires tight { AreTight (checked_plan checked.now) limit map.old.entries }
+    requires fits { OpenGroupsFit (checked_plan checked.now) map.old.entries }
+    requires tight { OpenGroupsAreTight (checked_plan checked.now) limit map.old.entries }
     requires distinct { HaveDistinctKeys map.old.entries }
     ensures grows { let p = checked_plan checked.now in
         OnOk result (GrowsByOne p limit most (key_of p rec.now) rec.now

@@ -9,17 +9,17 @@ ghost use Rattle.sym_run.specs.Applying.{AreValid, IfDone, bad_of};
 ghost use Rattle.sym_run.specs.Runs.{AreClosed, AreTight, GroupsFit, GroupsStandFor, IsFromTo, StandsForChunks};
 
 use crate::applying::apply_all;
-use crate::chunks::{Memory, take_rows};
+use crate::chunks::Memory;
 use crate::joining::join_groups;
 use crate::leading::apply_beside;
+use crate::open_runs::OpenRun;
 use crate::run_groups::RunGroups;
 use std::alloc::Global;
-use std::slice;
 use std::thread::Threads;
 use sym_base::NoMemory;
 use sym_check::Checked;
 use sym_plain::Groups;
-use sym_table::{Bad, Chunk, RowCursor};
+use sym_table::{Bad, Chunk};
 
 // A thread has at least so many groups to lead: with fewer, starting it costs more than it gains.
 const GROUPS_A_THREAD: usize = 256;
@@ -175,65 +175,16 @@ impl Run {
             IfOk result (StandsForChunks (checked_plan checked.now) limit chunks) }
         ensures closed { AreClosed self.groups → IfOk result (λ run. AreClosed run.groups) }
     {
-        self.extend_with(alloc, checked, chunk, limit, 0, &mut Memory::new(alloc))
-    }
-
-    /// `extend` that keeps the first `most` records of a key as they are, with memory that is used
-    /// again.
-    pub(crate) fn extend_with(
-        self,
-        alloc: Global,
-        checked: &Checked,
-        chunk: &Chunk,
-        limit: u32,
-        most: u32,
-        memory: &mut Memory,
-    ) -> Result<Run, NoMemory>
-        requires chunk { FitsChunk (checked_plan checked.now).fields chunk.now }
-        requires number { self.hi < 64 }
-        requires fits { GroupsFit (checked_plan checked.now) self.groups }
-        requires tight { self.bad ≡ None → AreTight (checked_plan checked.now) limit self.groups }
-        ensures chunks { IfOk result (IsFromTo self.lo (self.hi + 1)) }
-        ensures fits { IfOk result (λ run. GroupsFit (checked_plan checked.now) run.groups) }
-        ensures stands { (chunks : List OneChunk) →
-            StandsForChunks (checked_plan checked.now) limit chunks self →
-            slice_get chunks self.hi ≡ Some chunk.now →
-            IfOk result (StandsForChunks (checked_plan checked.now) limit chunks) }
-        ensures closed { most ≡ 0 → AreClosed self.groups →
-            IfOk result (λ run. AreClosed run.groups) }
-    {
         let Run {
             lo,
             hi,
             groups,
             bad,
         } = self;
-        if bad.is_some() {
-            return Ok(Run {
-                lo,
-                hi: hi + 1,
-                groups,
-                bad,
-            });
-        }
-        let mut map = groups.into_map();
-        let mut cursor = RowCursor::over(alloc, slice::from_ref(chunk))?;
-        let bad = take_rows(
-            alloc,
-            checked,
-            &mut cursor,
-            chunk,
-            &mut map,
-            limit,
-            most,
-            memory,
-        )?;
-        Ok(Run {
-            lo,
-            hi: hi + 1,
-            groups: RunGroups::of_map(map),
-            bad,
-        })
+        let memory = &mut Memory::new(alloc);
+        OpenRun::of(alloc, lo, hi, groups, bad)?
+            .take(alloc, checked, chunk, limit, 0, memory)?
+            .close(alloc, checked, limit)
     }
 
     /// The chains by group, or the run's bad row. It takes no memory.

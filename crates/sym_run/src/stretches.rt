@@ -4,9 +4,12 @@ ghost use Rattle.sym_check.specs.Checking.CheckedScripts.{checked_plan};
 ghost use Rattle.sym_check.specs.Plan.ScriptPlans.{ScriptPlan};
 ghost use Rattle.sym_table.specs.declared.chunk.Chunk.{Chunk as OneChunk};
 ghost use Rattle.sym_table.specs.Rows.{FitsChunk};
+ghost use Rattle.sym_run.specs.OpenRuns.{IsOpenFromTo, OpenStandsForChunks};
+ghost use Rattle.sym_run.specs.Opened.{OpenGroupsAreTight, OpenGroupsFit, OpenGroupsKeepNone};
 ghost use Rattle.sym_run.specs.Runs.{AreClosed, AreTight, GroupsFit, IsFromTo, StandsForChunks};
 
 use crate::chunks::Memory;
+use crate::open_runs::OpenRun;
 use crate::runs::Run;
 use std::alloc::Global;
 use std::marker::Model;
@@ -15,15 +18,16 @@ use sym_base::NoMemory;
 use sym_check::Checked;
 use sym_table::Chunk;
 
-/// The run of neighbouring chunks, which are taken one after the other. A contract sees the run of
-/// those so far.
+/// The run of neighbouring chunks, which are taken one after the other. A contract sees the numbers
+/// of those so far, an open chain for each key, and the first row that is no record.
 ///
-/// A key's first records are kept as they are, since exploring so few costs more than stepping
-/// them. The next one has them explored all, unless their segment is over the limit before it
-/// covers them: then they stay kept, and the key is explored no more. After four such keys no key
-/// is.
+/// Where the cells of a chain's last segment are known, the records after it are stepped. A key's
+/// first records are kept as they are, since exploring so few costs more than stepping them. The
+/// next one has them explored all, unless their segment is over the limit before it covers them, or
+/// leaves cells unknown where there are many groups: then they stay kept, and the key is explored
+/// no more. After four such keys no key is.
 pub struct Stretch {
-    run: Run,
+    run: OpenRun,
     most: u32,
     memory: Memory,
 }
@@ -40,12 +44,11 @@ impl Drop for Stretch {
 }
 
 impl Model for Stretch {
-    ghost use Rattle.sym_run.specs.declared.runs.Run.{Run as OneRun};
-    ghost use Rattle.sym_run.specs.RunCode.{run_code};
+    ghost use Rattle.sym_run.specs.OpenRuns.{OpenedRun, open_run_code};
 
-    ghost Value = { OneRun };
+    ghost Value = { OpenedRun };
 
-    ghost coded = { run_code };
+    ghost coded = { open_run_code };
 
     ghost view = { λ stretch. stretch.run };
 }
@@ -54,21 +57,22 @@ impl Stretch {
     /// No chunks yet; the first one to be taken has this number. At most `most` records of a key
     /// are kept before they are explored. What the run comes to doesn't depend on it.
     pub fn new(alloc: Global, first: u32, most: u32) -> Stretch
-        ensures chunks { IsFromTo first first result }
-        ensures fits { (p : ScriptPlan) → GroupsFit p result.groups }
+        ensures chunks { IsOpenFromTo first first result }
+        ensures fits { (p : ScriptPlan) → OpenGroupsFit p result.groups }
+        ensures tight { (p : ScriptPlan) (limit : ℕ) → OpenGroupsAreTight p limit result.groups }
         ensures stands { (p : ScriptPlan) (limit : ℕ) (chunks : List OneChunk) →
-            first ≤ length chunks → StandsForChunks p limit chunks result }
-        ensures closed { AreClosed result.groups }
+            first ≤ length chunks → OpenStandsForChunks p limit chunks result }
+        ensures closed { OpenGroupsKeepNone result.groups }
     {
         Stretch {
-            run: Run::none(alloc, first),
+            run: OpenRun::none(alloc, first),
             most,
             memory: Memory::new(alloc),
         }
     }
 
-    /// Takes the next chunk: `Run::extend` of the run, which may keep records. After an `Err` it is
-    /// unspecified.
+    /// Takes the next chunk. Each row that is a record is taken into the chain of its key, up to
+    /// the first that is none. After an `Err` it is unspecified.
     pub fn take(
         &mut self,
         alloc: Global,
@@ -78,31 +82,45 @@ impl Stretch {
     ) -> Result<(), NoMemory>
         requires chunk { FitsChunk (checked_plan checked.now).fields chunk.now }
         requires number { self.old.hi < 64 }
-        requires fits { GroupsFit (checked_plan checked.now) self.old.groups }
+        requires fits { OpenGroupsFit (checked_plan checked.now) self.old.groups }
         requires tight { self.old.bad ≡ None →
-            AreTight (checked_plan checked.now) limit self.old.groups }
-        ensures chunks { OnOk result (IsFromTo self.old.lo (self.old.hi + 1) self.new) }
-        ensures fits { OnOk result (GroupsFit (checked_plan checked.now) self.new.groups) }
+            OpenGroupsAreTight (checked_plan checked.now) limit self.old.groups }
+        ensures chunks { OnOk result (IsOpenFromTo self.old.lo (self.old.hi + 1) self.new) }
+        ensures fits { OnOk result (OpenGroupsFit (checked_plan checked.now) self.new.groups) }
+        ensures tight { OnOk result (self.new.bad ≡ None →
+            OpenGroupsAreTight (checked_plan checked.now) limit self.new.groups) }
         ensures stands { (chunks : List OneChunk) →
-            StandsForChunks (checked_plan checked.now) limit chunks self.old →
+            OpenStandsForChunks (checked_plan checked.now) limit chunks self.old →
             slice_get chunks self.old.hi ≡ Some chunk.now →
-            OnOk result (StandsForChunks (checked_plan checked.now) limit chunks self.new) }
+            OnOk result (OpenStandsForChunks (checked_plan checked.now) limit chunks self.new) }
     {
-        let run = mem::replace(&mut self.run, Run::none(alloc, 0));
+        let run = mem::replace(&mut self.run, OpenRun::none(alloc, 0));
         let memory = &mut self.memory;
-        self.run = run.extend_with(alloc, checked, chunk, limit, self.most, memory)?;
+        self.run = run.take(alloc, checked, chunk, limit, self.most, memory)?;
         Ok(())
     }
 
-    /// The run of the chunks that were taken.
-    pub fn finish(self) -> Result<Run, NoMemory>
-        ensures { IfOk result (λ run. run ≡ self) }
+    /// The run of the chunks that were taken: its chains are closed, but for the records that they
+    /// keep. Where there is a bad row, it has none.
+    pub fn finish(self, alloc: Global, checked: &Checked, limit: u32) -> Result<Run, NoMemory>
+        requires fits { OpenGroupsFit (checked_plan checked.now) self.groups }
+        requires tight { self.bad ≡ None →
+            OpenGroupsAreTight (checked_plan checked.now) limit self.groups }
+        ensures chunks { IfOk result (IsFromTo self.lo self.hi) }
+        ensures fits { IfOk result (λ run. GroupsFit (checked_plan checked.now) run.groups) }
+        ensures tight { IfOk result (λ run. run.bad ≡ None →
+            AreTight (checked_plan checked.now) limit run.groups) }
+        ensures stands { (chunks : List OneChunk) →
+            OpenStandsForChunks (checked_plan checked.now) limit chunks self →
+            IfOk result (StandsForChunks (checked_plan checked.now) limit chunks) }
+        ensures closed { OpenGroupsKeepNone self.groups →
+            IfOk result (λ run. AreClosed run.groups) }
     {
         let Stretch {
             run,
             most: _,
             memory: _memory,
         } = self;
-        Ok(run)
+        run.close(alloc, checked, limit)
     }
 }

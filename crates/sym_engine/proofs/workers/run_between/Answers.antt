@@ -1,12 +1,7 @@
 use Rattle.std.proofs.Common.{◌≡◌, ◌∙◌, ◌<◌, ℕ, ◌+◌, Some, ap, arith, length, slice_get}
-use Rattle.sym_check.specs.Checking.CheckedScripts.{checked_plan}
-use Rattle.sym_run.proofs.FoundRecords.{run_tight}
 use Rattle.sym_engine.proofs.RoundRuns.{chunk_at}
+use Rattle.sym_engine.proofs.Stretched.{finished}
 use Rattle.sym_engine.proofs.workers.run_between.Goals as goal
-
-pub take-requires-clause-tight : goal.take-requires-clause-tight
-take-requires-clause-tight g c = λ none.
-    run_tight (checked_plan c.args.work.now.checked) c.args.work.now.limit c.args.work.now.chunks c.chunks.stretch c.chunks.invariant.stands none
 
 pub chunks-preserved : goal.chunks-preserved
 chunks-preserved g c =
@@ -20,5 +15,13 @@ chunks-preserved g c =
         from = c.in_ok-take.ensures.chunks.from ∙ c.chunks.invariant.ends.from;
         to = c.in_ok-take.ensures.chunks.to ∙ ap (λ (n : ℕ). n + 1) c.chunks.invariant.ends.to;
       };
+      tight = c.in_ok-take.ensures.tight;
       stands = c.in_ok-take.ensures.stands cuts c.chunks.invariant.stands (ap (slice_get cuts) c.chunks.invariant.ends.to ∙ at);
     }
+
+pub returns : goal.returns
+returns g c =
+    let work = c.args.work.now in
+    let last : c.chunks.number ≡ c.args.end = omega (arith, c.chunks-test.false) in
+    finished work c.args.first c.args.end c.chunks.stretch.lo c.chunks.stretch.hi c.finish.result c.chunks.invariant.ends.from (c.chunks.invariant.ends.to ∙ last)
+    c.finish.ensures.chunks (c.finish.ensures.stands work.chunks c.chunks.invariant.stands)

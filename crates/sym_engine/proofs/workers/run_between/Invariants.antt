@@ -1,10 +1,13 @@
--- The run stands for the chunks so far.
+-- The open run stands for the chunks so far.
+use Rattle.std.proofs.Common.{◌≡◌, None}
 use Rattle.sym_check.specs.Checking.CheckedScripts.{checked_plan}
-use Rattle.sym_run.specs.Runs.{IsFromTo, StandsForChunks}
+use Rattle.sym_run.specs.OpenRuns.{IsOpenFromTo, OpenStandsForChunks}
+use Rattle.sym_run.specs.Opened.{OpenGroupsAreTight}
 use Rattle.sym_engine.proofs.workers.run_between.Given as goal
 
 abbrev pub invariant-chunks : goal.invariant-chunks
 invariant-chunks g l = record {
-  ends : IsFromTo l.fn.first l.number l.stretch;
-  stands : StandsForChunks (checked_plan l.fn.work.checked) l.fn.work.limit l.fn.work.chunks l.stretch;
+  ends : IsOpenFromTo l.fn.first l.number l.stretch;
+  tight : l.stretch.bad ≡ None → OpenGroupsAreTight (checked_plan l.fn.work.checked) l.fn.work.limit l.stretch.groups;
+  stands : OpenStandsForChunks (checked_plan l.fn.work.checked) l.fn.work.limit l.fn.work.chunks l.stretch;
 }

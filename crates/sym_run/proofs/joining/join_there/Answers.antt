@@ -5,6 +5,7 @@ use Rattle.sym_check.specs.Checking.CheckedScripts.{checked_plan}
 use Rattle.sym_run.specs.Chained.{Chained}
 use Rattle.sym_plain.proofs.Pairs.{set-put}
 use Rattle.sym_run.specs.Chains.{ChainFits, ChainStandsFor, IsClosed, IsTight}
+use Rattle.sym_run.specs.Runs.{chain_kind}
 use Rattle.sym_run.proofs.Beginning.{grown_there}
 use Rattle.sym_run.proofs.GroupPuts.{all_found}
 use Rattle.sym_run.proofs.joining.join_there.Goals as goal
@@ -26,7 +27,7 @@ returns-in_ok-chain-in-Some-clause-joins c =
     let p = checked_plan c.args.checked.now in
     let chain : Chained = c.in_ok-chain-in-Some.field-0 in
     let there = sym c.in-Some.ensures.value in
-    grown_there p c.args.limit c.args.key.now (λ (rest : List Record). ChainStandsFor p rest c.args.right) (IsClosed c.args.right) c.args.map.now.entries (c.get_mut.follows.lender chain).entries c.in-Some.chain.now chain
+    grown_there chain_kind p c.args.limit c.args.key.now (λ (rest : List Record). ChainStandsFor p rest c.args.right) (IsClosed c.args.right) c.args.map.now.entries (c.get_mut.follows.lender chain).entries c.in-Some.chain.now chain
     ((c.get_mut.follows.holds chain).0 ∙ set-put c.args.map.now.entries c.args.key.now c.in-Some.chain.now chain c.in-Some.ensures.unique there)
     there c.in_ok-chain-in-Some.ensures.fits c.in_ok-chain-in-Some.ensures.tight
     (λ first rest h adds. c.in_ok-chain-in-Some.ensures.stands first rest (subst (ChainStandsFor p first) (sym c.replace-left.ensures.value) h) adds)

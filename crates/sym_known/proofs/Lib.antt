@@ -1,0 +1,5 @@
+pub mod LeftAlone
+pub mod KnownCells
+pub mod KnownSteps
+pub mod Closed
+pub mod Equal

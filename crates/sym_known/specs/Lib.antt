@@ -1,0 +1,5 @@
+pub mod Closing
+pub mod Fronts
+pub mod Holding
+pub mod Knowing
+pub mod Placing
