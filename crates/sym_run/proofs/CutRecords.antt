@@ -158,6 +158,14 @@ read_at width i number numbers values fields kept are at is =
     ∙ ap (λ (fs : List Value). Some (record { no = number; fields = fs })) (sym is)
 
 -- ---- two lists
+-- The values of the first one, and some more that stay over where they couldn't be put in one.
+pub append_failed : (width count : ℕ) (numbers others : List ℕ) (values some new : List Value) (left : List Record) → length numbers * width ≤ length values → cut_records width numbers values ≡ left → count ≡ length numbers
+    → others ≡ numbers → new ≡ take (count * width) values ++ some → cut_records width others new ≡ left
+append_failed width count numbers others values some new left h are is same all =
+    let front = take (length numbers * width) values in
+    let long : length front ≡ length numbers * width = length-take-le (length numbers * width) values h in
+    rw (same, all, is) (cut_more width numbers front some (omega (arith, long)) ∙ cut_short width numbers values h ∙ are)
+
 pub both_kept : (width wide count : ℕ) (numbers others all : List ℕ) (values next new : List Value) (left right : List Record)
     → length numbers * width ≤ length values → length others * wide ≤ length next → cut_records width numbers values ≡ left → cut_records wide others next ≡ right
     → AreWide count left → AreWide count right → 0 < length numbers → 0 < length others → all ≡ numbers ++ others → new ≡ take (length numbers * width) values ++ next

@@ -1,11 +1,12 @@
 //! Segments of one group, in order, and records after them that no segment covers yet.
-ghost use Rattle.std.specs.Prelude.{◌≡◌, ◌↔◌, ◌≤◌, ◌+◌, ◌∷◌, ◌++◌, [], true, false, List, IsTrue, IfOk, OnOk, OnErr, length};
+ghost use Rattle.std.specs.Prelude.{◌≡◌, ◌↔◌, ◌≤◌, ◌+◌, ◌∷◌, ◌++◌, [], ℕ, true, false, List, IsTrue, IfOk, OnOk, OnErr, length};
 ghost use Rattle.sym_base.specs.declared.values.record.Record.{Record as OneRecord};
 ghost use Rattle.sym_check.specs.Checking.CheckedScripts.{checked_plan};
 ghost use Rattle.sym_check.specs.Meaning.Updates.{after};
 ghost use Rattle.sym_check.specs.Meaning.Validity.{IsValidOutcome};
 ghost use Rattle.sym_run.specs.Chains.{ChainFits, ChainStandsFor, IsClosed, IsTight, chain_of, closed_chain};
-ghost use Rattle.sym_run.specs.Keeping.{AreAsWide};
+ghost use Rattle.sym_run.specs.Growing.{IsKeptAfter};
+ghost use Rattle.sym_run.specs.Keeping.{AreAsWide, AreWide};
 
 use crate::covering::cover_all;
 use crate::kept::Kept;
@@ -115,6 +116,17 @@ impl Chain {
         ensures err { OnErr result (self.new ≡ self.old) }
     {
         self.kept.push(alloc, rec)
+    }
+
+    /// Keeps after its own records those of another chain, which has no segments. After an `Err` the
+    /// chain is as before.
+    pub(crate) fn keep_all(&mut self, right: Chain) -> Result<(), NoMemory>
+        requires { (count : ℕ) × AreWide count self.old.kept × AreWide count right.kept }
+        ensures ok { OnOk result (IsKeptAfter self.old right self.new) }
+        ensures err { OnErr result (self.new ≡ self.old) }
+    {
+        let (_none, more) = right.into_parts();
+        self.kept.append(more)
     }
 
     /// The chain of one segment.

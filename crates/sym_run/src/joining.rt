@@ -102,17 +102,6 @@ fn push_all(
     }
 }
 
-/// The chain of the left one's records and then those that the right one keeps, which has no
-/// segments.
-fn join_kept(left: Chain, right: Chain) -> Result<Chain, NoMemory>
-    requires { (count : ℕ) × AreWide count left.kept × AreWide count right.kept }
-    ensures { IfOk result (IsKeptAfter left right) }
-{
-    let (segments, kept) = left.into_parts();
-    let (_none, more) = right.into_parts();
-    Ok(Chain::of_parts(segments, kept.followed_by(more)?))
-}
-
 /// The chain of the left one's records and then the right one's, which has a segment: what the left
 /// one keeps is explored before.
 fn join_segments(
@@ -142,30 +131,34 @@ fn join_segments(
     Ok(Chain::of_parts(segments, kept))
 }
 
-/// The chain of the left one's records and then the right one's.
-fn join_chains(
+/// Puts the right chain's records after the left one's. What the right one keeps is moved after what
+/// the left one keeps, where the right one has no segments.
+fn join_chain(
     alloc: Global,
     checked: &Checked,
-    left: Chain,
+    left: &mut Chain,
     right: Chain,
     limit: u32,
-) -> Result<Chain, NoMemory>
-    requires left { ChainFits (checked_plan checked.now) left }
+) -> Result<(), NoMemory>
+    requires left { ChainFits (checked_plan checked.now) left.old }
     requires right { ChainFits (checked_plan checked.now) right }
-    requires tight_left { IsTight (checked_plan checked.now) limit left }
+    requires tight_left { IsTight (checked_plan checked.now) limit left.old }
     requires tight_right { IsTight (checked_plan checked.now) limit right }
-    ensures fits { IfOk result (ChainFits (checked_plan checked.now)) }
-    ensures tight { IfOk result (IsTight (checked_plan checked.now) limit) }
+    ensures fits { OnOk result (ChainFits (checked_plan checked.now) left.new) }
+    ensures tight { OnOk result (IsTight (checked_plan checked.now) limit left.new) }
     ensures stands { (first rest : List OneRecord) →
-        ChainStandsFor (checked_plan checked.now) first left →
+        ChainStandsFor (checked_plan checked.now) first left.old →
         ChainStandsFor (checked_plan checked.now) rest right →
-        IfOk result (ChainStandsFor (checked_plan checked.now) (first ++ rest)) }
-    ensures closed { IsClosed left → IsClosed right → IfOk result IsClosed }
+        OnOk result (ChainStandsFor (checked_plan checked.now) (first ++ rest) left.new) }
+    ensures closed { IsClosed left.old → IsClosed right → OnOk result (IsClosed left.new) }
 {
     if right.segments().is_empty() {
-        return join_kept(left, right);
+        return left.keep_all(right);
     }
-    join_segments(alloc, checked, left, right, limit)
+    let none = Chain::of_one(alloc, Segment::of(Vec::new(alloc)));
+    let old = mem::replace(left, none);
+    *left = join_segments(alloc, checked, old, right, limit)?;
+    Ok(())
 }
 
 /// Joins the right chain to that of the key, or gives it back if there is none.
@@ -187,8 +180,7 @@ fn join_there(
 {
     match map.get_mut(key) {
         Some(chain) => {
-            let left = mem::replace(chain, Chain::of_one(alloc, Segment::of(Vec::new(alloc))));
-            *chain = join_chains(alloc, checked, left, right, limit)?;
+            join_chain(alloc, checked, chain, right, limit)?;
             Ok(None)
         }
         None => Ok(Some(right)),

@@ -59,17 +59,6 @@ fn push_values(alloc: Global, values: &mut Vec<Value>, more: &[Value]) -> Result
     Ok(())
 }
 
-/// Moves the values of a list after those of another.
-fn move_values(values: Vec<Value>, more: Vec<Value>) -> Result<Vec<Value>, NoMemory>
-    ensures { IfOk result (λ all. all.items ≡ values.items ++ more.items) }
-{
-    let mut all = values;
-    'values: for value in more {
-        all.push(value)?;
-    }
-    Ok(all)
-}
-
 /// The values of the record at `index`, counted from 0, of which each has `width`.
 fn values_at(values: &[Value], width: usize, index: usize) -> &[Value]
     requires { index * width + width ≤ length values.now }
@@ -147,34 +136,30 @@ impl Kept {
         Ok(())
     }
 
-    /// The records and then those of another list. They are moved.
-    pub(crate) fn followed_by(self, more: Kept) -> Result<Kept, NoMemory>
-        requires { (count : ℕ) × AreWide count self × AreWide count more }
-        ensures { IfOk result (λ kept. kept ≡ self ++ more) }
+    /// Puts the records of another list after these. They are moved in one piece. After an `Err` the
+    /// records are as before.
+    pub(crate) fn append(&mut self, more: Kept) -> Result<(), NoMemory>
+        requires { (count : ℕ) × AreWide count self.old × AreWide count more }
+        ensures ok { OnOk result (self.new ≡ self.old ++ more) }
+        ensures err { OnErr result (self.new ≡ self.old) }
     {
         if self.numbers.is_empty() {
-            return Ok(more);
+            *self = more;
+            return Ok(());
         }
         if more.numbers.is_empty() {
-            return Ok(self);
+            return Ok(());
         }
         let Kept {
-            width,
-            mut numbers,
-            mut values,
-        } = self;
-        let Kept {
             width: _,
-            numbers: others,
-            values: next,
+            numbers: mut others,
+            values: mut next,
         } = more;
-        values.truncate(numbers.len() * width);
-        numbers.extend_from_slice(others.as_slice())?;
-        Ok(Kept {
-            width,
-            numbers,
-            values: move_values(values, next)?,
-        })
+        let count = self.numbers.len();
+        self.values.truncate(count * self.width);
+        self.values.append(&mut next)?;
+        self.numbers.append(&mut others)?;
+        Ok(())
     }
 
     /// Makes `rec` the record at `index`, counted from 0, over the memory that it has. After an

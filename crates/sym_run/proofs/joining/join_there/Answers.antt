@@ -1,4 +1,4 @@
-use Rattle.std.proofs.Common.{◌∙◌, List, sym, subst}
+use Rattle.std.proofs.Common.{◌∙◌, List, sym}
 use Rattle.sym_base.specs.declared.values.value.Key.{Key}
 use Rattle.sym_base.specs.declared.values.record.Record.{Record}
 use Rattle.sym_check.specs.Checking.CheckedScripts.{checked_plan}
@@ -10,25 +10,23 @@ use Rattle.sym_run.proofs.Beginning.{grown_there}
 use Rattle.sym_run.proofs.GroupPuts.{all_found}
 use Rattle.sym_run.proofs.joining.join_there.Goals as goal
 
-pub join_chains-requires-clause-left : goal.join_chains-requires-clause-left
-join_chains-requires-clause-left c =
+pub join_chain-requires-clause-left : goal.join_chain-requires-clause-left
+join_chain-requires-clause-left c =
     let p = checked_plan c.args.checked.now in
-    subst (ChainFits p) (sym c.replace-left.ensures.value)
-    (all_found (λ (k : Key) (u : Chained). ChainFits p u) c.args.key.now c.in-Some.chain.now c.args.map.now.entries c.requires.left (sym c.in-Some.ensures.value))
+    all_found (λ (k : Key) (u : Chained). ChainFits p u) c.args.key.now c.in-Some.chain.now c.args.map.now.entries c.requires.left (sym c.in-Some.ensures.value)
 
-pub join_chains-requires-clause-tight_left : goal.join_chains-requires-clause-tight_left
-join_chains-requires-clause-tight_left c =
+pub join_chain-requires-clause-tight_left : goal.join_chain-requires-clause-tight_left
+join_chain-requires-clause-tight_left c =
     let p = checked_plan c.args.checked.now in
-    subst (IsTight p c.args.limit) (sym c.replace-left.ensures.value)
-    (all_found (λ (k : Key) (u : Chained). IsTight p c.args.limit u) c.args.key.now c.in-Some.chain.now c.args.map.now.entries c.requires.tight_left (sym c.in-Some.ensures.value))
+    all_found (λ (k : Key) (u : Chained). IsTight p c.args.limit u) c.args.key.now c.in-Some.chain.now c.args.map.now.entries c.requires.tight_left (sym c.in-Some.ensures.value)
 
-pub returns-in_ok-chain-in-Some-clause-joins : goal.returns-in_ok-chain-in-Some-clause-joins
-returns-in_ok-chain-in-Some-clause-joins c =
+pub returns-in_ok-join_chain-in-Some-clause-joins : goal.returns-in_ok-join_chain-in-Some-clause-joins
+returns-in_ok-join_chain-in-Some-clause-joins c =
     let p = checked_plan c.args.checked.now in
-    let chain : Chained = c.in_ok-chain-in-Some.field-0 in
+    let chain : Chained = c.join_chain.new.left in
     let there = sym c.in-Some.ensures.value in
     grown_there chain_kind p c.args.limit c.args.key.now (λ (rest : List Record). ChainStandsFor p rest c.args.right) (IsClosed c.args.right) c.args.map.now.entries (c.get_mut.follows.lender chain).entries c.in-Some.chain.now chain
     ((c.get_mut.follows.holds chain).0 ∙ set-put c.args.map.now.entries c.args.key.now c.in-Some.chain.now chain c.in-Some.ensures.unique there)
-    there c.in_ok-chain-in-Some.ensures.fits c.in_ok-chain-in-Some.ensures.tight
-    (λ first rest h adds. c.in_ok-chain-in-Some.ensures.stands first rest (subst (ChainStandsFor p first) (sym c.replace-left.ensures.value) h) adds)
-    (λ right left. c.in_ok-chain-in-Some.ensures.closed (subst IsClosed (sym c.replace-left.ensures.value) left) right)
+    there c.in_ok-join_chain-in-Some.ensures.fits c.in_ok-join_chain-in-Some.ensures.tight
+    (λ first rest h adds. c.in_ok-join_chain-in-Some.ensures.stands first rest h adds)
+    (λ right left. c.in_ok-join_chain-in-Some.ensures.closed left right)
