@@ -1,5 +1,5 @@
 -- How the groups grow where the key is there, and where it is new.
-use Rattle.std.proofs.Common.{◌≡◌, ap, ap₂, subst, sym, ℕ, List, [], ◌∷◌, ◌++◌, Some, None}
+use Rattle.std.proofs.Common.{◌≡◌, ap, ap₂, refl, subst, sym, ℕ, List, [], ◌∷◌, ◌++◌, Some, None}
 use Rattle.std.specs.Map.{lookup}
 use Rattle.sym_base.specs.declared.values.value.Key.{Key}
 use Rattle.sym_base.specs.declared.values.record.Record.{Record}
@@ -9,9 +9,11 @@ use Rattle.sym_plain.specs.Pairs.{put}
 use Rattle.sym_run.specs.Chained.{Chained}
 use Rattle.sym_run.specs.Chains.{ChainFits, ChainStandsFor, IsTight}
 use Rattle.sym_run.specs.Growing.{FoundIsClosed, FoundStands, FoundStandsFor, Grows, GrowsByChain, GrowsByOne, TakesOne}
+use Rattle.sym_run.specs.Keeping.{IsKeptAs}
 use Rattle.sym_run.specs.Kinds.{Kind}
 use Rattle.sym_run.specs.Opened.{KeepsNone, OpenFits, OpenIsTight, OpenStandsFor, open_kind}
 use Rattle.sym_run.specs.declared.opened.Open.{Open}
+use Rattle.sym_run.proofs.KeptRecords.{last_as_good}
 
 -- A new key begins with the chain of a record.
 pub begun : (p : ScriptPlan) (limit most : ℕ) (key : Key) (rec : Record) (old new : List (Key × Open)) (chain : Open) → new ≡ put old key chain → lookup (is_key key) old ≡ None
@@ -47,6 +49,19 @@ grown_longer p limit most key rec old new was chain is there longer =
     grown_there open_kind p limit key (λ (rest : List Record). rest ≡ rec ∷ []) (most ≡ 0) old new was chain is there longer.fits longer.tight
     (λ first rest h adds. subst (λ (rs : List Record). OpenStandsFor p (first ++ rs) chain) (sym adds) (longer.stands first h))
     (λ closes. longer.closed)
+
+-- The same of each record that is kept as this one.
+pub grown_as_good : (p : ScriptPlan) (limit most : ℕ) (key : Key) (rec kept : Record) (old new : List (Key × Open)) → IsKeptAs p rec kept → GrowsByOne p limit most key kept old new → GrowsByOne p limit most key rec old new
+grown_as_good p limit most key rec kept old new good g = record {
+  chain = g.chain;
+  is = g.is;
+  fits = g.fits;
+  tight = g.tight;
+  stands = λ first rest found adds.
+      subst (λ (rs : List Record). OpenStandsFor p (first ++ rs) g.chain) (sym adds)
+      (last_as_good p first rec kept g.chain good (g.stands first (kept ∷ []) found refl));
+  closed = g.closed;
+}
 
 -- A chain of a new key goes last.
 pub grown_new : (p : ScriptPlan) (limit : ℕ) (key : Key) (old new : List (Key × Chained)) (chain : Chained) → new ≡ put old key chain → lookup (is_key key) old ≡ None

@@ -8,11 +8,13 @@ use Rattle.std.specs.List.{All, AllZip, Any}
 use Rattle.sym_base.specs.declared.values.record.Record.{Record}
 use Rattle.sym_base.specs.declared.values.state.Outcome.{Outcome}
 use Rattle.sym_base.specs.declared.values.state.Outcome.TheVariants.{Going}
+use Rattle.sym_base.specs.declared.values.state.Outcome.TheVariants as outcome
 use Rattle.sym_check.specs.Meaning.Conditions.{test_truth}
 use Rattle.sym_check.specs.Meaning.Updates.{after, step}
 use Rattle.sym_check.specs.Meaning.Validity.{IsRecord, field_kinds}
 use Rattle.sym_check.specs.Plan.ScriptPlans.{ScriptPlan}
 use Rattle.sym_check.proofs.PlanLaws.{after_append}
+use Rattle.sym_known.specs.Holding.{EndedAmong, KnownPath, KnownStandsFor}
 use Rattle.sym_path.specs.declared.path.Path.{Path}
 use Rattle.sym_path.specs.declared.path.PathEnd.{PathEnd}
 use Rattle.sym_path.specs.declared.path.PathEnd.TheVariants.{Next, Ended}
@@ -23,6 +25,8 @@ use Rattle.sym_run.specs.Chained.{Chained}
 use Rattle.sym_run.specs.Chains.{ChainFits, ChainStandsFor, IsClosed, IsTight, SegmentsAreTight, SegmentsFit, SegmentsStandFor, closed_chain}
 use Rattle.sym_run.specs.Growing.{TakesOne}
 use Rattle.sym_run.specs.Keeping.{AreAsWide, AreKeptAs, AreWide, IsKeptAs}
+use Rattle.sym_run.specs.Opened.{OpenStandsFor}
+use Rattle.sym_run.specs.declared.opened.Open.{Open}
 use Rattle.sym_run.specs.declared.opened.Open.TheVariants as opened
 
 -- What holds of two lists, place by place, and of two others holds of both put together.
@@ -100,6 +104,62 @@ segments_kept p records kept [] h s = none_kept p records kept h s
 segments_kept p records kept (segment ∷ segments) h s =
     let cut = kept_cut p records s.0 s.1 (subst (AreKeptAs p records) s.2 h) in
     (cut.first, cut.rest, cut.all, kept_stand p cut.first s.0 segment cut.left_kept s.3, segments_kept p cut.rest s.1 segments cut.right_kept s.4)
+
+-- A record that is kept as one that is kept as another.
+kept_twice : (p : ScriptPlan) (records others kept : List Record) → AreKeptAs p records others → AreKeptAs p others kept → AreKeptAs p records kept
+kept_twice p [] [] kept h k = k
+kept_twice p [] (other ∷ others) kept h k = absurd h
+kept_twice p (rec ∷ records) [] kept h k = absurd h
+kept_twice p (rec ∷ records) (other ∷ others) [] h k = absurd k
+kept_twice p (rec ∷ records) (other ∷ others) (last ∷ kept) h k = (
+  record {
+    number = k.0.number ∙ h.0.number;
+    steps = λ o. k.0.steps o ∙ h.0.steps o;
+  },
+  kept_twice p records others kept h.1 k.1,
+)
+
+-- So do chains.
+chain_kept : (p : ScriptPlan) (records kept : List Record) (chain : Chained) → AreKeptAs p records kept → ChainStandsFor p kept chain → ChainStandsFor p records chain
+chain_kept p records kept chain h s =
+    let cut = kept_cut p records s.first s.rest (subst (AreKeptAs p records) s.cut h) in
+    record {
+      first = cut.first;
+      rest = cut.rest;
+      cut = cut.all;
+      segments = segments_kept p cut.first s.first chain.segments cut.left_kept s.segments;
+      kept = kept_twice p cut.rest s.rest chain.kept cut.right_kept s.kept;
+    }
+
+-- So do known paths.
+kept_outcome : (p : ScriptPlan) (records kept : List Record) (o : Outcome) → AreKeptAs p records kept → EndedAmong kept o → EndedAmong records o
+kept_outcome p records kept (Going s) h e = tt
+kept_outcome p records kept (outcome.Ended fault) h e = kept_any p fault.no records kept h e
+
+known_kept : (p : ScriptPlan) (records kept : List Record) (known : List KnownPath) → AreKeptAs p records kept → KnownStandsFor p kept known → KnownStandsFor p records known
+known_kept p records kept known h s = record {
+  faults = All-weaker (λ (k : KnownPath). EndedAmong kept k.outcome) (λ (k : KnownPath). EndedAmong records k.outcome) (λ k e. kept_outcome p records kept k.outcome h e) known s.faults;
+  exact = λ state valid. s.exact state valid ∙ ap (λ (o : Outcome). o ∷ []) (kept_after p records kept (Going state) h);
+}
+
+-- And open chains.
+open_kept : (p : ScriptPlan) (records kept : List Record) (chain : Open) → AreKeptAs p records kept → OpenStandsFor p kept chain → OpenStandsFor p records chain
+open_kept p records kept (opened.Chain chain) h s = chain_kept p records kept chain h s
+open_kept p records kept (opened.Known segments known) h s =
+    let cut = kept_cut p records s.first s.rest (subst (AreKeptAs p records) s.cut h) in
+    record {
+      first = cut.first;
+      rest = cut.rest;
+      cut = cut.all;
+      before = segments_kept p cut.first s.first segments cut.left_kept s.before;
+      after = known_kept p cut.rest s.rest known cut.right_kept s.after;
+    }
+
+-- An open chain that stands for a last record stands for each that is kept as it.
+pub last_as_good : (p : ScriptPlan) (first : List Record) (rec kept : Record) (chain : Open) → IsKeptAs p rec kept → OpenStandsFor p (first ++ kept ∷ []) chain → OpenStandsFor p (first ++ rec ∷ []) chain
+last_as_good p first rec kept chain good s =
+    open_kept p (first ++ rec ∷ []) (first ++ kept ∷ []) chain
+    (zip_append (IsKeptAs p) first (rec ∷ []) first (kept ∷ []) (same_records p first) (good, tt)) s
 
 -- ---- closed chains
 pub closed_stands : (p : ScriptPlan) (records : List Record) (segments : List (List Path)) → SegmentsStandFor p records segments → ChainStandsFor p records (closed_chain segments)

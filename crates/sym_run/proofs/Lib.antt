@@ -18,3 +18,4 @@ pub mod TakenGroups
 pub mod TakenRecords
 pub mod Taking
 pub mod TightChains
+pub mod UnreadWords

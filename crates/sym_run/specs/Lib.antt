@@ -13,3 +13,4 @@ pub mod Opened
 pub mod RunCode
 pub mod Runs
 pub mod SavedRuns
+pub mod Unread

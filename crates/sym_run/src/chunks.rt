@@ -17,6 +17,7 @@ use indexmap::IndexMap;
 use std::alloc::Global;
 use sym_base::{Fields, Key, NoMemory, Record, Values};
 use sym_check::Checked;
+use sym_reads::read_fields;
 use sym_table::{Bad, Chunk, Row, RowCursor, decode_into};
 
 /// Memory that is used again for each row.
@@ -71,6 +72,7 @@ pub(crate) fn take_rows(
         IfNone bad (Passes chunk.now.rows cursor.old cursor.new)) }
 {
     let mut row = Row::with_room(alloc)?;
+    let reads = read_fields(alloc, checked)?;
     'rows: for index in 0..chunk.rows.len() {
         let no = chunk.first_no + index as u64;
         if !cursor.read(&mut row)? {
@@ -91,7 +93,8 @@ pub(crate) fn take_rows(
             alloc,
             checked,
             map,
-            &memory.rec,
+            &mut memory.rec,
+            reads.as_slice(),
             limit,
             most,
             &mut memory.key,

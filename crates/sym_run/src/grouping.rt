@@ -5,6 +5,7 @@ ghost use Rattle.sym_check.specs.Checking.CheckedScripts.{checked_plan};
 ghost use Rattle.sym_check.specs.Meaning.Groups.{is_key, key_of};
 ghost use Rattle.sym_check.specs.Meaning.Validity.{IsRecord};
 ghost use Rattle.sym_plain.specs.Pairs.{HaveDistinctKeys};
+ghost use Rattle.sym_reads.specs.Agreement.{HasReadMarked};
 ghost use Rattle.sym_run.specs.Chains.{ChainFits, ChainStandsFor, IsClosed, IsTight};
 ghost use Rattle.sym_run.specs.Covering.{Covers};
 ghost use Rattle.sym_run.specs.Growing.{GrowsByOne, GrowsIf, TakesOne, placed};
@@ -15,6 +16,7 @@ use crate::chains::Chain;
 use crate::covering::{Exploring, cover, take_on};
 use crate::opened::{Open, open_last};
 use crate::pushing::push_segment;
+use crate::unread::empty_unread;
 use indexmap::IndexMap;
 use std::alloc::Global;
 use std::mem;
@@ -311,29 +313,33 @@ fn begin(
     Ok(())
 }
 
-/// Takes a record into the chain of its key. A key's first `most` records are kept as they are; the
-/// next one has all of them explored, where their segment stays within the limit. The key is
-/// written over the one that is given.
+/// Takes a record into the chain of its key, without the words that the update doesn't read. A key's
+/// first `most` records are kept as they are; the next one has all of them explored, where their
+/// segment stays within the limit. The key is written over the one that is given. The record is
+/// unspecified afterwards.
 pub(crate) fn take_record(
     alloc: Global,
     checked: &Checked,
     map: &mut IndexMap<Key, Open>,
-    rec: &Record,
+    rec: &mut Record,
+    reads: &[bool],
     limit: u32,
     most: u32,
     key: &mut Key,
     taking: &mut Taking,
 ) -> Result<(), NoMemory>
-    requires rec { IsRecord (checked_plan checked.now) rec.now }
+    requires rec { IsRecord (checked_plan checked.now) rec.old }
+    requires reads { HasReadMarked (checked_plan checked.now) reads.now }
     requires fits { OpenGroupsFit (checked_plan checked.now) map.old.entries }
     requires tight { OpenGroupsAreTight (checked_plan checked.now) limit map.old.entries }
     requires distinct { HaveDistinctKeys map.old.entries }
     ensures grows { let p = checked_plan checked.now in
-        OnOk result (GrowsByOne p limit most (key_of p rec.now) rec.now
+        OnOk result (GrowsByOne p limit most (key_of p rec.old) rec.old
         map.old.entries map.new.entries) }
     ensures distinct { HaveDistinctKeys map.new.entries }
 {
     key_into(alloc, checked, rec, key)?;
+    empty_unread(checked, rec, reads)?;
     if lengthen(alloc, checked, map, key, rec, limit, most, taking)? {
         return Ok(());
     }

@@ -23,6 +23,7 @@ mod saved;
 mod segments;
 mod steps;
 mod stretches;
+mod unread;
 
 pub use bracketing::{JoinTree, apply_joined, join_all};
 pub use chains::Chain;

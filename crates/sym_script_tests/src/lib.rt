@@ -21,6 +21,8 @@ mod paths;
 #[cfg(test)]
 mod printing;
 #[cfg(test)]
+mod reads;
+#[cfg(test)]
 mod repeated;
 #[cfg(test)]
 mod reports;

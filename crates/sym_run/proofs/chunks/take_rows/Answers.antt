@@ -1,4 +1,5 @@
-use Rattle.std.proofs.Common.{◌∙◌, ◌<◌, ◌≤◌, List, arith, length, sym}
+use Rattle.std.proofs.Common.{◌≡◌, ◌∙◌, ◌<◌, ◌≤◌, Bool, List, Some, arith, length, subst, sym, true}
+use Rattle.std.specs.Prelude.{slice_get}
 use Rattle.sym_check.specs.Checking.CheckedScripts.{checked_plan}
 use Rattle.sym_table.specs.Reading.{Row}
 use Rattle.sym_table.proofs.Stepping.{all_passed, no_end, row_read}
@@ -52,3 +53,7 @@ returns-clause-passes c =
     let rows : List Row = c.args.chunk.now.rows in
     let past : length rows ≤ c.rows.index = omega (arith, c.rows-test.false, c.len-index-end.ensures) in
     all_passed c.args.cursor.now c.rows.cursor rows c.rows.invariant.rest c.rows.index past c.rows.invariant.had c.rows.invariant.left
+
+pub take_record-requires-clause-reads : goal.take_record-requires-clause-reads
+take_record-requires-clause-reads c = λ i named.
+    subst (λ (marks : List Bool). slice_get marks i ≡ Some true) (sym c.as_slice.ensures.value) ((c.in_ok-reads.ensures.names i).1 named)
