@@ -5,6 +5,7 @@ pub mod ChainLeads
 pub mod ChainsShared
 pub mod ClosedGroups
 pub mod CutRecords
+pub mod EmptyWords
 pub mod FoundRecords
 pub mod GroupPuts
 pub mod JoinedGroups

@@ -2,7 +2,6 @@
 use Rattle.std.proofs.Common.{◌≡◌, ◌∙◌, ◌+◌, ◌<◌, ℕ, zero, suc, ap, sym, refl, arith, get_or, Bool, true, false, List, [], ◌∷◌, length, take, Some, None}
 use Rattle.std.proofs.lemmas.Option.{slice_get-get_or}
 use Rattle.std.specs.Prelude.{slice_get, slice_set}
-use Rattle.std.specs.List.{AllZip}
 use Rattle.sym_base.specs.declared.values.value.Value.{Value}
 use Rattle.sym_base.specs.declared.values.value.Value.TheVariants.{Num, Word, Label}
 use Rattle.sym_base.specs.declared.values.record.Record.{Record}
@@ -12,7 +11,7 @@ use Rattle.sym_check.specs.declared.plan.script.KindPlan.TheVariants as kind
 use Rattle.sym_check.specs.Meaning.Groups.{field_value}
 use Rattle.sym_check.specs.Meaning.Validity.{AreOfKinds, IsOfKind, IsRecord, field_kinds}
 use Rattle.sym_check.specs.Plan.ScriptPlans.{ScriptPlan}
-use Rattle.sym_reads.specs.Agreement.{AgreeOnRead, HasReadMarked}
+use Rattle.sym_reads.specs.Agreement.{HasReadMarked}
 use Rattle.sym_reads.proofs.SameSteps.{step_same}
 use Rattle.sym_run.specs.Keeping.{IsKeptAs}
 use Rattle.sym_run.specs.Unread.{read_alone, without_text}

@@ -1,7 +1,8 @@
 -- Records that are kept as they are, until the state before them is known.
-use Rattle.std.specs.Prelude.{◌≡◌, ℕ, List, [], ◌∷◌, length, take, drop}
+use Rattle.std.specs.Prelude.{◌≡◌, ℕ, List, [], ◌∷◌, ◌++◌, Option, Some, None, length, take, drop, slice_get}
 use Rattle.std.specs.List.{All, AllZip}
 use Rattle.sym_base.specs.declared.values.value.Value.{Value}
+use Rattle.sym_base.specs.declared.values.value.Value.TheVariants.{Word}
 use Rattle.sym_base.specs.declared.values.record.Record.{Record}
 use Rattle.sym_base.specs.declared.values.state.Outcome.{Outcome}
 use Rattle.sym_check.specs.Plan.ScriptPlans.{ScriptPlan}
@@ -22,6 +23,20 @@ abbrev pub cut_records : ℕ → List ℕ → List Value → List Record
 cut_records width [] values = []
 cut_records width (number ∷ numbers) values =
     record { no = number; fields = take width values } ∷ cut_records width numbers (drop width values)
+
+-- The values and the empty word among them, at this place if one is given.
+abbrev pub with_empty : Option ℕ → List Value → List Value
+with_empty None values = values
+with_empty (Some place) values = take place values ++ Word [] ∷ drop place values
+
+-- The record with these values.
+abbrev pub with_empty_in : Option ℕ → Record → Record
+with_empty_in place rec = record rec { fields = with_empty place rec.fields }
+
+-- There is the empty word at the place, if one is given.
+abbrev pub HasEmpty : Option ℕ → List Value → Type 0
+HasEmpty None values = Unit {0}
+HasEmpty (Some place) values = slice_get values place ≡ Some (Word [])
 
 -- Each record has so many values.
 abbrev pub AreWide : ℕ → List Record → Type 0

@@ -120,13 +120,13 @@ impl Chain {
 
     /// Keeps after its own records those of another chain, which has no segments. After an `Err` the
     /// chain is as before.
-    pub(crate) fn keep_all(&mut self, right: Chain) -> Result<(), NoMemory>
+    pub(crate) fn keep_all(&mut self, alloc: Global, right: Chain) -> Result<(), NoMemory>
         requires { (count : ℕ) × AreWide count self.old.kept × AreWide count right.kept }
         ensures ok { OnOk result (IsKeptAfter self.old right self.new) }
         ensures err { OnErr result (self.new ≡ self.old) }
     {
         let (_none, more) = right.into_parts();
-        self.kept.append(more)
+        self.kept.append(alloc, more)
     }
 
     /// The chain of one segment.

@@ -153,7 +153,7 @@ fn join_chain(
     ensures closed { IsClosed left.old → IsClosed right → OnOk result (IsClosed left.new) }
 {
     if right.segments().is_empty() {
-        return left.keep_all(right);
+        return left.keep_all(alloc, right);
     }
     let none = Chain::of_one(alloc, Segment::of(Vec::new(alloc)));
     let old = mem::replace(left, none);

@@ -1,97 +1,125 @@
-//! Records of one group that are kept as they are: no segment covers them yet.
-ghost use Rattle.std.specs.Prelude.{◌≡◌, ◌==◌, ◌<◌, ◌≤◌, ◌+◌, ◌*◌, ◌∷◌, ◌++◌, [], ℕ, List, Some, IfOk, OnOk, OnErr, length, take, drop, slice_get};
-ghost use Rattle.sym_base.specs.declared.values.record.Record.{Record as OneRecord};
-ghost use Rattle.sym_base.specs.declared.values.value.Value.{Value as OneValue};
-ghost use Rattle.sym_run.specs.Keeping.{AreAsWide, AreWide};
+//! Records of one group that are kept: no segment covers them yet.
+ghost use Rattle.std.specs.Prelude.{◌≡◌, ◌==◌, ◌<◌, ◌∷◌, ◌++◌, ◌+◌, [], ℕ, IsTrue, Some, IfOk, OnOk, OnErr, length, map, take, drop, slice_get};
+ghost use Rattle.sym_base.specs.declared.values.value.Value.TheVariants.{Word};
+ghost use Rattle.sym_run.specs.Keeping.{AreAsWide, AreWide, HasEmpty, with_empty_in};
 
+use crate::stored::Stored;
 use std::alloc::Global;
 use std::marker::Model;
 use sym_base::{Fields, NoMemory, Record, Value};
 
-/// Records of one group, in order: their numbers in one list and all of their values in another.
-/// Each has as many values. A contract sees the list of the records.
+/// Records of one group, in order. A field in which all of them have the empty word isn't stored.
+/// A contract sees the list of the records.
 pub(crate) struct Kept {
-    /// How many values a record has.
-    width: usize,
-    /// The records' numbers.
-    numbers: Vec<u64>,
-    /// The values of the records, one record after the other. After a push that failed there may
-    /// be some more.
-    values: Vec<Value>,
+    /// The field that isn't stored, if there is one.
+    empty: Option<usize>,
+    /// The records without it.
+    stored: Stored,
 }
 
 // Written here so that the crates above don't prove it for each type inside.
 impl Drop for Kept {
     fn drop(self) {
         let Kept {
-            width: _,
-            numbers: _numbers,
-            values: _values,
+            empty: _,
+            stored: _stored,
         } = self;
     }
 }
 
 impl Model for Kept {
-    ghost use Rattle.std.specs.Prelude.{List, ◌≤◌, ◌*◌, length};
+    ghost use Rattle.std.specs.Prelude.{List, map};
     ghost use Rattle.std.specs.Coded.{coded_list};
     ghost use Rattle.sym_base.specs.declared.values.record.Record.{Record as OneRecord};
     ghost use Rattle.sym_base.specs.contracts.values.record.Record as one_record;
-    ghost use Rattle.sym_run.specs.Keeping.{cut_records};
+    ghost use Rattle.sym_run.specs.Keeping.{with_empty_in};
 
     ghost Value = { List OneRecord };
 
     ghost coded = { coded_list (one_record.the_row).coded };
 
-    ghost view = { λ kept. cut_records kept.width kept.numbers.items kept.values.items };
-
-    ghost invariant = { λ kept.
-        length kept.numbers.items * kept.width ≤ length kept.values.items };
+    ghost view = { λ kept. map (with_empty_in kept.empty) kept.stored };
 }
 
-/// Puts copies of the values after those of a list. After an `Err` there may be some of them.
-fn push_values(alloc: Global, values: &mut Vec<Value>, more: &[Value]) -> Result<(), NoMemory>
-    ensures ok { OnOk result (values.new.items ≡ values.old.items ++ more.now) }
-    ensures err { (some : List OneValue) × (values.new.items ≡ values.old.items ++ some) }
+/// Whether a value is the empty word.
+fn is_empty_word(value: &Value) -> bool
+    ensures { IsTrue result → value.now ≡ Word [] }
 {
-    'values: for value in more {
-        values.push(value.copy(alloc)?)?;
+    match value {
+        Value::Word(text) => text.as_str().is_empty(),
+        Value::Num(_) | Value::Label(_) => false,
     }
-    Ok(())
 }
 
-/// The values of the record at `index`, counted from 0, of which each has `width`.
-fn values_at(values: &[Value], width: usize, index: usize) -> &[Value]
-    requires { index * width + width ≤ length values.now }
-    ensures { result.now ≡ take width (drop (index * width) values.now) }
+/// Whether there is the empty word at this place; true where no place is given.
+fn has_empty(values: &Fields, place: Option<usize>) -> bool
+    ensures { IsTrue result → HasEmpty place values.now }
 {
-    let start = index * width;
-    &values[start..start + width]
-}
-
-/// A list of `count` values, without memory where it is so already.
-fn make_room(alloc: Global, values: &mut Fields, count: usize) -> Result<(), NoMemory>
-    ensures { OnOk result (length values.new ≡ count) }
-{
-    if values.len() == count {
-        return Ok(());
+    match place {
+        None => true,
+        Some(index) => match values.get(index) {
+            Some(value) => is_empty_word(value),
+            None => false,
+        },
     }
-    let mut room = Vec::with_capacity(alloc, count)?;
-    'room: for _place in 0..count {
-        room.push(Value::Num(0))?;
-    }
-    *values = Fields::of(room);
-    Ok(())
 }
 
-/// Makes the values of a list equal to those of another one, over the memory that they have.
-fn copy_values(alloc: Global, from: &[Value], values: &mut Fields) -> Result<(), NoMemory>
-    requires { length values.old ≡ length from.now }
-    ensures { OnOk result (values.new ≡ from.now) }
+/// The first place with the empty word, if there is one.
+fn first_empty(values: &[Value]) -> Option<usize>
+    ensures { HasEmpty result values.now }
 {
-    'values: for index in 0..from.len() {
-        if let Some(value) = values.get_mut(index) {
-            value.copy_from(alloc, &from[index])?;
+    'values: for index in 0..values.len() {
+        if is_empty_word(&values[index]) {
+            return Some(index);
         }
+    }
+    None
+}
+
+/// The values before a place and after it.
+fn beside(values: &[Value], place: usize) -> (&[Value], &[Value])
+    requires { place < length values.now }
+    ensures first { result.0.now ≡ take place values.now }
+    ensures rest { result.1.now ≡ drop (place + 1) values.now }
+{
+    (&values[..place], &values[place + 1..])
+}
+
+/// Stored records with the field that isn't stored.
+fn whole(alloc: Global, empty: Option<usize>, stored: &Stored) -> Result<Stored, NoMemory>
+    requires { (count : ℕ) × AreWide count (map (with_empty_in empty) stored.now) }
+    ensures { IfOk result (λ whole. whole ≡ map (with_empty_in empty) stored.now) }
+{
+    let mut rec = Record {
+        no: 0,
+        fields: Fields::new(alloc),
+    };
+    let mut whole = Stored::none(alloc);
+    'records: for index in 0..stored.len() {
+        stored.read(alloc, index, empty, &mut rec)?;
+        whole.push(alloc, rec.no, rec.fields.as_slice(), &[])?;
+    }
+    Ok(whole)
+}
+
+/// Makes the field that isn't stored one that has the empty word in these values too. The records
+/// are the same.
+fn prepare(
+    alloc: Global,
+    empty: &mut Option<usize>,
+    stored: &mut Stored,
+    values: &Fields,
+) -> Result<(), NoMemory>
+    requires { (count : ℕ) × AreWide count (map (with_empty_in empty.old) stored.old) }
+    ensures same { map (with_empty_in empty.new) stored.new
+        ≡ map (with_empty_in empty.old) stored.old }
+    ensures there { OnOk result (HasEmpty empty.new values.now) }
+{
+    if stored.len() == 0 {
+        *empty = first_empty(values.as_slice());
+    } else if !has_empty(values, *empty) {
+        *stored = whole(alloc, *empty, stored)?;
+        *empty = None;
     }
     Ok(())
 }
@@ -102,9 +130,8 @@ impl Kept {
         ensures { result ≡ [] }
     {
         Kept {
-            width: 0,
-            numbers: Vec::new(alloc),
-            values: Vec::new(alloc),
+            empty: None,
+            stored: Stored::none(alloc),
         }
     }
 
@@ -112,7 +139,7 @@ impl Kept {
     pub(crate) fn len(&self) -> usize
         ensures { result ≡ length self.now }
     {
-        self.numbers.len()
+        self.stored.len()
     }
 
     /// Whether there are none.
@@ -129,36 +156,39 @@ impl Kept {
         ensures ok { OnOk result (self.new ≡ self.old ++ rec.now ∷ []) }
         ensures err { OnErr result (self.new ≡ self.old) }
     {
-        self.width = rec.fields.len();
-        self.values.truncate(self.numbers.len() * self.width);
-        push_values(alloc, &mut self.values, rec.fields.as_slice())?;
-        self.numbers.push(rec.no)?;
-        Ok(())
+        prepare(alloc, &mut self.empty, &mut self.stored, &rec.fields)?;
+        let values = rec.fields.as_slice();
+        match self.empty {
+            None => self.stored.push(alloc, rec.no, values, &[]),
+            Some(place) => {
+                let (first, rest) = beside(values, place);
+                self.stored.push(alloc, rec.no, first, rest)
+            }
+        }
     }
 
-    /// Puts the records of another list after these. They are moved in one piece. After an `Err` the
-    /// records are as before.
-    pub(crate) fn append(&mut self, more: Kept) -> Result<(), NoMemory>
+    /// Puts the records of another list after these. Where both leave out the same field, they are
+    /// moved in one piece. After an `Err` the records are as before.
+    pub(crate) fn append(&mut self, alloc: Global, more: Kept) -> Result<(), NoMemory>
         requires { (count : ℕ) × AreWide count self.old × AreWide count more }
         ensures ok { OnOk result (self.new ≡ self.old ++ more) }
         ensures err { OnErr result (self.new ≡ self.old) }
     {
-        if self.numbers.is_empty() {
+        if self.is_empty() {
             *self = more;
             return Ok(());
         }
-        if more.numbers.is_empty() {
-            return Ok(());
-        }
         let Kept {
-            width: _,
-            numbers: mut others,
-            values: mut next,
+            empty,
+            stored: next,
         } = more;
-        let count = self.numbers.len();
-        self.values.truncate(count * self.width);
-        self.values.append(&mut next)?;
-        self.numbers.append(&mut others)?;
+        if self.empty == empty {
+            return self.stored.append(next);
+        }
+        let mut all = whole(alloc, self.empty, &self.stored)?;
+        all.append(whole(alloc, empty, &next)?)?;
+        self.stored = all;
+        self.empty = None;
         Ok(())
     }
 
@@ -168,23 +198,16 @@ impl Kept {
         requires { index < length self.now }
         ensures { OnOk result (slice_get self.now index ≡ Some rec.new) }
     {
-        let values = values_at(self.values.as_slice(), self.width, index);
-        make_room(alloc, &mut rec.fields, self.width)?;
-        copy_values(alloc, values, &mut rec.fields)?;
-        rec.no = self.numbers[index];
-        Ok(())
+        self.stored.read(alloc, index, self.empty, rec)
     }
 
     /// Equal records of their own.
     pub(crate) fn copy(&self, alloc: Global) -> Result<Kept, NoMemory>
         ensures { IfOk result (λ kept. kept ≡ self.now) }
     {
-        let mut values = Vec::with_capacity(alloc, self.values.len())?;
-        push_values(alloc, &mut values, self.values.as_slice())?;
         Ok(Kept {
-            width: self.width,
-            numbers: Vec::from_slice(alloc, self.numbers.as_slice())?,
-            values,
+            empty: self.empty,
+            stored: self.stored.copy(alloc)?,
         })
     }
 }

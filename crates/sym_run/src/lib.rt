@@ -22,6 +22,7 @@ mod runs;
 mod saved;
 mod segments;
 mod steps;
+mod stored;
 mod stretches;
 mod unread;
 

@@ -1,79 +1,57 @@
-use Rattle.std.proofs.Common.{◌∙◌, ◌≡◌, ◌++◌, ◌*◌, length, take, ap, refl, arith}
-use Rattle.std.proofs.lemmas.Result.{err_from_is_err_and}
-use Rattle.sym_run.proofs.CutRecords.{IsPush, push_done, push_failed, push_room}
+use Rattle.std.proofs.Common.{◌≡◌, ◌∙◌, ◌+◌, ◌++◌, ◌∷◌, [], ℕ, List, Option, Some, ap, ap₂, arith, drop, length, sym, subst, take}
+use Rattle.std.proofs.lemmas.Option.{slice_get_within}
+use Rattle.std.proofs.lemmas.Result.{on_ok_weaker}
+use Rattle.sym_base.specs.declared.values.value.Value.{Value}
+use Rattle.sym_base.specs.declared.values.value.Value.TheVariants.{Word}
+use Rattle.sym_base.specs.declared.values.record.Record.{Record}
+use Rattle.sym_run.specs.Keeping.{AreAsWide, HasEmpty, with_empty}
+use Rattle.sym_run.proofs.EmptyWords.{less, pieces_wide, put_back, stored_wide, with_last}
 use Rattle.sym_run.proofs.kept.Kept.push.Goals as goal
 
-pub overflow_mul-len : goal.overflow_mul-len
-overflow_mul-len c =
-    let i = c.self.inside in
-    let wide = c.len-self-inside.result in
-    let pushed : IsPush i.width wide i.numbers.items i.values.items c.args.rec.now c.args.self.now =
-    record { room = c.self.invariant; are = c.self.view_is; same = c.len-self-inside.ensures; as_wide = c.requires } in
-    let count : c.len.result ≡ length i.numbers.items = omega (arith, c.len.ensures, i.numbers.ok.0) in
-    omega (arith, push_room i.width wide c.len.result i.numbers.items i.values.items c.args.rec.now c.args.self.now pushed count, i.values.ok.0)
+pub prepare-requires : goal.prepare-requires
+prepare-requires c = (length c.args.rec.now.fields, subst (AreAsWide c.args.rec.now) (sym c.self.view_is) c.requires)
 
-pub invariant_of-self : goal.invariant_of-self
-invariant_of-self c =
-    let i = c.self.inside in
-    let wide = c.len-self-inside.result in
-    let pushed : IsPush i.width wide i.numbers.items i.values.items c.args.rec.now c.args.self.now =
-    record { room = c.self.invariant; are = c.self.view_is; same = c.len-self-inside.ensures; as_wide = c.requires } in
-    let count : c.len.result ≡ length i.numbers.items = omega (arith, c.len.ensures, i.numbers.ok.0) in
-    let more = c.push_values.ensures.err in
-    (push_failed i.width wide c.len.result i.numbers.items i.numbers.items i.values.items more.0 c.push_values.new.values.items c.args.rec.now c.args.self.now pushed count refl
-    (more.1 ∙ ap (λ vs. vs ++ more.0) c.truncate.ensures.items)).1
+pub push-requires : goal.push-requires
+push-requires c =
+    let rec : Record = c.args.rec.now in
+    let values : List Value = c.as_slice-values.result.now in
+    let same : length values ≡ length rec.fields = ap length c.as_slice-values.ensures in
+    let all : length values + 0 ≡ length rec.fields = omega (arith, same) in
+    let wide : length values + 0 ≡ less c.prepare.new.empty (length rec.fields) = all ∙ ap (λ (place : Option ℕ). less place (length rec.fields)) (sym c.in-None.is) in
+    stored_wide c.prepare.new.empty (length values + 0) c.prepare.new.stored c.args.self.now rec (c.prepare.ensures.same ∙ c.self.view_is) c.requires wide
 
-pub returns-in_err-push_values-clause-err : goal.returns-in_err-push_values-clause-err
-returns-in_err-push_values-clause-err c =
-    let i = c.self.inside in
-    let wide = c.len-self-inside.result in
-    let pushed : IsPush i.width wide i.numbers.items i.values.items c.args.rec.now c.args.self.now =
-    record { room = c.self.invariant; are = c.self.view_is; same = c.len-self-inside.ensures; as_wide = c.requires } in
-    let count : c.len.result ≡ length i.numbers.items = omega (arith, c.len.ensures, i.numbers.ok.0) in
-    let more = c.push_values.ensures.err in
-    let e = err_from_is_err_and c.from_residual.result c.from_residual.ensures.1 in
-    rw e.1 (push_failed i.width wide c.len.result i.numbers.items i.numbers.items i.values.items more.0 c.push_values.new.values.items c.args.rec.now c.args.self.now pushed count refl
-    (more.1 ∙ ap (λ vs. vs ++ more.0) c.truncate.ensures.items)).0
+pub beside-requires : goal.beside-requires
+beside-requires c =
+    let rec : Record = c.args.rec.now in
+    let there : HasEmpty (Some c.in-Some.place) rec.fields = subst (λ (place : Option ℕ). HasEmpty place rec.fields) c.in-Some.is c.in_ok-prepare.ensures.there in
+    let within = slice_get_within rec.fields c.in-Some.place (Word []) there in
+    let same : length c.as_slice-values.result.now ≡ length rec.fields = ap length c.as_slice-values.ensures in
+    omega (arith, within, same)
 
-pub invariant_of-self-in_err-push : goal.invariant_of-self-in_err-push
-invariant_of-self-in_err-push c =
-    let i = c.self.inside in
-    let wide = c.len-self-inside.result in
-    let pushed : IsPush i.width wide i.numbers.items i.values.items c.args.rec.now c.args.self.now =
-    record { room = c.self.invariant; are = c.self.view_is; same = c.len-self-inside.ensures; as_wide = c.requires } in
-    let count : c.len.result ≡ length i.numbers.items = omega (arith, c.len.ensures, i.numbers.ok.0) in
-    let more = c.push_values.ensures.err in
-    (push_failed i.width wide c.len.result i.numbers.items c.push.new.self.items i.values.items more.0 c.push_values.new.values.items c.args.rec.now c.args.self.now pushed count c.in_err-push.ensures.items
-    (more.1 ∙ ap (λ vs. vs ++ more.0) c.truncate.ensures.items)).1
+pub push-requires-in-Some : goal.push-requires-in-Some
+push-requires-in-Some c =
+    let rec : Record = c.args.rec.now in
+    let values : List Value = c.as_slice-values.result.now in
+    let there : HasEmpty (Some c.in-Some.place) rec.fields = subst (λ (place : Option ℕ). HasEmpty place rec.fields) c.in-Some.is c.in_ok-prepare.ensures.there in
+    let within = slice_get_within rec.fields c.in-Some.place (Word []) there in
+    let same : length values ≡ length rec.fields = ap length c.as_slice-values.ensures in
+    let wide : length c.beside.result.0.now + length c.beside.result.1.now ≡ less c.prepare.new.empty (length rec.fields) =
+    pieces_wide values c.beside.result.0.now c.beside.result.1.now c.in-Some.place (omega (arith, within, same)) c.beside.ensures.first c.beside.ensures.rest
+    ∙ ap₂ less (sym c.in-Some.is) same in
+    stored_wide c.prepare.new.empty (length c.beside.result.0.now + length c.beside.result.1.now) c.prepare.new.stored c.args.self.now rec (c.prepare.ensures.same ∙ c.self.view_is) c.requires wide
 
-pub returns-in_err-push-clause-err : goal.returns-in_err-push-clause-err
-returns-in_err-push-clause-err c =
-    let i = c.self.inside in
-    let wide = c.len-self-inside.result in
-    let pushed : IsPush i.width wide i.numbers.items i.values.items c.args.rec.now c.args.self.now =
-    record { room = c.self.invariant; are = c.self.view_is; same = c.len-self-inside.ensures; as_wide = c.requires } in
-    let count : c.len.result ≡ length i.numbers.items = omega (arith, c.len.ensures, i.numbers.ok.0) in
-    let more = c.push_values.ensures.err in
-    let e = err_from_is_err_and c.from_residual-in_err-push.result c.from_residual-in_err-push.ensures.1 in
-    rw e.1 (push_failed i.width wide c.len.result i.numbers.items c.push.new.self.items i.values.items more.0 c.push_values.new.values.items c.args.rec.now c.args.self.now pushed count c.in_err-push.ensures.items
-    (more.1 ∙ ap (λ vs. vs ++ more.0) c.truncate.ensures.items)).0
-
-pub invariant_of-self-2 : goal.invariant_of-self-2
-invariant_of-self-2 c =
-    let i = c.self.inside in
-    let wide = c.len-self-inside.result in
-    let pushed : IsPush i.width wide i.numbers.items i.values.items c.args.rec.now c.args.self.now =
-    record { room = c.self.invariant; are = c.self.view_is; same = c.len-self-inside.ensures; as_wide = c.requires } in
-    let count : c.len.result ≡ length i.numbers.items = omega (arith, c.len.ensures, i.numbers.ok.0) in
-    (push_done i.width wide c.len.result i.numbers.items c.push.new.self.items i.values.items c.push_values.new.values.items c.args.rec.now c.args.self.now pushed count c.in_ok-push.ensures.items
-    (c.in_ok-push_values.ensures.ok ∙ ap (λ vs. vs ++ c.as_slice.result.now) c.truncate.ensures.items ∙ ap (λ vs. take (c.len.result * wide) i.values.items ++ vs) c.as_slice.ensures)).1
-
-pub returns-clause-ok : goal.returns-clause-ok
-returns-clause-ok c =
-    let i = c.self.inside in
-    let wide = c.len-self-inside.result in
-    let pushed : IsPush i.width wide i.numbers.items i.values.items c.args.rec.now c.args.self.now =
-    record { room = c.self.invariant; are = c.self.view_is; same = c.len-self-inside.ensures; as_wide = c.requires } in
-    let count : c.len.result ≡ length i.numbers.items = omega (arith, c.len.ensures, i.numbers.ok.0) in
-    (push_done i.width wide c.len.result i.numbers.items c.push.new.self.items i.values.items c.push_values.new.values.items c.args.rec.now c.args.self.now pushed count c.in_ok-push.ensures.items
-    (c.in_ok-push_values.ensures.ok ∙ ap (λ vs. vs ++ c.as_slice.result.now) c.truncate.ensures.items ∙ ap (λ vs. take (c.len.result * wide) i.values.items ++ vs) c.as_slice.ensures)).0
+pub returns-in-Some-clause-ok : goal.returns-in-Some-clause-ok
+returns-in-Some-clause-ok c =
+    let rec : Record = c.args.rec.now in
+    let place : ℕ = c.in-Some.place in
+    let first : List Value = c.beside.result.0.now in
+    let rest : List Value = c.beside.result.1.now in
+    let there : HasEmpty (Some place) rec.fields = subst (λ (place : Option ℕ). HasEmpty place rec.fields) c.in-Some.is c.in_ok-prepare.ensures.there in
+    let back : with_empty c.prepare.new.empty (first ++ rest) ≡ rec.fields =
+    ap₂ with_empty c.in-Some.is
+    (ap₂ (λ (a b : List Value). a ++ b) (c.beside.ensures.first ∙ ap (take place) c.as_slice-values.ensures) (c.beside.ensures.rest ∙ ap (drop (place + 1)) c.as_slice-values.ensures))
+    ∙ put_back rec.fields place there in
+    on_ok_weaker c.push-in-Some.result
+    (λ is. with_last c.prepare.new.empty c.prepare.new.stored c.push-in-Some.new.self rec (first ++ rest) back is
+    ∙ ap (λ (rs : List Record). rs ++ rec ∷ []) (c.prepare.ensures.same ∙ c.self.view_is))
+    c.push-in-Some.ensures.ok

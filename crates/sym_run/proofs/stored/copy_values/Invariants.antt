@@ -1,6 +1,6 @@
 -- The first values are those of the other list.
 use Rattle.std.proofs.Common.{◌≡◌, length, take}
-use Rattle.sym_run.proofs.kept.copy_values.Given as goal
+use Rattle.sym_run.proofs.stored.copy_values.Given as goal
 
 abbrev pub invariant-values : goal.invariant-values
 invariant-values l = record {

@@ -1,6 +1,6 @@
 -- So many values are there.
 use Rattle.std.proofs.Common.{◌≡◌, length}
-use Rattle.sym_run.proofs.kept.make_room.Given as goal
+use Rattle.sym_run.proofs.stored.make_room.Given as goal
 
 abbrev pub invariant-room : goal.invariant-room
 invariant-room l = length l.room.items ≡ l._place
