@@ -23,7 +23,7 @@ use Rattle.sym_plain.proofs.Pairs.{indexed-lookup}
 use Rattle.sym_plain.proofs.Puts.{lookup-put, lookup-put-same}
 use Rattle.sym_run.specs.Applying.{AreValid}
 use Rattle.sym_run.specs.Chains.{ChainStandsFor}
-use Rattle.sym_run.specs.Leading.{AreAlikeBut, ArePlaces, AreTaken, IsAt, IsLed, IsLedBy, IsLedFrom, IsTaken, WasLed, put_each}
+use Rattle.sym_run.specs.Leading.{AreAlikeBut, AreFound, ArePlaces, AreTaken, IsAt, IsFound, IsLed, IsLedBy, IsLedFrom, IsTaken, WasLed, put_each}
 use Rattle.sym_run.specs.Runs.{GroupsStandFor}
 use Rattle.sym_run.specs.declared.leading.Taken.{Taken}
 use Rattle.sym_run.proofs.GroupPuts.{all_put, keys-put, new_key}
@@ -144,6 +144,15 @@ places_kept k v groups (q ∷ others) [] apart h = h
 places_kept k v groups (q ∷ others) (one ∷ taken) apart h =
     (place_kept k v groups q.0 one.place (keys_equiv.symm q.0 k ∙ apart.0) h.0, places_kept k v groups others taken apart.1 h.1)
 
+-- Each was found by its index.
+pub found_each : (groups : Groups) (chains : Chains) (places : List (Option ℕ)) → length places ≡ length chains → ((i : ℕ) (d : Option ℕ) → i < length places → IsFound groups (slice_get chains i) (slice_index_or places i d))
+    → AreFound groups chains places
+found_each groups [] [] long each = tt
+found_each groups [] (place ∷ places) long each = absurd cc
+found_each groups (q ∷ chains) [] long each = absurd cc
+found_each groups (q ∷ chains) (place ∷ places) long each =
+    (each 0 place (omega arith), found_each groups chains places (omega (arith, long)) (λ i d lt. each (suc i) d (omega (arith, lt))))
+
 -- An index that has a key has an outcome.
 pub nothing_at : (key : Key) (groups : Groups) (index : ℕ) → slice_get (keys_of groups) index ≡ Some key → None ≡ slice_get (values_of groups) index → ⊥
 nothing_at key [] index at none = cc
@@ -164,19 +173,28 @@ zip_last R (a ∷ xs) [] x y h r = absurd h
 zip_last R (a ∷ xs) (b ∷ ys) x y h r = (h.0, zip_last R xs ys x y h.1 r)
 
 -- The groups of the first keys are out; the others are left.
-pub record IsTaking (p : ScriptPlan) (chains others : Chains) (first groups : Groups) (taken : List Taken) : Type 0 where
+pub record IsTaking (p : ScriptPlan) (chains others : Chains) (first groups : Groups) (taken : List Taken) (places : List (Option ℕ)) : Type 0 where
   pub done : Chains
   pub all : done ++ others ≡ chains
   pub valid : AreValid p groups
   pub alike : AreAlikeBut (keys_of done) first groups
   pub each : AreTaken p first done taken
+  pub found : AreFound first others places
 
-pub taking_none : (p : ScriptPlan) (chains : Chains) (groups : Groups) → AreValid p groups → IsTaking p chains chains groups groups []
-taking_none p chains groups valid = record { done = []; all = refl; valid = valid; alike = alike_same [] groups; each = tt }
+pub taking_none : (p : ScriptPlan) (chains : Chains) (groups : Groups) (places : List (Option ℕ)) → AreValid p groups → AreFound groups chains places → IsTaking p chains chains groups groups [] places
+taking_none p chains groups places valid found = record { done = []; all = refl; valid = valid; alike = alike_same [] groups; each = tt; found = found }
 
-pub taking_on : (p : ScriptPlan) (chains others : Chains) (first old new : Groups) (taken : List Taken) (q : Key × Chained) (one : Taken) → IsTaking p chains (q ∷ others) first old taken → HaveDistinctKeys chains
-    → AreValid p new → AreAlikeBut (q.0 ∷ []) old new → IsTaken p old q.0 one → IsTaking p chains others first new (taken ++ one ∷ [])
-taking_on p chains others first old new taken q one h distinct valid alike is =
+-- The next one is where it was found.
+pub taking_at : (p : ScriptPlan) (chains others : Chains) (first groups : Groups) (taken : List Taken) (q : Key × Chained) (place : Option ℕ) (places : List (Option ℕ)) → IsTaking p chains (q ∷ others) first groups taken (place ∷ places)
+    → IsAt groups q.0 place
+taking_at p chains others first groups taken q place places h = same_place first groups q.0 place h.alike.keys_are h.found.0
+
+pub taking_stops : (p : ScriptPlan) (chains others : Chains) (first groups : Groups) (taken : List Taken) (q : Key × Chained) → IsTaking p chains (q ∷ others) first groups taken [] → ⊥
+taking_stops p chains others first groups taken q h = h.found
+
+pub taking_on : (p : ScriptPlan) (chains others : Chains) (first old new : Groups) (taken : List Taken) (q : Key × Chained) (one : Taken) (place : Option ℕ) (places : List (Option ℕ)) → IsTaking p chains (q ∷ others) first old taken (place ∷ places)
+    → HaveDistinctKeys chains → AreValid p new → AreAlikeBut (q.0 ∷ []) old new → IsTaken p old q.0 one → IsTaking p chains others first new (taken ++ one ∷ []) places
+taking_on p chains others first old new taken q one place places h distinct valid alike is =
     let apart : is_among q.0 (keys_of h.done) ≡ false = new_key h.done q others (subst HaveDistinctKeys (sym h.all) distinct) in
     let same : lookup (is_key q.0) old ≡ lookup (is_key q.0) first = h.alike.others q.0 apart in
     record {
@@ -196,14 +214,15 @@ taking_on p chains others first old new taken q one h distinct valid alike is =
             outcome = is.outcome ∙ ap (standing p) same;
             valid = is.valid;
           });
+      found = h.found.1;
     }
 
-pub taking_alike : (p : ScriptPlan) (chains : Chains) (first groups : Groups) (taken : List Taken) → IsTaking p chains [] first groups taken → AreAlikeBut (keys_of chains) first groups
-taking_alike p chains first groups taken h =
+pub taking_alike : (p : ScriptPlan) (chains : Chains) (first groups : Groups) (taken : List Taken) (places : List (Option ℕ)) → IsTaking p chains [] first groups taken places → AreAlikeBut (keys_of chains) first groups
+taking_alike p chains first groups taken places h =
     subst (λ (xs : Chains). AreAlikeBut (keys_of xs) first groups) (sym (append-nil h.done) ∙ h.all) h.alike
 
-pub taking_each : (p : ScriptPlan) (chains : Chains) (first groups : Groups) (taken : List Taken) → IsTaking p chains [] first groups taken → AreTaken p first chains taken
-taking_each p chains first groups taken h =
+pub taking_each : (p : ScriptPlan) (chains : Chains) (first groups : Groups) (taken : List Taken) (places : List (Option ℕ)) → IsTaking p chains [] first groups taken places → AreTaken p first chains taken
+taking_each p chains first groups taken places h =
     subst (λ (xs : Chains). AreTaken p first xs taken) (sym (append-nil h.done) ∙ h.all) h.each
 
 -- ---- leading
@@ -240,7 +259,7 @@ pub led_slice : (p : ScriptPlan) (groups : Groups) (chains : Chains) (olds slice
 led_slice p groups chains olds slice news same long taken each = led_each p groups chains slice news long (subst (AreTaken p groups chains) (sym same) taken) each
 
 -- What is written over all items of a vector is what it has then.
-pub written_back : (len : ℕ) (news olds : List Taken) → length news ≡ length olds → len ≡ length olds → take len (news ++ drop (length news) olds) ≡ news
+pub written_back : {A : Type 0} (len : ℕ) (news olds : List A) → length news ≡ length olds → len ≡ length olds → take len (news ++ drop (length news) olds) ≡ news
 written_back len news olds long whole = take_at news (drop (length news) olds) len (omega (arith, long, whole))
 
 -- ---- putting back

@@ -25,6 +25,15 @@ abbrev pub IsAt : List (Key × Outcome) → Key → Option ℕ → Type 0
 IsAt groups key None = lookup (is_key key) groups ≡ None
 IsAt groups key (Some index) = slice_get (keys_of groups) index ≡ Some key
 
+-- The group of a run with this key, if there is one, is here in the groups.
+abbrev pub IsFound : List (Key × Outcome) → Option (Key × Chained) → Option ℕ → Type 0
+IsFound groups None place = Unit {0}
+IsFound groups (Some group) place = IsAt groups group.0 place
+
+-- Each key of a run is here in the groups.
+abbrev pub AreFound : List (Key × Outcome) → List (Key × Chained) → List (Option ℕ) → Type 0
+AreFound groups chains places = AllZip (λ group place. IsAt groups group.0 place) chains places
+
 -- The same keys, in order, each with the same outcome where it is none of these.
 pub record AreAlikeBut (ks : List Key) (old new : List (Key × Outcome)) : Type 0 where
   pub keys_are : keys_of new ≡ keys_of old

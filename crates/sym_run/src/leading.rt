@@ -1,20 +1,22 @@
-//! The groups of a run, led by several threads. How they stand is taken out of the groups, led on
-//! beside each other, and put back.
-ghost use Rattle.std.specs.Prelude.{◌≡◌, ◌<◌, ℕ, List, [], ◌∷◌, None, Some, Ok, OnOk, IfOk, length, slice_get, slice_index_or};
+//! The groups of a run, led by several threads. They are found in the groups beside each other. How
+//! they stand is taken out, led on beside each other, and put back.
+ghost use Rattle.std.specs.Prelude.{◌≡◌, ◌<◌, ◌≤◌, ◌+◌, ◌^◌, ℕ, List, Option, [], ◌∷◌, None, Some, Ok, OnOk, IfOk, length, slice_get, slice_index_or};
 ghost use Rattle.std.specs.List.{All, AllZip};
 ghost use Rattle.std.specs.Map.{keys_of, lookup};
 ghost use Rattle.sym_base.specs.declared.values.record.Record.{Record as OneRecord};
+ghost use Rattle.sym_base.specs.declared.values.state.Outcome.{Outcome as OneOutcome};
 ghost use Rattle.sym_base.specs.declared.values.value.Key.{Key as OneKey};
 ghost use Rattle.sym_check.specs.Checking.CheckedScripts.{checked_plan};
 ghost use Rattle.sym_check.specs.Meaning.Groups.{is_key};
 ghost use Rattle.sym_check.specs.Meaning.Validity.{IsValidOutcome};
 ghost use Rattle.sym_plain.specs.Pairs.{HaveDistinctKeys, after_records, put};
 ghost use Rattle.sym_run.specs.Applying.{AreValid};
-ghost use Rattle.sym_run.specs.Leading.{AreAlikeBut, ArePlaces, AreTaken, IsAt, IsLedBy, IsTaken, WasLed, put_each, while_out};
+ghost use Rattle.sym_run.specs.Leading.{AreAlikeBut, AreFound, ArePlaces, AreTaken, IsAt, IsFound, IsLedBy, IsTaken, WasLed, put_each, while_out};
 ghost use Rattle.sym_run.specs.Runs.{GroupsFit, GroupsStandFor};
 ghost use Rattle.sym_run.specs.declared.leading.Taken.{Taken as OneTaken};
 
 use crate::run_groups::RunGroups;
+use crate::steps::Stepper;
 use std::alloc::Global;
 use std::thread::Threads;
 use std::{mem, thread};
@@ -31,6 +33,12 @@ pub(crate) struct Taken {
     outcome: Outcome,
     led: Result<(), NoMemory>,
 }
+
+// A thread has at least so much to lead: with less, starting it costs more than it gains.
+const WORK_A_THREAD: usize = 1024;
+
+// So many kept records are stepped while one group more is found, taken out and put back.
+const WORK_A_GROUP: usize = 16;
 
 // A value that lends a checked script and the chains of a run. Threads share it by its bound: that
 // both may be shared is then shown once, where they are handed in.
@@ -70,6 +78,116 @@ impl<'a> LendsChains for Lent<'a> {
     }
 }
 
+// A value that lends the chains of a run and the groups in which their keys are looked up.
+trait LendsGroups {
+    ghost use Rattle.sym_run.specs.Chained.{Chained};
+
+    ghost sought: { Self → List (OneKey × Chained) };
+
+    ghost among: { Self → List (OneKey × OneOutcome) };
+
+    fn chains(&self) -> &RunGroups
+        ensures { result.now ≡ sought self.now };
+
+    fn groups(&self) -> &Groups
+        ensures { result.now ≡ among self.now };
+}
+
+// The chains of a run and groups.
+#[derive(Clone, Copy)]
+struct Sought<'a> {
+    chains: &'a RunGroups,
+    groups: &'a Groups,
+}
+
+impl<'a> LendsGroups for Sought<'a> {
+    ghost sought = { λ l. l.chains.now };
+
+    ghost among = { λ l. l.groups.now };
+
+    fn chains(&self) -> &RunGroups {
+        self.chains
+    }
+
+    fn groups(&self) -> &Groups {
+        self.groups
+    }
+}
+
+/// How many threads are to lead the groups of a run: at most as many as there are workers, and as
+/// have enough to lead.
+pub(crate) fn threads_for(chains: &RunGroups, workers: u32) -> usize
+    ensures { result ≤ workers }
+{
+    let most = workers as usize;
+    let enough = WORK_A_THREAD.saturating_mul(most);
+    let mut work: usize = 0;
+    'groups: for (_key, chain) in chains.map.iter() {
+        work = work
+            .saturating_add(WORK_A_GROUP)
+            .saturating_add(chain.kept());
+        if work >= enough {
+            return most;
+        }
+    }
+    (work / WORK_A_THREAD).min(most)
+}
+
+// The index of a group of a run in the groups, or none where it is new.
+fn place_of(chains: &RunGroups, groups: &Groups, index: usize) -> Option<usize>
+    ensures { IsFound groups.now (slice_get chains.now index) result }
+{
+    match chains.at(index) {
+        Some((key, _chain)) => groups.index_of(key),
+        None => None,
+    }
+}
+
+// Finds each group of a run in the groups. So many threads, at most, find about as many each.
+fn find_each<T: Threads + Sync, S: LendsGroups + Sync>(
+    rt: &T,
+    lender: &S,
+    places: &mut [Option<usize>],
+    threads: usize,
+)
+    requires threads { 0 < threads }
+    ensures len { length places.new ≡ length places.old }
+    ensures found { (i : ℕ) (d : Option ℕ) → i < length places.old →
+        IsFound (S.among lender.now) (slice_get (S.sought lender.now) i)
+        (slice_index_or places.new i d) }
+{
+    thread::for_each_mut(
+        rt,
+        places,
+        threads,
+        &|index: usize, place: &mut Option<usize>|
+            ensures { IsFound (S.among lender.entry.now)
+                (slice_get (S.sought lender.entry.now) index) place.new }
+        { *place = place_of(lender.chains(), lender.groups(), index) },
+    );
+}
+
+// Where the groups of a run are in the groups, in the order of its keys.
+fn find_all<T: Threads + Sync>(
+    rt: &T,
+    alloc: Global,
+    chains: &RunGroups,
+    groups: &Groups,
+    threads: usize,
+) -> Result<Vec<Option<usize>>, NoMemory>
+    requires { 0 < threads }
+    ensures { IfOk result (λ places. AreFound groups.now chains.now places.items) }
+{
+    let mut places = Vec::from_elem(alloc, None, chains.len())?;
+    find_each(
+        rt,
+        &Sought { chains, groups },
+        places.as_mut_slice(),
+        threads,
+    );
+    Ok(places)
+}
+
 // Takes out how the group at an index stands. Until it is put back, an ended group is there.
 fn take_at(groups: &mut Groups, index: usize) -> Outcome
     requires { HaveDistinctKeys groups.old }
@@ -88,22 +206,27 @@ fn take_at(groups: &mut Groups, index: usize) -> Outcome
     }
 }
 
-// Takes out how the group with this key stands. A new one stands at the initial state, and isn't in
+// Takes out how the group at this place stands. A new one stands at the initial state, and isn't in
 // the groups yet.
 fn take_group(
     alloc: Global,
     checked: &Checked,
     groups: &mut Groups,
-    key: &Key,
+    place: Option<usize>,
 ) -> Result<Taken, NoMemory>
     requires { AreValid (checked_plan checked.now) groups.old }
-    ensures valid { OnOk result (AreValid (checked_plan checked.now) groups.new) }
-    ensures alike { OnOk result (AreAlikeBut (key.now ∷ []) groups.old groups.new) }
-    ensures taken { IfOk result (IsTaken (checked_plan checked.now) groups.old key.now) }
+    ensures valid { (key : OneKey) → IsAt groups.old key place →
+        OnOk result (AreValid (checked_plan checked.now) groups.new) }
+    ensures alike { (key : OneKey) → IsAt groups.old key place →
+        OnOk result (AreAlikeBut (key ∷ []) groups.old groups.new) }
+    ensures taken { (key : OneKey) → IsAt groups.old key place →
+        IfOk result (IsTaken (checked_plan checked.now) groups.old key) }
 {
     well_formed_plans_keep_states_valid();
     let _plan = checked.plan();
-    match groups.index_of(key) {
+    // Its clause says that no key stands twice.
+    let _count = groups.len();
+    match place {
         Some(index) => Ok(Taken {
             place: Some(index),
             outcome: take_at(groups, index),
@@ -117,14 +240,17 @@ fn take_group(
     }
 }
 
-// Takes out how the groups of a run stand, in the order of its keys.
+// Takes out how the groups of a run stand, in the order of its keys, from the places where they
+// were found.
 fn take_all(
     alloc: Global,
     checked: &Checked,
     chains: &RunGroups,
     groups: &mut Groups,
+    places: Vec<Option<usize>>,
 ) -> Result<Vec<Taken>, NoMemory>
-    requires { AreValid (checked_plan checked.now) groups.old }
+    requires valid { AreValid (checked_plan checked.now) groups.old }
+    requires found { AreFound groups.old chains.now places.items }
     ensures valid { OnOk result (AreValid (checked_plan checked.now) groups.new) }
     ensures alike { OnOk result (AreAlikeBut (keys_of chains.now) groups.old groups.new) }
     ensures taken { let p = checked_plan checked.now in
@@ -133,26 +259,67 @@ fn take_all(
         IfOk result (λ taken. All (λ one. IsValidOutcome p one.outcome) taken.items) }
 {
     let mut taken = Vec::with_capacity(alloc, chains.len())?;
-    'groups: for (key, _chain) in chains.map.iter() {
-        taken.push(take_group(alloc, checked, groups, key)?)?;
+    let mut rest = places.into_iter();
+    'groups: for (_key, _chain) in chains.map.iter() {
+        match rest.next() {
+            Some(place) => taken.push(take_group(alloc, checked, groups, place)?)?,
+            None => return Ok(taken),
+        }
     }
     Ok(taken)
 }
 
 // Leads a group on by the chain of its key, which is the one at this index.
-fn lead_at(alloc: Global, checked: &Checked, chains: &RunGroups, index: usize, taken: &mut Taken)
+fn lead_at(
+    alloc: Global,
+    checked: &Checked,
+    chains: &RunGroups,
+    index: usize,
+    taken: &mut Taken,
+    stepper: &mut Stepper,
+)
     requires fits { GroupsFit (checked_plan checked.now) chains.now }
     requires valid { IsValidOutcome (checked_plan checked.now) taken.old.outcome }
     ensures { let group = slice_get chains.now index in
         IsLedBy (checked_plan checked.now) group taken.old taken.new }
 {
     if let Some((_key, chain)) = chains.at(index) {
-        taken.led = chain.lead(alloc, checked, &mut taken.outcome);
+        taken.led = chain.lead_with(alloc, checked, &mut taken.outcome, stepper);
     }
 }
 
-// Leads each group on by the chain of its key. So many threads, at most, lead about as many groups
-// each.
+// Leads groups on by the chains of their keys, of which the first is at this index, with one
+// stepper.
+fn lead_part(
+    alloc: Global,
+    checked: &Checked,
+    chains: &RunGroups,
+    start: usize,
+    taken: &mut [Taken],
+)
+    requires room { start + length taken.old < 2 ^ 64 }
+    requires fits { GroupsFit (checked_plan checked.now) chains.now }
+    requires valid { let p = checked_plan checked.now in
+        All (λ one. IsValidOutcome p one.outcome) taken.old }
+    ensures { let p = checked_plan checked.now in
+        (k : ℕ) (d : OneTaken) → k < length taken.old →
+        IsLedBy p (slice_get chains.now (start + k))
+        (slice_index_or taken.old k d) (slice_index_or taken.new k d) }
+{
+    let mut stepper = Stepper::new(alloc);
+    'groups: for k in 0..taken.len() {
+        lead_at(
+            alloc,
+            checked,
+            chains,
+            start + k,
+            &mut taken[k],
+            &mut stepper,
+        );
+    }
+}
+
+// Leads each group on by the chain of its key. So many threads, at most, lead as many groups each.
 fn lead_all<T: Threads + Sync, S: LendsChains + Sync>(
     rt: &T,
     alloc: Global,
@@ -170,16 +337,20 @@ fn lead_all<T: Threads + Sync, S: LendsChains + Sync>(
         IsLedBy p (slice_get (S.lent lender.now) i)
         (slice_index_or taken.old i d) (slice_index_or taken.new i d) }
 {
-    thread::for_each_mut(
+    let each = taken.len().div_ceil(threads).max(1);
+    thread::for_each_chunk_mut(
         rt,
         taken,
-        threads,
-        &|index: usize, one: &mut Taken|
+        each,
+        &|start: usize, part: &mut [Taken]|
             requires { let p = checked_plan (S.by lender.now) in
-                GroupsFit p (S.lent lender.now) × IsValidOutcome p one.old.outcome }
+                (start + length part.old < 2 ^ 64) × GroupsFit p (S.lent lender.now)
+                × All (λ one. IsValidOutcome p one.outcome) part.old }
             ensures { let p = checked_plan (S.by lender.entry.now) in
-                IsLedBy p (slice_get (S.lent lender.entry.now) index) one.old one.new }
-        { lead_at(alloc, lender.script(), lender.chains(), index, one) },
+                (k : ℕ) (d : OneTaken) → k < length part.old →
+                IsLedBy p (slice_get (S.lent lender.entry.now) (start + k))
+                (slice_index_or part.old k d) (slice_index_or part.new k d) }
+        { lead_part(alloc, lender.script(), lender.chains(), start, part) },
     );
 }
 
@@ -238,8 +409,8 @@ fn put_all(
     Ok(())
 }
 
-/// `apply_all` by so many threads, at most: the groups of the run are led beside each other, each
-/// once.
+/// `apply_all` by so many threads, at most: the groups of the run are found and led beside each
+/// other, each once.
 pub(crate) fn apply_beside<T: Threads + Sync>(
     rt: &T,
     alloc: Global,
@@ -257,7 +428,8 @@ pub(crate) fn apply_beside<T: Threads + Sync>(
         GroupsStandFor (checked_plan checked.now) records chains.now →
         OnOk result (groups.new ≡ after_records (checked_plan checked.now) records groups.old) }
 {
-    let mut taken = take_all(alloc, checked, chains, groups)?;
+    let places = find_all(rt, alloc, chains, &*groups, threads)?;
+    let mut taken = take_all(alloc, checked, chains, groups, places)?;
     lead_all(
         rt,
         alloc,

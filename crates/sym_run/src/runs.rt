@@ -11,7 +11,7 @@ ghost use Rattle.sym_run.specs.Runs.{AreClosed, AreTight, GroupsFit, GroupsStand
 use crate::applying::apply_all;
 use crate::chunks::Memory;
 use crate::joining::join_groups;
-use crate::leading::apply_beside;
+use crate::leading::{apply_beside, threads_for};
 use crate::open_runs::OpenRun;
 use crate::run_groups::RunGroups;
 use std::alloc::Global;
@@ -20,9 +20,6 @@ use sym_base::NoMemory;
 use sym_check::Checked;
 use sym_plain::Groups;
 use sym_table::{Bad, Chunk};
-
-// A thread has at least so many groups to lead: with fewer, starting it costs more than it gains.
-const GROUPS_A_THREAD: usize = 256;
 
 /// What the records of neighbouring chunks do to each group, or the first of their rows that is no
 /// record.
@@ -233,8 +230,8 @@ impl Run {
     }
 
     /// `apply` by as many threads as there are workers, at most. The run's groups are cut into slices
-    /// of about as many, each of which one thread leads on. With few groups a worker, and with one
-    /// worker, no thread is made.
+    /// of as many, each of which one thread leads on. With few groups a worker that keep few records,
+    /// and with one worker, no thread is made.
     pub fn apply_by<T: Threads + Sync>(
         self,
         rt: &T,
@@ -258,7 +255,7 @@ impl Run {
             Err(bad) => return Ok(Applied::Bad(bad)),
         };
         let mut groups = groups;
-        let threads = (chains.len() / GROUPS_A_THREAD).min(workers as usize);
+        let threads = threads_for(&chains, workers);
         if threads < 2 {
             apply_all(alloc, checked, &chains, &mut groups)?;
         } else {
