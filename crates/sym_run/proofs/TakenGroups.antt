@@ -1,5 +1,5 @@
 -- Groups that are taken out, led beside each other, and put back.
-use Rattle.std.proofs.Common.{◌≡◌, ◌∙◌, ap, ap₂, sym, refl, subst, arith, ℕ, zero, suc, ◌<◌, Bool, true, false, true≢false, ◌||◌, if◌then◌else◌, List, [], ◌∷◌, ◌++◌, drop, length, take, Option, Some, None, is_some, OnOk}
+use Rattle.std.proofs.Common.{◌≡◌, ◌∙◌, ap, ap₂, sym, refl, subst, arith, ℕ, zero, suc, ◌+◌, ◌<◌, Bool, true, false, true≢false, ◌||◌, if◌then◌else◌, List, [], ◌∷◌, ◌++◌, drop, length, take, Option, Some, None, is_some, OnOk}
 use Rattle.std.proofs.lemmas.List.{append_assoc, append-nil, take_at}
 use Rattle.std.proofs.lemmas.List.Elements.{All-cons, All-head, All-nil, All-tail}
 use Rattle.std.proofs.lemmas.Map.Keys.{IsDistinct-head, IsDistinct-tail}
@@ -23,7 +23,7 @@ use Rattle.sym_plain.proofs.Pairs.{indexed-lookup}
 use Rattle.sym_plain.proofs.Puts.{lookup-put, lookup-put-same}
 use Rattle.sym_run.specs.Applying.{AreValid}
 use Rattle.sym_run.specs.Chains.{ChainStandsFor}
-use Rattle.sym_run.specs.Leading.{AreAlikeBut, AreFound, ArePlaces, AreTaken, IsAt, IsFound, IsLed, IsLedBy, IsLedFrom, IsTaken, WasLed, put_each}
+use Rattle.sym_run.specs.Leading.{AreAlikeBut, AreFound, AreLedBy, ArePlaces, AreTaken, IsAt, IsFound, IsLed, IsLedBy, IsLedFrom, IsTaken, WasLed, put_each}
 use Rattle.sym_run.specs.Runs.{GroupsStandFor}
 use Rattle.sym_run.specs.declared.leading.Taken.{Taken}
 use Rattle.sym_run.proofs.GroupPuts.{all_put, keys-put, new_key}
@@ -254,9 +254,47 @@ led_each p groups (q ∷ chains) (t ∷ olds) (u ∷ news) long h each = (
 )
 
 -- The same where they were led in a slice.
-pub led_slice : (p : ScriptPlan) (groups : Groups) (chains : Chains) (olds slice news : List Taken) → slice ≡ olds → length news ≡ length slice → AreTaken p groups chains olds
-    → ((i : ℕ) (d : Taken) → i < length slice → IsLedBy p (slice_get chains i) (slice_index_or slice i d) (slice_index_or news i d)) → AllZip (IsLedFrom p groups) chains news
-led_slice p groups chains olds slice news same long taken each = led_each p groups chains slice news long (subst (AreTaken p groups chains) (sym same) taken) each
+pub led_slice : (p : ScriptPlan) (groups : Groups) (chains : Chains) (olds slice news : List Taken) → slice ≡ olds → AreLedBy p chains 0 slice news → AreTaken p groups chains olds → AllZip (IsLedFrom p groups) chains news
+led_slice p groups chains olds slice news same led taken =
+    led_each p groups chains slice news led.len (subst (AreTaken p groups chains) (sym same) taken)
+    (λ i d lt.
+    let at : 0 + i ≡ i = omega arith in
+    subst (λ (n : ℕ). IsLedBy p (slice_get chains n) (slice_index_or slice i d) (slice_index_or news i d)) at (led.each i d lt))
+
+-- Those in front were led, and those behind them.
+pub led_both : (p : ScriptPlan) (chains : Chains) (start : ℕ) (front back firsts seconds : List Taken) → AreLedBy p chains start front firsts → AreLedBy p chains (start + length front) back seconds
+    → AreLedBy p chains start (front ++ back) (firsts ++ seconds)
+led_both p chains start [] back [] seconds h g =
+    let at : start + 0 ≡ start = omega arith in
+    subst (λ (n : ℕ). AreLedBy p chains n back seconds) at g
+led_both p chains start [] back (u ∷ firsts) seconds h g = let long = h.len in absurd cc
+led_both p chains start (t ∷ front) back [] seconds h g = let long = h.len in absurd cc
+led_both p chains start (t ∷ front) back (u ∷ firsts) seconds h g =
+    let past : start + suc (length front) ≡ suc start + length front = omega arith in
+    let long = h.len in
+    let tail : AreLedBy p chains (suc start) front firsts = record {
+      len = omega (arith, long);
+      each = λ k d lt.
+          let at : start + suc k ≡ suc start + k = omega arith in
+          subst (λ (n : ℕ). IsLedBy p (slice_get chains n) (slice_index_or front k d) (slice_index_or firsts k d)) at (h.each (suc k) d (omega (arith, lt)));
+    } in
+    let rest = led_both p chains (suc start) front back firsts seconds tail (subst (λ (n : ℕ). AreLedBy p chains n back seconds) past g) in
+    let later = rest.len in
+    record { len = omega (arith, later); each = one rest }
+  where
+    one : AreLedBy p chains (suc start) (front ++ back) (firsts ++ seconds) → (k : ℕ) (d : Taken) → k < suc (length (front ++ back))
+        → IsLedBy p (slice_get chains (start + k)) (slice_index_or (t ∷ front ++ back) k d) (slice_index_or (u ∷ firsts ++ seconds) k d)
+    one rest zero d lt = h.each zero d (omega arith)
+    one rest (suc k) d lt =
+        let at : suc start + k ≡ start + suc k = omega arith in
+        subst (λ (n : ℕ). IsLedBy p (slice_get chains n) (slice_index_or (front ++ back) k d) (slice_index_or (firsts ++ seconds) k d)) at (rest.each k d (omega (arith, lt)))
+
+-- What holds of all holds of those in front and behind.
+pub all_parts : {A : Type 0} (P : A → Type 0) (front back : List A) → All P (front ++ back) → All P front × All P back
+all_parts P [] back h = (All-nil P, h)
+all_parts P (x ∷ front) back h =
+    let rest = all_parts P front back (All-tail P x (front ++ back) h) in
+    (All-cons P x front (All-head P x (front ++ back) h) rest.0, rest.1)
 
 -- What is written over all items of a vector is what it has then.
 pub written_back : {A : Type 0} (len : ℕ) (news olds : List A) → length news ≡ length olds → len ≡ length olds → take len (news ++ drop (length news) olds) ≡ news

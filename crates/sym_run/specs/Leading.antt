@@ -1,6 +1,6 @@
 -- Groups that are taken out, led beside each other, and put back.
-use Rattle.std.specs.Prelude.{◌≡◌, ℕ, false, List, [], ◌∷◌, Option, Some, None, Ok, slice_get, OnOk}
-use Rattle.std.specs.List.{AllZip}
+use Rattle.std.specs.Prelude.{◌≡◌, ◌<◌, ◌+◌, ℕ, false, List, [], ◌∷◌, Option, Some, None, Ok, length, slice_get, slice_index_or, OnOk}
+use Rattle.std.specs.List.{All, AllZip}
 use Rattle.std.specs.Map.{keys_of, lookup}
 use Rattle.sym_base.specs.declared.values.value.Key.{Key}
 use Rattle.sym_base.specs.declared.values.record.Record.{Record}
@@ -52,6 +52,10 @@ abbrev pub AreTaken : ScriptPlan → List (Key × Outcome) → List (Key × Chai
     → List Taken → Type 0
 AreTaken p groups chains taken = AllZip (λ group one. IsTaken p groups group.0 one) chains taken
 
+-- What was taken out goes on with valid states.
+abbrev pub AreReady : ScriptPlan → List Taken → Type 0
+AreReady p taken = All (λ one. IsValidOutcome p one.outcome) taken
+
 -- Each key is where it was when it was taken out.
 abbrev pub ArePlaces : List (Key × Outcome) → List (Key × Chained) → List Taken → Type 0
 ArePlaces groups chains taken = AllZip (λ group one. IsAt groups group.0 one.place) chains taken
@@ -71,6 +75,13 @@ pub record IsLed (p : ScriptPlan) (chain : Chained) (old new : Taken) : Type 0 w
 abbrev pub IsLedBy : ScriptPlan → Option (Key × Chained) → Taken → Taken → Type 0
 IsLedBy p None old new = new ≡ old
 IsLedBy p (Some group) old new = IsLed p group.1 old new
+
+-- Groups of a run, of which the first is at this index, were led on.
+pub record AreLedBy (p : ScriptPlan) (chains : List (Key × Chained)) (start : ℕ)
+    (old new : List Taken) : Type 0 where
+  pub len : length new ≡ length old
+  pub each : (k : ℕ) (d : Taken) → k < length old →
+      IsLedBy p (slice_get chains (start + k)) (slice_index_or old k d) (slice_index_or new k d)
 
 -- What was taken out of groups for a key was led on by its chain, and still belongs where it was.
 pub record IsLedFrom (p : ScriptPlan) (groups : List (Key × Outcome))

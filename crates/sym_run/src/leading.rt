@@ -3,6 +3,7 @@
 ghost use Rattle.std.specs.Prelude.{◌≡◌, ◌<◌, ◌≤◌, ◌+◌, ◌^◌, ℕ, List, Option, [], ◌∷◌, None, Some, Ok, OnOk, IfOk, length, slice_get, slice_index_or};
 ghost use Rattle.std.specs.List.{All, AllZip};
 ghost use Rattle.std.specs.Map.{keys_of, lookup};
+ghost use Rattle.std.specs.Thread.{IsSync};
 ghost use Rattle.sym_base.specs.declared.values.record.Record.{Record as OneRecord};
 ghost use Rattle.sym_base.specs.declared.values.state.Outcome.{Outcome as OneOutcome};
 ghost use Rattle.sym_base.specs.declared.values.value.Key.{Key as OneKey};
@@ -11,14 +12,13 @@ ghost use Rattle.sym_check.specs.Meaning.Groups.{is_key};
 ghost use Rattle.sym_check.specs.Meaning.Validity.{IsValidOutcome};
 ghost use Rattle.sym_plain.specs.Pairs.{HaveDistinctKeys, after_records, put};
 ghost use Rattle.sym_run.specs.Applying.{AreValid};
-ghost use Rattle.sym_run.specs.Leading.{AreAlikeBut, AreFound, ArePlaces, AreTaken, IsAt, IsFound, IsLedBy, IsTaken, WasLed, put_each, while_out};
+ghost use Rattle.sym_run.specs.Leading.{AreAlikeBut, AreFound, AreLedBy, ArePlaces, AreReady, AreTaken, IsAt, IsFound, IsLedBy, IsTaken, WasLed, put_each, while_out};
 ghost use Rattle.sym_run.specs.Runs.{GroupsFit, GroupsStandFor};
-ghost use Rattle.sym_run.specs.declared.leading.Taken.{Taken as OneTaken};
 
 use crate::run_groups::RunGroups;
 use crate::steps::Stepper;
 use std::alloc::Global;
-use std::thread::Threads;
+use std::thread::{Threads, join_mut};
 use std::{mem, thread};
 use sym_base::{Fault, FaultKind, Key, NoMemory, Outcome};
 use sym_check::Checked;
@@ -114,6 +114,14 @@ impl<'a> LendsGroups for Sought<'a> {
     }
 }
 
+// How much there is to lead of the group at an index.
+fn work_of(chains: &RunGroups, index: usize) -> usize {
+    match chains.at(index) {
+        Some((_key, chain)) => WORK_A_GROUP.saturating_add(chain.kept()),
+        None => 0,
+    }
+}
+
 /// How many threads are to lead the groups of a run: at most as many as there are workers, and as
 /// have enough to lead.
 pub(crate) fn threads_for(chains: &RunGroups, workers: u32) -> usize
@@ -122,10 +130,8 @@ pub(crate) fn threads_for(chains: &RunGroups, workers: u32) -> usize
     let most = workers as usize;
     let enough = WORK_A_THREAD.saturating_mul(most);
     let mut work: usize = 0;
-    'groups: for (_key, chain) in chains.map.iter() {
-        work = work
-            .saturating_add(WORK_A_GROUP)
-            .saturating_add(chain.kept());
+    'groups: for index in 0..chains.len() {
+        work = work.saturating_add(work_of(chains, index));
         if work >= enough {
             return most;
         }
@@ -256,7 +262,7 @@ fn take_all(
     ensures taken { let p = checked_plan checked.now in
         IfOk result (λ taken. AreTaken p groups.old chains.now taken.items) }
     ensures ready { let p = checked_plan checked.now in
-        IfOk result (λ taken. All (λ one. IsValidOutcome p one.outcome) taken.items) }
+        IfOk result (λ taken. AreReady p taken.items) }
 {
     let mut taken = Vec::with_capacity(alloc, chains.len())?;
     let mut rest = places.into_iter();
@@ -299,12 +305,8 @@ fn lead_part(
 )
     requires room { start + length taken.old < 2 ^ 64 }
     requires fits { GroupsFit (checked_plan checked.now) chains.now }
-    requires valid { let p = checked_plan checked.now in
-        All (λ one. IsValidOutcome p one.outcome) taken.old }
-    ensures { let p = checked_plan checked.now in
-        (k : ℕ) (d : OneTaken) → k < length taken.old →
-        IsLedBy p (slice_get chains.now (start + k))
-        (slice_index_or taken.old k d) (slice_index_or taken.new k d) }
+    requires valid { AreReady (checked_plan checked.now) taken.old }
+    ensures { AreLedBy (checked_plan checked.now) chains.now start taken.old taken.new }
 {
     let mut stepper = Stepper::new(alloc);
     'groups: for k in 0..taken.len() {
@@ -319,39 +321,110 @@ fn lead_part(
     }
 }
 
-// Leads each group on by the chain of its key. So many threads, at most, lead as many groups each.
+// How many of so many groups, of which the first is at this index, go to `low` threads, so that
+// these have about as much to lead each as `high` others have of the rest.
+fn middle_of(chains: &RunGroups, start: usize, count: usize, low: usize, high: usize) -> usize
+    requires { start + count < 2 ^ 64 }
+    ensures { result ≤ count }
+{
+    let mut front = 0;
+    let mut back = count;
+    let mut before: usize = 0;
+    let mut after: usize = 0;
+    'groups: for _step in 0..count {
+        if front >= back {
+            return front;
+        }
+        if before.saturating_mul(high) <= after.saturating_mul(low) {
+            before = before.saturating_add(work_of(chains, start + front));
+            front += 1;
+        } else {
+            back -= 1;
+            after = after.saturating_add(work_of(chains, start + back));
+        }
+    }
+    front
+}
+
+// Leads each group on by the chain of its key, of which the first is at this index. So many
+// threads, at most, have about as much to lead each: the groups are halved at each step, and one
+// half goes to other threads. The slice is the last parameter, since a closure lends it last.
+#[cycle(halves)]
 fn lead_all<T: Threads + Sync, S: LendsChains + Sync>(
     rt: &T,
     alloc: Global,
     lender: &S,
-    taken: &mut [Taken],
     threads: usize,
+    start: usize,
+    taken: &mut [Taken],
 )
-    requires threads { 0 < threads }
+    requires room { start + length taken.old < 2 ^ 64 }
     requires fits { GroupsFit (checked_plan (S.by lender.now)) (S.lent lender.now) }
-    requires valid { let p = checked_plan (S.by lender.now) in
-        All (λ one. IsValidOutcome p one.outcome) taken.old }
-    ensures len { length taken.new ≡ length taken.old }
-    ensures led { let p = checked_plan (S.by lender.now) in
-        (i : ℕ) (d : OneTaken) → i < length taken.old →
-        IsLedBy p (slice_get (S.lent lender.now) i)
-        (slice_index_or taken.old i d) (slice_index_or taken.new i d) }
+    requires valid { AreReady (checked_plan (S.by lender.now)) taken.old }
+    ensures { let p = checked_plan (S.by lender.now) in
+        AreLedBy p (S.lent lender.now) start taken.old taken.new }
 {
-    let each = taken.len().div_ceil(threads).max(1);
-    thread::for_each_chunk_mut(
+    if threads < 2 {
+        lead_part(alloc, lender.script(), lender.chains(), start, taken);
+        return;
+    }
+    let low = threads / 2;
+    let high = threads - low;
+    let middle = middle_of(lender.chains(), start, taken.len(), low, high);
+    let (front, back) = taken.split_at_mut(middle);
+    lead_both(
         rt,
-        taken,
-        each,
-        &|start: usize, part: &mut [Taken]|
-            requires { let p = checked_plan (S.by lender.now) in
-                (start + length part.old < 2 ^ 64) × GroupsFit p (S.lent lender.now)
-                × All (λ one. IsValidOutcome p one.outcome) part.old }
-            ensures { let p = checked_plan (S.by lender.entry.now) in
-                (k : ℕ) (d : OneTaken) → k < length part.old →
-                IsLedBy p (slice_get (S.lent lender.entry.now) (start + k))
-                (slice_index_or part.old k d) (slice_index_or part.new k d) }
-        { lead_part(alloc, lender.script(), lender.chains(), start, part) },
+        alloc,
+        lender,
+        low,
+        start,
+        front,
+        high,
+        start + middle,
+        back,
     );
+}
+
+// A function beside `lead_all`, so that what the closures need is what this one is given.
+#[cycle(halves)]
+fn lead_both<T: Threads + Sync, S: LendsChains + Sync>(
+    rt: &T,
+    alloc: Global,
+    lender: &S,
+    low: usize,
+    start: usize,
+    front: &mut [Taken],
+    high: usize,
+    next: usize,
+    back: &mut [Taken],
+)
+    requires low { 0 < low }
+    requires high { 0 < high }
+    requires front_room { start + length front.old < 2 ^ 64 }
+    requires back_room { next + length back.old < 2 ^ 64 }
+    requires fits { GroupsFit (checked_plan (S.by lender.now)) (S.lent lender.now) }
+    requires front_valid { AreReady (checked_plan (S.by lender.now)) front.old }
+    requires back_valid { AreReady (checked_plan (S.by lender.now)) back.old }
+    ensures front { let p = checked_plan (S.by lender.now) in
+        AreLedBy p (S.lent lender.now) start front.old front.new }
+    ensures back { let p = checked_plan (S.by lender.now) in
+        AreLedBy p (S.lent lender.now) next back.old back.new }
+{
+    let mut first = ||
+        requires { let p = checked_plan (S.by lender.now) in IsSync T.row × IsSync S.row
+            × (start + length front.now < 2 ^ 64) × GroupsFit p (S.lent lender.now)
+            × AreReady p front.now }
+        ensures { let p = checked_plan (S.by lender.entry.now) in
+            AreLedBy p (S.lent lender.entry.now) start front.entry.now front.exit.now }
+    { lead_all(rt, alloc, lender, low, start, front) };
+    let mut second = ||
+        requires { let p = checked_plan (S.by lender.now) in IsSync T.row × IsSync S.row
+            × (next + length back.now < 2 ^ 64) × GroupsFit p (S.lent lender.now)
+            × AreReady p back.now }
+        ensures { let p = checked_plan (S.by lender.entry.now) in
+            AreLedBy p (S.lent lender.entry.now) next back.entry.now back.exit.now }
+    { lead_all(rt, alloc, lender, high, next, back) };
+    join_mut(rt, &mut first, &mut second);
 }
 
 // Puts how a group stands in its place.
@@ -434,8 +507,9 @@ pub(crate) fn apply_beside<T: Threads + Sync>(
         rt,
         alloc,
         &Lent { checked, chains },
-        taken.as_mut_slice(),
         threads,
+        0,
+        taken.as_mut_slice(),
     );
     put_all(alloc, chains, groups, taken)?;
     // Its clause says that no key stands twice.

@@ -230,8 +230,8 @@ impl Run {
     }
 
     /// `apply` by as many threads as there are workers, at most. The run's groups are cut into slices
-    /// of as many, each of which one thread leads on. With few groups a worker that keep few records,
-    /// and with one worker, no thread is made.
+    /// with about as much to lead, each of which one thread leads on. With few groups a worker that
+    /// keep few records, and with one worker, no thread is made.
     pub fn apply_by<T: Threads + Sync>(
         self,
         rt: &T,

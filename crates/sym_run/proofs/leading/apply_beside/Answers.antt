@@ -20,7 +20,7 @@ put_all-requires g c =
     subst (ArePlaces c.take_all.new.groups c.args.chains.now)
     (sym (written_back c.in_ok-taken.taken.len news olds (c.lead_all.ensures.len ∙ ap length c.as_mut_slice.ensures.value) c.in_ok-taken.taken.ok.0))
     (places_led p c.args.groups.now c.take_all.new.groups c.args.chains.now news c.in_ok-taken.ensures.alike.keys_are
-    (led_slice p c.args.groups.now c.args.chains.now olds c.as_mut_slice.result.now news c.as_mut_slice.ensures.value c.lead_all.ensures.len c.in_ok-taken.ensures.taken c.lead_all.ensures.led))
+    (led_slice p c.args.groups.now c.args.chains.now olds c.as_mut_slice.result.now news c.as_mut_slice.ensures.value c.lead_all.ensures c.in_ok-taken.ensures.taken))
 
 pub returns-clause-valid : goal.returns-clause-valid
 returns-clause-valid g c =
@@ -32,7 +32,7 @@ returns-clause-valid g c =
     let same = written_back c.in_ok-taken.taken.len news olds (c.lead_all.ensures.len ∙ ap length c.as_mut_slice.ensures.value) c.in_ok-taken.taken.ok.0 in
     subst (AreValid p) (sym (c.in_ok-put_all.ensures.groups ∙ ap (λ (taken : List Taken). put_each chains taken now) same))
     (back_valid p c.args.groups.now chains news now
-    (led_slice p c.args.groups.now chains olds c.as_mut_slice.result.now news c.as_mut_slice.ensures.value c.lead_all.ensures.len c.in_ok-taken.ensures.taken c.lead_all.ensures.led)
+    (led_slice p c.args.groups.now chains olds c.as_mut_slice.result.now news c.as_mut_slice.ensures.value c.lead_all.ensures c.in_ok-taken.ensures.taken)
     (subst (All WasLed) same c.in_ok-put_all.ensures.led) c.in_ok-taken.ensures.valid)
 
 pub returns-clause-groups : goal.returns-clause-groups
@@ -44,6 +44,6 @@ returns-clause-groups g c = λ records s.
     let olds = c.in_ok-taken.taken.items in
     let same = written_back c.in_ok-taken.taken.len news olds (c.lead_all.ensures.len ∙ ap length c.as_mut_slice.ensures.value) c.in_ok-taken.taken.ok.0 in
     back_all p records c.args.groups.now now c.put_all.new.groups chains news c.requires.distinct c.len-count.ensures.distinct
-    (led_slice p c.args.groups.now chains olds c.as_mut_slice.result.now news c.as_mut_slice.ensures.value c.lead_all.ensures.len c.in_ok-taken.ensures.taken c.lead_all.ensures.led)
+    (led_slice p c.args.groups.now chains olds c.as_mut_slice.result.now news c.as_mut_slice.ensures.value c.lead_all.ensures c.in_ok-taken.ensures.taken)
     (subst (All WasLed) same c.in_ok-put_all.ensures.led) c.in_ok-taken.ensures.alike
     (c.in_ok-put_all.ensures.groups ∙ ap (λ (taken : List Taken). put_each chains taken now) same) s
