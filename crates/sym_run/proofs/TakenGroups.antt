@@ -181,16 +181,10 @@ pub record IsTaking (p : ScriptPlan) (chains others : Chains) (first groups : Gr
   pub each : AreTaken p first done taken
   pub found : AreFound first others places
 
-pub taking_none : (p : ScriptPlan) (chains : Chains) (groups : Groups) (places : List (Option ℕ)) → AreValid p groups → AreFound groups chains places → IsTaking p chains chains groups groups [] places
-taking_none p chains groups places valid found = record { done = []; all = refl; valid = valid; alike = alike_same [] groups; each = tt; found = found }
-
 -- The next one is where it was found.
 pub taking_at : (p : ScriptPlan) (chains others : Chains) (first groups : Groups) (taken : List Taken) (q : Key × Chained) (place : Option ℕ) (places : List (Option ℕ)) → IsTaking p chains (q ∷ others) first groups taken (place ∷ places)
     → IsAt groups q.0 place
 taking_at p chains others first groups taken q place places h = same_place first groups q.0 place h.alike.keys_are h.found.0
-
-pub taking_stops : (p : ScriptPlan) (chains others : Chains) (first groups : Groups) (taken : List Taken) (q : Key × Chained) → IsTaking p chains (q ∷ others) first groups taken [] → ⊥
-taking_stops p chains others first groups taken q h = h.found
 
 pub taking_on : (p : ScriptPlan) (chains others : Chains) (first old new : Groups) (taken : List Taken) (q : Key × Chained) (one : Taken) (place : Option ℕ) (places : List (Option ℕ)) → IsTaking p chains (q ∷ others) first old taken (place ∷ places)
     → HaveDistinctKeys chains → AreValid p new → AreAlikeBut (q.0 ∷ []) old new → IsTaken p old q.0 one → IsTaking p chains others first new (taken ++ one ∷ []) places
@@ -217,13 +211,33 @@ taking_on p chains others first old new taken q one place places h distinct vali
       found = h.found.1;
     }
 
-pub taking_alike : (p : ScriptPlan) (chains : Chains) (first groups : Groups) (taken : List Taken) (places : List (Option ℕ)) → IsTaking p chains [] first groups taken places → AreAlikeBut (keys_of chains) first groups
-taking_alike p chains first groups taken places h =
-    subst (λ (xs : Chains). AreAlikeBut (keys_of xs) first groups) (sym (append-nil h.done) ∙ h.all) h.alike
+-- The groups at the places that are left are still in.
+abbrev pub IsTakingAt : ScriptPlan → Chains → Groups → Groups → List Taken → List (Option ℕ) → Type 0
+IsTakingAt p chains first groups taken places = (others : Chains) × IsTaking p chains others first groups taken places
 
-pub taking_each : (p : ScriptPlan) (chains : Chains) (first groups : Groups) (taken : List Taken) (places : List (Option ℕ)) → IsTaking p chains [] first groups taken places → AreTaken p first chains taken
-taking_each p chains first groups taken places h =
-    subst (λ (xs : Chains). AreTaken p first xs taken) (sym (append-nil h.done) ∙ h.all) h.each
+pub taking_next : (p : ScriptPlan) (chains : Chains) (first old new : Groups) (taken : List Taken) (one : Taken) (place : Option ℕ) (places : List (Option ℕ)) → IsTakingAt p chains first old taken (place ∷ places) → HaveDistinctKeys chains
+    → ((key : Key) → IsAt old key place → AreValid p new) → ((key : Key) → IsAt old key place → AreAlikeBut (key ∷ []) old new) → ((key : Key) → IsAt old key place → IsTaken p old key one)
+    → IsTakingAt p chains first new (taken ++ one ∷ []) places
+taking_next p chains first old new taken one place places ([], h) distinct valid alike is = absurd h.found
+taking_next p chains first old new taken one place places (q ∷ others, h) distinct valid alike is =
+    let at = taking_at p chains others first old taken q place places h in
+    (others, taking_on p chains others first old new taken q one place places h distinct (valid q.0 at) (alike q.0 at) (is q.0 at))
+
+-- All of them are out.
+pub record IsAllOut (p : ScriptPlan) (chains : Chains) (first groups : Groups) (taken : List Taken) : Type 0 where
+  pub valid : AreValid p groups
+  pub alike : AreAlikeBut (keys_of chains) first groups
+  pub each : AreTaken p first chains taken
+
+pub taking_all : (p : ScriptPlan) (chains : Chains) (first groups : Groups) (taken : List Taken) → IsTakingAt p chains first groups taken [] → IsAllOut p chains first groups taken
+taking_all p chains first groups taken ([], h) =
+    let done : h.done ≡ chains = sym (append-nil h.done) ∙ h.all in
+    record {
+      valid = h.valid;
+      alike = subst (λ (xs : Chains). AreAlikeBut (keys_of xs) first groups) done h.alike;
+      each = subst (λ (xs : Chains). AreTaken p first xs taken) done h.each;
+    }
+taking_all p chains first groups taken (q ∷ others, h) = absurd h.found
 
 -- ---- leading
 pub taken_valid : (p : ScriptPlan) (groups : Groups) (chains : Chains) (taken : List Taken) → AreTaken p groups chains taken → All (λ (one : Taken). IsValidOutcome p one.outcome) taken

@@ -265,12 +265,8 @@ fn take_all(
         IfOk result (λ taken. AreReady p taken.items) }
 {
     let mut taken = Vec::with_capacity(alloc, chains.len())?;
-    let mut rest = places.into_iter();
-    'groups: for (_key, _chain) in chains.map.iter() {
-        match rest.next() {
-            Some(place) => taken.push(take_group(alloc, checked, groups, place)?)?,
-            None => return Ok(taken),
-        }
+    'groups: for place in places {
+        taken.push(take_group(alloc, checked, groups, place)?)?;
     }
     Ok(taken)
 }
