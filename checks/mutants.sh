@@ -16,7 +16,8 @@ if [ $# -eq 0 ]; then
     done
 fi
 
-# rt takes them from `must-fail`, so a link stands there while it runs.
+# rt takes them from `must-fail`, so links stand there while it runs. Where a crate has mutants of
+# the gate too, those are tried with them, unless they were tried before.
 links=$work/links
 trap 'xargs rm -f <"$links"; rm -rf "$work"' EXIT
 : >"$links"
@@ -25,11 +26,15 @@ for crate in "$@"; do
         echo "$check: $crate has no folder mutants" >&2
         exit 2
     fi
-    if [ -e "crates/$crate/must-fail" ]; then
-        echo "$check: $crate has a must-fail already" >&2
-        exit 2
+    if [ ! -e "crates/$crate/must-fail" ]; then
+        ln -s mutants "crates/$crate/must-fail" || exit 1
+        echo "crates/$crate/must-fail" >>"$links"
+        continue
     fi
-    ln -s mutants "crates/$crate/must-fail" || exit 1
-    echo "crates/$crate/must-fail" >>"$links"
+    for edit in "crates/$crate/mutants"/*.edit; do
+        link=crates/$crate/must-fail/${edit##*/}
+        ln -s "../mutants/${edit##*/}" "$link" || exit 1
+        echo "$link" >>"$links"
+    done
 done
 rt must-fail "$@"

@@ -8,6 +8,7 @@ pub mod RoundRuns
 pub mod WorkShared
 pub mod Summed
 pub mod Stretched
+pub mod LedRounds
 pub mod RowsFull
 pub mod RoundLists
 pub mod ToldRows

@@ -17,7 +17,7 @@ use Rattle.sym_table.specs.ChunkRecords.{all_records}
 use Rattle.sym_run.specs.declared.runs.Applied.{Applied}
 use Rattle.sym_run.specs.declared.runs.Applied.TheVariants as applied
 use Rattle.sym_run.specs.declared.runs.Run.{Run}
-use Rattle.sym_run.specs.Applying.{AreValid, IfDone, bad_of}
+use Rattle.sym_run.specs.Applying.{AreValid, IfDone, applied_to, bad_of}
 use Rattle.sym_run.specs.Runs.{GroupsStandFor, HasFound}
 use Rattle.sym_engine.specs.Rounds.{AreWorkers, StandsForAll}
 use Rattle.sym_engine.specs.Taking.{AreLedBy}
@@ -72,16 +72,18 @@ abbrev pub Led : ScriptPlan → Result (List Record) BadRow → Pairs → Pairs 
 Led p read old new =
     (records : List Record) × (read ≡ Ok records) × ((before : List Record) → AreLedBy p old before → AreLedBy p new (before ++ records))
 
+-- Groups that records have led on.
+led_groups : (p : ScriptPlan) (old given new : Pairs) (records before : List Record) → given ≡ old → new ≡ after_records p records given → AreValid p new
+    → AreLedBy p old before → AreLedBy p new (before ++ records)
+led_groups p old given new records before same on valid led =
+    record { passed = on ∙ ap (after_records p records) (same ∙ led.passed) ∙ pass_more p before records; valid = valid }
+
 groups_led : (p : ScriptPlan) (old given new : Pairs) (run : Run) (found : Applied) (records before : List Record)
     → GroupsStandFor p records run.groups → given ≡ old → IsApplied p run given found → found ≡ applied.Done new → AreLedBy p old before → AreLedBy p new (before ++ records)
 groups_led p old given new run found records before stands same by done led =
     let G : Applied → Type 0 = λ x. IfDone x (λ g. g ≡ after_records p records given) in
     let V : Applied → Type 0 = λ x. IfDone x (AreValid p) in
-    let on : new ≡ after_records p records given = subst G done (by.groups_are records stands) in
-    record {
-      passed = on ∙ ap (after_records p records) (same ∙ led.passed) ∙ pass_more p before records;
-      valid = subst V done by.valid;
-    }
+    led_groups p old given new records before same (subst G done (by.groups_are records stands)) (subst V done by.valid) led
 
 pub round_led : (p : ScriptPlan) (limit : ℕ) (cuts : List Chunk) (run : Run) (old given new : Pairs) (found : Applied)
     → StandsForAll p limit cuts run → given ≡ old → IsApplied p run given found → found ≡ applied.Done new → Led p (all_records p cuts) old new
@@ -97,7 +99,21 @@ pub round_broken : (p : ScriptPlan) (limit : ℕ) (cuts : List Chunk) (run : Run
     → StandsForAll p limit cuts run → IsApplied p run given found → found ≡ applied.Bad bad → all_records p cuts ≡ Err bad
 round_broken p limit cuts run given found bad h by broken = round_bad p limit cuts run bad h (sym by.bad ∙ ap bad_of broken)
 
--- The same beside a number of workers, which stays.
+-- ---- the groups after a round
+pub all_led : (p : ScriptPlan) (read : Result (List Record) BadRow) (old given new : Pairs) (found : Applied)
+    → given ≡ old → found ≡ applied_to p read given → IfDone found (AreValid p) → found ≡ applied.Done new → Led p read old new
+all_led p (Ok records) old given new found same is valid done =
+    let V : Applied → Type 0 = λ x. IfDone x (AreValid p) in
+    let on : new ≡ after_records p records given = cc in
+    (records, refl, λ before led. led_groups p old given new records before same on (subst V done valid) led)
+all_led p (Err bad) old given new found same is valid done = absurd (cc)
+
+pub all_broken : (p : ScriptPlan) (read : Result (List Record) BadRow) (given : Pairs) (found : Applied) (bad : BadRow)
+    → found ≡ applied_to p read given → found ≡ applied.Bad bad → read ≡ Err bad
+all_broken p (Ok records) given found bad is broken = absurd (cc)
+all_broken p (Err first) given found bad is broken = let same : first ≡ bad = cc in ap Err same
+
+-- What a round leads groups to, beside a number of workers, which stays.
 pub with_workers : (p : ScriptPlan) (workers : ℕ) (read : Result (List Record) BadRow) (old new : Pairs) → Led p read old new
     → (records : List Record) × (read ≡ Ok records) × ((before : List Record) → AreWorkers workers × AreLedBy p old before → AreWorkers workers × AreLedBy p new (before ++ records))
 with_workers p workers read old new led = (led.0, led.1, λ before stood. (stood.0, led.2 before stood.1))

@@ -1,5 +1,5 @@
 -- The stretches of a round, and what their runs stand for.
-use Rattle.std.proofs.Common.{◌≡◌, ◌∙◌, ℕ, ◌+◌, ◌*◌, ◌≤◌, ◌<◌, List, None, Result, Ok, Err, IfOk, length, min, sym, subst, arith}
+use Rattle.std.proofs.Common.{◌≡◌, ◌∙◌, ℕ, ◌+◌, ◌*◌, ◌≤◌, ◌<◌, List, None, Result, Ok, Err, IfOk, length, min, ap, sym, subst, arith}
 use Rattle.std.specs.Int.{div_ceil}
 use Rattle.std.proofs.lemmas.Grind.{div_ceil_times}
 use Rattle.std.proofs.Math.Nat.{mul-le-mul_right}
@@ -30,6 +30,12 @@ pub finished : {E : Type 0} (work : Work) (first end lo hi : ℕ) (r : Result Ru
     → IfOk r (StandsFrom work first end)
 finished work first end lo hi (Ok run) from to ends stands = record { ends = record { from = ends.from ∙ from; to = ends.to ∙ to }; stands = stands }
 finished work first end lo hi (Err e) from to ends stands = tt
+
+-- The same, where the work is an equal one.
+pub cut_into : (work lent : Work) (each size len count : ℕ) → 1 ≤ size → work ≡ lent → each ≡ size → len ≡ length work.chunks → count ≡ div_ceil len each → AreStretches (length lent.chunks) size count
+cut_into work lent each size len count some same sized long is =
+    let n : len ≡ length lent.chunks = subst (λ (w : Work). len ≡ length w.chunks) same long in
+    stretched (length lent.chunks) size count some (is ∙ ap (λ (m : ℕ). div_ceil m each) n ∙ ap (λ (e : ℕ). div_ceil (length lent.chunks) e) sized)
 
 -- The run of a stretch's chunks, where the work is an equal one.
 pub of_stretch : (work lent : Work) (each size len count number end : ℕ) (run : Run) → work ≡ lent → each ≡ size → len ≡ length work.chunks → AreStretches (length lent.chunks) size count → number < count

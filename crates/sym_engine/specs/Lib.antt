@@ -5,6 +5,7 @@ pub mod Rounds
 pub mod Passing
 pub mod Taking
 pub mod Pieces
+pub mod Leading
 pub mod Saving
 pub mod Partials
 pub mod Watching

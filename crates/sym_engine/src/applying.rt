@@ -1,4 +1,4 @@
-//! Rounds whose runs are applied to groups.
+//! Rounds whose records lead groups on.
 ghost use Rattle.std.specs.Prelude.{◌≡◌, []};
 ghost use Rattle.sym_engine.specs.Rounds.{AreWorkers};
 ghost use Rattle.sym_engine.specs.Taking.{AreLedBy};
@@ -13,8 +13,8 @@ use sym_base::NoMemory;
 use sym_plain::Groups;
 use sym_run::Applied;
 
-/// The groups of the rounds so far, the gate that has the run of each round made, and how many
-/// workers make it.
+/// The groups of the rounds so far, the gate that has each round lead them on, and how many workers
+/// do it.
 #[derive(Drop)]
 pub(crate) struct PassRounds<'a, G> {
     gate: &'a G,
@@ -49,9 +49,9 @@ impl<'a, G: Gate + Sync> Rounds for PassRounds<'a, G> {
         alloc: Global,
         work: &Work,
     ) -> Result<Took, NoMemory> {
-        let run = self.gate.work_round(rt, alloc, work, self.workers)?;
         let groups = mem::replace(&mut self.groups, Groups::new(alloc));
-        match run.apply_by(rt, alloc, &work.checked, groups, self.workers)? {
+        let applied = self.gate.lead_round(rt, alloc, work, self.workers, groups)?;
+        match applied {
             Applied::Done(groups) => {
                 self.groups = groups;
                 Ok(Took::Done)

@@ -1,21 +1,25 @@
 //! What stands between the files and the workers.
-ghost use Rattle.std.specs.Prelude.{IfOk};
+ghost use Rattle.std.specs.Prelude.{◌≡◌, IfOk};
 ghost use Rattle.std.specs.Thread.{IsSync};
 ghost use Rattle.sym_check.specs.Checking.CheckedScripts.{checked_plan};
+ghost use Rattle.sym_run.specs.Applying.{AreValid, IfDone, applied_to};
+ghost use Rattle.sym_table.specs.ChunkRecords.{all_records};
 ghost use Rattle.sym_table.specs.Reading.{Row as OneRow};
-ghost use Rattle.sym_engine.specs.Rounds.{AreWorkers, IsLimit, IsRound, StandsForAll, shown_chunks};
+ghost use Rattle.sym_engine.specs.Rounds.{AreWorkers, IsLimit, IsRound, StandsForAll, round_records, shown_chunks};
 
 use crate::entering::{Enter, Free};
+use crate::leading::{apply_run, led};
 use crate::rounds::Work;
 use crate::workers::worked;
 use std::alloc::Global;
 use std::sync::Wait;
 use std::thread::Threads;
 use sym_base::NoMemory;
-use sym_run::Run;
+use sym_plain::Groups;
+use sym_run::{Applied, Run};
 
-/// What stands between the files and the workers: it has the run of each round made, is told of each
-/// chunk that is claimed, and says which row is read in place of a row.
+/// What stands between the files and the workers: it has the run of each round made, or groups led on
+/// by a round, is told of each chunk that is claimed, and says which row is read in place of a row.
 pub trait Gate {
     // The row that the workers read in place of a row.
     ghost shown: { Self → OneRow → OneRow };
@@ -40,10 +44,37 @@ pub trait Gate {
         ensures { let p = checked_plan work.now.checked in
             let chunks = shown_chunks (shown self.now) work.now.chunks in
             IfOk result (StandsForAll p work.now.limit chunks) };
+
+    /// What a round's records, each row as it is shown, make of groups: the groups after them, or
+    /// the first row that is no record. The conditions are those of `round`. The round's run is
+    /// applied, unless a gate knows a shorter way.
+    fn lead_round<T: Threads + Wait + Sync>(
+        &self,
+        rt: &T,
+        alloc: Global,
+        work: &Work,
+        workers: u32,
+        groups: Groups,
+    ) -> Result<Applied, NoMemory>
+        requires sync { IsSync T.row }
+        requires round { IsRound (checked_plan work.now.checked).fields work.now.chunks }
+        requires limit { IsLimit work.now.limit }
+        requires workers { AreWorkers workers }
+        requires valid { AreValid (checked_plan work.now.checked) groups }
+        ensures applied { let p = checked_plan work.now.checked in
+            let read = round_records p (shown self.now) work.now.chunks in
+            IfOk result (λ applied. applied ≡ applied_to p read groups) }
+        ensures valid { let p = checked_plan work.now.checked in
+            IfOk result (λ applied. IfDone applied (AreValid p)) }
+    {
+        let run = self.work_round(rt, alloc, work, workers)?;
+        apply_run(rt, alloc, work, run, groups, workers)
+    }
 }
 
 /// A value that is told of each chunk and has rounds worked with itself. A type implements it by one
-/// call, `worked(rt, alloc, work, workers, self)`, and so makes an `OpenGate` a gate.
+/// call, `worked(rt, alloc, work, workers, self)`, and so makes an `OpenGate` a gate. A second one,
+/// `led(rt, alloc, work, workers, groups, self)`, makes its passes faster.
 pub trait Hold: Enter {
     /// The run of all chunks of a round, whose workers tell this value of each chunk.
     fn hold_round<T: Threads + Wait + Sync>(
@@ -59,6 +90,31 @@ pub trait Hold: Enter {
         requires workers { AreWorkers workers }
         ensures { let p = checked_plan work.now.checked in
             IfOk result (StandsForAll p work.now.limit work.now.chunks) };
+
+    /// What a round's records make of groups. The workers tell this value of each chunk. The
+    /// round's run is applied, unless a type has `led` do it.
+    fn hold_lead<T: Threads + Wait + Sync>(
+        &self,
+        rt: &T,
+        alloc: Global,
+        work: &Work,
+        workers: u32,
+        groups: Groups,
+    ) -> Result<Applied, NoMemory>
+        requires sync { IsSync T.row }
+        requires round { IsRound (checked_plan work.now.checked).fields work.now.chunks }
+        requires limit { IsLimit work.now.limit }
+        requires workers { AreWorkers workers }
+        requires valid { AreValid (checked_plan work.now.checked) groups }
+        ensures applied { let p = checked_plan work.now.checked in
+            let read = all_records p work.now.chunks in
+            IfOk result (λ applied. applied ≡ applied_to p read groups) }
+        ensures valid { let p = checked_plan work.now.checked in
+            IfOk result (λ applied. IfDone applied (AreValid p)) }
+    {
+        let run = self.hold_round(rt, alloc, work, workers)?;
+        apply_run(rt, alloc, work, run, groups, workers)
+    }
 }
 
 impl Hold for Free {
@@ -70,6 +126,17 @@ impl Hold for Free {
         workers: u32,
     ) -> Result<Run, NoMemory> {
         worked(rt, alloc, work, workers, self)
+    }
+
+    fn hold_lead<T: Threads + Wait + Sync>(
+        &self,
+        rt: &T,
+        alloc: Global,
+        work: &Work,
+        workers: u32,
+        groups: Groups,
+    ) -> Result<Applied, NoMemory> {
+        led(rt, alloc, work, workers, groups, self)
     }
 }
 
@@ -94,5 +161,16 @@ impl<E: Hold + Sync> Gate for OpenGate<E> {
         workers: u32,
     ) -> Result<Run, NoMemory> {
         self.hold.hold_round(rt, alloc, work, workers)
+    }
+
+    fn lead_round<T: Threads + Wait + Sync>(
+        &self,
+        rt: &T,
+        alloc: Global,
+        work: &Work,
+        workers: u32,
+        groups: Groups,
+    ) -> Result<Applied, NoMemory> {
+        self.hold.hold_lead(rt, alloc, work, workers, groups)
     }
 }

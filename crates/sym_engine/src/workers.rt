@@ -18,16 +18,16 @@ use sym_base::NoMemory;
 use sym_board::{Board, Made, Pass, Piece};
 use sym_run::{Run, Stretch};
 
-// Into how many stretches a round is cut for each worker.
-const STRETCHES: u32 = 1;
+/// Into how many stretches a round is cut for each worker.
+pub(crate) const STRETCHES: u32 = 1;
 
-// How many records of a key several workers keep as they are, each in its stretch, before it
-// explores them. Stepping them is left to the one who applies the runs.
-const KEPT_MOST: u32 = 64;
+/// How many records of a key several workers keep as they are, each in its stretch, before it
+/// explores them. Stepping them is left to the one who applies the runs.
+pub(crate) const KEPT_MOST: u32 = 64;
 
-// The run of the chunks from `first` up to but without `end`, which takes them one after the other.
-// Of a key so many records are kept before they are explored.
-fn run_between<E: Enter>(
+/// The run of the chunks from `first` up to but without `end`, which takes them one after the other.
+/// Of a key so many records are kept before they are explored.
+pub(crate) fn run_between<E: Enter>(
     alloc: Global,
     work: &Work,
     worker: u32,

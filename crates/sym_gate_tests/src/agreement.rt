@@ -1,6 +1,6 @@
 //! Small rounds, by one worker and by many.
 use crate::bodies::Body;
-use crate::comparing::{Seen, Worked, seen_by};
+use crate::comparing::{Before, Seen, Way, Worked, seen_by};
 use crate::holds::{Holder, Until};
 use std::alloc::Global;
 use std::sync::Wait;
@@ -13,7 +13,7 @@ use sym_engine::OpenGate;
 /// first row that is no record.
 struct Case(&'static str, usize, usize, Option<u64>);
 
-const CASES: [Case; 10] = [
+const CASES: [Case; 13] = [
     Case("team,result\na,win\n", 1, 1, None),
     Case("team,result\na,win\nb,loss\n", 2, 2, None),
     Case("team,result\na,win\na,loss\na,win\n", 3, 1, None),
@@ -43,6 +43,25 @@ const CASES: [Case; 10] = [
         9,
         0,
         Some(8),
+    ),
+    // A row of each stretch is no record.
+    Case(
+        "team,result\na\nb,tie\nc,tie\na\na,tie\nb\nc,tie\na\nb,tie\n",
+        9,
+        0,
+        Some(1),
+    ),
+    Case(
+        "team,result\na,win\nb,win\nc,win\na,win\na\nb\nc,tie\na,win\nb,tie\n",
+        9,
+        0,
+        Some(5),
+    ),
+    Case(
+        "team,result\na,win\nb,win\nc,win\na,win\na,win\nb,win\nc,loss\na,win\nb,tie\n",
+        9,
+        0,
+        Some(9),
     ),
 ];
 
@@ -85,18 +104,42 @@ fn first_wrong<T: Threads + Wait + Sync>(
 #[test]
 fn any_workers_make_of_a_round_what_one_thread_does(rt: HostRuntime) -> Result<(), Fail> {
     'workers: for workers in WORKERS {
-        let body = Body::Round;
-        let wrong = first_wrong(&rt, rt.alloc(), Worked { body, workers })?;
+        let worked = Worked {
+            way: Way::Run(Body::Round),
+            before: Before::Nothing,
+            workers,
+        };
+        let wrong = first_wrong(&rt, rt.alloc(), worked)?;
         assert_eq!(rt; wrong, None, "{workers} workers");
     }
     Ok(())
 }
 
 #[test]
+fn a_round_that_leads_groups_on_does_what_its_run_does(rt: HostRuntime) -> Result<(), Fail> {
+    'before: for before in [Before::Nothing, Before::TheRound] {
+        'workers: for workers in WORKERS {
+            let worked = Worked {
+                way: Way::Led,
+                before,
+                workers,
+            };
+            let wrong = first_wrong(&rt, rt.alloc(), worked)?;
+            assert_eq!(rt; wrong, None, "{workers} workers, {before:?}");
+        }
+    }
+    Ok(())
+}
+
+#[test]
 fn the_other_bodies_make_of_a_round_what_one_thread_does(rt: HostRuntime) -> Result<(), Fail> {
-    let workers = 2;
     'bodies: for body in [Body::Gate, Body::Serial, Body::Halves] {
-        let wrong = first_wrong(&rt, rt.alloc(), Worked { body, workers })?;
+        let worked = Worked {
+            way: Way::Run(body),
+            before: Before::TheRound,
+            workers: 2,
+        };
+        let wrong = first_wrong(&rt, rt.alloc(), worked)?;
         assert_eq!(rt; wrong, None, "{body:?}");
     }
     Ok(())

@@ -1,7 +1,8 @@
 //! A round that several workers work, beside the same round on one thread.
 ghost use Rattle.std.specs.Prelude.{IfOk};
 ghost use Rattle.sym_check.specs.Checking.CheckedScripts.{checked_plan};
-ghost use Rattle.sym_engine.specs.Rounds.{AreWorkers, StandsForAll, round_records};
+ghost use Rattle.sym_engine.specs.Rounds.{AreWorkers, IsLimit, IsRound, StandsForAll, round_records};
+ghost use Rattle.sym_run.specs.Applying.{AreValid, IfDone};
 ghost use Rattle.sym_gate_tests.specs.Comparing.{ComesTo};
 
 use crate::bodies::{Body, made};
@@ -12,7 +13,7 @@ use std::thread::Threads;
 use sym_base::{FILE_MAX_DEFAULT, MemStore, NoMemory};
 use sym_check::{Checked, check};
 use sym_engine::{
-    LIMIT_DEFAULT, OpenGate, Options, Rounds, Took, WORKERS_DEFAULT, Work, each_round,
+    Gate, LIMIT_DEFAULT, OpenGate, Options, Rounds, Took, WORKERS_DEFAULT, Work, each_round,
 };
 use sym_parse::parse;
 use sym_plain::Groups;
@@ -62,23 +63,99 @@ fn seen_of(chunks: usize, met: &Applied, alone: &Applied) -> Seen {
     }
 }
 
-// What the run of a round comes to on no groups.
-fn applied(alloc: Global, work: &Work, run: Run) -> Result<Applied, NoMemory>
-    requires { StandsForAll (checked_plan work.now.checked) work.now.limit work.now.chunks run }
-    ensures { let p = checked_plan work.now.checked in
+// What the run of a round makes of groups.
+fn applied(alloc: Global, work: &Work, run: Run, groups: Groups) -> Result<Applied, NoMemory>
+    requires run { let p = checked_plan work.now.checked in
+        StandsForAll p work.now.limit work.now.chunks run }
+    requires valid { AreValid (checked_plan work.now.checked) groups }
+    ensures comes_to { let p = checked_plan work.now.checked in
         IfOk result (ComesTo (round_records p (λ row. row) work.now.chunks)) }
+    ensures valid { let p = checked_plan work.now.checked in
+        IfOk result (λ applied. IfDone applied (AreValid p)) }
 {
-    run.apply(alloc, &work.checked, Groups::new(alloc))
+    run.apply(alloc, &work.checked, groups)
 }
 
-/// How a round is worked, and by how many workers, 1 to 64.
+// What one thread makes of groups.
+fn alone(alloc: Global, work: &Work, groups: Groups) -> Result<Applied, NoMemory>
+    requires round { IsRound (checked_plan work.now.checked).fields work.now.chunks }
+    requires limit { IsLimit work.now.limit }
+    requires valid { AreValid (checked_plan work.now.checked) groups }
+    ensures comes_to { let p = checked_plan work.now.checked in
+        IfOk result (ComesTo (round_records p (λ row. row) work.now.chunks)) }
+    ensures valid { let p = checked_plan work.now.checked in
+        IfOk result (λ applied. IfDone applied (AreValid p)) }
+{
+    let run = of_chunks(alloc, &work.checked, work.chunks.as_slice(), work.limit)?;
+    applied(alloc, work, run, groups)
+}
+
+/// Which groups are there before a round.
+#[derive(Clone, Copy, Debug)]
+pub(crate) enum Before {
+    /// None.
+    Nothing,
+    /// Those of the round's own records. Where a row is no record, none.
+    TheRound,
+}
+
+// The groups before a round.
+fn groups_before(alloc: Global, work: &Work, before: Before) -> Result<Groups, NoMemory>
+    requires round { IsRound (checked_plan work.now.checked).fields work.now.chunks }
+    requires limit { IsLimit work.now.limit }
+    ensures { IfOk result (AreValid (checked_plan work.now.checked)) }
+{
+    let nothing = Groups::new(alloc);
+    match before {
+        Before::Nothing => Ok(nothing),
+        Before::TheRound => match alone(alloc, work, nothing)? {
+            Applied::Done(groups) => Ok(groups),
+            Applied::Bad(_bad) => Ok(Groups::new(alloc)),
+        },
+    }
+}
+
+/// What makes a round lead groups on.
+#[derive(Clone, Copy)]
+pub(crate) enum Way {
+    /// The gate's `lead_round`.
+    Led,
+    /// The round's run, which is made in this way and then applied.
+    Run(Body),
+}
+
+/// How a round leads groups on, and by how many workers, 1 to 64.
 #[derive(Clone, Copy)]
 pub(crate) struct Worked {
-    pub(crate) body: Body,
+    pub(crate) way: Way,
+    pub(crate) before: Before,
     pub(crate) workers: u32,
 }
 
-// Has each round worked in both ways, and notes what is seen of the last one.
+// What several workers make of groups, in this way.
+fn met<T: Threads + Wait + Sync>(
+    rt: &T,
+    alloc: Global,
+    work: &Work,
+    worked: Worked,
+    gate: &OpenGate<Holder>,
+    groups: Groups,
+) -> Result<Applied, NoMemory>
+    requires round { IsRound (checked_plan work.now.checked).fields work.now.chunks }
+    requires limit { IsLimit work.now.limit }
+    requires workers { AreWorkers worked.workers }
+    requires valid { AreValid (checked_plan work.now.checked) groups }
+{
+    match worked.way {
+        Way::Led => gate.lead_round(rt, alloc, work, worked.workers, groups),
+        Way::Run(body) => {
+            let run = made(rt, alloc, work, worked.workers, gate, body)?;
+            applied(alloc, work, run, groups)
+        }
+    }
+}
+
+// Has each round lead groups on in both ways, and notes what is seen of the last one.
 #[derive(Drop)]
 struct Compared<'a> {
     gate: &'a OpenGate<Holder>,
@@ -98,11 +175,9 @@ impl<'a> Rounds for Compared<'a> {
         alloc: Global,
         work: &Work,
     ) -> Result<Took, NoMemory> {
-        let Worked { body, workers } = self.worked;
-        let by_workers = made(rt, alloc, work, workers, self.gate, body)?;
-        let met = applied(alloc, work, by_workers)?;
-        let on_one_thread = of_chunks(alloc, &work.checked, work.chunks.as_slice(), work.limit)?;
-        let alone = applied(alloc, work, on_one_thread)?;
+        let groups = groups_before(alloc, work, self.worked.before)?;
+        let met = met(rt, alloc, work, self.worked, self.gate, groups.copy(alloc)?)?;
+        let alone = alone(alloc, work, groups)?;
         self.seen = Some(seen_of(work.chunks.len(), &met, &alone));
         match alone {
             Applied::Done(_groups) => Ok(Took::Done),

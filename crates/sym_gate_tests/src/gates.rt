@@ -1,6 +1,6 @@
 //! Rounds whose first chunk is held until its worker isn't the only one.
 use crate::bodies::Body;
-use crate::comparing::{Seen, Worked, seen_by};
+use crate::comparing::{Before, Seen, Way, Worked, seen_by};
 use crate::holds::{Holder, Until};
 use std::alloc::Global;
 use std::sync::Wait;
@@ -85,22 +85,38 @@ fn of_three<T: Threads + Wait + Sync>(
 }
 
 const TWO_WORKERS: Worked = Worked {
-    body: Body::Round,
+    way: Way::Run(Body::Round),
+    before: Before::Nothing,
     workers: 2,
 };
 
 const BY_THE_GATE: Worked = Worked {
-    body: Body::Gate,
+    way: Way::Run(Body::Gate),
+    before: Before::Nothing,
     workers: 2,
 };
 
+const LED: Worked = Worked {
+    way: Way::Led,
+    before: Before::Nothing,
+    workers: 2,
+};
+
+const LED_BY_ONE: Worked = Worked {
+    way: Way::Led,
+    before: Before::Nothing,
+    workers: 1,
+};
+
 const ONE_WORKER: Worked = Worked {
-    body: Body::Round,
+    way: Way::Run(Body::Round),
+    before: Before::Nothing,
     workers: 1,
 };
 
 const SERIAL: Worked = Worked {
-    body: Body::Serial,
+    way: Way::Run(Body::Serial),
+    before: Before::Nothing,
     workers: 2,
 };
 
@@ -114,6 +130,7 @@ fn two_workers_are_at_work_at_once(rt: HostRuntime) -> Result<(), Fail> {
         of_two(&rt, rt.alloc(), BY_THE_GATE, TURNS)?,
         Course::Through
     );
+    assert_eq!(rt; of_two(&rt, rt.alloc(), LED, TURNS)?, Course::Through);
     Ok(())
 }
 
@@ -122,6 +139,10 @@ fn a_body_on_one_thread_is_seen(rt: HostRuntime) -> Result<(), Fail> {
     assert_eq!(rt; of_two(&rt, rt.alloc(), SERIAL, FEW_TURNS)?, Course::GaveUp);
     assert_eq!(rt;
         of_two(&rt, rt.alloc(), ONE_WORKER, FEW_TURNS)?,
+        Course::GaveUp
+    );
+    assert_eq!(rt;
+        of_two(&rt, rt.alloc(), LED_BY_ONE, FEW_TURNS)?,
         Course::GaveUp
     );
     Ok(())
@@ -137,6 +158,7 @@ fn the_other_worker_takes_the_next_stretch(rt: HostRuntime) -> Result<(), Fail> 
         of_three(&rt, rt.alloc(), BY_THE_GATE, TURNS)?,
         Course::Through
     );
+    assert_eq!(rt; of_three(&rt, rt.alloc(), LED, TURNS)?, Course::Through);
     assert_eq!(rt;
         of_three(&rt, rt.alloc(), SERIAL, FEW_TURNS)?,
         Course::GaveUp

@@ -4,8 +4,9 @@ use std::sync::Wait;
 use std::sync::atomic::{AtomicBool, AtomicU64, Ordering};
 use std::thread::Threads;
 use sym_base::NoMemory;
-use sym_engine::{Enter, Hold, Work, worked};
-use sym_run::Run;
+use sym_engine::{Enter, Hold, Work, led, worked};
+use sym_plain::Groups;
+use sym_run::{Applied, Run};
 
 /// Until when the worker of the first chunk is held.
 #[derive(Clone, Copy)]
@@ -104,5 +105,16 @@ impl Hold for Holder {
         workers: u32,
     ) -> Result<Run, NoMemory> {
         worked(rt, alloc, work, workers, self)
+    }
+
+    fn hold_lead<T: Threads + Wait + Sync>(
+        &self,
+        rt: &T,
+        alloc: Global,
+        work: &Work,
+        workers: u32,
+        groups: Groups,
+    ) -> Result<Applied, NoMemory> {
+        led(rt, alloc, work, workers, groups, self)
     }
 }

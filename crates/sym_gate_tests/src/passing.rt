@@ -3,7 +3,7 @@ ghost use Rattle.std.specs.Prelude.{◌≤◌};
 ghost use Rattle.sym_engine.specs.Options.{InRange};
 
 use crate::comparing::{accepted, names, same_groups, store};
-use crate::showing::ShowsB;
+use crate::showing::{Joins, ShowsB};
 use std::alloc::Global;
 use std::sync::Wait;
 use std::test::Fail;
@@ -13,10 +13,12 @@ use sym_check::Checked;
 use sym_engine::{Free, Gate, LIMIT_DEFAULT, OpenGate, Options, PassErr, pass, sequential_pass};
 use sym_plain::Groups;
 
-// How rows are read, and in which way: so many rows a chunk and so many workers.
+// How rows are read, and in which way: so many rows a chunk and so many workers. Where they are
+// joined, each round's run is made and then applied.
 #[derive(Clone, Copy, Debug)]
 enum Reading {
     AsTheyAre(u32, u32),
+    Joined(u32, u32),
     AsB(u32, u32),
 }
 
@@ -81,6 +83,17 @@ fn passed_in<T: Threads + Wait + Sync>(
                 names,
                 (chunk, workers),
                 &gate,
+            )
+        }
+        Reading::Joined(chunk, workers) => {
+            passed(
+                rt,
+                alloc,
+                checked,
+                &mut files,
+                names,
+                (chunk, workers),
+                &Joins,
             )
         }
         Reading::AsB(chunk, workers) => {
@@ -177,9 +190,13 @@ fn several_rounds_come_to_what_one_thread_does(rt: HostRuntime) -> Result<(), Fa
     'rows: for rows in [64, 65, 200] {
         let log = log_of(alloc, &["c", "a", "b", "a"], rows, "")?;
         'ways: for (chunk, workers) in WAYS {
-            let reading = Reading::AsTheyAre(chunk, workers);
-            let same = is_same(&rt, alloc, log.as_str(), reading, log.as_str())?;
-            assert!(rt; same, "{rows} rows, {chunk} a chunk, {workers} workers");
+            'readings: for reading in [
+                Reading::AsTheyAre(chunk, workers),
+                Reading::Joined(chunk, workers),
+            ] {
+                let same = is_same(&rt, alloc, log.as_str(), reading, log.as_str())?;
+                assert!(rt; same, "{rows} rows, {reading:?}");
+            }
         }
     }
     Ok(())
@@ -191,9 +208,13 @@ fn the_first_row_that_is_no_record_is_found(rt: HostRuntime) -> Result<(), Fail>
     'rows: for rows in [0, 63, 64, 130] {
         let log = log_of(alloc, &["c", "a", "b", "a"], rows, "x,y\nd\nx,y,z\n")?;
         'ways: for (chunk, workers) in WAYS {
-            let reading = Reading::AsTheyAre(chunk, workers);
-            let same = is_same(&rt, alloc, log.as_str(), reading, log.as_str())?;
-            assert!(rt; same, "{rows} rows, {chunk} a chunk, {workers} workers");
+            'readings: for reading in [
+                Reading::AsTheyAre(chunk, workers),
+                Reading::Joined(chunk, workers),
+            ] {
+                let same = is_same(&rt, alloc, log.as_str(), reading, log.as_str())?;
+                assert!(rt; same, "{rows} rows, {reading:?}");
+            }
         }
     }
     Ok(())

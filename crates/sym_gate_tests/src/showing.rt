@@ -1,4 +1,5 @@
-//! A gate that shows every row as the one field `b`.
+//! Gates that have the run of each round made and then applied: one that shows every row as the one
+//! field `b`, and one that shows each row as it is.
 ghost use Rattle.std.specs.Prelude.{◌≡◌, IfOk, replicate};
 ghost use Rattle.sym_engine.specs.Rounds.{shown_chunk, shown_chunks};
 ghost use Rattle.sym_gate_tests.specs.Showing.{row_b, shows_b};
@@ -67,5 +68,25 @@ impl Gate for ShowsB {
             limit: work.limit,
         };
         round(rt, alloc, &shown, workers, &OpenGate { hold: Free })
+    }
+}
+
+/// The program's gate, but that the run of each round is made and then applied.
+pub(crate) struct Joins;
+
+impl Gate for Joins {
+    ghost shown = { λ _ row. row };
+
+    fn enter(&self, _worker: u32, _chunk: u32) {}
+
+    fn work_round<T: Threads + Wait + Sync>(
+        &self,
+        rt: &T,
+        alloc: Global,
+        work: &Work,
+        workers: u32,
+    ) -> Result<Run, NoMemory> {
+        let open = OpenGate { hold: Free };
+        open.work_round(rt, alloc, work, workers)
     }
 }

@@ -7,9 +7,9 @@ use Rattle.sym_gate_tests.proofs.comparing.ComparedRounds.take.Goals as goal
 pub returns-in-Done-clause-takes : goal.returns-in-Done-clause-takes
 returns-in-Done-clause-takes g c =
     let read = round_records (checked_plan c.args.work.now.checked) (λ row. row) c.args.work.now.chunks in
-    let are = came read c.in_ok-alone.alone (applied.Done c.in-Done._groups) c.in-Done.is c.in_ok-alone.ensures in (are.0, are.1, λ before stood. stood)
+    let are = came read c.in_ok-alone.alone (applied.Done c.in-Done._groups) c.in-Done.is c.in_ok-alone.ensures.comes_to in (are.0, are.1, λ before stood. stood)
 
 pub returns-clause-takes : goal.returns-clause-takes
 returns-clause-takes g c =
     let read = round_records (checked_plan c.args.work.now.checked) (λ row. row) c.args.work.now.chunks in
-    came read c.in_ok-alone.alone (applied.Bad c.in-Bad.bad) c.in-Bad.is c.in_ok-alone.ensures
+    came read c.in_ok-alone.alone (applied.Bad c.in-Bad.bad) c.in-Bad.is c.in_ok-alone.ensures.comes_to

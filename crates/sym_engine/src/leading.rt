@@ -1,0 +1,192 @@
+//! What a round makes of groups: the runs of its stretches, applied one after the other.
+ghost use Rattle.std.specs.Prelude.{◌≡◌, ◌≤◌, ◌<◌, ◌+◌, ◌*◌, ℕ, List, IfOk, length, vec_len};
+ghost use Rattle.sym_base.specs.declared.limits.TheConstants as limit;
+ghost use Rattle.sym_check.specs.Checking.CheckedScripts.{checked_plan};
+ghost use Rattle.sym_run.specs.Applying.{AreValid, IfDone, applied_to};
+ghost use Rattle.sym_run.specs.Runs.{GroupsFit, StandsForChunks};
+ghost use Rattle.sym_table.specs.ChunkRecords.{all_records};
+ghost use Rattle.sym_table.specs.declared.chunk.Chunk.{Chunk as OneChunk};
+ghost use Rattle.sym_engine.specs.Leading.{AreRunsOf, run_records};
+ghost use Rattle.sym_engine.specs.Pieces.{AreStretches, StandsBetween};
+ghost use Rattle.sym_engine.specs.Rounds.{AreWorkers, IsLimit, IsRound};
+
+use crate::entering::Enter;
+use crate::rounds::Work;
+use crate::stretches::{LendsStretches, Stretches};
+use crate::workers::{KEPT_MOST, STRETCHES, run_between};
+use std::alloc::Global;
+use std::thread;
+use std::thread::Threads;
+use sym_base::NoMemory;
+use sym_plain::Groups;
+use sym_run::{Applied, Run};
+
+/// What the records of a run's chunks make of groups. As many threads as there are workers, at
+/// most, lead the groups on.
+pub(crate) fn apply_run<T: Threads + Sync>(
+    rt: &T,
+    alloc: Global,
+    work: &Work,
+    run: Run,
+    groups: Groups,
+    workers: u32,
+) -> Result<Applied, NoMemory>
+    requires fits { GroupsFit (checked_plan work.now.checked) run.groups }
+    requires valid { AreValid (checked_plan work.now.checked) groups }
+    ensures applied { let p = checked_plan work.now.checked in
+        (limit : ℕ) (chunks : List OneChunk) → StandsForChunks p limit chunks run →
+        IfOk result (λ applied. applied ≡ applied_to p (run_records p chunks run) groups) }
+    ensures valid { let p = checked_plan work.now.checked in
+        IfOk result (λ applied. IfDone applied (AreValid p)) }
+{
+    run.apply_by(rt, alloc, &work.checked, groups, workers)
+}
+
+// The run of the stretch with this number.
+fn run_of<S: LendsStretches, E: Enter>(
+    alloc: Global,
+    stretches: &S,
+    number: usize,
+    hold: &E,
+) -> Result<Run, NoMemory>
+    requires round { let work = S.lent stretches.now in
+        IsRound (checked_plan work.checked).fields work.chunks }
+    requires some { 1 ≤ S.size stretches.now }
+    requires few { S.size stretches.now ≤ limit.CHUNKS_MAX }
+    requires filled { let s = stretches.now in
+        number * S.size s < length (S.lent s).chunks }
+    ensures { let s = stretches.now in
+        IfOk result (StandsBetween (S.lent s) (S.size s) number (number + 1)) }
+{
+    let work = stretches.work();
+    let each = stretches.chunks_each();
+    let chunks = work.chunks.len() as u32;
+    let worker = number as u32;
+    let first = worker * each;
+    let end = chunks.min(first + each);
+    run_between(alloc, work, worker, first, end, KEPT_MOST, hold)
+}
+
+// The runs of all stretches of a round, each made on a thread of its own.
+fn runs_of<T: Threads + Sync, S: LendsStretches + Sync, E: Enter + Sync>(
+    rt: &T,
+    alloc: Global,
+    stretches: &S,
+    count: usize,
+    hold: &E,
+) -> Result<Vec<Result<Run, NoMemory>>, NoMemory>
+    requires round { let work = S.lent stretches.now in
+        IsRound (checked_plan work.checked).fields work.chunks }
+    requires few { S.size stretches.now ≤ limit.CHUNKS_MAX }
+    requires stretches { let s = stretches.now in
+        AreStretches (length (S.lent s).chunks) (S.size s) count }
+    ensures count { IfOk result (λ runs. vec_len runs ≡ count) }
+    ensures runs { let s = stretches.now in
+        IfOk result (λ runs. AreRunsOf (S.lent s) (S.size s) runs.items) }
+{
+    let runs = thread::map_indices(
+        rt,
+        alloc,
+        count,
+        &|number: usize| -> Result<Run, NoMemory>
+            requires { let s = stretches.now in
+                IsRound (checked_plan (S.lent s).checked).fields (S.lent s).chunks
+                × (1 ≤ S.size s) × (S.size s ≤ limit.CHUNKS_MAX)
+                × (number * S.size s < length (S.lent s).chunks) }
+            ensures { let s = stretches.entry.now in
+                IfOk result (StandsBetween (S.lent s) (S.size s) number (number + 1)) }
+        { run_of(alloc, stretches, number, hold) },
+    )?;
+    Ok(runs)
+}
+
+// What the runs of all stretches of a round make of groups, which they lead on one after the other.
+// The first row that is no record ends it.
+fn apply_in_order<T: Threads + Sync, S: LendsStretches>(
+    rt: &T,
+    alloc: Global,
+    stretches: &S,
+    runs: Vec<Result<Run, NoMemory>>,
+    groups: Groups,
+    workers: u32,
+) -> Result<Applied, NoMemory>
+    requires stretches { let s = stretches.now in
+        AreStretches (length (S.lent s).chunks) (S.size s) (vec_len runs) }
+    requires runs { let s = stretches.now in AreRunsOf (S.lent s) (S.size s) runs.items }
+    requires valid { AreValid (checked_plan (S.lent stretches.now).checked) groups }
+    ensures applied { let work = S.lent stretches.now in let p = checked_plan work.checked in
+        IfOk result (λ applied. applied ≡ applied_to p (all_records p work.chunks) groups) }
+    ensures valid { let p = checked_plan (S.lent stretches.now).checked in
+        IfOk result (λ applied. IfDone applied (AreValid p)) }
+{
+    let work = stretches.work();
+    let mut groups = groups;
+    'runs: for run in runs {
+        match apply_run(rt, alloc, work, run?, groups, workers)? {
+            Applied::Done(next) => groups = next,
+            Applied::Bad(bad) => return Ok(Applied::Bad(bad)),
+        }
+    }
+    Ok(Applied::Done(groups))
+}
+
+// What a round makes of groups, by several workers.
+fn led_by<T: Threads + Sync, S: LendsStretches + Sync, E: Enter + Sync>(
+    rt: &T,
+    alloc: Global,
+    stretches: &S,
+    workers: u32,
+    groups: Groups,
+    hold: &E,
+) -> Result<Applied, NoMemory>
+    requires round { let work = S.lent stretches.now in
+        IsRound (checked_plan work.checked).fields work.chunks }
+    requires some { 1 ≤ S.size stretches.now }
+    requires few { S.size stretches.now ≤ limit.CHUNKS_MAX }
+    requires valid { AreValid (checked_plan (S.lent stretches.now).checked) groups }
+    ensures applied { let work = S.lent stretches.now in let p = checked_plan work.checked in
+        IfOk result (λ applied. applied ≡ applied_to p (all_records p work.chunks) groups) }
+    ensures valid { let p = checked_plan (S.lent stretches.now).checked in
+        IfOk result (λ applied. IfDone applied (AreValid p)) }
+{
+    let chunks = stretches.work().chunks.len();
+    let count = chunks.div_ceil(stretches.chunks_each() as usize);
+    let runs = runs_of(rt, alloc, stretches, count, hold)?;
+    apply_in_order(rt, alloc, stretches, runs, groups, workers)
+}
+
+/// What the records of a round, which is the work's, make of groups: the groups after them, or the
+/// first row that is no record. The chunks are cut into stretches as in `worked`, and each
+/// stretch's run is made on a thread of its own, which tells `hold` of each chunk. The runs then
+/// lead the groups on in order. They aren't joined: how the groups stand is known here, and so
+/// leading them costs less than composing what the runs do. With one worker no thread is made, and
+/// no record is explored.
+/// The result doesn't depend on the number of workers.
+///
+/// `NoMemory` where an allocation failed.
+pub fn led<T: Threads + Sync, E: Enter + Sync>(
+    rt: &T,
+    alloc: Global,
+    work: &Work,
+    workers: u32,
+    groups: Groups,
+    hold: &E,
+) -> Result<Applied, NoMemory>
+    requires round { IsRound (checked_plan work.now.checked).fields work.now.chunks }
+    requires limit { IsLimit work.now.limit }
+    requires workers { AreWorkers workers }
+    requires valid { AreValid (checked_plan work.now.checked) groups }
+    ensures applied { let p = checked_plan work.now.checked in
+        let read = all_records p work.now.chunks in
+        IfOk result (λ applied. applied ≡ applied_to p read groups) }
+    ensures valid { let p = checked_plan work.now.checked in
+        IfOk result (λ applied. IfDone applied (AreValid p)) }
+{
+    let chunks = work.chunks.len() as u32;
+    if workers.min(chunks) == 1 {
+        let run = run_between(alloc, work, 0, 0, chunks, u32::MAX, hold)?;
+        return apply_run(rt, alloc, work, run, groups, workers);
+    }
+    let each = chunks.div_ceil(workers * STRETCHES);
+    led_by(rt, alloc, &Stretches { work, each }, workers, groups, hold)
+}
