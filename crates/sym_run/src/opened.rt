@@ -1,5 +1,5 @@
 //! Chains to which records are added.
-ghost use Rattle.std.specs.Prelude.{◌↔◌, ◌≤◌, ◌++◌, List, IfOk, IsTrue, length};
+ghost use Rattle.std.specs.Prelude.{◌≤◌, ◌++◌, List, IfOk, IsTrue, length};
 ghost use Rattle.sym_base.specs.declared.values.record.Record.{Record as OneRecord};
 ghost use Rattle.sym_check.specs.Checking.CheckedScripts.{checked_plan};
 ghost use Rattle.sym_known.specs.Knowing.{AreKnown};
@@ -27,12 +27,14 @@ pub(crate) enum Open {
     Known(Segments, Known),
 }
 
-/// Whether there is a last segment, and its cells are known.
-fn ends_known(segments: &Segments) -> bool
-    ensures { IsTrue result ↔ EndsKnown segments.now }
+/// Whether there is a last segment with no more paths than the limit, and its cells are known. One
+/// with more is explored: as long as the limit is kept, a record extends it, else its own segment
+/// is pushed.
+fn ends_known(segments: &Segments, limit: u32) -> bool
+    ensures { IsTrue result → EndsKnown segments.now }
 {
     match segments.as_slice().last() {
-        Some(last) => are_known(last),
+        Some(last) => last.paths().len() <= limit as usize && are_known(last),
         None => false,
     }
 }
@@ -61,7 +63,8 @@ fn known_after(
     Ok(Open::Known(before, Known::of(alloc, checked, last)?))
 }
 
-/// The chain of segments alone, whose last one is held as states where its cells are known.
+/// The chain of segments alone, whose last one is held as states where its cells are known and it
+/// has no more paths than the limit.
 pub(crate) fn open_last(
     alloc: Global,
     checked: &Checked,
@@ -78,7 +81,7 @@ pub(crate) fn open_last(
         IfOk result (OpenStandsFor (checked_plan checked.now) records) }
     ensures none { IfOk result KeepsNone }
 {
-    if !ends_known(&segments) {
+    if !ends_known(&segments, limit) {
         return Ok(Open::Chain(Chain::of_segments(alloc, segments)));
     }
     match segments.into_held() {

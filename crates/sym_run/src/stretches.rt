@@ -21,11 +21,11 @@ use sym_table::Chunk;
 /// The run of neighbouring chunks, which are taken one after the other. A contract sees the numbers
 /// of those so far, an open chain for each key, and the first row that is no record.
 ///
-/// Where the cells of a chain's last segment are known, the records after it are stepped. A key's
-/// first records are kept as they are, since exploring so few costs more than stepping them. The
-/// next one has them explored all, unless their segment is over the limit before it covers them, or
-/// leaves cells unknown where there are many groups: then they stay kept, and the key is explored
-/// no more. After four such keys no key is.
+/// Where the cells of a chain's last segment are known, and it has no more paths than the limit, the
+/// records after it are stepped. A key's first records are kept as they are, since exploring so few
+/// costs more than stepping them. The next one has them explored all, unless their segment is over
+/// the limit before it covers them, or leaves cells unknown where there are many groups: then they
+/// stay kept, and the key is explored no more. After four such keys no key is.
 pub struct Stretch {
     run: OpenRun,
     most: u32,
