@@ -12,6 +12,13 @@ pub(crate) const SUMS: &str = "field user: word; field x: num else 0; group user
     state n: int [-20..20] = 0; state xs: nums [-20..20]; \
     update { n = n + x; push xs x; } report { n = n; big = sum(xs); }";
 
+/// What each user did, by name, and a note. Either may be the empty word.
+pub(crate) const ACTIONS: &str =
+    "field what: word; field user: word; field note: word; group user; \
+    state n: int [0..100] = 0; state done: words; \
+    update { if what != \"\" { n = n + 1; } push done what; push done note; } \
+    report { n = n; done = count(done); }";
+
 /// One group that is idle and busy in turn.
 pub(crate) const TOGGLE: &str = "enum mode { idle, busy } field x: num; state phase: mode = idle; \
     update { if phase is idle { phase = busy; } else { phase = idle; } } report { phase = phase; }";
@@ -33,3 +40,8 @@ pub(crate) const CHANGES: &str = "user,x\na,3\nb,-1\na,\nc,-4\na,2\nb,2\nd,\nd,5
     c,\na,-3\nd,1\nb,-6\na,4\na,\nb,8\nd,-2\nc,-9\na,3\ne,20\ne,1\ne,2\n";
 
 pub(crate) const NUMBERS: &str = "x\n1\n1\n1\n1\n1\n1\n1\n1\n";
+
+/// Actions and notes. In some chunks all records of a user lack the action, in some the note, and in
+/// others neither.
+pub(crate) const DEEDS: &str = "what,user,note\n,a,x\n,a,y\nbuy,b,\nsell,a,\n,b,z\nbuy,a,\n,a,x\n\
+    ,b,\nbuy,b,x\n,a,\nlook,a,y\n,b,w\nbuy,a,\n,b,v\nsell,b,\nbuy,b,\n";

@@ -5,7 +5,7 @@ ghost use Rattle.sym_check.specs.Checking.CheckedScripts.{checked_plan};
 ghost use Rattle.sym_table.specs.Rows.{FitsChunk};
 ghost use Rattle.sym_run.specs.Bracketing.{chunk_count};
 
-use crate::logs::{CHANGES, NUMBERS, SESSIONS, SUMS, TOGGLE, VISITS};
+use crate::logs::{ACTIONS, CHANGES, DEEDS, NUMBERS, SESSIONS, SUMS, TOGGLE, VISITS};
 use crate::setting::{Case, check_cases, chunks_of, passed, same_groups};
 use std::alloc::Global;
 use std::test::Fail;
@@ -256,6 +256,28 @@ fn each_order_of_runs_that_keep_records_gives_the_groups_of_the_pass(
         Orders {
             limit: 1,
             ..sessions
+        },
+    ];
+    check_cases(&rt, rt.alloc(), &cases)
+}
+
+#[test]
+fn records_that_lack_different_words_are_kept_beside_each_other(
+    rt: HostRuntime,
+) -> Result<(), Fail> {
+    let deeds = Orders {
+        script: ACTIONS,
+        log: DEEDS,
+        rows: 2,
+        limit: 16,
+        keeping: Keeping { most: 9, other: 9 },
+    };
+    let cases = [
+        deeds,
+        Orders { rows: 4, ..deeds },
+        Orders {
+            keeping: Keeping { most: 2, other: 9 },
+            ..deeds
         },
     ];
     check_cases(&rt, rt.alloc(), &cases)
