@@ -6,3 +6,5 @@ pub mod Passes
 pub mod Wide
 pub mod Puts
 pub mod Apart
+pub mod Zipped
+pub mod Valid

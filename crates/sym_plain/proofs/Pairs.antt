@@ -11,14 +11,9 @@ use Rattle.std.proofs.lemmas.Map.Keys.{IsDistinct-head, IsDistinct-tail}
 use Rattle.std.proofs.lemmas.Option.{slice_get-get_or}
 use Rattle.indexmap.specs.IndexMap.{insert_entry}
 use Rattle.sym_base.specs.declared.values.value.Key.{Key}
-use Rattle.sym_base.specs.declared.values.state.Outcome.{Outcome}
-use Rattle.sym_base.specs.declared.values.record.Record.{Record}
-use Rattle.sym_base.specs.declared.values.state.Outcome.TheVariants.{Going}
 use Rattle.sym_check.specs.Meaning.Groups.{is_key}
-use Rattle.sym_check.specs.Plan.ScriptPlans.{ScriptPlan}
-use Rattle.sym_check.specs.Meaning.Updates.{initial, step}
 use Rattle.sym_check.proofs.Keys.{equal_keys, keys_equiv, same_key}
-use Rattle.sym_plain.specs.Pairs.{HaveDistinctKeys, has_key, put, put_by_index, standing, stepped}
+use Rattle.sym_plain.specs.Pairs.{HaveDistinctKeys, has_key, put, put_by_index}
 use Rattle.sym_plain.proofs.Puts.{at_key}
 
 module _ {V : Type 0} where
@@ -131,16 +126,3 @@ module _ {V : Type 0} where
   indexed-lookup (p ∷ rest) key (suc index) apart at =
       ap (λ (b : Bool). cond b (Some p.1) (lookup (is_key key) rest)) (unlike-head p rest key index apart at)
       ∙ indexed-lookup rest key index (IsDistinct-tail is_key p.0 (keys_of rest) apart) at
-
--- ---- groups
--- A new group makes its first step,
-pub begun : (p : ScriptPlan) (key : Key) (rec : Record) (pairs : List (Key × Outcome)) → HaveDistinctKeys pairs → lookup (is_key key) pairs ≡ None → insert_entry is_key pairs key (step p (Going (initial p)) rec) ≡ stepped p key rec pairs
-begun p key rec pairs apart none =
-    insert-put pairs key (step p (Going (initial p)) rec) apart
-    ∙ ap (λ (r : Option Outcome). put pairs key (step p (standing p r) rec)) (sym none)
-
--- and one that is there the next.
-pub gone_on : (p : ScriptPlan) (key : Key) (rec : Record) (pairs : List (Key × Outcome)) (o : Outcome) → HaveDistinctKeys pairs → lookup (is_key key) pairs ≡ Some o → set_value (is_key key) pairs (step p o rec) ≡ stepped p key rec pairs
-gone_on p key rec pairs o apart found =
-    set-put pairs key o (step p o rec) apart found
-    ∙ ap (λ (r : Option Outcome). put pairs key (step p (standing p r) rec)) (sym found)

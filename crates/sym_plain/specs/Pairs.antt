@@ -2,7 +2,7 @@
 use Rattle.std.specs.Prelude.{◌≡◌, ℕ, Bool, true, false, List, [], ◌∷◌, ◌++◌, map, Option, Some, None, if◌then◌else◌}
 use Rattle.std.specs.List.{IsDistinct}
 use Rattle.std.specs.Map.{keys_of, lookup}
-use Rattle.indexmap.specs.IndexMap.{set_value_at}
+use Rattle.indexmap.specs.Layout.{set_value_at, set_values}
 use Rattle.sym_base.specs.declared.values.value.Key.{Key}
 use Rattle.sym_base.specs.declared.values.record.Record.{Record}
 use Rattle.sym_base.specs.declared.values.state.Outcome.{Outcome}
@@ -28,6 +28,10 @@ put pairs key now =
 -- The value at this index becomes this one; all else stays.
 abbrev pub put_by_index : {V : Type 0} → List (Key × V) → ℕ → V → List (Key × V)
 put_by_index pairs index now = set_value_at pairs index now
+
+-- The values become these, in order, as far as there are pairs; the keys stay.
+abbrev pub put_values : {V : Type 0} → List (Key × V) → List V → List (Key × V)
+put_values pairs now = set_values pairs now
 
 -- How a group stands; one that isn't there begins with the initial state.
 abbrev pub standing : ScriptPlan → Option Outcome → Outcome

@@ -1,10 +1,7 @@
-use Rattle.std.proofs.Common.{◌∙◌, ap}
-use Rattle.sym_plain.specs.Pairs.{put}
-use Rattle.sym_plain.proofs.Pairs.{insert-put}
+use Rattle.std.proofs.Common.{◌∙◌, sym}
+use Rattle.sym_plain.proofs.Pairs.{put-new}
 use Rattle.sym_plain.proofs.groups.Groups.put.Goals as goal
 
-pub returns : goal.returns
-returns c =
-    c.in_ok-insert.ensures.entries
-    ∙ insert-put c.groups.inside.map.entries c.args.key c.args.outcome c.groups.invariant
-    ∙ ap (λ pairs. put pairs c.args.key c.args.outcome) c.groups.view_is
+pub returns-in_ok-begin-in-None : goal.returns-in_ok-begin-in-None
+returns-in_ok-begin-in-None c =
+    c.in_ok-begin-in-None.ensures.ok ∙ sym (put-new c.args.self c.args.key c.args.outcome (sym c.in-None.ensures.outcome))
