@@ -1,0 +1,17 @@
+pub mod Slices
+pub mod MarkedValues
+pub mod RecordsInTurn
+pub mod BegunGroups
+pub mod PlacedGroups
+pub mod DealtRecords
+pub mod SettledRounds
+pub mod NewPlaces
+pub mod FoldedRows
+pub mod CutChunks
+pub mod SettlingParts
+pub mod GroupsShared
+pub mod DealtKeys
+pub mod DealtMarks
+pub mod DealtRows
+pub mod LeadingSteps
+pub mod BatchesShared

@@ -1,0 +1,26 @@
+use Rattle.std.proofs.Common.{◌∙◌, List, Result, length, subst, sym}
+use Rattle.std.specs.Prelude.{slice_index_or}
+use Rattle.sym_base.specs.declared.values.memory.NoMemory.{NoMemory}
+use Rattle.sym_check.specs.Checking.CheckedScripts.{checked_plan}
+use Rattle.sym_table.specs.declared.chunk.Chunk.{Chunk}
+use Rattle.sym_shuffle.specs.Parts.{AreDealt, IsPartDealt}
+use Rattle.sym_shuffle.specs.declared.dealing.Dealt.{Dealt}
+use Rattle.sym_shuffle.proofs.CutChunks.{cut, cut_all, cut_each, enough}
+use Rattle.sym_shuffle.proofs.shuffling.deal_all.Goals as goal
+
+pub returns : goal.returns
+returns g c =
+    let p = checked_plan (g.S.LendsGroups.by c.args.lender.now) in
+    let marks = g.S.LendsGroups.read c.args.lender.now in
+    let groups = g.S.LendsGroups.among c.args.lender.now in
+    let chunks = c.args.chunks.now in
+    let all : List (Result Dealt NoMemory) = c.in_ok-dealt.dealt.items in
+    record {
+      parts = cut c.args.each (length all) chunks;
+      all = cut_all c.args.each (length all) chunks (enough (length all) (length chunks) c.args.each c.requires.each (sym c.in_ok-dealt.dealt.ok.0 ∙ c.in_ok-dealt.ensures.len));
+      each =
+          cut_each c.args.each (IsPartDealt p marks groups) all chunks
+          (λ n d lt.
+          let one = (c.in_ok-dealt.ensures.each n d lt).1 in
+          subst (λ (part : List Chunk). IsPartDealt p marks groups part (slice_index_or all n d)) one.argument_is.value one.call);
+    }

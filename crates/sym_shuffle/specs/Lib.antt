@@ -1,0 +1,7 @@
+pub mod Shuffling
+pub mod Begun
+pub mod Settled
+pub mod Dealing
+pub mod Parts
+pub mod Folding
+pub mod Places

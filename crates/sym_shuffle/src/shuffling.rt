@@ -1,0 +1,273 @@
+//! A round by several threads: some read its records, and others step them.
+ghost use Rattle.std.specs.Prelude.{◌≡◌, ◌≤◌, ◌<◌, ◌+◌, Bool, List, Err, IfOk, MatchResult, OnOk, length};
+ghost use Rattle.std.specs.List.{All};
+ghost use Rattle.sym_check.specs.Checking.CheckedScripts.{checked_plan};
+ghost use Rattle.sym_shuffle.specs.Begun.{AreValid, groups_after};
+ghost use Rattle.sym_shuffle.specs.Parts.{AreDealt};
+ghost use Rattle.sym_shuffle.specs.Settled.{AreLed, AreSettled, HasDealt};
+ghost use Rattle.sym_shuffle.specs.Shuffling.{AreReadMarks};
+ghost use Rattle.sym_table.specs.ChunkRecords.{all_records};
+ghost use Rattle.sym_table.specs.Rows.{FitsChunk};
+ghost use Rattle.sym_table.specs.declared.chunk.Chunk.{Chunk as OneChunk};
+
+use crate::batch::Batch;
+use crate::bounds::bounds_of;
+use crate::dealing::{Dealt, deal};
+use crate::entering::Enter;
+use crate::leading::{Lent, lead_all};
+use crate::settling::settle;
+use std::alloc::Global;
+use std::thread;
+use std::thread::Threads;
+use sym_base::{NoMemory, Outcome};
+use sym_check::Checked;
+use sym_plain::Groups;
+use sym_plain::laws::records_keep_groups_valid;
+use sym_reads::read_fields;
+use sym_table::{Bad, Chunk};
+
+// A value that lends what the readers share. They share it by its bound: that all of it may be
+// shared is then shown once, where it is handed in.
+trait LendsGroups {
+    ghost use Rattle.std.specs.Prelude.{Bool};
+    ghost use Rattle.sym_base.specs.declared.values.state.Outcome.{Outcome as OneOutcome};
+    ghost use Rattle.sym_base.specs.declared.values.value.Key.{Key as OneKey};
+    ghost use Rattle.sym_check.specs.declared.checking.accepted.Checked.{Checked as OneChecked};
+
+    ghost by: { Self → OneChecked };
+
+    ghost read: { Self → List Bool };
+
+    ghost among: { Self → List (OneKey × OneOutcome) };
+
+    fn script(&self) -> &Checked
+        ensures { result.now ≡ by self.now };
+
+    fn marks(&self) -> &[bool]
+        ensures { result.now ≡ read self.now };
+
+    fn groups(&self) -> &Groups
+        ensures { result.now ≡ among self.now };
+}
+
+// A script, the marks of the fields that its update reads, and groups.
+#[derive(Clone, Copy)]
+struct Beside<'a> {
+    checked: &'a Checked,
+    marks: &'a [bool],
+    groups: &'a Groups,
+}
+
+impl<'a> LendsGroups for Beside<'a> {
+    ghost by = { λ b. b.checked.now };
+
+    ghost read = { λ b. b.marks.now };
+
+    ghost among = { λ b. b.groups.now };
+
+    fn script(&self) -> &Checked {
+        self.checked
+    }
+
+    fn marks(&self) -> &[bool] {
+        self.marks
+    }
+
+    fn groups(&self) -> &Groups {
+        self.groups
+    }
+}
+
+// The number of a worker or a chunk; the greatest, where it is greater.
+fn as_number(index: usize) -> u32 {
+    index.min(u32::MAX as usize) as u32
+}
+
+// What the rows of a part of a round were read to. Its first chunk has the number `start`, and parts
+// have `each` chunks.
+fn deal_part<S: LendsGroups, E: Enter>(
+    alloc: Global,
+    lender: &S,
+    start: usize,
+    each: usize,
+    part: &[Chunk],
+    hold: &E,
+) -> Result<Dealt, NoMemory>
+    requires each { 0 < each }
+    requires fit { All (FitsChunk (checked_plan (S.by lender.now)).fields) part.now }
+    ensures { let s = lender.now in let p = checked_plan (S.by s) in
+        let read = all_records p part.now in
+        IfOk result (HasDealt p (S.read s) (S.among s) read) }
+{
+    let worker = as_number(start / each);
+    let first = as_number(start);
+    let checked = lender.script();
+    deal(
+        alloc,
+        checked,
+        lender.marks(),
+        lender.groups(),
+        part,
+        worker,
+        first,
+        hold,
+    )
+}
+
+// What the rows of all parts of a round were read to, each on a thread of its own. Parts have `each`
+// chunks, and the last one may have fewer.
+fn deal_all<T: Threads + Sync, S: LendsGroups + Sync, E: Enter + Sync>(
+    rt: &T,
+    alloc: Global,
+    lender: &S,
+    chunks: &[Chunk],
+    each: usize,
+    hold: &E,
+) -> Result<Vec<Result<Dealt, NoMemory>>, NoMemory>
+    requires each { 0 < each }
+    requires fit { All (FitsChunk (checked_plan (S.by lender.now)).fields) chunks.now }
+    ensures { let s = lender.now in let p = checked_plan (S.by s) in
+        IfOk result (λ dealt. AreDealt p (S.read s) (S.among s) chunks.now dealt.items) }
+{
+    let dealt = thread::map_chunks(
+        rt,
+        alloc,
+        chunks,
+        each,
+        &|start: usize, part: &[Chunk]| -> Result<Dealt, NoMemory>
+            requires { let fields = (checked_plan (S.by lender.now)).fields in
+                (0 < each) × All (FitsChunk fields) part.now }
+            ensures { let s = lender.entry.now in let p = checked_plan (S.by s) in
+                let read = all_records p part.entry.now in
+                IfOk result (HasDealt p (S.read s) (S.among s) read) }
+        { deal_part(alloc, lender, start, each, part, hold) },
+    )?;
+    Ok(dealt)
+}
+
+// Begins the groups that are new, in order, or gives the first row that is no record.
+fn settle_all(
+    alloc: Global,
+    checked: &Checked,
+    groups: &mut Groups,
+    dealt: Vec<Result<Dealt, NoMemory>>,
+) -> Result<Result<Vec<Batch>, Bad>, NoMemory>
+    ensures { let p = checked_plan checked.now in (marks : List Bool) (chunks : List OneChunk) →
+        AreDealt p marks groups.old chunks dealt.items →
+        IfOk result (λ settled. MatchResult settled
+        (λ batches. AreSettled p marks chunks groups.old groups.new batches.items)
+        (λ bad. all_records p chunks ≡ Err bad)) }
+{
+    let count = groups.len();
+    let mut batches = Vec::with_capacity(alloc, dealt.len())?;
+    'dealt: for one in dealt {
+        let Dealt { batch, new, bad } = one?;
+        if let Some(bad) = bad {
+            return Ok(Err(bad));
+        }
+        batches.push(settle(alloc, checked, groups, count, batch, &new)?)?;
+    }
+    Ok(Ok(batches))
+}
+
+// Reads the rows of a round into batches, by workers beside one another, and begins the groups that
+// are new.
+fn settle_round<T: Threads + Sync, E: Enter + Sync>(
+    rt: &T,
+    alloc: Global,
+    checked: &Checked,
+    marks: &[bool],
+    chunks: &[Chunk],
+    groups: &mut Groups,
+    workers: u32,
+    hold: &E,
+) -> Result<Result<Vec<Batch>, Bad>, NoMemory>
+    requires fit { All (FitsChunk (checked_plan checked.now).fields) chunks.now }
+    requires workers { 1 ≤ workers }
+    ensures { let p = checked_plan checked.now in IfOk result (λ settled. MatchResult settled
+        (λ batches. AreSettled p marks.now chunks.now groups.old groups.new batches.items)
+        (λ bad. all_records p chunks.now ≡ Err bad)) }
+{
+    let each = chunks.len().div_ceil(workers as usize).max(1);
+    let beside = Beside {
+        checked,
+        marks,
+        groups: &*groups,
+    };
+    let dealt = deal_all(rt, alloc, &beside, chunks, each, hold)?;
+    settle_all(alloc, checked, groups, dealt)
+}
+
+// Makes the steps of the batches of a round at the outcomes of all groups, by at most so many
+// threads.
+fn lead_round<T: Threads + Sync>(
+    rt: &T,
+    alloc: Global,
+    checked: &Checked,
+    marks: &[bool],
+    batches: &[Batch],
+    outcomes: &mut [Outcome],
+    workers: u32,
+) -> Result<(), NoMemory>
+    requires { AreReadMarks (checked_plan checked.now) marks.now }
+    ensures { let p = checked_plan checked.now in
+        AreLed p marks.now batches.now 0 outcomes.old outcomes.new result }
+{
+    let bounds = bounds_of(alloc, batches, workers)?;
+    let lent = Lent {
+        checked,
+        marks,
+        batches,
+    };
+    let mut led: Result<(), NoMemory> = Ok(());
+    lead_all(rt, alloc, &lent, bounds.as_slice(), 0, outcomes, &mut led);
+    led
+}
+
+/// The groups after the records of chunks, or the first of their rows that is no record. Workers read
+/// neighbouring chunks each, beside one another, and tell `hold` of each chunk. Then each of as many
+/// threads makes the steps of the groups that it has, in order. No record is explored: with many
+/// groups, these are what is done at once. The result doesn't depend on the number of workers.
+///
+/// `NoMemory` where an allocation failed.
+pub fn shuffled<T: Threads + Sync, E: Enter + Sync>(
+    rt: &T,
+    alloc: Global,
+    checked: &Checked,
+    chunks: &[Chunk],
+    groups: Groups,
+    workers: u32,
+    hold: &E,
+) -> Result<Result<Groups, Bad>, NoMemory>
+    requires fit { All (FitsChunk (checked_plan checked.now).fields) chunks.now }
+    requires workers { 1 ≤ workers }
+    requires valid { AreValid (checked_plan checked.now) groups }
+    ensures groups { let p = checked_plan checked.now in
+        let read = all_records p chunks.now in
+        IfOk result (λ led. led ≡ groups_after p read groups) }
+    ensures valid { IfOk result (λ led. IfOk led (AreValid (checked_plan checked.now))) }
+{
+    records_keep_groups_valid();
+    let _plan = checked.plan();
+    let mut groups = groups;
+    let marks = read_fields(alloc, checked)?;
+    let marks = marks.as_slice();
+    match settle_round(
+        rt,
+        alloc,
+        checked,
+        marks,
+        chunks,
+        &mut groups,
+        workers,
+        hold,
+    )? {
+        Ok(batches) => {
+            let batches = batches.as_slice();
+            let outcomes = groups.outcomes_mut();
+            lead_round(rt, alloc, checked, marks, batches, outcomes, workers)?;
+            Ok(Ok(groups))
+        }
+        Err(bad) => Ok(Err(bad)),
+    }
+}
