@@ -78,27 +78,6 @@ led_groups : (p : ScriptPlan) (old given new : Pairs) (records before : List Rec
 led_groups p old given new records before same on valid led =
     record { passed = on ∙ ap (after_records p records) (same ∙ led.passed) ∙ pass_more p before records; valid = valid }
 
-groups_led : (p : ScriptPlan) (old given new : Pairs) (run : Run) (found : Applied) (records before : List Record)
-    → GroupsStandFor p records run.groups → given ≡ old → IsApplied p run given found → found ≡ applied.Done new → AreLedBy p old before → AreLedBy p new (before ++ records)
-groups_led p old given new run found records before stands same by done led =
-    let G : Applied → Type 0 = λ x. IfDone x (λ g. g ≡ after_records p records given) in
-    let V : Applied → Type 0 = λ x. IfDone x (AreValid p) in
-    led_groups p old given new records before same (subst G done (by.groups_are records stands)) (subst V done by.valid) led
-
-pub round_led : (p : ScriptPlan) (limit : ℕ) (cuts : List Chunk) (run : Run) (old given new : Pairs) (found : Applied)
-    → StandsForAll p limit cuts run → given ≡ old → IsApplied p run given found → found ≡ applied.Done new → Led p (all_records p cuts) old new
-round_led p limit cuts run old given new found h same by done =
-    let fine : run.bad ≡ None = sym by.bad ∙ ap bad_of done in
-    let next = round_fine p limit cuts run h fine in (
-      next.records,
-      next.are,
-      λ before led. groups_led p old given new run found next.records before next.stands same by done led,
-    )
-
-pub round_broken : (p : ScriptPlan) (limit : ℕ) (cuts : List Chunk) (run : Run) (given : Pairs) (found : Applied) (bad : BadRow)
-    → StandsForAll p limit cuts run → IsApplied p run given found → found ≡ applied.Bad bad → all_records p cuts ≡ Err bad
-round_broken p limit cuts run given found bad h by broken = round_bad p limit cuts run bad h (sym by.bad ∙ ap bad_of broken)
-
 -- ---- the groups after a round
 pub all_led : (p : ScriptPlan) (read : Result (List Record) BadRow) (old given new : Pairs) (found : Applied)
     → given ≡ old → found ≡ applied_to p read given → IfDone found (AreValid p) → found ≡ applied.Done new → Led p read old new

@@ -7,7 +7,6 @@ ghost use Rattle.sym_table.specs.ChunkRecords.{all_records};
 ghost use Rattle.sym_table.specs.Reading.{Row as OneRow};
 ghost use Rattle.sym_engine.specs.Rounds.{AreWorkers, IsLimit, IsRound, StandsForAll, round_records, shown_chunks};
 
-use crate::entering::{Enter, Free};
 use crate::leading::{apply_run, led};
 use crate::rounds::Work;
 use crate::workers::worked;
@@ -17,6 +16,7 @@ use std::thread::Threads;
 use sym_base::NoMemory;
 use sym_plain::Groups;
 use sym_run::{Applied, Run};
+use sym_shuffle::{Enter, Free};
 
 /// What stands between the files and the workers: it has the run of each round made, or groups led on
 /// by a round, is told of each chunk that is claimed, and says which row is read in place of a row.

@@ -1,16 +1,21 @@
-//! What a round makes of groups: the runs of its stretches, applied one after the other.
-ghost use Rattle.std.specs.Prelude.{◌≡◌, ◌≤◌, ◌<◌, ◌+◌, ◌*◌, ℕ, List, IfOk, length, vec_len};
+//! What a round makes of groups: they are led on by its records, or by the runs of its stretches.
+ghost use Rattle.std.specs.Prelude.{◌≡◌, ◌≤◌, ◌<◌, ◌+◌, ◌*◌, ℕ, List, Result, IfOk, length, vec_len};
 ghost use Rattle.sym_base.specs.declared.limits.TheConstants as limit;
+ghost use Rattle.sym_base.specs.declared.values.record.Record.{Record as OneRecord};
+ghost use Rattle.sym_base.specs.declared.values.state.Outcome.{Outcome as OneOutcome};
+ghost use Rattle.sym_base.specs.declared.values.value.Key.{Key as OneKey};
 ghost use Rattle.sym_check.specs.Checking.CheckedScripts.{checked_plan};
+ghost use Rattle.sym_check.specs.Plan.ScriptPlans.{ScriptPlan};
 ghost use Rattle.sym_run.specs.Applying.{AreValid, IfDone, applied_to};
 ghost use Rattle.sym_run.specs.Runs.{GroupsFit, StandsForChunks};
+ghost use Rattle.sym_shuffle.specs.Begun.{groups_after};
 ghost use Rattle.sym_table.specs.ChunkRecords.{all_records};
+ghost use Rattle.sym_table.specs.declared.bad.Bad.{Bad as OneBad};
 ghost use Rattle.sym_table.specs.declared.chunk.Chunk.{Chunk as OneChunk};
 ghost use Rattle.sym_engine.specs.Leading.{AreRunsOf, run_records};
 ghost use Rattle.sym_engine.specs.Pieces.{AreStretches, StandsBetween};
 ghost use Rattle.sym_engine.specs.Rounds.{AreWorkers, IsLimit, IsRound};
 
-use crate::entering::Enter;
 use crate::rounds::Work;
 use crate::stretches::{LendsStretches, Stretches};
 use crate::workers::{KEPT_MOST, STRETCHES, run_between};
@@ -20,6 +25,25 @@ use std::thread::Threads;
 use sym_base::NoMemory;
 use sym_plain::Groups;
 use sym_run::{Applied, Run};
+use sym_shuffle::{Enter, folded, shuffled};
+use sym_table::Bad;
+
+// With so many groups, these are what several threads work on at once. With fewer, the runs of a
+// round's stretches let several threads work on one group.
+const GROUPS_MANY: usize = 32;
+
+// What a round came to, as what its run does to groups.
+fn as_applied(led: Result<Groups, Bad>) -> Applied
+    ensures applied { (p : ScriptPlan) (read : Result (List OneRecord) OneBad)
+        (groups : List (OneKey × OneOutcome)) →
+        led ≡ groups_after p read groups → result ≡ applied_to p read groups }
+    ensures valid { (p : ScriptPlan) → IfOk led (AreValid p) → IfDone result (AreValid p) }
+{
+    match led {
+        Ok(groups) => Applied::Done(groups),
+        Err(bad) => Applied::Bad(bad),
+    }
+}
 
 /// What the records of a run's chunks make of groups. As many threads as there are workers, at
 /// most, lead the groups on.
@@ -156,12 +180,14 @@ fn led_by<T: Threads + Sync, S: LendsStretches + Sync, E: Enter + Sync>(
 }
 
 /// What the records of a round, which is the work's, make of groups: the groups after them, or the
-/// first row that is no record. The chunks are cut into stretches as in `worked`, and each
-/// stretch's run is made on a thread of its own, which tells `hold` of each chunk. The runs then
-/// lead the groups on in order. They aren't joined: how the groups stand is known here, and so
-/// leading them costs less than composing what the runs do. With one worker no thread is made, and
-/// no record is explored.
-/// The result doesn't depend on the number of workers.
+/// first row that is no record. With one worker, or one chunk, no thread is made: each record makes
+/// its step as it is read (`folded` of `sym_shuffle`). Where there are many groups before the round,
+/// some threads read the records, and then others step them, each those of its own groups
+/// (`shuffled`). No record is explored in either way. Where there are few groups, the chunks are cut
+/// into stretches as in `worked`, and each stretch's run is made on a thread of its own, whatever
+/// the states of the groups are. The runs then lead the groups on in order. They aren't joined: how
+/// the groups stand is known here, and so leading them costs less than composing what the runs do.
+/// In each way `hold` is told of each chunk. The result doesn't depend on the number of workers.
 ///
 /// `NoMemory` where an allocation failed.
 pub fn led<T: Threads + Sync, E: Enter + Sync>(
@@ -184,8 +210,14 @@ pub fn led<T: Threads + Sync, E: Enter + Sync>(
 {
     let chunks = work.chunks.len() as u32;
     if workers.min(chunks) == 1 {
-        let run = run_between(alloc, work, 0, 0, chunks, u32::MAX, hold)?;
-        return apply_run(rt, alloc, work, run, groups, workers);
+        let chunks = work.chunks.as_slice();
+        let led = folded(alloc, &work.checked, chunks, groups, hold)?;
+        return Ok(as_applied(led));
+    }
+    if groups.len() >= GROUPS_MANY {
+        let chunks = work.chunks.as_slice();
+        let led = shuffled(rt, alloc, &work.checked, chunks, groups, workers, hold)?;
+        return Ok(as_applied(led));
     }
     let each = chunks.div_ceil(workers * STRETCHES);
     led_by(rt, alloc, &Stretches { work, each }, workers, groups, hold)

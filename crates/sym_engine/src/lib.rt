@@ -4,7 +4,6 @@
 
 mod applying;
 mod cutting;
-mod entering;
 mod error;
 mod files;
 mod folding;
@@ -25,7 +24,6 @@ mod ways;
 mod workers;
 mod working;
 
-pub use entering::{Enter, Free};
 pub use error::PassErr;
 pub use files::each_round;
 pub use gates::{Gate, Hold, OpenGate};
@@ -35,6 +33,7 @@ pub use passing::pass;
 pub use rounds::{Rounds, Took, Work};
 pub use sequential::sequential_pass;
 pub use summarising::summarise;
+pub use sym_shuffle::{Enter, Free};
 pub use watching::pass_watched;
 pub use workers::worked;
 pub use working::round;

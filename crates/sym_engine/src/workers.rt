@@ -6,7 +6,6 @@ ghost use Rattle.sym_check.specs.Checking.CheckedScripts.{checked_plan};
 ghost use Rattle.sym_engine.specs.Pieces.{IsBoardOf, IsDone, StandsBetween, StandsFrom};
 ghost use Rattle.sym_engine.specs.Rounds.{AreWorkers, IsLimit, IsRound, StandsForAll};
 
-use crate::entering::Enter;
 use crate::piece::RunPiece;
 use crate::rounds::Work;
 use crate::stretches::{LendsStretches, Stretches};
@@ -17,6 +16,7 @@ use std::thread::Threads;
 use sym_base::NoMemory;
 use sym_board::{Board, Made, Pass, Piece};
 use sym_run::{Run, Stretch};
+use sym_shuffle::Enter;
 
 /// Into how many stretches a round is cut for each worker.
 pub(crate) const STRETCHES: u32 = 1;

@@ -3,7 +3,6 @@ ghost use Rattle.std.specs.Prelude.{IfOk};
 ghost use Rattle.sym_check.specs.Checking.CheckedScripts.{checked_plan};
 ghost use Rattle.sym_engine.specs.Rounds.{AreWorkers, IsLimit, IsRound, StandsForAll};
 
-use crate::entering::Enter;
 use crate::gates::Gate;
 use crate::rounds::Work;
 use crate::workers::worked;
@@ -12,6 +11,7 @@ use std::sync::Wait;
 use std::thread::Threads;
 use sym_base::NoMemory;
 use sym_run::Run;
+use sym_shuffle::Enter;
 
 // Has a gate told of the chunks that workers claim.
 #[derive(Drop)]

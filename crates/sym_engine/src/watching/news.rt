@@ -3,18 +3,21 @@ ghost use Rattle.std.specs.Prelude.{◌≡◌, ◌++◌, [], ◌∷◌, Some, No
 ghost use Rattle.std.specs.Thread.{IsSync};
 ghost use Rattle.sym_check.specs.Checking.CheckedScripts.{checked_plan};
 ghost use Rattle.sym_report.specs.Appending.{listed};
+ghost use Rattle.sym_run.specs.Applying.{AreValid, IfDone, applied_to};
 ghost use Rattle.sym_watch.specs.Partials.{MayFollow};
 ghost use Rattle.sym_engine.specs.Partials.{AllGrew, AllGrewPart};
-ghost use Rattle.sym_engine.specs.Rounds.{AreWorkers, IsLimit, IsRound, StandsForAll, shown_chunks};
+ghost use Rattle.sym_engine.specs.Rounds.{AreWorkers, IsLimit, IsRound, round_records};
 
 use crate::gates::Gate;
 use crate::rounds::Work;
 use crate::watching::telling::tell_seen;
 use std::alloc::Global;
+use std::mem;
 use std::sync::Wait;
 use std::thread::{Threads, join_mut};
 use sym_base::NoMemory;
-use sym_run::Run;
+use sym_plain::Groups;
+use sym_run::Applied;
 use sym_watch::{Observer, Partial, Publisher, Watcher};
 
 /// What publishes partials, a watcher of them, the partial that isn't told yet, and the observers.
@@ -27,20 +30,21 @@ pub(crate) struct News {
     ghost same: { watcher.of ≡ publisher.of },
 }
 
-// What the telling came to, and the run that was made beside it.
+// What the telling came to, and what the round made of the groups beside it.
 #[derive(Drop)]
 struct Beside {
     told: Result<(), NoMemory>,
-    run: Result<Run, NoMemory>,
+    applied: Result<Applied, NoMemory>,
 }
 
-// Has the run of a round made while another thread tells the observers of a partial.
-fn work_and_tell<T: Threads + Wait + Sync, G: Gate>(
+// Has groups led on by a round while another thread tells the observers of a partial.
+fn lead_and_tell<T: Threads + Wait + Sync, G: Gate>(
     rt: &T,
     alloc: Global,
     gate: &G,
     work: &Work,
     workers: u32,
+    groups: &mut Groups,
     watcher: &mut Watcher,
     observers: &mut Vec<Box<dyn Observer + Send>>,
     copy: &Partial,
@@ -49,9 +53,12 @@ fn work_and_tell<T: Threads + Wait + Sync, G: Gate>(
     requires round { IsRound (checked_plan work.now.checked).fields work.now.chunks }
     requires limit { IsLimit work.now.limit }
     requires workers { AreWorkers workers }
-    ensures run { let p = checked_plan work.now.checked in
-        let chunks = shown_chunks (G.shown gate.now) work.now.chunks in
-        IfOk result.run (StandsForAll p work.now.limit chunks) }
+    requires valid { AreValid (checked_plan work.now.checked) groups.old }
+    ensures applied { let p = checked_plan work.now.checked in
+        let read = round_records p (G.shown gate.now) work.now.chunks in
+        IfOk result.applied (λ applied. applied ≡ applied_to p read groups.old) }
+    ensures valid { let p = checked_plan work.now.checked in
+        IfOk result.applied (λ applied. IfDone applied (AreValid p)) }
     ensures of { watcher.new.of ≡ watcher.old.of }
     ensures ok { let olds = map (λ o. log o) observers.old.items in
         let news = map (λ o. log o) observers.new.items in
@@ -60,7 +67,7 @@ fn work_and_tell<T: Threads + Wait + Sync, G: Gate>(
         let news = map (λ o. log o) observers.new.items in
         OnErr result.told (AllGrewPart olds news (copy.now ∷ [])) }
 {
-    let (told, run) = join_mut(
+    let (told, applied) = join_mut(
         rt,
         &mut || -> Result<(), NoMemory>
             ensures of { watcher.exit.now.of ≡ watcher.entry.now.of }
@@ -71,9 +78,21 @@ fn work_and_tell<T: Threads + Wait + Sync, G: Gate>(
                 let news = map (λ o. log o) observers.exit.now.items in
                 OnErr result (AllGrewPart olds news (copy.entry.now ∷ [])) }
         { tell_seen(alloc, watcher, observers, copy) },
-        &mut || gate.work_round(rt, alloc, work, workers),
+        &mut || -> Result<Applied, NoMemory>
+            requires { let p = checked_plan work.now.checked in IsSync T.row
+                × IsRound p.fields work.now.chunks × IsLimit work.now.limit
+                × AreWorkers workers × AreValid p groups.now }
+            ensures applied { let p = checked_plan work.entry.now.checked in
+                let read = round_records p (G.shown gate.entry.now) work.entry.now.chunks in
+                IfOk result (λ applied. applied ≡ applied_to p read groups.entry.now) }
+            ensures valid { let p = checked_plan work.entry.now.checked in
+                IfOk result (λ applied. IfDone applied (AreValid p)) }
+        {
+            let taken = mem::replace(groups, Groups::new(alloc));
+            gate.lead_round(rt, alloc, work, workers, taken)
+        },
     );
-    Beside { told, run }
+    Beside { told, applied }
 }
 
 impl News {
@@ -96,22 +115,27 @@ impl News {
         }
     }
 
-    /// The run of a round. Beside it the observers are told of the partial of the round before.
-    pub(crate) fn work_round<T: Threads + Wait + Sync, G: Gate>(
+    /// What a round makes of groups. Beside it the observers are told of the partial of the round
+    /// before.
+    pub(crate) fn lead_round<T: Threads + Wait + Sync, G: Gate>(
         &mut self,
         rt: &T,
         alloc: Global,
         gate: &G,
         work: &Work,
         workers: u32,
-    ) -> Result<Run, NoMemory>
+        groups: Groups,
+    ) -> Result<Applied, NoMemory>
         requires sync { IsSync T.row }
         requires round { IsRound (checked_plan work.now.checked).fields work.now.chunks }
         requires limit { IsLimit work.now.limit }
         requires workers { AreWorkers workers }
-        ensures run { let p = checked_plan work.now.checked in
-            let chunks = shown_chunks (G.shown gate.now) work.now.chunks in
-            IfOk result (StandsForAll p work.now.limit chunks) }
+        requires valid { AreValid (checked_plan work.now.checked) groups }
+        ensures applied { let p = checked_plan work.now.checked in
+            let read = round_records p (G.shown gate.now) work.now.chunks in
+            IfOk result (λ applied. applied ≡ applied_to p read groups) }
+        ensures valid { let p = checked_plan work.now.checked in
+            IfOk result (λ applied. IfDone applied (AreValid p)) }
         ensures list { self.new.publisher.list ≡ self.old.publisher.list }
         ensures untold { self.new.untold ≡ None }
         ensures ok { let olds = map (λ o. log o) self.old.observers.items in
@@ -122,16 +146,25 @@ impl News {
             OnErr result (AllGrewPart olds news (listed self.old.untold)) }
     {
         match self.untold.take() {
-            None => gate.work_round(rt, alloc, work, workers),
+            None => gate.lead_round(rt, alloc, work, workers, groups),
             Some(copy) => {
                 self.watcher.learn(self.publisher.tell());
+                let mut groups = groups;
                 let watcher = &mut self.watcher;
                 let observers = &mut self.observers;
-                let Beside { told, run } = work_and_tell(
-                    rt, alloc, gate, work, workers, watcher, observers, &copy,
+                let Beside { told, applied } = lead_and_tell(
+                    rt,
+                    alloc,
+                    gate,
+                    work,
+                    workers,
+                    &mut groups,
+                    watcher,
+                    observers,
+                    &copy,
                 );
                 told?;
-                run
+                applied
             }
         }
     }

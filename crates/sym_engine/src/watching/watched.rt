@@ -1,4 +1,4 @@
-//! Rounds whose runs are applied to groups, and whose partials are published.
+//! Rounds that lead groups on, and whose partials are published.
 ghost use Rattle.std.specs.Prelude.{◌≡◌, ◌+◌, ◌++◌, IfOk, OnOk, length, map, slice_get};
 ghost use Rattle.sym_check.specs.Checking.CheckedScripts.{checked_plan, checked_tree};
 ghost use Rattle.sym_report.specs.Appending.{listed};
@@ -22,8 +22,8 @@ use sym_run::Applied;
 use sym_table::Chunk;
 use sym_watch::{Partial, ReportRows};
 
-/// What a pass is asked for: the script, the gate that has the run of each round made, and how many
-/// workers make it.
+/// What a pass is asked for: the script, the gate that has each round lead groups on, and how many
+/// workers do it.
 #[derive(Drop)]
 pub(crate) struct Task<'a, G> {
     pub(crate) checked: &'a Checked,
@@ -103,8 +103,8 @@ impl<'a, G: Gate> Turns for Watched<'a, G> {
         ToldAt p start (watching (checked_tree w.task.checked.now) w.groups w.border
         w.news.publisher.list w.news.untold news) point rounds };
 
-    // The gate has the run of the round made, which is applied to the groups, and their partial is
-    // published. Beside the work the observers are told of the partial of the round before.
+    // The gate has the round lead the groups on, and their partial is published. Beside the work
+    // the observers are told of the partial of the round before.
     fn take<T: Threads + Wait + Sync>(
         &mut self,
         rt: &T,
@@ -113,11 +113,12 @@ impl<'a, G: Gate> Turns for Watched<'a, G> {
     ) -> Result<Took, NoMemory> {
         let border = border_after(self.border, work.chunks.as_slice())?;
         let gate = self.task.gate;
-        let run = self
-            .news
-            .work_round(rt, alloc, gate, work, self.task.workers)?;
+        let workers = self.task.workers;
         let groups = mem::replace(&mut self.groups, Groups::new(alloc));
-        match run.apply_by(rt, alloc, &work.checked, groups, self.task.workers)? {
+        let applied = self
+            .news
+            .lead_round(rt, alloc, gate, work, workers, groups)?;
+        match applied {
             Applied::Done(groups) => {
                 let shown = report_rows(alloc, self.task.checked, &groups)?;
                 let partial = Partial {
