@@ -1,0 +1,237 @@
+//! Rounds by several workers, beside the same records folded one by one.
+ghost use Rattle.std.specs.Prelude.{◌≤◌, IfOk};
+ghost use Rattle.std.specs.List.{All};
+ghost use Rattle.sym_check.specs.Checking.CheckedScripts.{checked_plan};
+ghost use Rattle.sym_shuffle.specs.Begun.{AreValid};
+ghost use Rattle.sym_table.specs.Rows.{FitsChunk};
+
+use crate::alone::text_alone;
+use crate::logs::Log;
+use crate::noted::Noted;
+use crate::setting::{accepted, chunks_of};
+use crate::texts::{text_of_bad, text_of_groups};
+use std::alloc::Global;
+use std::process::Abort;
+use std::test::Fail;
+use std::thread::Threads;
+use sym_base::NoMemory;
+use sym_check::Checked;
+use sym_plain::Groups;
+use sym_shuffle::{Free, folded, shuffled};
+use sym_table::{Bad, Chunk};
+
+const WORKERS: [u32; 5] = [1, 2, 3, 4, 64];
+
+/// A script, a log whose groups are there before, a log, the rows of a chunk, and the text of what
+/// is wanted; `None`: what folding record by record gives.
+#[derive(Clone, Copy)]
+pub(crate) struct Case(
+    pub(crate) &'static str,
+    pub(crate) Log,
+    pub(crate) Log,
+    pub(crate) u32,
+    pub(crate) Option<&'static str>,
+);
+
+// How records are folded.
+#[derive(Clone, Copy, Debug)]
+enum Way {
+    RecordByRecord,
+    OnOneThread,
+    Shuffled(u32),
+}
+
+// What is said of a text that isn't the one that is wanted: the first lines that differ.
+fn difference(
+    alloc: Global,
+    way: Way,
+    found: &str,
+    wanted: &str,
+) -> Result<Option<String>, NoMemory> {
+    if found == wanted {
+        return Ok(None);
+    }
+    let mut wanted_lines = wanted.lines();
+    'lines: for line in found.lines() {
+        let other = wanted_lines.next().unwrap_or("no more");
+        if line != other {
+            let said = format!(in alloc; "{way:?}: found '{line}', wanted '{other}'")?;
+            return Ok(Some(said));
+        }
+    }
+    let other = wanted_lines.next().unwrap_or("no more");
+    let said = format!(in alloc; "{way:?}: found no more, wanted '{other}'")?;
+    Ok(Some(said))
+}
+
+// What is said of claims of chunks. A round with a bad row may lack some.
+fn claims(
+    alloc: Global,
+    way: Way,
+    noted: &Noted,
+    may_lack: bool,
+) -> Result<Option<String>, NoMemory> {
+    if noted.is_strange() {
+        let said = format!(in alloc; "{way:?}: found a chunk or a worker that there isn't")?;
+        return Ok(Some(said));
+    }
+    if noted.is_alone() {
+        let said = format!(in alloc; "{way:?}: found one worker alone, wanted several")?;
+        return Ok(Some(said));
+    }
+    let Some((chunk, times, worker)) = noted.first_wrong(may_lack) else {
+        return Ok(None);
+    };
+    let said = format!(in alloc;
+        "{way:?}: found {times} claims of chunk {chunk}, by worker {worker}, wanted 1 in turn"
+    )?;
+    Ok(Some(said))
+}
+
+// What is said of a round of which a line of its text differs, or whose chunks aren't claimed as
+// they have to be.
+fn said_of(
+    alloc: Global,
+    way: Way,
+    led: &Result<Groups, Bad>,
+    noted: &Noted,
+    wanted: &str,
+) -> Result<Option<String>, NoMemory> {
+    let found = match led {
+        Ok(groups) => text_of_groups(alloc, groups)?,
+        Err(bad) => text_of_bad(alloc, bad)?,
+    };
+    match difference(alloc, way, found.as_str(), wanted)? {
+        Some(said) => Ok(Some(said)),
+        None => claims(alloc, way, noted, led.is_err()),
+    }
+}
+
+// What is wrong with a round by so many workers.
+fn wrong_by<T: Threads + Sync>(
+    rt: &T,
+    alloc: Global,
+    checked: &Checked,
+    chunks: &[Chunk],
+    before: Groups,
+    wanted: &str,
+    workers: u32,
+) -> Result<Option<String>, NoMemory>
+    requires fit { All (FitsChunk (checked_plan checked.now).fields) chunks.now }
+    requires valid { AreValid (checked_plan checked.now) before }
+    requires some { 1 ≤ workers }
+{
+    let noted = Noted::new(alloc, workers, chunks.len())?;
+    let led = shuffled(rt, alloc, checked, chunks, before, workers, &noted)?;
+    said_of(alloc, Way::Shuffled(workers), &led, &noted, wanted)
+}
+
+// What is wrong with a round on one thread.
+fn wrong_alone(
+    alloc: Global,
+    checked: &Checked,
+    chunks: &[Chunk],
+    before: Groups,
+    wanted: &str,
+) -> Result<Option<String>, NoMemory>
+    requires fit { All (FitsChunk (checked_plan checked.now).fields) chunks.now }
+    requires valid { AreValid (checked_plan checked.now) before }
+{
+    let noted = Noted::new(alloc, 1, chunks.len())?;
+    let led = folded(alloc, checked, chunks, before, &noted)?;
+    said_of(alloc, Way::OnOneThread, &led, &noted, wanted)
+}
+
+// What is wrong with a round by any workers.
+fn wrong_round<T: Threads + Sync>(
+    rt: &T,
+    alloc: Global,
+    checked: &Checked,
+    chunks: &[Chunk],
+    before: &Groups,
+    wanted: &str,
+) -> Result<Option<String>, NoMemory>
+    requires fit { All (FitsChunk (checked_plan checked.now).fields) chunks.now }
+    requires valid { AreValid (checked_plan checked.now) before.now }
+{
+    let said = wrong_alone(alloc, checked, chunks, before.copy(alloc)?, wanted)?;
+    if said.is_some() {
+        return Ok(said);
+    }
+    'workers: for workers in WORKERS {
+        let before = before.copy(alloc)?;
+        if workers < 1 {
+            return Ok(None);
+        }
+        let said = wrong_by(rt, alloc, checked, chunks, before, wanted, workers)?;
+        if said.is_some() {
+            return Ok(said);
+        }
+    }
+    Ok(None)
+}
+
+// The groups of a log; none where a row is no record.
+fn groups_of(alloc: Global, checked: &Checked, log: &str) -> Result<Groups, NoMemory>
+    ensures { IfOk result (AreValid (checked_plan checked.now)) }
+{
+    let chunks = chunks_of(alloc, checked, log, 1_024)?;
+    match folded(alloc, checked, chunks.as_slice(), Groups::new(alloc), &Free)? {
+        Ok(groups) => Ok(groups),
+        Err(_bad) => Ok(Groups::new(alloc)),
+    }
+}
+
+// What is wrong with a log under its script.
+fn wrong_log<T: Threads + Sync>(
+    rt: &T,
+    alloc: Global,
+    checked: &Checked,
+    case: &Case,
+) -> Result<Option<String>, NoMemory> {
+    let Case(_script, before, log, rows, wanted) = case;
+    let before = groups_of(alloc, checked, before.text(alloc)?.as_str())?;
+    let log = log.text(alloc)?;
+    let alone = text_alone(alloc, checked, log.as_str(), before.copy(alloc)?)?;
+    if let Some(wanted) = wanted {
+        let said = difference(alloc, Way::RecordByRecord, alone.as_str(), wanted)?;
+        if said.is_some() {
+            return Ok(said);
+        }
+    }
+    let chunks = chunks_of(alloc, checked, log.as_str(), *rows)?;
+    wrong_round(
+        rt,
+        alloc,
+        checked,
+        chunks.as_slice(),
+        &before,
+        alone.as_str(),
+    )
+}
+
+// What is wrong with a case: what was found, and what was wanted.
+fn wrong<T: Threads + Sync>(
+    rt: &T,
+    alloc: Global,
+    case: &Case,
+) -> Result<Option<String>, NoMemory> {
+    match accepted(alloc, case.0) {
+        Some(checked) => wrong_log(rt, alloc, &checked, case),
+        None => Ok(Some(String::from_str(alloc, "the script is refused")?)),
+    }
+}
+
+/// Fails the test at the first case that comes to something else than is wanted.
+pub(crate) fn check_cases<T: Threads + Abort + Sync>(
+    rt: &T,
+    alloc: Global,
+    cases: &[Case],
+) -> Result<(), Fail> {
+    'cases: for (place, case) in cases.iter().enumerate() {
+        if let Some(said) = wrong(rt, alloc, case)? {
+            panic!(rt; "case {place}: {said}");
+        }
+    }
+    Ok(())
+}

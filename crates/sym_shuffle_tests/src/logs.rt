@@ -1,0 +1,85 @@
+//! Logs: texts, and records that a fixed generator draws.
+use std::alloc::Global;
+use sym_base::NoMemory;
+
+/// The records of a log that is drawn, with the columns of all scripts.
+#[derive(Clone, Copy)]
+pub(crate) struct Draw {
+    pub(crate) seed: u32,
+    pub(crate) records: u32,
+    pub(crate) users: u32,
+    /// Every other record is of the first user.
+    pub(crate) is_skewed: bool,
+    /// The numbers of two rows that are no records; 0 is none.
+    pub(crate) bad: [u32; 2],
+}
+
+#[derive(Clone, Copy)]
+pub(crate) enum Log {
+    Text(&'static str),
+    Drawn(Draw),
+}
+
+/// A linear congruential generator of numbers below 2^31, of which the upper 15 bits are used.
+#[derive(Drop)]
+struct Draws(u32);
+
+impl Draws {
+    fn next(&mut self) -> u32 {
+        self.0 = self.0.wrapping_mul(1_103_515_245).wrapping_add(12_345) & 0x7fff_ffff;
+        self.0 / 65_536
+    }
+}
+
+const ENDINGS: [&str; 3] = ["win", "draw", "loss"];
+
+impl Draw {
+    // The number of a user.
+    fn user(&self, draws: &mut Draws) -> u32 {
+        let drawn = draws.next();
+        if self.is_skewed && drawn % 2 == 0 {
+            return 0;
+        }
+        drawn / 2 % self.users.max(1)
+    }
+
+    fn push(
+        &self,
+        alloc: Global,
+        log: &mut String,
+        no: u32,
+        draws: &mut Draws,
+    ) -> Result<(), NoMemory> {
+        let user = self.user(draws);
+        let drawn = draws.next();
+        let end = ENDINGS[drawn as usize % 3];
+        let team = drawn / 3 % 5;
+        let x = i64::from(drawn / 15 % 9) - 4;
+        let ts = u64::from(no) * 7 + u64::from(drawn % 60);
+        if self.bad.contains(&no) {
+            log.push_str("u,t,x,win,n,ts\n")?;
+            return Ok(());
+        }
+        let line = format!(in alloc; "user {user},{team},{x},{end},note {drawn},{ts}\n")?;
+        log.push_str(line.as_str())?;
+        Ok(())
+    }
+
+    fn text(&self, alloc: Global) -> Result<String, NoMemory> {
+        let mut draws = Draws(self.seed);
+        let mut log = String::from_str(alloc, "user,team,x,end,note,ts\n")?;
+        'records: for place in 0..self.records.min(100_000) {
+            self.push(alloc, &mut log, place + 1, &mut draws)?;
+        }
+        Ok(log)
+    }
+}
+
+impl Log {
+    pub(crate) fn text(&self, alloc: Global) -> Result<String, NoMemory> {
+        match self {
+            Log::Text(text) => Ok(String::from_str(alloc, text)?),
+            Log::Drawn(draw) => draw.text(alloc),
+        }
+    }
+}
