@@ -9,7 +9,7 @@ mod stream;
 use crate::disk::DiskStore;
 use crate::progress::Progress;
 use crate::stream::StreamSink;
-use std::alloc::Global;
+use std::alloc::{AllocError, Global};
 use std::env;
 use std::io::{ErrorKind, Write};
 use std::process::ExitCode;
@@ -22,9 +22,21 @@ use sym_report::{CsvForm, PairsForm, ReportForm, TableForm};
 use sym_top::{StartErr, Status, refuse_start, symple};
 use sym_watch::Observer;
 
+// Bytes of a large piece of memory: as large as the C library still learns from.
+const LARGE_PIECE: usize = (32 << 20) - (64 << 10);
+
 fn main(rt: HostRuntime) -> ExitCode {
+    keep_freed_memory(rt.alloc());
     let progress = Progress::new(rt.stderr());
     ExitCode::from(run(&rt, rt.stdout(), rt.stderr(), progress).number())
+}
+
+// Takes a large piece of memory and gives it back, untouched. The C library then hands back to the
+// system only what is larger than that, so that a round finds the memory of the one before it, and the
+// system needn't clear it again.
+fn keep_freed_memory(alloc: Global) {
+    let large: Result<Vec<u8>, AllocError> = Vec::with_capacity(alloc, LARGE_PIECE);
+    drop(large);
 }
 
 // Runs the command that the words of this process give, over the files that it reaches. How far a
