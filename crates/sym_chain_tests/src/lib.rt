@@ -13,3 +13,7 @@ mod logs;
 mod orders;
 #[cfg(test)]
 mod setting;
+#[cfg(test)]
+mod stretches;
+#[cfg(test)]
+mod texts;

@@ -157,7 +157,8 @@ pub(crate) fn passed(alloc: Global, checked: &Checked, log: &str) -> Result<Grou
     }
 }
 
-fn same_group(left: &Groups, right: &Groups, index: usize) -> bool {
+/// Whether the groups at this place are the same.
+pub(crate) fn same_group(left: &Groups, right: &Groups, index: usize) -> bool {
     match (left.at(index), right.at(index)) {
         (Some((key, outcome)), Some((other, stands))) => key == other && outcome == stands,
         _ => false,
