@@ -67,7 +67,9 @@ const CASES: [Case; 13] = [
 
 const WORKERS: [u32; 5] = [1, 2, 3, 8, 64];
 
-// Whether this is seen of the log, and each chunk is claimed once, with so many workers.
+// Whether this is seen of the log, and chunks are claimed as they have to be, with so many workers:
+// each one once, unless a row is no record and no run of the round is made. Then chunks after the
+// row's may be left out.
 fn is_seen<T: Threads + Wait + Sync>(
     rt: &T,
     alloc: Global,
@@ -84,7 +86,11 @@ fn is_seen<T: Threads + Wait + Sync>(
         groups: *groups,
         bad: *bad,
     };
-    Ok(seen == Some(wanted) && gate.hold.claimed_once(*chunks) && !gate.hold.gave_up())
+    let needed = match (worked.way, bad) {
+        (Way::Led, Some(no)) => (*chunks).min(*no as usize),
+        _ => *chunks,
+    };
+    Ok(seen == Some(wanted) && gate.hold.claimed(needed, *chunks) && !gate.hold.gave_up())
 }
 
 // The place of the first log of which this isn't seen, with so many workers.
@@ -127,6 +133,38 @@ fn a_round_that_leads_groups_on_does_what_its_run_does(rt: HostRuntime) -> Resul
             let wrong = first_wrong(&rt, rt.alloc(), worked)?;
             assert_eq!(rt; wrong, None, "{workers} workers, {before:?}");
         }
+    }
+    Ok(())
+}
+
+#[test]
+fn holds_and_gates_that_make_runs_lead_groups_on(rt: HostRuntime) -> Result<(), Fail> {
+    'ways: for way in [Way::HoldOfRuns, Way::GateOfRuns] {
+        'before: for before in [Before::Nothing, Before::TheRound] {
+            'workers: for workers in WORKERS {
+                let worked = Worked {
+                    way,
+                    before,
+                    workers,
+                };
+                let wrong = first_wrong(&rt, rt.alloc(), worked)?;
+                assert_eq!(rt; wrong, None, "{worked:?}");
+            }
+        }
+    }
+    Ok(())
+}
+
+#[test]
+fn a_hold_that_always_refuses_is_seen(rt: HostRuntime) -> Result<(), Fail> {
+    'workers: for workers in WORKERS {
+        let worked = Worked {
+            way: Way::Refused,
+            before: Before::Nothing,
+            workers,
+        };
+        let wrong = first_wrong(&rt, rt.alloc(), worked)?;
+        assert_eq!(rt; wrong, Some(0), "{worked:?}");
     }
     Ok(())
 }

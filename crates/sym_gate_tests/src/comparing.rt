@@ -6,18 +6,18 @@ ghost use Rattle.sym_run.specs.Applying.{AreValid, IfDone};
 ghost use Rattle.sym_gate_tests.specs.Comparing.{ComesTo};
 
 use crate::bodies::{Body, made};
-use crate::holds::Holder;
+use crate::holds::{Holder, Makes, MakesRuns, Refuses};
 use std::alloc::Global;
 use std::sync::Wait;
 use std::thread::Threads;
 use sym_base::{FILE_MAX_DEFAULT, MemStore, NoMemory};
 use sym_check::{Checked, check};
 use sym_engine::{
-    Gate, LIMIT_DEFAULT, OpenGate, Options, Rounds, Took, WORKERS_DEFAULT, Work, each_round,
+    Gate, Hold, LIMIT_DEFAULT, OpenGate, Options, Rounds, Took, WORKERS_DEFAULT, Work, each_round,
 };
 use sym_parse::parse;
 use sym_plain::Groups;
-use sym_run::{Applied, Run, of_chunks};
+use sym_run::{Applied, Run, of_chunk, of_chunks};
 
 /// What is seen of a round: how many chunks it has, whether the workers make of it what one thread
 /// does, how many groups come of it, and the number of its first row that is no record.
@@ -90,11 +90,26 @@ fn alone(alloc: Global, work: &Work, groups: Groups) -> Result<Applied, NoMemory
     applied(alloc, work, run, groups)
 }
 
+// The groups of the records of a round's first chunk. Where a row of it is no record, none.
+fn of_first_chunk(alloc: Global, work: &Work) -> Result<Groups, NoMemory>
+    requires round { IsRound (checked_plan work.now.checked).fields work.now.chunks }
+    ensures { IfOk result (AreValid (checked_plan work.now.checked)) }
+{
+    let chunks = work.chunks.as_slice();
+    let run = of_chunk(alloc, &work.checked, &chunks[0], 0, work.limit)?;
+    match run.apply(alloc, &work.checked, Groups::new(alloc))? {
+        Applied::Done(groups) => Ok(groups),
+        Applied::Bad(_bad) => Ok(Groups::new(alloc)),
+    }
+}
+
 /// Which groups are there before a round.
 #[derive(Clone, Copy, Debug)]
 pub(crate) enum Before {
     /// None.
     Nothing,
+    /// Those of the records of its first chunk. Where a row of it is no record, none.
+    FirstChunk,
     /// Those of the round's own records. Where a row is no record, none.
     TheRound,
 }
@@ -108,6 +123,7 @@ fn groups_before(alloc: Global, work: &Work, before: Before) -> Result<Groups, N
     let nothing = Groups::new(alloc);
     match before {
         Before::Nothing => Ok(nothing),
+        Before::FirstChunk => of_first_chunk(alloc, work),
         Before::TheRound => match alone(alloc, work, nothing)? {
             Applied::Done(groups) => Ok(groups),
             Applied::Bad(_bad) => Ok(Groups::new(alloc)),
@@ -116,16 +132,22 @@ fn groups_before(alloc: Global, work: &Work, before: Before) -> Result<Groups, N
 }
 
 /// What makes a round lead groups on.
-#[derive(Clone, Copy)]
+#[derive(Clone, Copy, Debug)]
 pub(crate) enum Way {
     /// The gate's `lead_round`.
     Led,
+    /// `hold_lead` of a hold that has the run of each round made, and no more.
+    HoldOfRuns,
+    /// `lead_round` of a gate that has the run of each round made, and no more.
+    GateOfRuns,
+    /// `hold_lead` of a hold that always says that there is no memory.
+    Refused,
     /// The round's run, which is made in this way and then applied.
     Run(Body),
 }
 
 /// How a round leads groups on, and by how many workers, 1 to 64.
-#[derive(Clone, Copy)]
+#[derive(Clone, Copy, Debug)]
 pub(crate) struct Worked {
     pub(crate) way: Way,
     pub(crate) before: Before,
@@ -148,6 +170,17 @@ fn met<T: Threads + Wait + Sync>(
 {
     match worked.way {
         Way::Led => gate.lead_round(rt, alloc, work, worked.workers, groups),
+        Way::HoldOfRuns => {
+            let holder = &gate.hold;
+            Makes { holder }.hold_lead(rt, alloc, work, worked.workers, groups)
+        }
+        Way::GateOfRuns => {
+            MakesRuns { open: gate }.lead_round(rt, alloc, work, worked.workers, groups)
+        }
+        Way::Refused => {
+            let holder = &gate.hold;
+            Refuses { holder }.hold_lead(rt, alloc, work, worked.workers, groups)
+        }
         Way::Run(body) => {
             let run = made(rt, alloc, work, worked.workers, gate, body)?;
             applied(alloc, work, run, groups)
@@ -209,20 +242,25 @@ pub(crate) fn names(alloc: Global) -> Result<Vec<String>, NoMemory> {
     Ok(names)
 }
 
-// Has the rounds of the file worked, where there are 1 to 64 workers and few names.
+// Has the rounds of the file worked, where there are 1 to 64 workers, 1 to 1,024 rows a chunk and
+// few names.
 fn compare<T: Threads + Wait + Sync>(
     rt: &T,
     alloc: Global,
     checked: &Checked,
     files: &mut MemStore,
     names: &[String],
+    chunk: u32,
     compared: &mut Compared<'_>,
 ) {
     if compared.worked.workers < 1 || compared.worked.workers > 64 || names.len() > 3 {
         return;
     }
+    if chunk < 1 || chunk > 1_024 {
+        return;
+    }
     let options = Options {
-        chunk: 1,
+        chunk,
         limit: LIMIT_DEFAULT,
         workers: WORKERS_DEFAULT,
         max_bytes: FILE_MAX_DEFAULT,
@@ -236,11 +274,24 @@ const STREAKS: &str = "enum outcome { win, draw, loss } field team: word; field 
     update { if result is win { streak = streak + 1; push lengths streak; } \
     else { streak = 0; } } report { streak = streak; longest = max(lengths); }";
 
-/// What is seen of the last round of a log, each row of which is a chunk, worked in this way. `None` where there is no round, or an allocation failed before it was worked.
+/// What is seen of the last round of a log, each row of which is a chunk, worked in this way.
+/// `None` where there is no round, or an allocation failed before it was worked.
 pub(crate) fn seen_by<T: Threads + Wait + Sync>(
     rt: &T,
     alloc: Global,
     log: &str,
+    worked: Worked,
+    gate: &OpenGate<Holder>,
+) -> Result<Option<Seen>, NoMemory> {
+    seen_in(rt, alloc, log, 1, worked, gate)
+}
+
+/// The same of a log whose chunks have so many rows.
+pub(crate) fn seen_in<T: Threads + Wait + Sync>(
+    rt: &T,
+    alloc: Global,
+    log: &str,
+    rows: u32,
     worked: Worked,
     gate: &OpenGate<Holder>,
 ) -> Result<Option<Seen>, NoMemory> {
@@ -259,6 +310,7 @@ pub(crate) fn seen_by<T: Threads + Wait + Sync>(
         &checked,
         &mut store(alloc, log)?,
         names.as_slice(),
+        rows,
         &mut compared,
     );
     Ok(compared.seen)

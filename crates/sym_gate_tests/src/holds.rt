@@ -1,10 +1,11 @@
-//! What is noted of the workers of a round, and a hold on the one that has the first chunk.
+//! What is noted of the workers of a round, and a hold on the one that has the first chunk; two
+//! holds and a gate that tell it of chunks, and lead groups on in ways of their own.
 use std::alloc::Global;
 use std::sync::Wait;
 use std::sync::atomic::{AtomicBool, AtomicU64, Ordering};
 use std::thread::Threads;
 use sym_base::NoMemory;
-use sym_engine::{Enter, Hold, Work, led, worked};
+use sym_engine::{Enter, Gate, Hold, OpenGate, Work, led, worked};
 use sym_plain::Groups;
 use sym_run::{Applied, Run};
 
@@ -46,13 +47,24 @@ impl Holder {
         }
     }
 
-    /// Whether each of so many chunks, of at most 15, was claimed once, and no other one.
+    /// Whether each of so many chunks, of at most 16, was claimed once, and no other one.
     pub(crate) fn claimed_once(&self, chunks: usize) -> bool {
-        let mut once: u64 = 0;
-        'chunks: for chunk in 0..chunks.min(15) {
-            once |= 1 << (4 * chunk);
+        self.claimed(chunks, chunks)
+    }
+
+    /// Whether each of the first `needed` chunks was claimed once, each other one of so many at
+    /// most once, and no further one.
+    pub(crate) fn claimed(&self, needed: usize, chunks: usize) -> bool {
+        let claims = self.claims.load(Ordering::SeqCst);
+        'chunks: for chunk in 0..16 {
+            let count = claims >> (4 * chunk) & 15;
+            let least = u64::from(chunk < needed);
+            let most = u64::from(chunk < chunks);
+            if count < least || count > most {
+                return false;
+            }
         }
-        self.claims.load(Ordering::SeqCst) == once
+        true
     }
 
     /// Whether a worker was held for all turns.
@@ -116,5 +128,89 @@ impl Hold for Holder {
         groups: Groups,
     ) -> Result<Applied, NoMemory> {
         led(rt, alloc, work, workers, groups, self)
+    }
+}
+
+/// A hold that has the run of each round made, and no more: that is how it leads groups on.
+#[derive(Drop)]
+pub(crate) struct Makes<'a> {
+    pub(crate) holder: &'a Holder,
+}
+
+impl<'a> Enter for Makes<'a> {
+    fn enter(&self, worker: u32, chunk: u32) {
+        self.holder.enter(worker, chunk)
+    }
+}
+
+impl<'a> Hold for Makes<'a> {
+    fn hold_round<T: Threads + Wait + Sync>(
+        &self,
+        rt: &T,
+        alloc: Global,
+        work: &Work,
+        workers: u32,
+    ) -> Result<Run, NoMemory> {
+        worked(rt, alloc, work, workers, self.holder)
+    }
+}
+
+/// A hold that has the run of each round made, and leads no groups on: it says that there is no
+/// memory.
+#[derive(Drop)]
+pub(crate) struct Refuses<'a> {
+    pub(crate) holder: &'a Holder,
+}
+
+impl<'a> Enter for Refuses<'a> {
+    fn enter(&self, worker: u32, chunk: u32) {
+        self.holder.enter(worker, chunk)
+    }
+}
+
+impl<'a> Hold for Refuses<'a> {
+    fn hold_round<T: Threads + Wait + Sync>(
+        &self,
+        rt: &T,
+        alloc: Global,
+        work: &Work,
+        workers: u32,
+    ) -> Result<Run, NoMemory> {
+        worked(rt, alloc, work, workers, self.holder)
+    }
+
+    fn hold_lead<T: Threads + Wait + Sync>(
+        &self,
+        _rt: &T,
+        _alloc: Global,
+        _work: &Work,
+        _workers: u32,
+        _groups: Groups,
+    ) -> Result<Applied, NoMemory> {
+        Err(NoMemory)
+    }
+}
+
+/// A gate that has the run of each round made, and no more: that is how it leads groups on.
+#[derive(Drop)]
+pub(crate) struct MakesRuns<'a> {
+    pub(crate) open: &'a OpenGate<Holder>,
+}
+
+impl<'a> Gate for MakesRuns<'a> {
+    ghost shown = { λ _ row. row };
+
+    fn enter(&self, worker: u32, chunk: u32) {
+        self.open.enter(worker, chunk)
+    }
+
+    fn work_round<T: Threads + Wait + Sync>(
+        &self,
+        rt: &T,
+        alloc: Global,
+        work: &Work,
+        workers: u32,
+    ) -> Result<Run, NoMemory> {
+        self.open.work_round(rt, alloc, work, workers)
     }
 }

@@ -13,6 +13,8 @@ mod gates;
 #[cfg(test)]
 mod holds;
 #[cfg(test)]
+mod many;
+#[cfg(test)]
 mod passing;
 #[cfg(test)]
 mod runs;
