@@ -522,17 +522,18 @@ agrees() {
 }
 
 # drawn SEED: the file drawn.csv, a random log with the fields of several scripts. One of five is
-# long, and in one of three a row is no record.
+# long, one of two has many users, and in one of three a row is no record.
 drawn() {
     awk -v seed="$1" 'BEGIN {
         srand(seed)
         split("view cart buy buy", actions, " ")
         print "ts,user,x,User ID,Action,Amount"
         rows = seed % 5 == 0 ? 3000 : int(rand() * 200)
+        users = seed % 2 == 0 ? 200 : 7
         bad = seed % 3 == 0 ? int(rand() * rows) + 1 : 0
         for (row = 1; row <= rows; row++) {
             ts += int(rand() * 40)
-            user = "u" int(rand() * 7)
+            user = "u" int(rand() * users)
             x = rand() < 0.1 ? "" : rand() < 0.01 ? "1000000000000" : int(rand() * 20) - 9
             if (row == bad)
                 print rand() < 0.5 ? ts "," user : "t," user ",x," user ",none,y"

@@ -20,7 +20,8 @@ use sym_plain::Groups;
 use sym_shuffle::{Free, folded, shuffled};
 use sym_table::{Bad, Chunk};
 
-const WORKERS: [u32; 5] = [1, 2, 3, 4, 64];
+/// The numbers of workers by which small logs are tried.
+pub(crate) const WORKERS: [u32; 5] = [1, 2, 3, 4, 64];
 
 /// A script, a log whose groups are there before, a log, the rows of a chunk, and the text of what
 /// is wanted; `None`: what folding record by record gives.
@@ -142,7 +143,7 @@ fn wrong_alone(
     said_of(alloc, Way::OnOneThread, &led, &noted, wanted)
 }
 
-// What is wrong with a round by any workers.
+// What is wrong with a round on one thread, or by one of these numbers of workers.
 fn wrong_round<T: Threads + Sync>(
     rt: &T,
     alloc: Global,
@@ -150,6 +151,7 @@ fn wrong_round<T: Threads + Sync>(
     chunks: &[Chunk],
     before: &Groups,
     wanted: &str,
+    tried: &[u32],
 ) -> Result<Option<String>, NoMemory>
     requires fit { All (FitsChunk (checked_plan checked.now).fields) chunks.now }
     requires valid { AreValid (checked_plan checked.now) before.now }
@@ -158,12 +160,12 @@ fn wrong_round<T: Threads + Sync>(
     if said.is_some() {
         return Ok(said);
     }
-    'workers: for workers in WORKERS {
+    'workers: for workers in tried {
         let before = before.copy(alloc)?;
-        if workers < 1 {
+        if *workers < 1 {
             return Ok(None);
         }
-        let said = wrong_by(rt, alloc, checked, chunks, before, wanted, workers)?;
+        let said = wrong_by(rt, alloc, checked, chunks, before, wanted, *workers)?;
         if said.is_some() {
             return Ok(said);
         }
@@ -188,6 +190,7 @@ fn wrong_log<T: Threads + Sync>(
     alloc: Global,
     checked: &Checked,
     case: &Case,
+    tried: &[u32],
 ) -> Result<Option<String>, NoMemory> {
     let Case(_script, before, log, rows, wanted) = case;
     let before = groups_of(alloc, checked, before.text(alloc)?.as_str())?;
@@ -207,6 +210,7 @@ fn wrong_log<T: Threads + Sync>(
         chunks.as_slice(),
         &before,
         alone.as_str(),
+        tried,
     )
 }
 
@@ -215,21 +219,24 @@ fn wrong<T: Threads + Sync>(
     rt: &T,
     alloc: Global,
     case: &Case,
+    tried: &[u32],
 ) -> Result<Option<String>, NoMemory> {
     match accepted(alloc, case.0) {
-        Some(checked) => wrong_log(rt, alloc, &checked, case),
+        Some(checked) => wrong_log(rt, alloc, &checked, case, tried),
         None => Ok(Some(String::from_str(alloc, "the script is refused")?)),
     }
 }
 
-/// Fails the test at the first case that comes to something else than is wanted.
+/// Fails the test at the first case that comes to something else than is wanted, by one of these
+/// numbers of workers.
 pub(crate) fn check_cases<T: Threads + Abort + Sync>(
     rt: &T,
     alloc: Global,
     cases: &[Case],
+    tried: &[u32],
 ) -> Result<(), Fail> {
     'cases: for (place, case) in cases.iter().enumerate() {
-        if let Some(said) = wrong(rt, alloc, case)? {
+        if let Some(said) = wrong(rt, alloc, case, tried)? {
             panic!(rt; "case {place}: {said}");
         }
     }

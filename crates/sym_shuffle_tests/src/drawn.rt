@@ -1,5 +1,5 @@
 //! Logs of records that a fixed generator draws, beside folding record by record.
-use crate::comparing::{Case, check_cases};
+use crate::comparing::{Case, WORKERS, check_cases};
 use crate::logs::{Draw, Log};
 use crate::scripts::{ALL, BY_LABEL, BY_NUMBER, COUNTS, GAMES, QUOTIENTS, SESSIONS, SUMS};
 use std::test::Fail;
@@ -30,7 +30,7 @@ fn several_threads_step_what_one_does(rt: HostRuntime) -> Result<(), Fail> {
         Case(QUOTIENTS, few, drawn(8, 3_000, 1_500, false), 64, None),
         Case(ALL, few, drawn(9, 2_000, 90, false), 100, None),
     ];
-    check_cases(&rt, rt.alloc(), &cases)
+    check_cases(&rt, rt.alloc(), &cases, &WORKERS)
 }
 
 #[test]
@@ -42,12 +42,12 @@ fn one_group_may_have_most_records(rt: HostRuntime) -> Result<(), Fail> {
         Case(COUNTS, some, drawn(14, 4_000, 1, true), 64, None),
         Case(COUNTS, NONE, drawn(15, 4_000, 4_000, true), 20, None),
     ];
-    check_cases(&rt, rt.alloc(), &cases)
+    check_cases(&rt, rt.alloc(), &cases, &WORKERS)
 }
 
 #[test]
 fn sixty_four_threads_step_what_one_does(rt: HostRuntime) -> Result<(), Fail> {
     let some = drawn(21, 900, 700, false);
-    let cases = [Case(SESSIONS, some, drawn(22, 36_000, 1_000, false), 600, None)];
-    check_cases(&rt, rt.alloc(), &cases)
+    let cases = [Case(SESSIONS, some, drawn(22, 33_000, 1_000, false), 600, None)];
+    check_cases(&rt, rt.alloc(), &cases, &[64])
 }

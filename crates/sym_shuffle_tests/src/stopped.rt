@@ -1,5 +1,5 @@
 //! Logs with rows that are no records: the first one counts.
-use crate::comparing::{Case, check_cases};
+use crate::comparing::{Case, WORKERS, check_cases};
 use crate::logs::{Draw, Log};
 use crate::scripts::{BY_LABEL, GAMES, SUMS};
 use std::test::Fail;
@@ -30,7 +30,7 @@ fn the_first_bad_row_is_found_in_any_stretch(rt: HostRuntime) -> Result<(), Fail
         Case(SUMS, before, each, 1, Some("row 1: Fields(3)\n")),
         Case(BY_LABEL, NONE, labels, 1, Some("row 2: Label(0)\n")),
     ];
-    check_cases(&rt, rt.alloc(), &cases)
+    check_cases(&rt, rt.alloc(), &cases, &WORKERS)
 }
 
 // A log of which two rows are no records.
@@ -79,5 +79,5 @@ fn the_first_bad_row_of_many_is_found(rt: HostRuntime) -> Result<(), Fail> {
         // The script doesn't read the column.
         Case(GAMES, NONE, log([3_000, 1]), 50, None),
     ];
-    check_cases(&rt, rt.alloc(), &cases)
+    check_cases(&rt, rt.alloc(), &cases, &WORKERS)
 }

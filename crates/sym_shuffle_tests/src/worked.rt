@@ -1,5 +1,5 @@
 //! Small logs, whose groups were worked by hand.
-use crate::comparing::{Case, check_cases};
+use crate::comparing::{Case, WORKERS, check_cases};
 use crate::logs::Log;
 use crate::scripts::{ALL, BY_LABEL, BY_NUMBER, COUNTER, COUNTS, GAMES, QUOTIENTS, SESSIONS, SUMS};
 use std::test::Fail;
@@ -50,7 +50,7 @@ fn groups_are_in_order_of_first_appearance(rt: HostRuntime) -> Result<(), Fail> 
             Some(" d: 5\n c: 4\n b: 3\n a: 3\n"),
         ),
     ];
-    check_cases(&rt, rt.alloc(), &cases)
+    check_cases(&rt, rt.alloc(), &cases, &WORKERS)
 }
 
 #[test]
@@ -69,7 +69,7 @@ fn a_fault_ends_a_group_at_its_record(rt: HostRuntime) -> Result<(), Fail> {
         Case(COUNTER, NONE, fives, 1, Some(": over 0 at 4\n")),
         Case(COUNTER, fives, fives, 1, Some(": over 0 at 4\n")),
     ];
-    check_cases(&rt, rt.alloc(), &cases)
+    check_cases(&rt, rt.alloc(), &cases, &WORKERS)
 }
 
 #[test]
@@ -108,7 +108,7 @@ fn keys_and_updates_are_of_any_kind(rt: HostRuntime) -> Result<(), Fail> {
         Case(ALL, NONE, all, 1, Some(": [ 3 1 2 1 ]\n")),
         Case(ALL, all, all, 2, Some(": [ 3 1 2 1 3 1 2 1 ]\n")),
     ];
-    check_cases(&rt, rt.alloc(), &cases)
+    check_cases(&rt, rt.alloc(), &cases, &WORKERS)
 }
 
 #[test]
@@ -124,5 +124,5 @@ fn rows_are_those_of_csv(rt: HostRuntime) -> Result<(), Fail> {
         Case(SUMS, NONE, quoted, 1_024, Some(sums)),
         Case(SUMS, NONE, others, 1, Some(" a: 1 [ 1 ]\n : 2 [ 2 ]\n")),
     ];
-    check_cases(&rt, rt.alloc(), &cases)
+    check_cases(&rt, rt.alloc(), &cases, &WORKERS)
 }
