@@ -181,13 +181,13 @@ fn led_by<T: Threads + Sync, S: LendsStretches + Sync, E: Enter + Sync>(
 
 /// What the records of a round, which is the work's, make of groups: the groups after them, or the
 /// first row that is no record. With one worker, or one chunk, no thread is made: each record makes
-/// its step as it is read (`folded` of `sym_shuffle`). Where there are many groups before the round,
-/// some threads read the records, and then others step them, each those of its own groups
-/// (`shuffled`). No record is explored in either way. Where there are few groups, the chunks are cut
-/// into stretches as in `worked`, and each stretch's run is made on a thread of its own, whatever
-/// the states of the groups are. The runs then lead the groups on in order. They aren't joined: how
-/// the groups stand is known here, and so leading them costs less than composing what the runs do.
-/// In each way `hold` is told of each chunk. The result doesn't depend on the number of workers.
+/// its step as it is read (`folded` of `sym_shuffle`). Where there are many groups before the
+/// round, some threads read the records, and then others step them, each those of its own groups
+/// (`shuffled`). No record is explored in either way. Where there are few, the chunks are cut into
+/// stretches as in `worked`, and each stretch's run is made on a thread of its own, whatever the
+/// states of the groups are. The runs then lead the groups on in order. They aren't joined: how the
+/// groups stand is known here, and so leading them costs less than composing what the runs do. In
+/// each way `hold` is told of each chunk. The result doesn't depend on the number of workers.
 ///
 /// `NoMemory` where an allocation failed.
 pub fn led<T: Threads + Sync, E: Enter + Sync>(

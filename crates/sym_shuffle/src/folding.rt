@@ -49,8 +49,8 @@ fn fold_chunk(
     Ok(None)
 }
 
-/// The groups after the records of chunks, or the first of their rows that is no record. Each record
-/// makes one step of its group, in order, on this thread, which tells `hold` of each chunk.
+/// The groups after the records of chunks, or the first of their rows that is no record. Each
+/// record makes one step of its group, in order, on this thread, which tells `hold` of each chunk.
 ///
 /// `NoMemory` where an allocation failed.
 pub fn folded<E: Enter>(

@@ -83,8 +83,8 @@ fn as_number(index: usize) -> u32 {
     index.min(u32::MAX as usize) as u32
 }
 
-// What the rows of a part of a round were read to. Its first chunk has the number `start`, and parts
-// have `each` chunks.
+// What the rows of a part of a round were read to. Its first chunk has the number `start`, and
+// parts have `each` chunks.
 fn deal_part<S: LendsGroups, E: Enter>(
     alloc: Global,
     lender: &S,
@@ -114,8 +114,8 @@ fn deal_part<S: LendsGroups, E: Enter>(
     )
 }
 
-// What the rows of all parts of a round were read to, each on a thread of its own. Parts have `each`
-// chunks, and the last one may have fewer.
+// What the rows of all parts of a round were read to, each on a thread of its own. Parts have
+// `each` chunks, and the last one may have fewer.
 fn deal_all<T: Threads + Sync, S: LendsGroups + Sync, E: Enter + Sync>(
     rt: &T,
     alloc: Global,
@@ -224,10 +224,11 @@ fn lead_round<T: Threads + Sync>(
     led
 }
 
-/// The groups after the records of chunks, or the first of their rows that is no record. Workers read
-/// neighbouring chunks each, beside one another, and tell `hold` of each chunk. Then each of as many
-/// threads makes the steps of the groups that it has, in order. No record is explored: with many
-/// groups, these are what is done at once. The result doesn't depend on the number of workers.
+/// The groups after the records of chunks, or the first of their rows that is no record. Workers
+/// read neighbouring chunks each, beside one another, and tell `hold` of each chunk. Then each of
+/// at most as many threads makes the steps of the groups that it has, in order. No record is
+/// explored: with many groups, these are what is done at once. The result doesn't depend on the
+/// number of workers.
 ///
 /// `NoMemory` where an allocation failed.
 pub fn shuffled<T: Threads + Sync, E: Enter + Sync>(

@@ -4,7 +4,7 @@ use Rattle.sym_base.specs.declared.values.value.Key.{Key}
 use Rattle.sym_check.specs.Checking.CheckedScripts.{checked_plan}
 use Rattle.sym_shuffle.specs.Begun.{begun}
 use Rattle.sym_shuffle.specs.Places.{ArePlaces}
-use Rattle.sym_shuffle.proofs.NewPlaces.{NewKeys, Pairs, one_place_more}
+use Rattle.sym_shuffle.proofs.NewPlaces.{NewKeys, one_place_more}
 use Rattle.sym_shuffle.proofs.settling.places_of.Goals as goal
 
 pub keys-preserved : goal.keys-preserved

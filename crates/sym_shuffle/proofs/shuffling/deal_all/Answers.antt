@@ -3,7 +3,7 @@ use Rattle.std.specs.Prelude.{slice_index_or}
 use Rattle.sym_base.specs.declared.values.memory.NoMemory.{NoMemory}
 use Rattle.sym_check.specs.Checking.CheckedScripts.{checked_plan}
 use Rattle.sym_table.specs.declared.chunk.Chunk.{Chunk}
-use Rattle.sym_shuffle.specs.Parts.{AreDealt, IsPartDealt}
+use Rattle.sym_shuffle.specs.Parts.{IsPartDealt}
 use Rattle.sym_shuffle.specs.declared.dealing.Dealt.{Dealt}
 use Rattle.sym_shuffle.proofs.CutChunks.{cut, cut_all, cut_each, enough}
 use Rattle.sym_shuffle.proofs.shuffling.deal_all.Goals as goal
