@@ -1,7 +1,8 @@
 //! The files of the disk, as a store.
 ghost use Rattle.std.specs.Prelude.{◌≡◌, ℕ, ◌≤◌, List, None, length, drop, IfOk, IfSome, OnOk, OnErr};
-ghost use Rattle.sym_base.specs.Counts.{Rose, counted};
+ghost use Rattle.sym_base.specs.Counts.{Rose};
 ghost use Rattle.sym_base.specs.Transfers.{ReadsAt};
+ghost use Rattle.symple.specs.Counting.{after_fault, after_read, unread_disk};
 
 use crate::interrupts::TRIES;
 use std::alloc::Global;
@@ -14,8 +15,9 @@ use sym_base::{FILE_MAX, Failed, NoMemory, READ_PIECE, Store};
 // The most bytes of a file's name. Linux opens no file whose path is longer.
 const FILE_NAME_MAX: usize = 4_096;
 
-/// The files of the disk, under their paths. It doesn't tell what they hold. It has one count of
-/// faults, for every name, which a contract sees.
+/// The files of the disk, under their paths. It doesn't tell what they hold. A contract sees how
+/// many reads it was asked for, and how many of them failed: one count of faults, for every name.
+/// No file is opened but by a read.
 ///
 /// The file that was read last stays open, so that reads which run on neither open nor seek. This
 /// also lets it read what has no places, as a pipe, from its beginning to its end.
@@ -28,25 +30,27 @@ pub struct DiskStore<'a, R: Files> {
     next: u64,
     // READ_PIECE bytes, through which every read goes
     piece: Vec<u8>,
+    reads: u64,
     faults: u64,
 }
 
 impl<'a, R: Files> Model for DiskStore<'a, R> {
-    ghost use Rattle.std.specs.Prelude.{◌≡◌, ℕ, length};
+    ghost use Rattle.std.specs.Prelude.{◌≡◌, length};
     ghost use Rattle.sym_base.specs.declared.limits.TheConstants as limit;
+    ghost use Rattle.symple.specs.Counting.{Disk};
 
-    ghost Value = { ℕ };
+    ghost Value = { Disk };
 
-    ghost view = { λ s. s.faults };
+    ghost view = { λ s. record { reads = s.reads; faults = s.faults } };
 
     ghost invariant = { λ s. length s.piece.items ≡ limit.READ_PIECE };
 }
 
 impl<'a, R: Files> DiskStore<'a, R> {
-    /// The files that this runtime reaches, with no read that failed. All memory that its reads
+    /// The files that this runtime reaches, of which none is read yet. All memory that its reads
     /// need is taken here.
     pub fn new(alloc: Global, runtime: &'a R) -> Result<DiskStore<'a, R>, NoMemory>
-        ensures { IfOk result (λ store. store ≡ 0) }
+        ensures { IfOk result (λ store. store ≡ unread_disk) }
     {
         let mut piece = Vec::new(alloc);
         piece.resize(READ_PIECE, 0)?;
@@ -56,6 +60,7 @@ impl<'a, R: Files> DiskStore<'a, R> {
             name: Vec::with_capacity(alloc, FILE_NAME_MAX)?,
             next: 0,
             piece,
+            reads: 0,
             faults: 0,
         })
     }
@@ -136,20 +141,22 @@ fn read_piece<F: Read>(file: &mut F, piece: &mut [u8]) -> io::Result<usize>
 impl<'a, R: Files> Store for DiskStore<'a, R> {
     ghost holds = { λ _ _. None };
 
-    ghost faults = { λ s _. s };
+    ghost faults = { λ s _. s.faults };
 
-    /// Reads as many bytes as the system gives at once, at most 64 KiB.
+    /// Reads as many bytes as the system gives at once, at most 64 KiB. It counts as one read,
+    /// whether it fails or not.
     fn read_at(&mut self, name: &str, at: u64, into: &mut [u8]) -> Result<usize, Failed>
         requires { at ≤ FILE_MAX }
         ensures bound { IfOk result (λ k. k ≤ length into.old) }
         ensures rest { IfOk result (λ k. drop k into.new ≡ drop k into.old) }
         ensures bytes { IfOk result (λ k.
             IfSome None (λ bytes. ReadsAt bytes at k into.old into.new)) }
-        ensures later { (other : List ℕ) → self.old ≤ self.new }
-        ensures failed { OnErr result (Rose self.old self.new) }
-        ensures read { OnOk result (self.new ≡ self.old) }
-        ensures fault { OnErr result (self.new ≡ counted self.old) }
+        ensures later { (other : List ℕ) → self.old.faults ≤ self.new.faults }
+        ensures failed { OnErr result (Rose self.old.faults self.new.faults) }
+        ensures read { OnOk result (self.new ≡ after_read self.old) }
+        ensures fault { OnErr result (self.new ≡ after_fault self.old) }
     {
+        self.reads = self.reads.saturating_add(1);
         match self.read_some(name, at, into) {
             Ok(count) => Ok(count),
             Err(_) => {
@@ -178,21 +185,25 @@ mod tests {
         fs::write(&rt, "long", long.as_slice())?;
         fs::write(&rt, "short", "short file")?;
         let mut store = DiskStore::new(rt.alloc(), &rt)?;
+        assert_eq!(rt; store.reads, 0);
 
         assert!(rt; read_all(rt.alloc(), &mut store, "long", 200_000)? == long);
         let short = read_all(rt.alloc(), &mut store, "short", 200_000)?;
         assert_eq!(rt; short.as_slice(), b"short file".as_slice());
 
+        let before = store.reads;
         let mut piece = [0u8; 4];
         assert_eq!(rt; store.read_at("short", 6, &mut piece), Ok(4));
         assert_eq!(rt; piece, *b"file");
         assert_eq!(rt; store.read_at("long", 251, &mut piece), Ok(4));
         assert_eq!(rt; piece, [0, 1, 2, 3]);
         assert_eq!(rt; store.read_at("long", 200_000, &mut piece), Ok(0));
+        assert_eq!(rt; store.reads, before.saturating_add(3));
         assert_eq!(rt; store.faults, 0);
 
         let absent = read_all(rt.alloc(), &mut store, "absent", 200_000);
         assert_eq!(rt; absent.err(), Some(ReadErr::Failed));
+        assert_eq!(rt; store.reads, before.saturating_add(4));
         assert_eq!(rt; store.faults, 1);
         assert!(rt; read_all(rt.alloc(), &mut store, "long", 200_000)? == long);
         assert_eq!(rt; store.faults, 1);

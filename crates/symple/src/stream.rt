@@ -1,6 +1,6 @@
 //! A stream of output, as a sink.
-ghost use Rattle.std.specs.Prelude.{◌≡◌, ◌≤◌, None, length, IfSome, IfOk, IfErr, OnOk, OnErr};
-ghost use Rattle.sym_base.specs.Counts.{counted};
+ghost use Rattle.std.specs.Prelude.{◌≡◌, ◌≤◌, None, length, IfSome, IfOk, IfErr, OnErr};
+ghost use Rattle.symple.specs.Counting.{after_failed_write, after_write, unwritten_stream};
 
 use crate::interrupts::TRIES;
 use std::io::{ErrorKind, Write};
@@ -8,49 +8,58 @@ use std::marker::Model;
 use sym_base::{Sink, SinkErr};
 
 /// A stream that is written to, as standard output. It doesn't tell what was written. It keeps no
-/// bytes back: what a write took is in the stream. A contract sees its count of faults.
+/// bytes back: what a write took is in the stream. A contract sees how many bytes the stream took,
+/// and how many writes failed.
 #[derive(Drop)]
 pub struct StreamSink<W: Write> {
     stream: W,
+    taken: u64,
     faults: u64,
 }
 
 impl<W: Write> Model for StreamSink<W> {
-    ghost use Rattle.std.specs.Prelude.{ℕ};
+    ghost use Rattle.symple.specs.Counting.{Stream};
 
-    ghost Value = { ℕ };
+    ghost Value = { Stream };
 
-    ghost view = { λ s. s.faults };
+    ghost view = { λ s. record { taken = s.taken; faults = s.faults } };
 }
 
 impl<W: Write> StreamSink<W> {
-    /// A sink over this stream, with no write that failed.
+    /// A sink over this stream, which took nothing yet, and with no write that failed.
     pub fn new(stream: W) -> StreamSink<W>
-        ensures { result ≡ 0 }
+        ensures { result ≡ unwritten_stream }
     {
-        StreamSink { stream, faults: 0 }
+        StreamSink {
+            stream,
+            taken: 0,
+            faults: 0,
+        }
     }
 }
 
 impl<W: Write> Sink for StreamSink<W> {
     ghost written = { λ _. None };
 
-    ghost faults = { λ s. s };
+    ghost faults = { λ s. s.faults };
 
     ghost short = { λ _. 0 };
 
-    /// Writes as many bytes as the stream takes at once. A stream that takes none of some bytes
-    /// has failed.
+    /// Writes as many bytes as the stream takes at once, and counts them. A stream that takes none
+    /// of some bytes has failed.
     fn write_some(&mut self, bytes: &[u8]) -> Result<usize, SinkErr>
         ensures bound { IfOk result (λ k. k ≤ length bytes.now) }
         ensures some { IfOk result (λ k. k ≡ 0 → length bytes.now ≡ 0) }
-        ensures later { self.old ≤ self.new }
-        ensures written { OnOk result (self.new ≡ self.old) }
-        ensures fault { OnErr result (self.new ≡ counted self.old) }
+        ensures later { self.old.faults ≤ self.new.faults }
+        ensures taken { IfOk result (λ k. self.new ≡ after_write self.old k) }
+        ensures fault { OnErr result (self.new ≡ after_failed_write self.old) }
         ensures only_failed { IfErr result (λ error. error ≡ SinkErr.Failed) }
     {
         match write_piece(&mut self.stream, bytes) {
-            Some(count) => Ok(count),
+            Some(count) => {
+                self.taken = self.taken.saturating_add(count as u64);
+                Ok(count)
+            }
             None => {
                 self.faults = self.faults.saturating_add(1);
                 Err(SinkErr::Failed)
@@ -111,8 +120,10 @@ mod tests {
         });
         assert_eq!(rt; write_all(&mut sink, b"01234"), Ok(()));
         assert_eq!(rt; sink.write_some(b""), Ok(0));
+        assert_eq!(rt; sink.taken, 5);
         assert_eq!(rt; sink.faults, 0);
         assert_eq!(rt; write_all(&mut sink, b"5678"), Err(SinkErr::Failed));
+        assert_eq!(rt; sink.taken, 8);
         assert_eq!(rt; sink.faults, 1);
         assert_eq!(rt; sink.stream.taken.as_slice(), b"01234567".as_slice());
         Ok(())
