@@ -18,19 +18,22 @@ ghost use Rattle.sym_engine.specs.Rounds.{AreWorkers, IsLimit, IsRound};
 
 use crate::rounds::Work;
 use crate::stretches::{LendsStretches, Stretches};
-use crate::workers::{KEPT_MOST, STRETCHES, run_between};
+use crate::workers::{KEPT_MOST, run_between};
 use std::alloc::Global;
-use std::thread;
 use std::thread::Threads;
 use sym_base::NoMemory;
+use sym_fork::map_claimed;
 use sym_plain::Groups;
 use sym_run::{Applied, Run};
-use sym_shuffle::{Enter, folded, shuffled};
+use sym_shuffle::{Enter, Free, folded, shuffled};
 use sym_table::Bad;
 
 // With so many groups, these are what several threads work on at once. With fewer, the runs of a
 // round's stretches let several threads work on one group.
 const GROUPS_MANY: usize = 32;
+
+// Into how many stretches a round is cut for each worker. A worker takes the next one as it gets on.
+const STRETCHES_LED: u32 = 2;
 
 // What a round came to, as what its run does to groups.
 fn as_applied(led: Result<Groups, Bad>) -> Applied
@@ -66,10 +69,11 @@ pub(crate) fn apply_run<T: Threads + Sync>(
     run.apply_by(rt, alloc, &work.checked, groups, workers)
 }
 
-// The run of the stretch with this number.
+// The run of the stretch with this number, made on this thread.
 fn run_of<S: LendsStretches, E: Enter>(
     alloc: Global,
     stretches: &S,
+    thread: usize,
     number: usize,
     hold: &E,
 ) -> Result<Run, NoMemory>
@@ -85,18 +89,19 @@ fn run_of<S: LendsStretches, E: Enter>(
     let work = stretches.work();
     let each = stretches.chunks_each();
     let chunks = work.chunks.len() as u32;
-    let worker = number as u32;
-    let first = worker * each;
+    let worker = thread.min(u32::MAX as usize) as u32;
+    let first = number as u32 * each;
     let end = chunks.min(first + each);
     run_between(alloc, work, worker, first, end, KEPT_MOST, hold)
 }
 
-// The runs of all stretches of a round, each made on a thread of its own.
+// The runs of all stretches of a round, made by so many threads.
 fn runs_of<T: Threads + Sync, S: LendsStretches + Sync, E: Enter + Sync>(
     rt: &T,
     alloc: Global,
     stretches: &S,
     count: usize,
+    workers: u32,
     hold: &E,
 ) -> Result<Vec<Result<Run, NoMemory>>, NoMemory>
     requires round { let work = S.lent stretches.now in
@@ -108,18 +113,19 @@ fn runs_of<T: Threads + Sync, S: LendsStretches + Sync, E: Enter + Sync>(
     ensures runs { let s = stretches.now in
         IfOk result (λ runs. AreRunsOf (S.lent s) (S.size s) runs.items) }
 {
-    let runs = thread::map_indices(
+    let runs = map_claimed(
         rt,
         alloc,
         count,
-        &|number: usize| -> Result<Run, NoMemory>
+        workers as usize,
+        &|thread: usize, number: usize| -> Result<Run, NoMemory>
             requires { let s = stretches.now in
                 IsRound (checked_plan (S.lent s).checked).fields (S.lent s).chunks
                 × (1 ≤ S.size s) × (S.size s ≤ limit.CHUNKS_MAX)
                 × (number * S.size s < length (S.lent s).chunks) }
             ensures { let s = stretches.entry.now in
                 IfOk result (StandsBetween (S.lent s) (S.size s) number (number + 1)) }
-        { run_of(alloc, stretches, number, hold) },
+        { run_of(alloc, stretches, thread, number, hold) },
     )?;
     Ok(runs)
 }
@@ -175,19 +181,35 @@ fn led_by<T: Threads + Sync, S: LendsStretches + Sync, E: Enter + Sync>(
 {
     let chunks = stretches.work().chunks.len();
     let count = chunks.div_ceil(stretches.chunks_each() as usize);
-    let runs = runs_of(rt, alloc, stretches, count, hold)?;
+    let runs = runs_of(rt, alloc, stretches, count, workers, hold)?;
     apply_in_order(rt, alloc, stretches, runs, groups, workers)
+}
+
+// Whether the first chunk of a round has many groups, where there is none before.
+fn begins_many(alloc: Global, work: &Work, groups: &Groups) -> Result<bool, NoMemory>
+    requires { IsRound (checked_plan work.now.checked).fields work.now.chunks }
+{
+    if groups.len() > 0 {
+        return Ok(false);
+    }
+    let chunks = work.chunks.as_slice();
+    let (first, _) = chunks.split_at(chunks.len().min(1));
+    match folded(alloc, &work.checked, first, Groups::new(alloc), &Free)? {
+        Ok(begun) => Ok(begun.len() >= GROUPS_MANY),
+        Err(_) => Ok(false),
+    }
 }
 
 /// What the records of a round, which is the work's, make of groups: the groups after them, or the
 /// first row that is no record. With one worker, or one chunk, no thread is made: each record makes
 /// its step as it is read (`folded` of `sym_shuffle`). Where there are many groups before the
-/// round, some threads read the records, and then others step them, each those of its own groups
-/// (`shuffled`). No record is explored in either way. Where there are few, the chunks are cut into
-/// stretches as in `worked`, and each stretch's run is made on a thread of its own, whatever the
-/// states of the groups are. The runs then lead the groups on in order. They aren't joined: how the
-/// groups stand is known here, and so leading them costs less than composing what the runs do. In
-/// each way `hold` is told of each chunk. The result doesn't depend on the number of workers.
+/// round, or, where there is none, in its first chunk, some threads read the records, and then
+/// others step them, each those of its own groups (`shuffled`). No record is explored in either
+/// way. Where there are few, the chunks are cut into stretches, two for each worker. A worker takes
+/// the next stretch as it gets on, and makes its run, whatever the states of the groups are. The
+/// runs then lead the groups on in order. They aren't joined: how the groups stand is known here,
+/// and so leading them costs less than composing what the runs do. In each way `hold` is told of
+/// each chunk. The result doesn't depend on the number of workers.
 ///
 /// `NoMemory` where an allocation failed.
 pub fn led<T: Threads + Sync, E: Enter + Sync>(
@@ -214,11 +236,11 @@ pub fn led<T: Threads + Sync, E: Enter + Sync>(
         let led = folded(alloc, &work.checked, chunks, groups, hold)?;
         return Ok(as_applied(led));
     }
-    if groups.len() >= GROUPS_MANY {
+    if groups.len() >= GROUPS_MANY || begins_many(alloc, work, &groups)? {
         let chunks = work.chunks.as_slice();
         let led = shuffled(rt, alloc, &work.checked, chunks, groups, workers, hold)?;
         return Ok(as_applied(led));
     }
-    let each = chunks.div_ceil(workers * STRETCHES);
+    let each = chunks.div_ceil(workers * STRETCHES_LED);
     led_by(rt, alloc, &Stretches { work, each }, workers, groups, hold)
 }

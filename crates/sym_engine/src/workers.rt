@@ -11,15 +11,15 @@ use crate::rounds::Work;
 use crate::stretches::{LendsStretches, Stretches};
 use std::alloc::Global;
 use std::marker::PhantomData;
-use std::thread;
 use std::thread::Threads;
 use sym_base::NoMemory;
 use sym_board::{Board, Made, Pass, Piece};
+use sym_fork::map_vec;
 use sym_run::{Run, Stretch};
 use sym_shuffle::Enter;
 
 /// Into how many stretches a round is cut for each worker.
-pub(crate) const STRETCHES: u32 = 1;
+const STRETCHES: u32 = 1;
 
 /// How many records of a key several workers keep as they are, each in its stretch, before it
 /// explores them. Stepping them is left to the one who applies the runs.
@@ -174,8 +174,9 @@ fn by_workers<T: Threads + Sync, S: LendsStretches + Send + Sync, E: Enter + Syn
     let made = board_over(alloc, stretches, workers)?;
     let Made { board, passes } = made;
     let numbered = numbered(alloc, &board, passes)?;
-    let done = thread::map_vec(
+    let done = map_vec(
         rt,
+        alloc,
         numbered,
         &|worker: Worker<RunPiece<S>>| -> Pass<RunPiece<S>>
             requires { let s = stretches.now in

@@ -16,10 +16,10 @@ use crate::replaying::{Replayed, replay_all};
 use crate::rows::{TraceRow, TraceRows};
 use crate::starting::{AllStarted, PartRun, PartStarts, start_all};
 use std::alloc::Global;
-use std::thread;
 use std::thread::Threads;
 use sym_base::NoMemory;
 use sym_check::Checked;
+use sym_fork::map_vec;
 use sym_plain::Groups;
 use sym_run::of_chunks;
 use sym_table::{Bad, Chunk, Chunks};
@@ -142,8 +142,9 @@ fn run_all<T: Threads + Sync, S: LendsScript + Sync>(
     ensures { let p = checked_plan (S.lent lender.now) in
         IfOk result (λ runs. AreRuns p limit chunks.now 0 (length chunks.now) runs.items) }
 {
-    let done = thread::map_vec(
+    let done = map_vec(
         rt,
+        alloc,
         parts,
         &|part: Part| -> Result<PartRun, NoMemory>
             requires { All (FitsChunk (checked_plan (S.lent lender.now)).fields) chunks.now
@@ -170,8 +171,9 @@ fn replay_parts<T: Threads + Sync, S: LendsScript + Sync>(
     ensures { let p = checked_plan (S.lent lender.now) in
         IfOk result (λ rows. rows ≡ flat_map (part_rows p every chunks.now) parts.items) }
 {
-    let done = thread::map_vec(
+    let done = map_vec(
         rt,
+        alloc,
         parts,
         &|ready: PartStarts| -> Result<TraceRows, NoMemory>
             requires { All (FitsChunk (checked_plan (S.lent lender.now)).fields) chunks.now

@@ -36,7 +36,8 @@ fn records_of(batches: &[Batch]) -> usize {
 }
 
 /// Where the groups are cut for at most so many threads: one place less than there are threads. About
-/// as many records belong between any two. What the records make of the groups doesn't depend on it.
+/// as many records belong between any two, but a group with more has a thread of its own. What the
+/// records make of the groups doesn't depend on it.
 pub(crate) fn bounds_of(
     alloc: Global,
     batches: &[Batch],
@@ -46,9 +47,12 @@ pub(crate) fn bounds_of(
     let threads = (workers as usize).min(enough);
     let sample = sampled(alloc, batches)?;
     let mut bounds = Vec::new(alloc);
+    let mut least: usize = 0;
     'bounds: for number in 1..threads {
         if let Some(place) = sample.get(number.saturating_mul(sample.len()) / threads) {
-            bounds.push(*place)?;
+            let bound = least.max(*place);
+            bounds.push(bound)?;
+            least = bound.saturating_add(1);
         }
     }
     Ok(bounds)

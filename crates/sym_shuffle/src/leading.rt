@@ -199,11 +199,57 @@ fn lead_part(
     Ok(())
 }
 
+// Makes the steps of lent batches as `lead_part` does. What it came to is `led`.
+fn lead_here<S: LendsBatches>(
+    alloc: Global,
+    lender: &S,
+    start: usize,
+    outcomes: &mut [Outcome],
+    led: &mut Result<(), NoMemory>,
+)
+    requires { AreReadMarks (checked_plan (S.by lender.now)) (S.read lender.now) }
+    ensures { let p = checked_plan (S.by lender.now) in
+        AreLed p (S.read lender.now) (S.lent lender.now) start outcomes.old outcomes.new led.new }
+{
+    let script = lender.script();
+    *led = lead_part(
+        alloc,
+        script,
+        lender.marks(),
+        lender.batches(),
+        start,
+        outcomes,
+    );
+}
+
+// Makes them on a thread of its own, for which this one waits.
+fn lead_apart<T: Threads + Sync, S: LendsBatches + Sync>(
+    rt: &T,
+    alloc: Global,
+    lender: &S,
+    start: usize,
+    outcomes: &mut [Outcome],
+    led: &mut Result<(), NoMemory>,
+)
+    requires { AreReadMarks (checked_plan (S.by lender.now)) (S.read lender.now) }
+    ensures { let p = checked_plan (S.by lender.now) in
+        AreLed p (S.read lender.now) (S.lent lender.now) start outcomes.old outcomes.new led.new }
+{
+    let mut apart = ||
+        requires { IsSync S.row
+            × AreReadMarks (checked_plan (S.by lender.now)) (S.read lender.now) }
+        ensures { let p = checked_plan (S.by lender.entry.now) in
+            AreLed p (S.read lender.entry.now) (S.lent lender.entry.now) start
+            outcomes.entry.now outcomes.exit.now led.exit.now }
+    { lead_here(alloc, lender, start, outcomes, led) };
+    join_mut(rt, &mut apart, &mut || {});
+}
+
 /// Makes the steps of batches at those of their places that are among these outcomes, of which the
-/// first is at `start`. For each bound there is one thread more: the outcomes are halved at the
-/// middle bound, and one half goes to other threads. What it came to is `led`. The slice and it are
+/// first is at `start`. The outcomes are cut at the bounds, each part has a thread of its own, and
+/// this one waits for them: where it worked too, the system might leave another thread waiting for
+/// its processor. With no bound no thread is made. What it came to is `led`. The slice and it are
 /// the last parameters, since a closure lends them last.
-#[cycle(halves)]
 pub(crate) fn lead_all<T: Threads + Sync, S: LendsBatches + Sync>(
     rt: &T,
     alloc: Global,
@@ -219,30 +265,43 @@ pub(crate) fn lead_all<T: Threads + Sync, S: LendsBatches + Sync>(
         AreLed p (S.read lender.now) (S.lent lender.now) start outcomes.old outcomes.new led.new }
 {
     if bounds.is_empty() {
-        let script = lender.script();
-        *led = lead_part(
-            alloc,
-            script,
-            lender.marks(),
-            lender.batches(),
-            start,
-            outcomes,
-        );
+        lead_here(alloc, lender, start, outcomes, led);
+    } else {
+        lead_each(rt, alloc, lender, bounds, start, outcomes, led);
+    }
+}
+
+// Makes the steps of each part of the outcomes on a thread of its own.
+#[cycle(parts)]
+fn lead_each<T: Threads + Sync, S: LendsBatches + Sync>(
+    rt: &T,
+    alloc: Global,
+    lender: &S,
+    bounds: &[usize],
+    start: usize,
+    outcomes: &mut [Outcome],
+    led: &mut Result<(), NoMemory>,
+)
+    requires room { start + length outcomes.old < 2 ^ 64 }
+    requires marks { AreReadMarks (checked_plan (S.by lender.now)) (S.read lender.now) }
+    ensures { let p = checked_plan (S.by lender.now) in
+        AreLed p (S.read lender.now) (S.lent lender.now) start outcomes.old outcomes.new led.new }
+{
+    if bounds.is_empty() {
+        lead_apart(rt, alloc, lender, start, outcomes, led);
         return;
     }
-    let half = bounds.len() / 2;
-    let middle = bounds[half].saturating_sub(start).min(outcomes.len());
+    let middle = bounds[0].saturating_sub(start).min(outcomes.len());
     let (front, back) = outcomes.split_at_mut(middle);
     let mut later: Result<(), NoMemory> = Ok(());
     lead_both(
         rt,
         alloc,
         lender,
-        &bounds[..half],
         start,
         front,
         led,
-        &bounds[half + 1..],
+        &bounds[1..],
         start + middle,
         back,
         &mut later,
@@ -252,23 +311,21 @@ pub(crate) fn lead_all<T: Threads + Sync, S: LendsBatches + Sync>(
     }
 }
 
-// A function beside `lead_all`, so that what the closures need is what this one is given.
-#[cycle(halves)]
+// A function beside `lead_each`, so that what the closures need is what this one is given.
+#[cycle(parts)]
 fn lead_both<T: Threads + Sync, S: LendsBatches + Sync>(
     rt: &T,
     alloc: Global,
     lender: &S,
-    low: &[usize],
     start: usize,
     front: &mut [Outcome],
     front_led: &mut Result<(), NoMemory>,
-    high: &[usize],
+    bounds: &[usize],
     next: usize,
     back: &mut [Outcome],
     back_led: &mut Result<(), NoMemory>,
 )
-    requires front_room { start + length front.old < 2 ^ 64 }
-    requires back_room { next + length back.old < 2 ^ 64 }
+    requires room { next + length back.old < 2 ^ 64 }
     requires marks { AreReadMarks (checked_plan (S.by lender.now)) (S.read lender.now) }
     ensures front { let p = checked_plan (S.by lender.now) in
         AreLed p (S.read lender.now) (S.lent lender.now) start front.old front.new front_led.new }
@@ -276,18 +333,18 @@ fn lead_both<T: Threads + Sync, S: LendsBatches + Sync>(
         AreLed p (S.read lender.now) (S.lent lender.now) next back.old back.new back_led.new }
 {
     let mut first = ||
-        requires { IsSync T.row × IsSync S.row × (start + length front.now < 2 ^ 64)
+        requires { IsSync S.row
             × AreReadMarks (checked_plan (S.by lender.now)) (S.read lender.now) }
         ensures { let p = checked_plan (S.by lender.entry.now) in
             AreLed p (S.read lender.entry.now) (S.lent lender.entry.now) start
             front.entry.now front.exit.now front_led.exit.now }
-    { lead_all(rt, alloc, lender, low, start, front, front_led) };
+    { lead_here(alloc, lender, start, front, front_led) };
     let mut second = ||
         requires { IsSync T.row × IsSync S.row × (next + length back.now < 2 ^ 64)
             × AreReadMarks (checked_plan (S.by lender.now)) (S.read lender.now) }
         ensures { let p = checked_plan (S.by lender.entry.now) in
             AreLed p (S.read lender.entry.now) (S.lent lender.entry.now) next
             back.entry.now back.exit.now back_led.exit.now }
-    { lead_all(rt, alloc, lender, high, next, back, back_led) };
+    { lead_each(rt, alloc, lender, bounds, next, back, back_led) };
     join_mut(rt, &mut first, &mut second);
 }

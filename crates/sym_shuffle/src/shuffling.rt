@@ -1,5 +1,5 @@
 //! A round by several threads: some read its records, and others step them.
-ghost use Rattle.std.specs.Prelude.{◌≡◌, ◌≤◌, ◌<◌, ◌+◌, Bool, List, Err, IfOk, MatchResult, OnOk, length};
+ghost use Rattle.std.specs.Prelude.{◌≡◌, ◌≤◌, ◌<◌, ◌+◌, ◌*◌, Bool, List, Err, IfOk, MatchResult, OnOk, drop, length, take};
 ghost use Rattle.std.specs.List.{All};
 ghost use Rattle.sym_check.specs.Checking.CheckedScripts.{checked_plan};
 ghost use Rattle.sym_shuffle.specs.Begun.{AreValid, groups_after};
@@ -17,14 +17,18 @@ use crate::entering::Enter;
 use crate::leading::{Lent, lead_all};
 use crate::settling::settle;
 use std::alloc::Global;
-use std::thread;
 use std::thread::Threads;
 use sym_base::{NoMemory, Outcome};
 use sym_check::Checked;
+use sym_fork::map_claimed;
 use sym_plain::Groups;
 use sym_plain::laws::records_keep_groups_valid;
 use sym_reads::read_fields;
 use sym_table::{Bad, Chunk};
+
+// Into how many parts a round is cut for each worker: with several, one that gets on more slowly
+// reads fewer.
+const PARTS: usize = 4;
 
 // A value that lends what the readers share. They share it by its bound: that all of it may be
 // shared is then shown once, where it is handed in.
@@ -83,24 +87,33 @@ fn as_number(index: usize) -> u32 {
     index.min(u32::MAX as usize) as u32
 }
 
-// What the rows of a part of a round were read to. Its first chunk has the number `start`, and
-// parts have `each` chunks.
+// The part of a round with this number. Parts have `each` chunks, and the last one may have fewer.
+fn part_of(chunks: &[Chunk], each: usize, number: usize) -> &[Chunk]
+    requires { number * each ≤ length chunks.now }
+    ensures { result.now ≡ take each (drop (number * each) chunks.now) }
+{
+    let (_, rest) = chunks.split_at(number * each);
+    let (part, _) = rest.split_at(each.min(rest.len()));
+    part
+}
+
+// What the rows of the part of a round with this number were read to.
 fn deal_part<S: LendsGroups, E: Enter>(
     alloc: Global,
     lender: &S,
-    start: usize,
+    chunks: &[Chunk],
     each: usize,
-    part: &[Chunk],
+    thread: usize,
+    number: usize,
     hold: &E,
 ) -> Result<Dealt, NoMemory>
-    requires each { 0 < each }
-    requires fit { All (FitsChunk (checked_plan (S.by lender.now)).fields) part.now }
+    requires within { number * each ≤ length chunks.now }
+    requires fit { All (FitsChunk (checked_plan (S.by lender.now)).fields) chunks.now }
     ensures { let s = lender.now in let p = checked_plan (S.by s) in
-        let read = all_records p part.now in
+        let read = all_records p (take each (drop (number * each) chunks.now)) in
         IfOk result (HasDealt p (S.read s) (S.among s) read) }
 {
-    let worker = as_number(start / each);
-    let first = as_number(start);
+    let part = part_of(chunks, each, number);
     let checked = lender.script();
     deal(
         alloc,
@@ -108,20 +121,20 @@ fn deal_part<S: LendsGroups, E: Enter>(
         lender.marks(),
         lender.groups(),
         part,
-        worker,
-        first,
+        as_number(thread),
+        as_number(number * each),
         hold,
     )
 }
 
-// What the rows of all parts of a round were read to, each on a thread of its own. Parts have
-// `each` chunks, and the last one may have fewer.
+// What the rows of all parts of a round were read to, by so many threads.
 fn deal_all<T: Threads + Sync, S: LendsGroups + Sync, E: Enter + Sync>(
     rt: &T,
     alloc: Global,
     lender: &S,
     chunks: &[Chunk],
     each: usize,
+    workers: u32,
     hold: &E,
 ) -> Result<Vec<Result<Dealt, NoMemory>>, NoMemory>
     requires each { 0 < each }
@@ -129,18 +142,19 @@ fn deal_all<T: Threads + Sync, S: LendsGroups + Sync, E: Enter + Sync>(
     ensures { let s = lender.now in let p = checked_plan (S.by s) in
         IfOk result (λ dealt. AreDealt p (S.read s) (S.among s) chunks.now dealt.items) }
 {
-    let dealt = thread::map_chunks(
+    let count = chunks.len().div_ceil(each);
+    let dealt = map_claimed(
         rt,
         alloc,
-        chunks,
-        each,
-        &|start: usize, part: &[Chunk]| -> Result<Dealt, NoMemory>
+        count,
+        workers as usize,
+        &|thread: usize, number: usize| -> Result<Dealt, NoMemory>
             requires { let fields = (checked_plan (S.by lender.now)).fields in
-                (0 < each) × All (FitsChunk fields) part.now }
+                (number * each ≤ length chunks.now) × All (FitsChunk fields) chunks.now }
             ensures { let s = lender.entry.now in let p = checked_plan (S.by s) in
-                let read = all_records p part.entry.now in
+                let read = all_records p (take each (drop (number * each) chunks.entry.now)) in
                 IfOk result (HasDealt p (S.read s) (S.among s) read) }
-        { deal_part(alloc, lender, start, each, part, hold) },
+        { deal_part(alloc, lender, chunks, each, thread, number, hold) },
     )?;
     Ok(dealt)
 }
@@ -188,13 +202,14 @@ fn settle_round<T: Threads + Sync, E: Enter + Sync>(
         (λ batches. AreSettled p marks.now chunks.now groups.old groups.new batches.items)
         (λ bad. all_records p chunks.now ≡ Err bad)) }
 {
-    let each = chunks.len().div_ceil(workers as usize).max(1);
+    let parts = (workers as usize).saturating_mul(PARTS);
+    let each = chunks.len().div_ceil(parts).max(1);
     let beside = Beside {
         checked,
         marks,
         groups: &*groups,
     };
-    let dealt = deal_all(rt, alloc, &beside, chunks, each, hold)?;
+    let dealt = deal_all(rt, alloc, &beside, chunks, each, workers, hold)?;
     settle_all(alloc, checked, groups, dealt)
 }
 

@@ -1,8 +1,7 @@
-use Rattle.std.proofs.Common.{◌∙◌, List, Result, length, subst, sym}
+use Rattle.std.proofs.Common.{◌∙◌, arith, List, Result, length, sym}
 use Rattle.std.specs.Prelude.{slice_index_or}
 use Rattle.sym_base.specs.declared.values.memory.NoMemory.{NoMemory}
 use Rattle.sym_check.specs.Checking.CheckedScripts.{checked_plan}
-use Rattle.sym_table.specs.declared.chunk.Chunk.{Chunk}
 use Rattle.sym_shuffle.specs.Parts.{IsPartDealt}
 use Rattle.sym_shuffle.specs.declared.dealing.Dealt.{Dealt}
 use Rattle.sym_shuffle.proofs.CutChunks.{cut, cut_all, cut_each, enough}
@@ -17,10 +16,8 @@ returns g c =
     let all : List (Result Dealt NoMemory) = c.in_ok-dealt.dealt.items in
     record {
       parts = cut c.args.each (length all) chunks;
-      all = cut_all c.args.each (length all) chunks (enough (length all) (length chunks) c.args.each c.requires.each (sym c.in_ok-dealt.dealt.ok.0 ∙ c.in_ok-dealt.ensures.len));
+      all = cut_all c.args.each (length all) chunks (enough (length all) (length chunks) c.args.each c.requires.each (sym c.in_ok-dealt.dealt.ok.0 ∙ c.in_ok-dealt.ensures.len ∙ c.div_ceil-count.ensures));
       each =
           cut_each c.args.each (IsPartDealt p marks groups) all chunks
-          (λ n d lt.
-          let one = (c.in_ok-dealt.ensures.each n d lt).1 in
-          subst (λ (part : List Chunk). IsPartDealt p marks groups part (slice_index_or all n d)) one.argument_is.value one.call);
+          (λ n d lt. (c.in_ok-dealt.ensures.each n d (omega (arith, lt, c.in_ok-dealt.dealt.ok.0, c.in_ok-dealt.ensures.len))).call.met);
     }

@@ -3,10 +3,10 @@ use Rattle.std.proofs.lemmas.Result.{on_ok_weaker}
 use Rattle.sym_check.specs.Checking.CheckedScripts.{checked_plan}
 use Rattle.sym_shuffle.proofs.LeadingSteps.{no_err}
 use Rattle.sym_shuffle.proofs.Slices.{all_parts}
-use Rattle.sym_shuffle.proofs.leading.+halves.Goals as goal
+use Rattle.sym_shuffle.proofs.leading.+parts.Goals as goal
 
-pub lead_all-returns-else-is_err : goal.lead_all-returns-else-is_err
-lead_all-returns-else-is_err g t c = λ keys records held.
+pub lead_each-returns-else-is_err : goal.lead_each-returns-else-is_err
+lead_each-returns-else-is_err g t c = λ keys records held.
     let p = checked_plan (g.S.LendsBatches.by c.args.lender.now) in
     let start = c.args.start in
     let cut = c.split_at_mut-front in
