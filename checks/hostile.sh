@@ -557,8 +557,8 @@ no_threads() {
     note_end "resources: no leave to start threads" 0 three.txt ''
 }
 
-# started THREADS WORKERS: over a log of 8 chunks, so many threads are started by so many workers,
-# of which one works in the thread that is there.
+# started THREADS WORKERS: over a log of 8 chunks, so many threads are started by so many workers:
+# one for each, but no more than there are chunks, and none for one worker.
 started() {
     run env LD_PRELOAD="$work/calls.so" THREAD_COUNT=threads "$program" run --chunk 1 --workers "$2" \
         eight.symple eight.csv
@@ -573,9 +573,9 @@ threads() {
     } >eight.symple
     printf 'user\na\na\na\na\na\na\na\na\n' >eight.csv
     started 0 1
-    started 1 2
-    started 3 4
-    started 7 64
+    started 2 2
+    started 4 4
+    started 8 64
 }
 
 check_resources() {

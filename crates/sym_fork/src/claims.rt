@@ -93,9 +93,9 @@ fn filled<X: Drop, F: Fn(usize, usize) -> X>(
 }
 
 /// What `call` returns at 0 to `count - 1`, in order. Beside the index it is given the number of its
-/// thread. So many threads take the next index each, until none is left, and this one waits for
-/// them: a thread that gets on more slowly takes fewer. With one thread none is made. `Err` says
-/// that an allocation failed.
+/// thread. So many threads, but no more than there are indices, take the next index each, until none
+/// is left, and this one waits for them: a thread that gets on more slowly takes fewer. With one
+/// thread none is made. `Err` says that an allocation failed.
 pub fn map_claimed<R: Threads + Sync, X: Send + Drop, F: Fn(usize, usize) -> X + Sync>(
     rt: &R,
     alloc: Global,
@@ -111,7 +111,7 @@ pub fn map_claimed<R: Threads + Sync, X: Send + Drop, F: Fn(usize, usize) -> X +
     let parts = map_indices(
         rt,
         alloc,
-        threads,
+        threads.min(count),
         &|thread: usize| -> Result<Vec<(usize, X)>, AllocError>
             requires { (thread i : ℕ) → i < count → F.pre call.now thread i }
             ensures { IfOk result (λ made.

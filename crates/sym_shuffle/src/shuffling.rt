@@ -240,10 +240,10 @@ fn lead_round<T: Threads + Sync>(
 }
 
 /// The groups after the records of chunks, or the first of their rows that is no record. Workers
-/// read neighbouring chunks each, beside one another, and tell `hold` of each chunk. Then each of
-/// at most as many threads makes the steps of the groups that it has, in order. No record is
-/// explored: with many groups, these are what is done at once. The result doesn't depend on the
-/// number of workers.
+/// take parts of neighbouring chunks, read them beside one another, and tell `hold` of each chunk.
+/// Then each of at most as many threads makes the steps of the groups that it has, in order. No
+/// record is explored: with many groups, these are what is done at once. The result doesn't depend
+/// on the number of workers.
 ///
 /// `NoMemory` where an allocation failed.
 pub fn shuffled<T: Threads + Sync, E: Enter + Sync>(

@@ -76,16 +76,10 @@ fn claims(
         let said = format!(in alloc; "{way:?}: found a chunk or a worker that there isn't")?;
         return Ok(Some(said));
     }
-    if noted.is_alone() {
-        let said = format!(in alloc; "{way:?}: found one worker alone, wanted several")?;
-        return Ok(Some(said));
-    }
-    let Some((chunk, times, worker)) = noted.first_wrong(may_lack) else {
+    let Some((chunk, times)) = noted.first_wrong(may_lack) else {
         return Ok(None);
     };
-    let said = format!(in alloc;
-        "{way:?}: found {times} claims of chunk {chunk}, by worker {worker}, wanted 1 in turn"
-    )?;
+    let said = format!(in alloc; "{way:?}: found {times} claims of chunk {chunk}, wanted 1")?;
     Ok(Some(said))
 }
 
