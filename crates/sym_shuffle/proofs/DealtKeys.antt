@@ -85,7 +85,7 @@ new_beside groups new now key absent is =
 -- ---- what is dealt
 -- No record is,
 pub none_dealt : (p : ScriptPlan) (marks : List Bool) (groups : Groups) (new : Dealt) → new.bad ≡ None → keys_of new.new.entries ≡ [] → new.batch.places.items ≡ [] → new.batch.numbers.items ≡ []
-    → new.batch.values.items ≡ [] → HasDealt p marks groups (Ok []) new
+    → new.batch.values ≡ [] → HasDealt p marks groups (Ok []) new
 none_dealt p marks groups new bad keys places numbers values =
     (bad, dealt_none p marks groups new.batch (keys_of new.new.entries) places numbers values keys)
 
@@ -96,7 +96,7 @@ pub dealt_on : (p : ScriptPlan) (marks : List Bool) (groups : Groups) (done : Li
     → keys_of new.new.entries ≡ with_new (keys_of groups) (keys_of old.new.entries) (key_of p rec)
     → new.batch.places.items ≡ old.batch.places.items ++ place ∷ []
     → new.batch.numbers.items ≡ old.batch.numbers.items ++ rec.no ∷ []
-    → new.batch.values.items ≡ old.batch.values.items ++ marked marks rec.fields
+    → new.batch.values ≡ old.batch.values ++ marked marks rec.fields
     → new.bad ≡ old.bad
     → HasDealt p marks groups (Ok done) old → HasDealt p marks groups (Ok (done ++ rec ∷ [])) new
 dealt_on p marks groups done rec place old new of_script at keys places numbers values bad was = (

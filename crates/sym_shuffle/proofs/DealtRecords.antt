@@ -106,7 +106,7 @@ module _ (p : ScriptPlan) where
   }
 
   -- ---- both
-  pub dealt_none : (marks : List Bool) (groups : Groups) (batch : Batch) (new : List Key) → batch.places.items ≡ [] → batch.numbers.items ≡ [] → batch.values.items ≡ [] → new ≡ [] → IsDealt p marks groups [] batch new
+  pub dealt_none : (marks : List Bool) (groups : Groups) (batch : Batch) (new : List Key) → batch.places.items ≡ [] → batch.numbers.items ≡ [] → batch.values ≡ [] → new ≡ [] → IsDealt p marks groups [] batch new
   dealt_none marks groups batch new places numbers values none = record {
     holds = record {
       places_are = subst (λ (ns : List ℕ). AllZip (IsPlaceOf p (keys_of groups ++ new)) ns []) (sym places) tt;
@@ -120,12 +120,12 @@ module _ (p : ScriptPlan) where
   -- One record more was put after those of a batch; its key is new unless it is there.
   pub dealt_more : (marks : List Bool) (groups : Groups) (records : List Record) (rec : Record) (old batch : Batch) (was new : List Key) (place : ℕ) → IsDealt p marks groups records old was → IsRecord p rec
       → new ≡ (if is_among (key_of p rec) (keys_of groups ++ was) then was else was ++ key_of p rec ∷ []) → slice_get (keys_of groups ++ new) place ≡ Some (key_of p rec)
-      → batch.places.items ≡ old.places.items ++ place ∷ [] → batch.numbers.items ≡ old.numbers.items ++ rec.no ∷ [] → batch.values.items ≡ old.values.items ++ marked marks rec.fields
+      → batch.places.items ≡ old.places.items ++ place ∷ [] → batch.numbers.items ≡ old.numbers.items ++ rec.no ∷ [] → batch.values ≡ old.values ++ marked marks rec.fields
       → IsDealt p marks groups (records ++ rec ∷ []) batch new
   dealt_more marks groups records rec old batch was new place h is keys at places numbers values =
-      let before : AreHeld p marks (keys_of groups ++ new) records old.places.items old.numbers.items old.values.items =
-      subst (λ (ks : List Key). AreHeld p marks (keys_of groups ++ ks) records old.places.items old.numbers.items old.values.items) (sym keys) (of (is_among (key_of p rec) (keys_of groups ++ was))) in
-      let after = held_more marks (keys_of groups ++ new) records old.places.items old.numbers.items old.values.items rec place before at is in
+      let before : AreHeld p marks (keys_of groups ++ new) records old.places.items old.numbers.items old.values =
+      subst (λ (ks : List Key). AreHeld p marks (keys_of groups ++ ks) records old.places.items old.numbers.items old.values) (sym keys) (of (is_among (key_of p rec) (keys_of groups ++ was))) in
+      let after = held_more marks (keys_of groups ++ new) records old.places.items old.numbers.items old.values rec place before at is in
       record {
         holds = record {
           places_are = subst (λ (ns : List ℕ). AllZip (IsPlaceOf p (keys_of groups ++ new)) ns (records ++ rec ∷ [])) (sym places) after.places_are;
@@ -136,11 +136,11 @@ module _ (p : ScriptPlan) where
         are_new = subst (AreNew p groups (records ++ rec ∷ [])) (sym keys) (new_more groups records rec was h.are_new);
       }
     where
-      of : (b : Bool) → AreHeld p marks (keys_of groups ++ (if b then was else was ++ key_of p rec ∷ [])) records old.places.items old.numbers.items old.values.items
+      of : (b : Bool) → AreHeld p marks (keys_of groups ++ (if b then was else was ++ key_of p rec ∷ [])) records old.places.items old.numbers.items old.values
       of true = h.holds
       of false =
-          subst (λ (ks : List Key). AreHeld p marks ks records old.places.items old.numbers.items old.values.items) (append_assoc (keys_of groups) was (key_of p rec ∷ []))
-          (held_keys marks (keys_of groups ++ was) (key_of p rec ∷ []) records old.places.items old.numbers.items old.values.items h.holds)
+          subst (λ (ks : List Key). AreHeld p marks ks records old.places.items old.numbers.items old.values) (append_assoc (keys_of groups) was (key_of p rec ∷ []))
+          (held_keys marks (keys_of groups ++ was) (key_of p rec ∷ []) records old.places.items old.numbers.items old.values h.holds)
 
 -- ---- places among two lists of keys
 -- A place among the first keys is a place among these,

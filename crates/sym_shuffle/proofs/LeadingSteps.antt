@@ -1,7 +1,7 @@
--- Steps at a place, as they are made, and the values that are cut off for each record.
+-- Steps at a place, as they are made, and the values that are left after each record.
 use Rattle.std.proofs.Common.{◌≡◌, ◌∙◌, ap, sym, refl, arith, ℕ, zero, suc, ◌-◌, ◌<◌, ◌≤◌, min, Bool, true, false, true≢false, if◌then◌else◌, List, [], ◌∷◌, length, take, drop, get_or, Result, Ok, Err, OnOk, is_err, slice_set}
 use Rattle.std.proofs.lemmas.Bool.{leb-true, leb-false}
-use Rattle.std.proofs.lemmas.List.{take_all, drop_all}
+use Rattle.std.proofs.lemmas.List.{drop-drop, drop_all}
 use Rattle.std.specs.Prelude.{nat_le}
 use Rattle.sym_base.specs.declared.values.record.Record.{Record}
 use Rattle.sym_base.specs.declared.values.state.Outcome.{Outcome}
@@ -41,32 +41,19 @@ module _ (p : ScriptPlan) where
       of true = sym (stepped_past p (place - start) rec outcomes past)
       of false = refl
 
--- ---- values that are cut off
-module _ {A : Type 0} (wide w n : ℕ) (rest : List A) where
-  -- As many as are wanted are cut off, or all that there are.
-  pub cut_front : w ≡ wide → n ≡ min w (length rest) → take n rest ≡ take wide rest
-  cut_front is least = of (nat_le wide (length rest)) refl
-    where
-      of : (b : Bool) → nat_le wide (length rest) ≡ b → take n rest ≡ take wide rest
-      of true t =
-          let within : wide ≤ length rest = leb-true wide (length rest) t in
-          let same : n ≡ wide = omega arith in
-          ap (λ k. take k rest) same
-      of false t =
-          let past : length rest < wide = leb-false wide (length rest) t in
-          take_all n rest (omega arith) ∙ sym (take_all wide rest (omega arith))
-
-  pub cut_back : w ≡ wide → n ≡ min w (length rest) → drop n rest ≡ drop wide rest
-  cut_back is least = of (nat_le wide (length rest)) refl
-    where
-      of : (b : Bool) → nat_le wide (length rest) ≡ b → drop n rest ≡ drop wide rest
-      of true t =
-          let within : wide ≤ length rest = leb-true wide (length rest) t in
-          let same : n ≡ wide = omega arith in
-          ap (λ k. drop k rest) same
-      of false t =
-          let past : length rest < wide = leb-false wide (length rest) t in
-          drop_all n rest (omega arith) ∙ sym (drop_all wide rest (omega arith))
+-- ---- values that are left
+-- Where the values of a record are passed over, or all that there are.
+pub next_left : {A : Type 0} (values : List A) (first width wide next cap : ℕ) → width ≡ wide → next ≡ min (first + width) cap → length values ≤ cap → drop next values ≡ drop wide (drop first values)
+next_left values first width wide next cap same is few = of (nat_le (first + wide) cap) refl ∙ sym (drop-drop wide first values)
+  where
+    of : (b : Bool) → nat_le (first + wide) cap ≡ b → drop next values ≡ drop (first + wide) values
+    of true t =
+        let within : first + wide ≤ cap = leb-true (first + wide) cap t in
+        let here : next ≡ first + wide = omega (arith, same, is) in
+        ap (λ n. drop n values) here
+    of false t =
+        let past : cap < first + wide = leb-false (first + wide) cap t in
+        drop_all next values (omega (arith, same, is, few)) ∙ sym (drop_all (first + wide) values (omega (arith, few)))
 
 -- ---- what went well
 pub no_err : {T E P : Type 0} (r : Result T E) → is_err r ≡ false → OnOk r P → P

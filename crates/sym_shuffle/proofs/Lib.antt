@@ -1,4 +1,5 @@
 pub mod Slices
+pub mod PackedWords
 pub mod MarkedValues
 pub mod RecordsInTurn
 pub mod BegunGroups

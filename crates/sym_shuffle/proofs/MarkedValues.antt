@@ -77,6 +77,14 @@ width_unmarked marks i d lt e = subst (λ (n : ℕ). width_of (take n marks) ≡
     of (true ∷ marks) (suc i) lt e = ap suc (of marks i (omega arith) e)
     of (false ∷ marks) (suc i) lt e = of marks i (omega arith) e
 
+-- Fewer marks come before one than there are.
+pub width_below : (marks : List Bool) (i : ℕ) (d : Bool) → i < length marks → get_or marks i d ≡ true → width_of (take i marks) < width_of marks
+width_below [] i d lt e = absurd (omega arith)
+width_below (true ∷ marks) zero d lt e = omega arith
+width_below (false ∷ marks) zero d lt e = absurd cc
+width_below (true ∷ marks) (suc i) d lt e = let later = width_below marks i d (omega arith) e in omega arith
+width_below (false ∷ marks) (suc i) d lt e = width_below marks i d (omega arith) e
+
 -- The value at a mark goes last, where there is one,
 pub taken_marked : (marks : List Bool) (values : List Value) (i : ℕ) (d : Bool) → i < length marks → get_or marks i d ≡ true → marked (take (i + 1) marks) values ≡ marked (take i marks) values ++ option_to_list (slice_get values i)
 taken_marked marks values i d lt e = subst (λ (n : ℕ). marked (take n marks) values ≡ marked (take i marks) values ++ option_to_list (slice_get values i)) (next i) (of marks values i lt e)

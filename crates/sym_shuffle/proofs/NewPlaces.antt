@@ -178,7 +178,7 @@ begun_first p keys old now base more is split =
 module _ (p : ScriptPlan) (marks : List Bool) (base more old now : Pairs) (records : List Record) (batch : Batch) (keys : List Key) (count : ℕ) where
   -- A batch whose places have moved holds its records among the groups that there are now.
   pub settled_holds : (moved places : List ℕ) → length base ≡ count → old ≡ base ++ more → now ≡ begun p keys old → ArePlaces (keys_of now) moved keys → places ≡ map (moved_place count moved) batch.places.items
-      → IsDealt p marks base records batch keys → AreHeld p marks (keys_of now) records places batch.numbers.items batch.values.items
+      → IsDealt p marks base records batch keys → AreHeld p marks (keys_of now) records places batch.numbers.items batch.values
   settled_holds moved places long split is are went dealt =
       let first = begun_first p keys old now base more is split in
       record {
@@ -191,7 +191,7 @@ module _ (p : ScriptPlan) (marks : List Bool) (base more old now : Pairs) (recor
       }
 
   -- The same of one with no new keys, whose places stay.
-  pub unmoved_holds : old ≡ base ++ more → keys ≡ [] → IsDealt p marks base records batch keys → AreHeld p marks (keys_of old) records batch.places.items batch.numbers.items batch.values.items
+  pub unmoved_holds : old ≡ base ++ more → keys ≡ [] → IsDealt p marks base records batch keys → AreHeld p marks (keys_of old) records batch.places.items batch.numbers.items batch.values
   unmoved_holds split none dealt =
       let all : keys_of base ++ keys_of more ≡ keys_of old = sym (keys_append base more) ∙ ap (λ (g : Pairs). keys_of g) (sym split) in
       let here : keys_of base ++ keys ≡ keys_of base = ap (λ (ks : List Key). keys_of base ++ ks) none ∙ append-nil (keys_of base) in

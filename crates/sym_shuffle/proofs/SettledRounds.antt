@@ -64,7 +64,7 @@ hold_grown p marks groups now [] [] g h = tt
 hold_grown p marks groups now [] (batch ∷ batches) g h = absurd h
 hold_grown p marks groups now (first ∷ records) [] g h = absurd h
 hold_grown p marks groups now (first ∷ records) (batch ∷ batches) g h =
-    (held_grown p marks groups now first batch.places.items batch.numbers.items batch.values.items g h.0, hold_grown p marks groups now records batches g h.1)
+    (held_grown p marks groups now first batch.places.items batch.numbers.items batch.values g h.0, hold_grown p marks groups now records batches g h.1)
 
 -- The next batch has the records of the chunks that come next, and their groups have begun.
 pub settled_more : (p : ScriptPlan) (marks : List Bool) (chunks part : List Chunk) (old now next : Groups) (batches : List Batch) (first : List Record) (batch : Batch) → AreSettled p marks chunks old now batches

@@ -1,4 +1,5 @@
 pub mod Shuffling
+pub mod Packing
 pub mod Begun
 pub mod Settled
 pub mod Dealing

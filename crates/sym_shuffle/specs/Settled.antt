@@ -19,7 +19,7 @@ use Rattle.sym_shuffle.specs.declared.dealing.Dealt.{Dealt}
 -- A batch holds records, whose groups have places among these keys.
 abbrev pub Holds : ScriptPlan → List Bool → List Key → List Record → Batch → Type 0
 Holds p marks keys records batch =
-    AreHeld p marks keys records batch.places.items batch.numbers.items batch.values.items
+    AreHeld p marks keys records batch.places.items batch.numbers.items batch.values
 
 -- The records of rows were read beside groups: their places are among the keys of these and the
 -- new ones after them.

@@ -131,7 +131,7 @@ fn push(
     let place = place_of(alloc, groups, &mut dealt.new, &memory.key)?;
     dealt.batch.places.push(place)?;
     dealt.batch.numbers.push(memory.rec.no)?;
-    push_marked(alloc, &mut dealt.batch.values, &memory.rec.fields, marks)
+    push_marked(&mut dealt.batch.values, &memory.rec.fields, marks)
 }
 
 // Deals the rows of a chunk, which the cursor has next, up to the first that is no record.

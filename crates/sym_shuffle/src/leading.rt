@@ -1,5 +1,5 @@
 //! The steps of batches, made by several threads, each of which has groups of its own.
-ghost use Rattle.std.specs.Prelude.{◌≡◌, ◌+◌, ◌<◌, ◌^◌, List, OnOk, length};
+ghost use Rattle.std.specs.Prelude.{◌≡◌, ◌+◌, ◌<◌, ◌^◌, List, OnOk, drop, length, take};
 ghost use Rattle.std.specs.Thread.{IsSync};
 ghost use Rattle.sym_base.specs.declared.values.record.Record.{Record as OneRecord};
 ghost use Rattle.sym_base.specs.declared.values.value.Key.{Key as OneKey};
@@ -7,13 +7,14 @@ ghost use Rattle.sym_check.specs.Checking.CheckedScripts.{checked_plan};
 ghost use Rattle.sym_check.specs.Meaning.Updates.{step};
 ghost use Rattle.sym_check.specs.Meaning.Validity.{IsRecord};
 ghost use Rattle.sym_shuffle.specs.Settled.{AreLed, Holds};
-ghost use Rattle.sym_shuffle.specs.Shuffling.{AreBlankBeside, AreReadMarks, led, marked, stepped_from};
+ghost use Rattle.sym_shuffle.specs.Shuffling.{AreBlankBeside, AreReadMarks, led, marked, stepped_from, width_of};
 
 use crate::batch::Batch;
 use crate::marks::{set_marked, width_of};
+use crate::packed::PackedValues;
 use std::alloc::Global;
 use std::thread::{Threads, join_mut};
-use sym_base::{NoMemory, Outcome, Record, Value};
+use sym_base::{NoMemory, Outcome, Record};
 use sym_check::Checked;
 use sym_plain::{Buffers, advance};
 use sym_reads::blank_record;
@@ -76,28 +77,32 @@ impl<'a> LendsBatches for Lent<'a> {
     }
 }
 
-// Makes the step of a record with this number and these values of the fields that have a mark.
+// Makes the step of a record with this number, of which the values of the fields that have a mark are
+// those of a list from `first` on.
 fn step_with(
     alloc: Global,
     checked: &Checked,
     marks: &[bool],
     no: u64,
-    values: &[Value],
+    values: &PackedValues,
+    first: usize,
     outcome: &mut Outcome,
     stepper: &mut Stepper,
 ) -> Result<(), NoMemory>
     requires { AreReadMarks (checked_plan checked.now) marks.now }
     ensures blank { let p = checked_plan checked.now in
-        (rec : OneRecord) → IsRecord p rec → values.now ≡ marked marks.now rec.fields →
+        (rec : OneRecord) → IsRecord p rec →
+        take (width_of marks.now) (drop first values.now) ≡ marked marks.now rec.fields →
         AreBlankBeside p marks.now stepper.old.rec.fields →
         OnOk result (AreBlankBeside p marks.now stepper.new.rec.fields) }
     ensures steps { let p = checked_plan checked.now in
-        (rec : OneRecord) → IsRecord p rec → values.now ≡ marked marks.now rec.fields →
+        (rec : OneRecord) → IsRecord p rec →
+        take (width_of marks.now) (drop first values.now) ≡ marked marks.now rec.fields →
         AreBlankBeside p marks.now stepper.old.rec.fields → no ≡ rec.no →
         OnOk result (outcome.new ≡ step p outcome.old rec) }
 {
     let _plan = checked.plan();
-    set_marked(alloc, &mut stepper.rec.fields, marks, values)?;
+    set_marked(alloc, &mut stepper.rec.fields, marks, values, first)?;
     stepper.rec.no = no;
     advance(alloc, checked, outcome, &stepper.rec, &mut stepper.buffers)
 }
@@ -110,18 +115,21 @@ fn step_one(
     marks: &[bool],
     place: usize,
     no: u64,
-    values: &[Value],
+    values: &PackedValues,
+    first: usize,
     start: usize,
     outcomes: &mut [Outcome],
     stepper: &mut Stepper,
 ) -> Result<(), NoMemory>
     requires { AreReadMarks (checked_plan checked.now) marks.now }
     ensures blank { let p = checked_plan checked.now in
-        (rec : OneRecord) → IsRecord p rec → values.now ≡ marked marks.now rec.fields →
+        (rec : OneRecord) → IsRecord p rec →
+        take (width_of marks.now) (drop first values.now) ≡ marked marks.now rec.fields →
         AreBlankBeside p marks.now stepper.old.rec.fields →
         OnOk result (AreBlankBeside p marks.now stepper.new.rec.fields) }
     ensures led { let p = checked_plan checked.now in
-        (rec : OneRecord) → IsRecord p rec → values.now ≡ marked marks.now rec.fields →
+        (rec : OneRecord) → IsRecord p rec →
+        take (width_of marks.now) (drop first values.now) ≡ marked marks.now rec.fields →
         AreBlankBeside p marks.now stepper.old.rec.fields → no ≡ rec.no →
         OnOk result (outcomes.new ≡ stepped_from p start place rec outcomes.old) }
 {
@@ -133,7 +141,7 @@ fn step_one(
         return Ok(());
     }
     let outcome = &mut outcomes[index];
-    step_with(alloc, checked, marks, no, values, outcome, stepper)
+    step_with(alloc, checked, marks, no, values, first, outcome, stepper)
 }
 
 // Makes the steps of a batch at those of its places that are among these outcomes, of which the
@@ -160,14 +168,17 @@ fn lead_batch(
         OnOk result (outcomes.new ≡ led p start batch.now.places.items records outcomes.old) }
 {
     let width = width_of(marks);
-    let mut rest = batch.values.as_slice();
+    let values = &batch.values;
+    // There are fewer than a `usize` counts.
+    let _count = values.len();
+    let mut next: usize = 0;
     'records: for index in 0..batch.places.len() {
-        let (values, next) = rest.split_at(width.min(rest.len()));
-        rest = next;
+        let first = next;
+        next = first.saturating_add(width);
         let place = batch.places[index];
         match batch.numbers.get(index) {
             Some(no) => step_one(
-                alloc, checked, marks, place, *no, values, start, outcomes, stepper,
+                alloc, checked, marks, place, *no, values, first, start, outcomes, stepper,
             )?,
             None => return Ok(()),
         }

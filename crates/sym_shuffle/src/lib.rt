@@ -9,6 +9,7 @@ mod entering;
 mod folding;
 mod leading;
 mod marks;
+mod packed;
 mod settling;
 mod shuffling;
 

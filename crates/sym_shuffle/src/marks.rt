@@ -1,11 +1,12 @@
 //! The values of the fields that have a mark.
-ghost use Rattle.std.specs.Prelude.{◌≡◌, ◌++◌, List, OnOk, length};
+ghost use Rattle.std.specs.Prelude.{◌≡◌, ◌++◌, List, OnOk, drop, length, take};
 ghost use Rattle.sym_base.specs.declared.values.value.Value.{Value as OneValue};
 ghost use Rattle.sym_reads.specs.Agreement.{where_marked};
 ghost use Rattle.sym_shuffle.specs.Shuffling.{marked, width_of};
 
+use crate::packed::PackedValues;
 use std::alloc::Global;
-use sym_base::{Fields, NoMemory, Value};
+use sym_base::{Fields, NoMemory};
 
 /// How many marks there are.
 pub(crate) fn width_of(marks: &[bool]) -> usize
@@ -23,44 +24,45 @@ pub(crate) fn width_of(marks: &[bool]) -> usize
 /// Puts copies of the values that have a mark after those of a list. After an `Err` there may be
 /// some of them.
 pub(crate) fn push_marked(
-    alloc: Global,
-    values: &mut Vec<Value>,
+    values: &mut PackedValues,
     fields: &Fields,
     marks: &[bool],
 ) -> Result<(), NoMemory>
-    ensures { OnOk result (values.new.items ≡ values.old.items ++ marked marks.now fields.now) }
+    ensures { OnOk result (values.new ≡ values.old ++ marked marks.now fields.now) }
 {
     'marks: for index in 0..marks.len() {
         if marks[index] {
             if let Some(value) = fields.get(index) {
-                values.push(value.copy(alloc)?)?;
+                values.push(value)?;
             }
         }
     }
     Ok(())
 }
 
-/// Makes the values that have a mark equal to these, over the memory that they have. After an `Err`
-/// they are unspecified.
+/// Makes the values that have a mark equal to those of a list from `first` on, over the memory that
+/// they have. After an `Err` they are unspecified.
 pub(crate) fn set_marked(
     alloc: Global,
     fields: &mut Fields,
     marks: &[bool],
-    values: &[Value],
+    values: &PackedValues,
+    first: usize,
 ) -> Result<(), NoMemory>
-    ensures { (from : List OneValue) → values.entry.now ≡ marked marks.now from →
+    ensures { (from : List OneValue) →
+        take (width_of marks.now) (drop first values.entry.now) ≡ marked marks.now from →
         length from ≡ length fields.old →
         OnOk result (fields.new ≡ where_marked marks.now from fields.old) }
 {
-    let mut at = 0;
+    // There are fewer than a `usize` counts.
+    let _count = values.len();
+    let mut at = first;
     'marks: for index in 0..marks.len() {
         if marks[index] {
-            if let Some(value) = values.get(at) {
-                if let Some(field) = fields.get_mut(index) {
-                    field.copy_from(alloc, value)?;
-                }
+            if let Some(field) = fields.get_mut(index) {
+                values.copy_to(alloc, at, field)?;
             }
-            at += 1;
+            at = at.saturating_add(1);
         }
     }
     Ok(())

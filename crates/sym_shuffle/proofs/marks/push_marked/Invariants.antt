@@ -4,4 +4,4 @@ use Rattle.sym_shuffle.specs.Shuffling.{marked}
 use Rattle.sym_shuffle.proofs.marks.push_marked.Given as goal
 
 abbrev pub invariant-marks : goal.invariant-marks
-invariant-marks l = l.values.items ≡ l.fn.values.items ++ marked (take l.index l.marks) l.fields
+invariant-marks l = l.values ≡ l.fn.values ++ marked (take l.index l.marks) l.fields

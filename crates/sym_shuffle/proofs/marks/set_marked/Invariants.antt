@@ -1,5 +1,5 @@
--- The values of the marks so far are set, and so many were taken.
-use Rattle.std.proofs.Common.{◌≡◌, ◌≤◌, List, length, take}
+-- The values of the marks so far are set, and as many were passed over.
+use Rattle.std.proofs.Common.{◌≡◌, ◌+◌, ◌-◌, ◌^◌, List, drop, length, min, take}
 use Rattle.sym_base.specs.declared.values.value.Value.{Value}
 use Rattle.sym_reads.specs.Agreement.{where_marked}
 use Rattle.sym_shuffle.specs.Shuffling.{marked, width_of}
@@ -7,8 +7,7 @@ use Rattle.sym_shuffle.proofs.marks.set_marked.Given as goal
 
 abbrev pub invariant-marks : goal.invariant-marks
 invariant-marks l = record {
-  few : l.at ≤ l.index;
-  count : l.at ≡ width_of (take l.index l.marks);
-  set : (from : List Value) → l.values ≡ marked l.marks from → length from ≡ length l.fn.fields
+  count : l.at ≡ min (l.first + width_of (take l.index l.marks)) (2 ^ 64 - 1);
+  set : (from : List Value) → take (width_of l.marks) (drop l.first l.values) ≡ marked l.marks from → length from ≡ length l.fn.fields
       → l.fields ≡ where_marked (take l.index l.marks) from l.fn.fields;
 }
