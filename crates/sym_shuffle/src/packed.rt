@@ -8,7 +8,7 @@ use std::alloc::Global;
 use std::marker::Model;
 use sym_base::{NoMemory, Value};
 
-/// A value, of which a word lies elsewhere.
+/// A value, of which a word stands elsewhere.
 #[derive(Clone, Copy)]
 pub(crate) enum Packed {
     Num(i64),

@@ -21,4 +21,6 @@ mod stopped;
 #[cfg(test)]
 mod texts;
 #[cfg(test)]
+mod words;
+#[cfg(test)]
 mod worked;

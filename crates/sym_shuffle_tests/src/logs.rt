@@ -18,6 +18,8 @@ pub(crate) struct Draw {
 pub(crate) enum Log {
     Text(&'static str),
     Drawn(Draw),
+    /// So many records with two words each, of which some are empty and some are long.
+    Noted(u32),
 }
 
 /// A linear congruential generator of numbers below 2^31, of which the upper 15 bits are used.
@@ -75,11 +77,42 @@ impl Draw {
     }
 }
 
+const LETTERS: [&str; 4] = ["a", "é", "日", "🦀"];
+
+// A word: a letter up to 6 times, or 9,500 times.
+fn push_note(log: &mut String, number: u32) -> Result<(), NoMemory> {
+    let letter = LETTERS[number as usize % 4];
+    let times = if number % 50 == 0 {
+        9_500
+    } else {
+        number % 7
+    };
+    'letters: for _place in 0..times {
+        log.push_str(letter)?;
+    }
+    Ok(())
+}
+
+// Records of 37 users. Neighbouring ones have equal words.
+fn noted(alloc: Global, records: u32) -> Result<String, NoMemory> {
+    let mut log = String::from_str(alloc, "user,first,x,end,second\n")?;
+    'records: for place in 0..records.min(10_000) {
+        let user = place % 37;
+        log.push_str(format!(in alloc; "user {user},")?.as_str())?;
+        push_note(&mut log, place / 2)?;
+        log.push_str(format!(in alloc; ",{place},win,")?.as_str())?;
+        push_note(&mut log, place / 3 + 1)?;
+        log.push_str("\n")?;
+    }
+    Ok(log)
+}
+
 impl Log {
     pub(crate) fn text(&self, alloc: Global) -> Result<String, NoMemory> {
         match self {
             Log::Text(text) => Ok(String::from_str(alloc, text)?),
             Log::Drawn(draw) => draw.text(alloc),
+            Log::Noted(records) => noted(alloc, *records),
         }
     }
 }

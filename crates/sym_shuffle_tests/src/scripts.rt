@@ -38,6 +38,14 @@ pub(crate) const BY_LABEL: &str = "enum ending { win, draw, loss } field end: en
     field x: num else 0; group end; state n: int [-99..99] = 0 clamp; \
     update { n = n + x; } report { n = n; }";
 
+/// The words of each user, and the last ones beside a number and a label.
+pub(crate) const NOTES: &str = "enum ending { win, draw, loss } field user: word; \
+    field first: word; field x: num else 0; field end: ending; field second: word; group user; \
+    state seen: words; \
+    state last: hold(word = \"none\", num = 0, ending = draw, word = \"none\"); \
+    update { push seen first; push seen second; keep last(second, x, end, first); } \
+    report { n = count(seen); }";
+
 /// One group that counts to 3 and then ends by a fault.
 pub(crate) const COUNTER: &str = "field x: num; state n: int [0..3] = 0; update { n = n + 1; } \
     report { n = n; }";
