@@ -21,35 +21,35 @@ fn place_of(
     alloc: Global,
     checked: &Checked,
     groups: &mut Groups,
-    key: &Key,
+    key: Key,
 ) -> Result<usize, NoMemory>
     ensures groups { OnOk result (groups.new
-        ≡ begun_one (checked_plan checked.now) key.now groups.old) }
-    ensures place { IfOk result (λ place. slice_get (keys_of groups.new) place ≡ Some key.now) }
+        ≡ begun_one (checked_plan checked.now) key groups.old) }
+    ensures place { IfOk result (λ place. slice_get (keys_of groups.new) place ≡ Some key) }
 {
-    if let Some(place) = groups.index_of(key) {
+    if let Some(place) = groups.index_of(&key) {
         return Ok(place);
     }
     let place = groups.len();
     let outcome = Outcome::Going(initial(alloc, checked)?);
-    groups.begin(alloc, key.copy(alloc)?, outcome)?;
+    groups.begin(alloc, key, outcome)?;
     Ok(place)
 }
 
-// Where the groups of these keys are, which begin where they aren't there.
+// Where the groups of these keys are, which begin where they aren't there. Keys are moved.
 fn places_of(
     alloc: Global,
     checked: &Checked,
     groups: &mut Groups,
-    new: &IndexMap<Key, ()>,
+    new: IndexMap<Key, ()>,
 ) -> Result<Vec<usize>, NoMemory>
     ensures groups { OnOk result (groups.new
-        ≡ begun (checked_plan checked.now) (keys_of new.now.entries) groups.old) }
+        ≡ begun (checked_plan checked.now) (keys_of new.entries) groups.old) }
     ensures places { IfOk result (λ places.
-        ArePlaces (keys_of groups.new) places.items (keys_of new.now.entries)) }
+        ArePlaces (keys_of groups.new) places.items (keys_of new.entries)) }
 {
     let mut places = Vec::with_capacity(alloc, new.len())?;
-    'keys: for (key, _) in new.iter() {
+    'keys: for (key, _) in new {
         places.push(place_of(alloc, checked, groups, key)?)?;
     }
     Ok(places)
@@ -78,21 +78,21 @@ fn move_places(places: &mut [usize], count: usize, moved: &[usize])
 }
 
 /// Begins the groups of the new keys of a batch that was read beside the first `count` of these
-/// groups, and makes the batch's places those among the groups that there are then.
+/// groups, and makes the batch's places those among the groups that there are then. Keys are moved.
 pub(crate) fn settle(
     alloc: Global,
     checked: &Checked,
     groups: &mut Groups,
     count: usize,
     batch: Batch,
-    new: &IndexMap<Key, ()>,
+    new: IndexMap<Key, ()>,
 ) -> Result<Batch, NoMemory>
     ensures groups { OnOk result (groups.new
-        ≡ begun (checked_plan checked.now) (keys_of new.now.entries) groups.old) }
+        ≡ begun (checked_plan checked.now) (keys_of new.entries) groups.old) }
     ensures holds { let p = checked_plan checked.now in
         (marks : List Bool) (base more : List (OneKey × OneOutcome)) (records : List OneRecord) →
         length base ≡ count → groups.old ≡ base ++ more →
-        IsDealt p marks base records batch (keys_of new.now.entries) →
+        IsDealt p marks base records batch (keys_of new.entries) →
         IfOk result (Holds p marks (keys_of groups.new) records) }
 {
     let mut batch = batch;

@@ -179,7 +179,7 @@ fn settle_all(
         if let Some(bad) = bad {
             return Ok(Err(bad));
         }
-        batches.push(settle(alloc, checked, groups, count, batch, &new)?)?;
+        batches.push(settle(alloc, checked, groups, count, batch, new)?)?;
     }
     Ok(Ok(batches))
 }

@@ -54,6 +54,26 @@ fn groups_are_in_order_of_first_appearance(rt: HostRuntime) -> Result<(), Fail> 
 }
 
 #[test]
+fn keys_may_be_new_in_several_parts(rt: HostRuntime) -> Result<(), Fail> {
+    let letters = Log::Text("user,x\nb,1\na,2\na,3\nb,4\nc,5\na,6\nb,7\nc,8\n");
+    let begun = " b: 12 [ 1 4 7 ]\n a: 11 [ 2 3 6 ]\n c: 13 [ 5 8 ]\n";
+    let before = Log::Text("user,x\nc,1\n");
+    let led = " c: 14 [ 1 5 8 ]\n b: 12 [ 1 4 7 ]\n a: 11 [ 2 3 6 ]\n";
+    let games = Log::Text(
+        "team,end,note\nReds,win,a\nBlues,loss,b\nBlues,loss,c\nReds,win,d\nReds,draw,e\n\
+         Blues,loss,f\nReds,win,g\nReds,draw,h\n",
+    );
+    let noted = " #0 Reds: ( #0 Reds ) [ a d g ] #0\n #2 Blues: ( #2 Blues ) [ ] #2\n \
+                 #1 Reds: ( #1 Reds ) [ ] #2\n";
+    let cases = [
+        Case(SUMS, NONE, letters, 2, Some(begun)),
+        Case(SUMS, before, letters, 2, Some(led)),
+        Case(GAMES, NONE, games, 2, Some(noted)),
+    ];
+    check_cases(&rt, rt.alloc(), &cases, &WORKERS)
+}
+
+#[test]
 fn a_fault_ends_a_group_at_its_record(rt: HostRuntime) -> Result<(), Fail> {
     let before = Log::Text("user,x\na,20\na,1\nb,19\n");
     let sums = Log::Text("user,x\nb,1\nb,1\na,-5\nc,20\nb,-9\nc,1\n");

@@ -10,7 +10,7 @@ use Rattle.sym_shuffle.proofs.settling.places_of.Goals as goal
 pub keys-preserved : goal.keys-preserved
 keys-preserved c =
     let p = checked_plan c.args.checked.now in
-    let key = c.in-Some.key.now in
+    let key = c.in-Some.key in
     let done = c.keys.invariant.done in
     let rest = keys_of c.next.new.self in
     let left : keys_of c.keys.key-iterator ≡ key ∷ rest = ap (λ (entries : NewKeys). keys_of entries) c.in-Some.ensures.steps in

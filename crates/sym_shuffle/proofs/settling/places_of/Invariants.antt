@@ -10,7 +10,7 @@ use Rattle.sym_shuffle.proofs.settling.places_of.Given as goal
 abbrev pub invariant-keys : goal.invariant-keys
 invariant-keys l = record {
   done : List Key;
-  all : done ++ keys_of l.key-iterator ≡ keys_of l.new.entries;
-  groups : begun (checked_plan l.checked) (keys_of l.key-iterator) l.groups ≡ begun (checked_plan l.checked) (keys_of l.new.entries) l.fn.groups;
+  all : done ++ keys_of l.key-iterator ≡ keys_of l.fn.new.entries;
+  groups : begun (checked_plan l.checked) (keys_of l.key-iterator) l.groups ≡ begun (checked_plan l.checked) (keys_of l.fn.new.entries) l.fn.groups;
   places : ArePlaces (keys_of l.groups) l.places.items done;
 }

@@ -8,12 +8,12 @@ use Rattle.sym_shuffle.proofs.settling.settle.Goals as goal
 
 pub returns-then-is_empty-clause-holds : goal.returns-then-is_empty-clause-holds
 returns-then-is_empty-clause-holds c = λ marks base more records long split dealt.
-    unmoved_holds (checked_plan c.args.checked.now) marks base more c.args.groups.now c.args.groups.now records c.args.batch (keys_of c.args.new.now.entries) c.args.count split
-    (no_keys c.args.new.now.entries c.is_empty.result c.is_empty.ensures.0 c.if-is_empty.true) dealt
+    unmoved_holds (checked_plan c.args.checked.now) marks base more c.args.groups.now c.args.groups.now records c.args.batch (keys_of c.args.new.entries) c.args.count split
+    (no_keys c.args.new.entries c.is_empty.result c.is_empty.ensures.0 c.if-is_empty.true) dealt
 
 pub returns-clause-holds : goal.returns-clause-holds
 returns-clause-holds c = λ marks base more records long split dealt.
-    settled_holds (checked_plan c.args.checked.now) marks base more c.args.groups.now c.places_of.new.groups records c.args.batch (keys_of c.args.new.now.entries) c.args.count
+    settled_holds (checked_plan c.args.checked.now) marks base more c.args.groups.now c.places_of.new.groups records c.args.batch (keys_of c.args.new.entries) c.args.count
     c.in_ok-moved.moved.items _ long split c.in_ok-moved.ensures.groups c.in_ok-moved.ensures.places
     (written_back c.args.batch.places.len c.move_places.new.places c.args.batch.places.items
     (ap (λ (places : List ℕ). length places) c.move_places.ensures ∙ length-map c.as_mut_slice.result.now _ ∙ ap (λ (places : List ℕ). length places) c.as_mut_slice.ensures.value)
