@@ -22,6 +22,6 @@ keys-preserved c =
           ∙ ap (λ (ks : List Key). begun p ks c.keys.groups) (sym left)
           ∙ c.keys.invariant.groups;
       places =
-          subst (λ (places : List ℕ). ArePlaces (keys_of c.place_of.new.groups) places (done ++ key ∷ [])) (sym c.in_ok-push.ensures.items)
+          subst (λ (places : List ℕ). ArePlaces (keys_of c.place_of.new.groups) places (done ++ key ∷ [])) (sym {A = List ℕ} c.in_ok-push.ensures.items)
           (one_place_more p c.keys.groups c.place_of.new.groups c.keys.places.items done c.in_ok-place_of.field-0 key c.in_ok-place_of.ensures.groups c.in_ok-place_of.ensures.place c.keys.invariant.places);
     }
