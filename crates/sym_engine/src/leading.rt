@@ -17,6 +17,7 @@ ghost use Rattle.sym_engine.specs.Pieces.{AreStretches, StandsBetween};
 ghost use Rattle.sym_engine.specs.Rounds.{AreWorkers, IsLimit, IsRound};
 
 use crate::rounds::Work;
+use crate::sharing::are_shared_out;
 use crate::stretches::{LendsStretches, Stretches};
 use crate::workers::{KEPT_MOST, run_between};
 use std::alloc::Global;
@@ -25,12 +26,8 @@ use sym_base::NoMemory;
 use sym_fork::map_claimed;
 use sym_plain::Groups;
 use sym_run::{Applied, Run};
-use sym_shuffle::{Enter, Free, folded, shuffled};
+use sym_shuffle::{Enter, folded, shuffled};
 use sym_table::Bad;
-
-// With so many groups, these are what several threads work on at once. With fewer, the runs of a
-// round's stretches let several threads work on one group.
-const GROUPS_MANY: usize = 32;
 
 // Into how many stretches a round is cut for each worker. A worker takes the next one as it gets on.
 const STRETCHES_LED: u32 = 2;
@@ -185,31 +182,17 @@ fn led_by<T: Threads + Sync, S: LendsStretches + Sync, E: Enter + Sync>(
     apply_in_order(rt, alloc, stretches, runs, groups, workers)
 }
 
-// Whether the first chunk of a round has many groups, where there is none before.
-fn begins_many(alloc: Global, work: &Work, groups: &Groups) -> Result<bool, NoMemory>
-    requires { IsRound (checked_plan work.now.checked).fields work.now.chunks }
-{
-    if groups.len() > 0 {
-        return Ok(false);
-    }
-    let chunks = work.chunks.as_slice();
-    let (first, _) = chunks.split_at(chunks.len().min(1));
-    match folded(alloc, &work.checked, first, Groups::new(alloc), &Free)? {
-        Ok(begun) => Ok(begun.len() >= GROUPS_MANY),
-        Err(_) => Ok(false),
-    }
-}
-
 /// What the records of a round, which is the work's, make of groups: the groups after them, or the
 /// first row that is no record. With one worker, or one chunk, no thread is made: each record makes
 /// its step as it is read (`folded` of `sym_shuffle`). Where there are many groups before the
 /// round, or, where there is none, in its first chunk, some threads read the records, and then
-/// others step them, each those of its own groups (`shuffled`). No record is explored in either
-/// way. Where there are few, the chunks are cut into stretches, two for each worker. A worker takes
-/// the next stretch as it gets on, and makes its run, whatever the states of the groups are. The
-/// runs then lead the groups on in order. They aren't joined: how the groups stand is known here,
-/// and so leading them costs less than composing what the runs do. In each way `hold` is told of
-/// each chunk. The result doesn't depend on the number of workers.
+/// others step them, each those of its own groups (`shuffled`). The same holds of a script with a
+/// cell that is never set to a value in which no cell takes part. No record is explored in either
+/// way. Else the chunks are cut into stretches, two for each worker. A worker takes the next stretch
+/// as it gets on, and makes its run, whatever the states of the groups are. The runs then lead the
+/// groups on in order. They aren't joined: how the groups stand is known here, and so leading them
+/// costs less than composing what the runs do. In each way `hold` is told of each chunk. The result
+/// doesn't depend on the number of workers.
 ///
 /// `NoMemory` where an allocation failed.
 pub fn led<T: Threads + Sync, E: Enter + Sync>(
@@ -236,7 +219,7 @@ pub fn led<T: Threads + Sync, E: Enter + Sync>(
         let led = folded(alloc, &work.checked, chunks, groups, hold)?;
         return Ok(as_applied(led));
     }
-    if groups.len() >= GROUPS_MANY || begins_many(alloc, work, &groups)? {
+    if are_shared_out(alloc, work, &groups)? {
         let chunks = work.chunks.as_slice();
         let led = shuffled(rt, alloc, &work.checked, chunks, groups, workers, hold)?;
         return Ok(as_applied(led));

@@ -15,6 +15,7 @@ mod passing;
 mod piece;
 mod rounds;
 mod sequential;
+mod sharing;
 mod stretches;
 mod summarising;
 mod summing;

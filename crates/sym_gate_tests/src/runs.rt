@@ -22,6 +22,10 @@ const FEW_TURNS: u64 = 1_000;
 const COUNTS: &str = "field user: word; group user; state n: int [0..1000000] = 0; \
     update { n = n + 1; } report { n = n; }";
 
+// Comes to 1 for each user, whatever was held before, so that the state gets known.
+const ONES: &str = "field user: word; group user; state n: int [0..1] = 0; \
+    update { n = 1; } report { n = n; }";
+
 /// Has all chunks worked on one thread, and else is as the program's gate.
 #[derive(Drop)]
 struct Alone {
@@ -47,6 +51,7 @@ impl Gate for Alone {
 /// The arguments of a call over the script `s` and the log `f`, and what it comes to.
 #[derive(Clone, Copy)]
 struct Call {
+    script: &'static str,
     words: &'static [&'static str],
     log: &'static str,
     status: Status,
@@ -64,7 +69,7 @@ fn words_of(alloc: Global, call: &Call) -> Result<Vec<String>, NoMemory> {
 
 fn store_of(alloc: Global, call: &Call) -> Result<MemStore, NoMemory> {
     let mut store = MemStore::new(alloc);
-    store.add(alloc, "s", COUNTS.as_bytes())?;
+    store.add(alloc, "s", call.script.as_bytes())?;
     store.add(alloc, "f", call.log.as_bytes())?;
     Ok(store)
 }
@@ -132,8 +137,20 @@ fn holds<T: Threads + Wait + Sync, G: Gate + Sync>(
     ends(rt, alloc, &words, &mut store_of(alloc, call)?, call, gate)
 }
 
-/// Two records, each of which is a chunk, and two workers.
+/// Two records, each of which is a chunk, and two workers, who share the records out by their
+/// groups.
 const TWO: Call = Call {
+    script: COUNTS,
+    words: &["run", "--chunk", "1", "--workers", "2", "s", "f"],
+    log: "user\na\nb\n",
+    status: Status::Done,
+    out: "user | n\na | 1\nb | 1\n--\n",
+    err: "",
+};
+
+/// The same, but that the workers make runs.
+const TWO_KNOWN: Call = Call {
+    script: ONES,
     words: &["run", "--chunk", "1", "--workers", "2", "s", "f"],
     log: "user\na\nb\n",
     status: Status::Done,
@@ -143,11 +160,13 @@ const TWO: Call = Call {
 
 #[test]
 fn two_workers_of_a_run_are_at_work_at_once(rt: HostRuntime) -> Result<(), Fail> {
-    let hold = Holder::new(Until::OtherWorker, TURNS);
-    let gate = OpenGate { hold };
-    assert!(rt; holds(&rt, rt.alloc(), &TWO, &gate)?);
-    assert!(rt; gate.hold.claimed_once(2));
-    assert!(rt; !gate.hold.gave_up());
+    'calls: for call in [TWO, TWO_KNOWN] {
+        let hold = Holder::new(Until::OtherWorker, TURNS);
+        let gate = OpenGate { hold };
+        assert!(rt; holds(&rt, rt.alloc(), &call, &gate)?, "{}", call.script);
+        assert!(rt; gate.hold.claimed_once(2), "{}", call.script);
+        assert!(rt; !gate.hold.gave_up(), "{}", call.script);
+    }
     Ok(())
 }
 
@@ -166,6 +185,7 @@ fn a_hold_on_the_only_worker_of_a_run_gives_up(rt: HostRuntime) -> Result<(), Fa
 /// Calls whose gate shows each row as the one field `b`.
 const SHOWN: [Call; 6] = [
     Call {
+        script: COUNTS,
         words: &["run", "s", "f"],
         log: "user\nc\na\nb\na\n",
         status: Status::Done,
@@ -173,6 +193,7 @@ const SHOWN: [Call; 6] = [
         err: "",
     },
     Call {
+        script: COUNTS,
         words: &["run", "--chunk", "1", "--workers", "4", "s", "f"],
         log: "user\nc\na\nb\na\n",
         status: Status::Done,
@@ -181,6 +202,7 @@ const SHOWN: [Call; 6] = [
     },
     // A row is no record, but it is shown as one.
     Call {
+        script: COUNTS,
         words: &["run", "--chunk", "1", "--limit", "1", "s", "f", "f"],
         log: "user\na\na,a\n",
         status: Status::Done,
@@ -189,6 +211,7 @@ const SHOWN: [Call; 6] = [
     },
     // The header isn't shown, and a row of one field is no record by it.
     Call {
+        script: COUNTS,
         words: &["run", "--chunk", "1", "s", "f"],
         log: "user,x\na,1\nb,2\n",
         status: Status::Input,
@@ -197,6 +220,7 @@ const SHOWN: [Call; 6] = [
     },
     // The log that is made has two columns.
     Call {
+        script: COUNTS,
         words: &["make", "5", "1"],
         log: "",
         status: Status::Input,
@@ -204,6 +228,7 @@ const SHOWN: [Call; 6] = [
         err: "symple: made: record 1: 1 fields\n",
     },
     Call {
+        script: COUNTS,
         words: &["check", "s"],
         log: "",
         status: Status::Done,
