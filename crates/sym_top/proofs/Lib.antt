@@ -10,6 +10,8 @@ pub mod MappedTexts
 mod MessageExamples
 pub mod Numerals
 pub mod Observed
+pub mod OnePass
+pub mod OtherWork
 pub mod PartsReported
 pub mod PassKeys
 pub mod Preparing

@@ -3,6 +3,7 @@ pub mod CommandLines
 pub mod Commands
 pub mod EndReading
 pub mod Ends
+pub mod Headline
 pub mod Loading
 pub mod Making
 pub mod Messages
@@ -17,3 +18,4 @@ pub mod Statuses
 pub mod Summaries
 pub mod Telling
 pub mod Words
+pub mod Working

@@ -4,6 +4,7 @@ ghost use Rattle.sym_top.specs.Commands.{Asked, ReadsNoRuns, command_of};
 ghost use Rattle.sym_top.specs.Ends.{End, Held, IsEnd, IsWhole};
 ghost use Rattle.sym_top.specs.EndReading.{end_of};
 ghost use Rattle.sym_top.specs.Parts.{IsReportedApart};
+ghost use Rattle.sym_top.specs.Working.{DifferInWork};
 
 /// Each call has one end. That of a call whose files have records is the one that the function finds.
 pub fn ends_are_found()
@@ -20,4 +21,11 @@ pub fn parts_are_reported_as_a_whole()
     ensures { (whole : Asked) (held : Held) (apart : Asked) (runs : Held) (end : End) →
         IsReportedApart whole held apart runs →
         IsEnd whole held end → IsWhole end → IsEnd apart runs end }
+{}
+
+/// No end depends on how records are worked on: two calls that differ in `--chunk`, `--limit`,
+/// `--workers` and `--watch` alone have one end.
+pub fn ends_do_not_depend_on_work()
+    ensures { (one other : Asked) (held : Held) (end : End) → DifferInWork one other →
+        IsEnd one held end ↔ IsEnd other held end }
 {}

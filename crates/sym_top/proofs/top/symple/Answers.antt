@@ -1,5 +1,9 @@
 use Rattle.sym_top.proofs.Consequences.{expected-by, complete-by, usage-by, no-command-by}
+use Rattle.sym_top.proofs.OnePass.{one-pass-by}
 use Rattle.sym_top.proofs.top.symple.Goals as goal
+
+pub returns-clause-headline : goal.returns-clause-headline
+returns-clause-headline g c fine = one-pass-by _ _ _ c.run.result fine c.run.ensures.says
 
 pub returns-clause-expected : goal.returns-clause-expected
 returns-clause-expected g c held end told is = expected-by _ _ _ c.run.result c.run.ensures.says held end told is
