@@ -1,8 +1,10 @@
+mod AskedExamples
 pub mod Bounds
 mod CommandExamples
 pub mod Consequences
 pub mod EndsFound
 pub mod Handed
+mod HeadlineExamples
 mod MadeExamples
 pub mod MadeLines
 pub mod Matching

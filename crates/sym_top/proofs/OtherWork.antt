@@ -1,5 +1,6 @@
 -- No end depends on how records are worked on.
 use Rattle.std.proofs.Common.{◌≡◌, ◌↔◌, ℕ, List, Option, Some, None, refl, sym, ap, subst, ◌∙◌}
+use Rattle.sym_base.specs.declared.limits.TheConstants as limit
 use Rattle.sym_base.specs.declared.values.record.Record.{Record}
 use Rattle.sym_engine.specs.declared.error.PassErr.{PassErr}
 use Rattle.sym_engine.specs.FileRecords.{FileRules, rules_of}
@@ -77,7 +78,7 @@ module _ (one other : Asked) (forms : one.forms ≡ other.forms) (shown : one.sh
   same_rules : (command likewise : Command) → IsWorkedOtherwise command likewise → file_rules one command ≡ file_rules other likewise
   same_rules _ _ (run_otherwise run chunk limit workers watch) = ap (λ (show : Row → Row). rules_of run.options.max_bytes show) shown
   same_rules _ _ (trace_otherwise trace chunk limit workers) = refl
-  same_rules _ _ (check_likewise check) = ap (λ (show : Row → Row). rules_of _ show) shown
+  same_rules _ _ (check_likewise check) = ap (λ (show : Row → Row). rules_of limit.FILE_MAX_DEFAULT show) shown
   same_rules _ _ (make_otherwise make chunk limit workers) = ap (λ (show : Row → Row). rules_of make.options.max_bytes show) shown
   same_rules _ _ (map_otherwise part chunk workers) = ap (λ (show : Row → Row). rules_of part.options.max_bytes show) shown
   same_rules _ _ (reduce_likewise reduce) = ap (λ (show : Row → Row). rules_of reduce.max_bytes show) shown

@@ -1,0 +1,218 @@
+-- Calls of each command: what is asked for, which files are read, and how they are read.
+use Rattle.std.proofs.Common.{◌≡◌, ℕ, true, false, List, [], ◌∷◌, ◌++◌, codes, map, Option, Some, None, ap, refl}
+use Rattle.clap.proofs.OnLiterals.{clap_on_literals}
+use Rattle.sym_base.specs.declared.values.record.Record.{Record}
+use Rattle.sym_check.specs.Meaning.Groups.{pass}
+use Rattle.sym_engine.specs.FileRecords.{FileRules}
+use Rattle.sym_parse.specs.Printed.{script_text}
+use Rattle.sym_report.specs.Forms.{FormTexts}
+use Rattle.sym_report.specs.ReportRows.{heads_of, row_of}
+use Rattle.sym_table.specs.Reading.{Row}
+use Rattle.sym_trace.specs.TraceReports.{trace_heads, trace_rows}
+use Rattle.sym_top.specs.CheckLines.{check_line}
+use Rattle.sym_top.specs.CommandLines.{run_app, trace_app, check_app, make_app, map_app, reduce_app, matched}
+use Rattle.sym_top.specs.Commands.{Asked, Command, Run, Runs, Trace, Traces, Check, Checks, Make, Makes, Map, Maps, Reduce, Reduces, asks, command_in, command_of, names_of, file_rules, first_no, run_of, trace_of, check_of, make_of, map_of, reduce_of, run_found, trace_found, check_found, make_found, map_found, reduce_found, run_options, options_found, files_found}
+use Rattle.sym_top.specs.Ends.{End, Reported, Said, Summed, Mapped, Held, script_of, files_of, whole_end}
+use Rattle.sym_top.specs.Making.{made_file, made_script}
+use Rattle.sym_top.specs.Numbers.{number_of}
+use Rattle.sym_top.specs.Programs.{Program}
+
+-- A form whose reports are all this text.
+abbrev saying : List ℕ → FormTexts
+saying text = record { begin = λ heads. text; row = λ heads row. []; end = λ heads. [] }
+
+-- Each row twice, side by side.
+abbrev doubled : Row → Row
+doubled row = row ++ row
+
+-- A call with these arguments. It is handed three forms, two of them of one name, and its gate shows
+-- each row doubled.
+abbrev call : List (List ℕ) → Asked
+call words = asks words
+    (record { name = codes "csv"; texts = saying (codes "a") }
+    ∷ record { name = codes "table"; texts = saying (codes "b") }
+    ∷ record { name = codes "table"; texts = saying (codes "c") }
+    ∷ []) doubled
+
+-- The same without forms.
+abbrev formless : List (List ℕ) → Asked
+formless words = asks words [] doubled
+
+-- What a call asks for: a command, which reads a script of this name, if it has one, and files of
+-- these names. Rows of files of at most so many bytes are shown so, and the first record has this
+-- number. `script` and `files` are the bytes of these.
+record Asks (asked : Asked) (command : Command) (script_name : Option (List ℕ)) (file_names : List (List ℕ)) (max_bytes : ℕ) (shown : Row → Row)
+    (first : ℕ) (script : Held → List ℕ) (files : Held → List (List ℕ)) : Type 0 where
+  asks : command_of asked ≡ Some command
+  names : names_of (command_of asked) ≡ record { script = script_name; files = file_names }
+  rules : file_rules asked command ≡ record { max_bytes = max_bytes; shown = shown }
+  first_is : first_no command ≡ first
+  script_is : (held : Held) → script_of command held ≡ script held
+  files_are : (held : Held) → files_of command held ≡ files held
+
+-- ---- `run --form table --max-bytes 9 s f g`
+abbrev run : Run
+run = record {
+  form = codes "table";
+  options = record { chunk = 1024; limit = 16; workers = 4; max_bytes = 9 };
+  watch = false;
+  script = codes "s";
+  files = codes "f" ∷ codes "g" ∷ [];
+}
+
+abbrev run_call : Asked
+run_call = call (codes "run" ∷ codes "--form" ∷ codes "table" ∷ codes "--max-bytes" ∷ codes "9" ∷ codes "s" ∷ codes "f" ∷ codes "g" ∷ [])
+
+runs : command_of run_call ≡ Some (Runs run)
+unfolding command_in run_of matched run_app run_found run_options options_found files_found number_of clap_on_literals
+runs = refl
+
+a_run : Asks run_call (Runs run) (Some (codes "s")) (codes "f" ∷ codes "g" ∷ []) 9 doubled 1 (λ held. held.script) (λ held. held.files)
+a_run = record { asks = runs; names = ap (λ c. names_of c) runs; rules = refl; first_is = refl; script_is = λ held. refl; files_are = λ held. refl }
+
+run_end : (program : Program) (records : List Record) → whole_end run_call (Runs run) program records
+    ≡ Reported (saying (codes "b")) (heads_of program.tree program.plan) (map (row_of program.tree program.plan) (pass program.plan records))
+run_end program records = refl
+
+-- ---- `trace --every 20 --max-bytes 9 s f g`: its rows are read as they are
+abbrev trace : Trace
+trace = record {
+  form = codes "table";
+  every = 20;
+  options = record { chunk = 1024; limit = 16; workers = 4; max_bytes = 9 };
+  script = codes "s";
+  files = codes "f" ∷ codes "g" ∷ [];
+}
+
+abbrev trace_call : Asked
+trace_call = call (codes "trace" ∷ codes "--every" ∷ codes "20" ∷ codes "--max-bytes" ∷ codes "9" ∷ codes "s" ∷ codes "f" ∷ codes "g" ∷ [])
+
+traces : command_of trace_call ≡ Some (Traces trace)
+unfolding command_in trace_of matched trace_app trace_found run_options options_found files_found number_of clap_on_literals
+traces = refl
+
+a_trace : Asks trace_call (Traces trace) (Some (codes "s")) (codes "f" ∷ codes "g" ∷ []) 9 (λ row. row) 1 (λ held. held.script) (λ held. held.files)
+a_trace = record { asks = traces; names = ap (λ c. names_of c) traces; rules = refl; first_is = refl; script_is = λ held. refl; files_are = λ held. refl }
+
+trace_end : (program : Program) (records : List Record) → whole_end trace_call (Traces trace) program records
+    ≡ Reported (saying (codes "b")) (trace_heads program.tree program.plan) (trace_rows program.tree program.plan 20 records)
+trace_end program records = refl
+
+-- ---- `check s`: it reads no files, and needs no form
+abbrev check : Check
+check = record { script = codes "s"; print = false }
+
+abbrev check_call : Asked
+check_call = formless (codes "check" ∷ codes "s" ∷ [])
+
+checks : command_of check_call ≡ Some (Checks check)
+unfolding command_in check_of matched check_app check_found clap_on_literals
+checks = refl
+
+a_check : Asks check_call (Checks check) (Some (codes "s")) [] 67108864 doubled 1 (λ held. held.script) (λ held. [])
+a_check = record { asks = checks; names = ap (λ c. names_of c) checks; rules = refl; first_is = refl; script_is = λ held. refl; files_are = λ held. refl }
+
+check_end : (program : Program) (records : List Record) → whole_end check_call (Checks check) program records ≡ Said (check_line program.plan)
+check_end program records = refl
+
+print_end : (program : Program) (records : List Record) → whole_end check_call (Checks (record check { print = true })) program records
+    ≡ Said (script_text program.tree)
+print_end program records = refl
+
+-- ---- `make 5 1`: the script and the log are its own
+abbrev make : Make
+make = record {
+  options = record { chunk = 1024; limit = 16; workers = 4; max_bytes = 67108864 };
+  records = 5;
+  seed = 1;
+}
+
+abbrev make_call : Asked
+make_call = formless (codes "make" ∷ codes "5" ∷ codes "1" ∷ [])
+
+makes : command_of make_call ≡ Some (Makes make)
+unfolding command_in make_of matched make_app make_found options_found number_of clap_on_literals
+makes = refl
+
+a_make : Asks make_call (Makes make) None [] 67108864 doubled 1 (λ held. made_script) (λ held. made_file 5 1 ∷ [])
+a_make = record { asks = makes; names = ap (λ c. names_of c) makes; rules = refl; first_is = refl; script_is = λ held. refl; files_are = λ held. refl }
+
+make_end : (program : Program) (records : List Record) → whole_end make_call (Makes make) program records
+    ≡ Summed 5 (map (row_of program.tree program.plan) (pass program.plan records))
+make_end program records = refl
+
+-- ---- `map --first 1001 --limit 7 --max-bytes 9 s f g`
+abbrev part : Map
+part = record {
+  first = 1001;
+  options = record { chunk = 1024; limit = 7; workers = 4; max_bytes = 9 };
+  script = codes "s";
+  files = codes "f" ∷ codes "g" ∷ [];
+}
+
+abbrev map_call : Asked
+map_call = formless (codes "map" ∷ codes "--first" ∷ codes "1001" ∷ codes "--limit" ∷ codes "7" ∷ codes "--max-bytes" ∷ codes "9" ∷ codes "s" ∷ codes "f" ∷ codes "g" ∷ [])
+
+maps : command_of map_call ≡ Some (Maps part)
+unfolding command_in map_of matched map_app map_found run_options options_found files_found number_of clap_on_literals
+maps = refl
+
+a_map : Asks map_call (Maps part) (Some (codes "s")) (codes "f" ∷ codes "g" ∷ []) 9 doubled 1001 (λ held. held.script) (λ held. held.files)
+a_map = record { asks = maps; names = ap (λ c. names_of c) maps; rules = refl; first_is = refl; script_is = λ held. refl; files_are = λ held. refl }
+
+map_end : (program : Program) (records : List Record) → whole_end map_call (Maps part) program records ≡ Mapped program 1001 7 records
+map_end program records = refl
+
+-- ---- `reduce --max-bytes 9 s f g`: its files have no rows
+abbrev reduce : Reduce
+reduce = record {
+  form = codes "table";
+  max_bytes = 9;
+  script = codes "s";
+  files = codes "f" ∷ codes "g" ∷ [];
+}
+
+abbrev reduce_call : Asked
+reduce_call = call (codes "reduce" ∷ codes "--max-bytes" ∷ codes "9" ∷ codes "s" ∷ codes "f" ∷ codes "g" ∷ [])
+
+reduces : command_of reduce_call ≡ Some (Reduces reduce)
+unfolding command_in reduce_of matched reduce_app reduce_found files_found number_of clap_on_literals
+reduces = refl
+
+a_reduce : Asks reduce_call (Reduces reduce) (Some (codes "s")) (codes "f" ∷ codes "g" ∷ []) 9 doubled 1 (λ held. held.script) (λ held. [])
+a_reduce = record { asks = reduces; names = ap (λ c. names_of c) reduces; rules = refl; first_is = refl; script_is = λ held. refl; files_are = λ held. refl }
+
+reduce_end : (program : Program) (records : List Record) → whole_end reduce_call (Reduces reduce) program records
+    ≡ Reported (saying (codes "b")) (heads_of program.tree program.plan) (map (row_of program.tree program.plan) (pass program.plan records))
+reduce_end program records = refl
+
+-- ---- calls of no command, which read nothing
+
+-- A run, a trace and a reduction whose form isn't handed in.
+no_run : command_of (formless (codes "run" ∷ codes "s" ∷ codes "f" ∷ [])) ≡ None
+unfolding command_in run_of matched run_app run_found run_options options_found files_found number_of clap_on_literals
+no_run = refl
+
+no_trace : command_of (formless (codes "trace" ∷ codes "s" ∷ codes "f" ∷ [])) ≡ None
+unfolding command_in trace_of matched trace_app trace_found run_options options_found files_found number_of clap_on_literals
+no_trace = refl
+
+no_reduction : command_of (formless (codes "reduce" ∷ codes "s" ∷ codes "f" ∷ [])) ≡ None
+unfolding command_in reduce_of matched reduce_app reduce_found files_found number_of clap_on_literals
+no_reduction = refl
+
+other_form : command_of (call (codes "run" ∷ codes "--form" ∷ codes "tables" ∷ codes "s" ∷ codes "f" ∷ [])) ≡ None
+unfolding command_in run_of matched run_app run_found run_options options_found files_found number_of clap_on_literals
+other_form = refl
+
+-- No arguments, and a word that names no command.
+no_words : command_of (call []) ≡ None
+unfolding command_in
+no_words = refl
+
+no_name : command_of (call (codes "runs" ∷ codes "s" ∷ codes "f" ∷ [])) ≡ None
+unfolding command_in
+no_name = refl
+
+nothing_read : names_of None ≡ record { script = None; files = [] }
+nothing_read = refl

@@ -1,0 +1,240 @@
+-- A run over two files, what one sequential pass over their records comes to, the same run with other
+-- options, and a call of `reduce`.
+use Rattle.std.proofs.Common.{◌≡◌, ◌↔◌, ◌≤◌, ℕ, pos, false, true, if◌then◌else◌, List, [], ◌∷◌, length, codes, Option, Some, None, Ok, refl, lit≤, lit<}
+use Rattle.std.specs.Fmt.{digits}
+use Rattle.std.specs.List.{IsDistinct}
+use Rattle.std.specs.Str.{bytes_eq}
+use Rattle.std.proofs.lemmas.List.Elements.{All-nil}
+use Rattle.clap.proofs.OnLiterals.{clap_on_literals}
+use Rattle.csv.proofs.OnLiterals.{csv_on_literals}
+use Rattle.sym_base.specs.declared.values.record.Record.{Record}
+use Rattle.sym_base.specs.declared.values.value.Value.TheVariants as value
+use Rattle.sym_base.specs.declared.tree.expression.BinOp.TheVariants as op
+use Rattle.sym_base.specs.declared.tree.declaration.KindRef.TheVariants as of
+use Rattle.sym_base.specs.declared.tree.declaration.CellDecl.TheVariants as cell
+use Rattle.sym_base.specs.Trees.{ScriptTree, Num, Named, Bin, Set, Done, Then}
+use Rattle.sym_lex.specs.Keywords.{keyword_of, keywords}
+use Rattle.sym_lex.specs.Lexing.{lexed_from}
+use Rattle.sym_lex.specs.Symbols.{symbol_of, symbols}
+use Rattle.sym_parse.specs.Answers.{parsed}
+use Rattle.sym_parse.specs.Parsing.Declarations.{literal_value, kind_ref, header, default_value, field, group, range, clamp, names, int_cell, cell_decl, state, column}
+use Rattle.sym_parse.specs.Parsing.Declarations.{num}
+use Rattle.sym_parse.specs.Parsing.Expressions.{chain, chain_from, call_or_name, number_leaf, named, primary, unary, product, sum, relation, negation, conjunction, expr, expression}
+use Rattle.sym_parse.specs.Parsing.Scripts.{enums, fields, states, tests, columns, report, script}
+use Rattle.sym_parse.specs.Parsing.Statements.{begins_statement, assignment, simple, statement, statements, statements_from, block, update}
+use Rattle.sym_parse.specs.Steps.{next, place, passed, sees_word, sees_sign, sees_name, sees_number, sees_text, is_done, word, sign, name, number, done, one_statement, one_operand, repeated, separated}
+use Rattle.sym_parse.specs.Printed as form
+use Rattle.sym_parse.specs.Printed.{script_text}
+use Rattle.sym_parse.proofs.Answering.{parsed-found}
+use Rattle.sym_check.specs.declared.plan.script.KindPlan.TheVariants as kind
+use Rattle.sym_check.specs.declared.plan.script.CellPlan.TheVariants as plan
+use Rattle.sym_check.specs.Plan.FixedPlans as fixed
+use Rattle.sym_check.specs.Plan.LinePlans as line
+use Rattle.sym_check.specs.Plan.DoPlans as do_
+use Rattle.sym_check.specs.Plan.ShowPlans as show
+use Rattle.sym_check.specs.Plan.ScriptPlans.{ScriptPlan}
+use Rattle.sym_check.specs.Rules.Scripts.{plan_of}
+use Rattle.sym_check.proofs.ScriptsAgree.{planned_accepted}
+use Rattle.sym_engine.specs.FileRecords.{FileRules}
+use Rattle.sym_engine.specs.FirstProblems.{AllFine, records_in}
+use Rattle.sym_engine.proofs.FilesAgree.{files_records}
+use Rattle.sym_run.specs.SavedRuns.{IsLawfulSaved}
+use Rattle.sym_run.specs.declared.saved.Saved.{Saved}
+use Rattle.sym_file.specs.Stored.{IsStored}
+use Rattle.sym_file.specs.Texts.{head_text, body_text, saved_text}
+use Rattle.sym_reduce.specs.Reducing.{IsTakenFile}
+use Rattle.sym_reduce.specs.Reducing as runs
+use Rattle.sym_report.specs.Tables.{table_form}
+use Rattle.sym_top.specs.declared.status.Status.{Status}
+use Rattle.sym_top.specs.declared.status.Status.TheVariants as status
+use Rattle.sym_top.specs.CommandLines.{run_app, reduce_app, matched}
+use Rattle.sym_top.specs.Commands.{Asked, Reduce, Reduces, Run, Runs, asks, command_in, command_of, run_of, reduce_of, run_found, reduce_found, run_options, options_found, files_found}
+use Rattle.sym_top.specs.Ends.{End, Held, IsEnd, reduced, groups_end, rows_of, rows_status}
+use Rattle.sym_top.specs.Headline.{FineRun, IsOnePass, pass_text}
+use Rattle.sym_top.specs.Numbers.{number_of}
+use Rattle.sym_top.specs.Programs.{Program, IsProgram}
+use Rattle.sym_top.specs.Promises.{Call, Says, Unless}
+use Rattle.sym_top.specs.Telling.{Sunk, Has}
+use Rattle.sym_top.specs.Working.{DifferInWork, run_otherwise, worked}
+use Rattle.sym_top.proofs.EndsFound.{one_end}
+use Rattle.sym_top.proofs.OnePass.{one-pass-by}
+use Rattle.sym_top.proofs.OtherWork.{one_end_by_work}
+
+-- The visits of each user. There may be one at most.
+abbrev text : List ℕ
+text =
+    codes "field user: word;\ngroup user;\nstate n: int [0..1] = 0;\nupdate { n = n + 1; }\nreport { visits = n; }\n"
+
+abbrev tree : ScriptTree
+tree = record {
+  enums = [];
+  fields = record { name = record { text = codes "user"; at = 6 }; header = None; kind = of.Word; default = None } ∷ [];
+  group = record { text = codes "user"; at = 24 } ∷ [];
+  states = record { name = record { text = codes "n"; at = 36 }; cell = cell.Int (pos 0) (pos 1) (pos 0) false } ∷ [];
+  tests = [];
+  update = Then (Set (record { text = codes "n"; at = 64 }) (Bin op.Add (Named (record { text = codes "n"; at = 68 })) (Num (pos 1) 72) 70)) Done;
+  columns = record { name = record { text = codes "visits"; at = 86 }; value = Named (record { text = codes "n"; at = 95 }) } ∷ [];
+}
+
+abbrev visits : Program
+visits = record {
+  tree = tree;
+  plan = record {
+    enums = [];
+    fields = record { header = codes "user"; kind = kind.Word; default = None } ∷ [];
+    group = 0 ∷ [];
+    cells = plan.Int (pos 0) (pos 1) (pos 0) false ∷ [];
+    tests = [];
+    update = do_.Then (do_.SetInt 0 (line.OfLine (line.Add (line.Cell 0) (fixed.Lit (pos 1))))) do_.End;
+    columns = record { name = codes "visits"; value = show.Cell 0 } ∷ [];
+  };
+}
+
+-- Three records in two files.
+abbrev first : List ℕ
+first = codes "user\nann\nbob\n"
+
+abbrev second : List ℕ
+second = codes "user\nann\n"
+
+abbrev visit : ℕ → List ℕ → Record
+visit n user = record { no = n; fields = value.Word user ∷ [] }
+
+abbrev records : List Record
+records = visit 1 (codes "ann") ∷ visit 2 (codes "bob") ∷ visit 3 (codes "ann") ∷ []
+
+abbrev holds : List ℕ → Option (List ℕ)
+holds file =
+    if bytes_eq file (codes "s") then Some text
+    else if bytes_eq file (codes "f") then Some first
+    else if bytes_eq file (codes "g") then Some second
+    else None
+
+-- `run --chunk 2 --limit 1 --workers 3 s f g`
+abbrev asked : Asked
+asked = asks
+    (codes "run" ∷ codes "--chunk" ∷ codes "2" ∷ codes "--limit" ∷ codes "1" ∷ codes "--workers" ∷ codes "3" ∷ codes "s" ∷ codes "f" ∷ codes "g" ∷ [])
+    (record { name = codes "table"; texts = table_form } ∷ []) (λ row. row)
+
+abbrev call : Call
+call = record { asked = asked; holds = holds; before = λ file. 0; after = λ file. 0 }
+
+abbrev run : Run
+run = record {
+  form = codes "table";
+  options = record { chunk = 2; limit = 1; workers = 3; max_bytes = 67108864 };
+  watch = false;
+  script = codes "s";
+  files = codes "f" ∷ codes "g" ∷ [];
+}
+
+is_asked : command_of asked ≡ Some (Runs run)
+unfolding command_in run_of matched run_app run_found run_options options_found files_found number_of clap_on_literals
+is_asked = refl
+
+is_read : parsed text ≡ Ok tree
+unfolding parsed lexed_from keyword_of keywords symbol_of symbols next place passed sees_word sees_sign sees_name sees_number sees_text is_done word sign name number done one_statement one_operand repeated separated chain chain_from call_or_name number_leaf named primary unary product sum relation negation conjunction expr expression header kind_ref default_value num range clamp int_cell cell_decl field names group state column enums fields states tests columns report begins_statement assignment simple statement statements_from statements block update script
+is_read = refl
+
+is_planned : plan_of tree ≡ Ok visits.plan
+is_planned = refl
+
+are_read : records_in visits.plan (record { max_bytes = 67108864; shown = λ row. row }) 0 1 (first ∷ second ∷ []) ≡ Ok records
+unfolding csv_on_literals
+are_read = refl
+
+is_program : IsProgram text visits
+is_program = record { small = lit≤ tt; script = parsed-found text tree is_read; accepted = planned_accepted tree visits.plan is_planned }
+
+-- The premises of the headline are met.
+is_fine : FineRun call
+is_fine = record {
+  run = run;
+  asks = is_asked;
+  text = text;
+  tells_text = refl;
+  program = visits;
+  accepted = is_program;
+  bytes = first ∷ second ∷ [];
+  tells_bytes = refl;
+  records = records;
+  fine = (files_records visits.plan (record { max_bytes = 67108864; shown = λ row. row }) 0 1 (first ∷ second ∷ []) records).1 are_read;
+}
+
+-- One sequential pass ends ann's group at the third record.
+pass_is : pass_text table_form visits records ≡ codes "user | visits\nann | fault: n overflows at record 3\nbob | 1\n--\n"
+unfolding digits
+pass_is = refl
+
+pass_ends : rows_status (rows_of visits records) ≡ status.Faulted
+pass_ends = refl
+
+-- So the run writes this text and ends with this status.
+it_is_written : (out err : Sunk) (result : Status) → Says call out err result → Unless result (IsOnePass table_form visits records out err result)
+it_is_written out err result says = one-pass-by call out err result is_fine says
+
+-- ---- `run --watch s f g` differs from it in work alone
+
+abbrev other : Asked
+other = asks (codes "run" ∷ codes "--watch" ∷ codes "s" ∷ codes "f" ∷ codes "g" ∷ []) (record { name = codes "table"; texts = table_form } ∷ []) (λ row. row)
+
+other_asks : command_of other ≡ Some (Runs (record run { options = worked run.options 1024 16 4; watch = true }))
+unfolding command_in run_of matched run_app run_found run_options options_found files_found number_of clap_on_literals
+other_asks = refl
+
+they_differ : DifferInWork asked other
+they_differ = record {
+  forms = refl;
+  shown = refl;
+  command = Runs run;
+  asks = is_asked;
+  other_command = Runs (record run { options = worked run.options 1024 16 4; watch = true });
+  other_asks = other_asks;
+  otherwise = run_otherwise run 1024 16 4 true;
+}
+
+one_end_of_both : (held : Held) (end : End) → IsEnd asked held end ↔ IsEnd other held end
+one_end_of_both held end = one_end_by_work asked other held end they_differ
+
+-- ---- `reduce s f`, where the file is that of a saved run of no records
+
+abbrev reduce_asked : Asked
+reduce_asked = asks (codes "reduce" ∷ codes "s" ∷ codes "f" ∷ []) (record { name = codes "table"; texts = table_form } ∷ []) (λ row. row)
+
+abbrev reduce : Reduce
+reduce = record { form = codes "table"; max_bytes = 67108864; script = codes "s"; files = codes "f" ∷ [] }
+
+is_reduction : command_of reduce_asked ≡ Some (Reduces reduce)
+unfolding command_in reduce_of matched reduce_app reduce_found files_found number_of clap_on_literals
+is_reduction = refl
+
+abbrev nothing : Saved
+nothing = record { first = 1; next = 1; groups = [] }
+
+abbrev run_file : List ℕ
+run_file = saved_text (script_text tree) nothing
+
+run_file_is_small : length run_file ≤ 67108864
+unfolding script_text form.script form.range form.clamp_of head_text body_text digits
+run_file_is_small = lit≤ tt
+
+is_lawful : IsLawfulSaved visits.plan nothing
+unfolding IsDistinct
+is_lawful = record { from = lit≤ tt; order = lit≤ tt; distinct = tt; each = All-nil _ }
+
+is_stored : IsStored nothing
+is_stored = record { first = lit< tt; next = lit< tt; groups = record { many = lit< tt; each = All-nil _ } }
+
+is_taken : IsTakenFile (script_text tree) visits.plan 1 [] run_file nothing []
+is_taken = record { file = record { is = record { lawful = is_lawful; text = refl }; stored = is_stored }; follows = refl; led = refl }
+
+abbrev read : Held
+read = record { script = text; files = run_file ∷ [] }
+
+-- It ends with a report of no groups, and with nothing else.
+is_reduced : IsEnd reduce_asked read (groups_end table_form visits [])
+is_reduced = reduced reduce visits 1 [] is_reduction is_program
+    (runs.one_more 1 [] run_file [] nothing [] 1 [] run_file_is_small is_taken (runs.no_file 1 []))
+
+one_end_alone : (end : End) → IsEnd reduce_asked read end → end ≡ groups_end table_form visits []
+one_end_alone end is = one_end reduce_asked read end (groups_end table_form visits []) is is_reduced
