@@ -1,10 +1,11 @@
--- A run over two files, what one sequential pass over their records comes to, the same run with other
--- options, and a call of `reduce`.
+-- A run over two files and what one sequential pass over their records comes to, the same run with
+-- other options, and a call of `reduce`.
 use Rattle.std.proofs.Common.{◌≡◌, ◌↔◌, ◌≤◌, ℕ, pos, false, true, if◌then◌else◌, List, [], ◌∷◌, length, codes, Option, Some, None, Ok, refl, lit≤, lit<}
 use Rattle.std.specs.Fmt.{digits}
 use Rattle.std.specs.List.{IsDistinct}
-use Rattle.std.specs.Str.{bytes_eq}
+use Rattle.std.specs.Str.{bytes_eq, chars, is_utf8}
 use Rattle.std.proofs.lemmas.List.Elements.{All-nil}
+use lib.Utf8.{encode}
 use Rattle.clap.proofs.OnLiterals.{clap_on_literals}
 use Rattle.csv.proofs.OnLiterals.{csv_on_literals}
 use Rattle.sym_base.specs.declared.values.record.Record.{Record}
@@ -17,8 +18,7 @@ use Rattle.sym_lex.specs.Keywords.{keyword_of, keywords}
 use Rattle.sym_lex.specs.Lexing.{lexed_from}
 use Rattle.sym_lex.specs.Symbols.{symbol_of, symbols}
 use Rattle.sym_parse.specs.Answers.{parsed}
-use Rattle.sym_parse.specs.Parsing.Declarations.{literal_value, kind_ref, header, default_value, field, group, range, clamp, names, int_cell, cell_decl, state, column}
-use Rattle.sym_parse.specs.Parsing.Declarations.{num}
+use Rattle.sym_parse.specs.Parsing.Declarations.{num, kind_ref, header, default_value, field, group, range, clamp, names, int_cell, cell_decl, state, column}
 use Rattle.sym_parse.specs.Parsing.Expressions.{chain, chain_from, call_or_name, number_leaf, named, primary, unary, product, sum, relation, negation, conjunction, expr, expression}
 use Rattle.sym_parse.specs.Parsing.Scripts.{enums, fields, states, tests, columns, report, script}
 use Rattle.sym_parse.specs.Parsing.Statements.{begins_statement, assignment, simple, statement, statements, statements_from, block, update}
@@ -32,11 +32,9 @@ use Rattle.sym_check.specs.Plan.FixedPlans as fixed
 use Rattle.sym_check.specs.Plan.LinePlans as line
 use Rattle.sym_check.specs.Plan.DoPlans as do_
 use Rattle.sym_check.specs.Plan.ShowPlans as show
-use Rattle.sym_check.specs.Plan.ScriptPlans.{ScriptPlan}
 use Rattle.sym_check.specs.Rules.Scripts.{plan_of}
 use Rattle.sym_check.proofs.ScriptsAgree.{planned_accepted}
-use Rattle.sym_engine.specs.FileRecords.{FileRules}
-use Rattle.sym_engine.specs.FirstProblems.{AllFine, records_in}
+use Rattle.sym_engine.specs.FirstProblems.{records_in}
 use Rattle.sym_engine.proofs.FilesAgree.{files_records}
 use Rattle.sym_run.specs.SavedRuns.{IsLawfulSaved}
 use Rattle.sym_run.specs.declared.saved.Saved.{Saved}
@@ -54,7 +52,7 @@ use Rattle.sym_top.specs.Headline.{FineRun, IsOnePass, pass_text}
 use Rattle.sym_top.specs.Numbers.{number_of}
 use Rattle.sym_top.specs.Programs.{Program, IsProgram}
 use Rattle.sym_top.specs.Promises.{Call, Says, Unless}
-use Rattle.sym_top.specs.Telling.{Sunk, Has}
+use Rattle.sym_top.specs.Telling.{Sunk}
 use Rattle.sym_top.specs.Working.{DifferInWork, run_otherwise, worked}
 use Rattle.sym_top.proofs.EndsFound.{one_end}
 use Rattle.sym_top.proofs.OnePass.{one-pass-by}
@@ -140,14 +138,14 @@ is_planned : plan_of tree ≡ Ok visits.plan
 is_planned = refl
 
 are_read : records_in visits.plan (record { max_bytes = 67108864; shown = λ row. row }) 0 1 (first ∷ second ∷ []) ≡ Ok records
-unfolding csv_on_literals
+unfolding csv_on_literals is_utf8 chars encode
 are_read = refl
 
 is_program : IsProgram text visits
 is_program = record { small = lit≤ tt; script = parsed-found text tree is_read; accepted = planned_accepted tree visits.plan is_planned }
 
 -- The premises of the headline are met.
-is_fine : FineRun call
+abbrev is_fine : FineRun call
 is_fine = record {
   run = run;
   asks = is_asked;

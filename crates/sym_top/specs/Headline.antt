@@ -15,8 +15,8 @@ use Rattle.sym_top.specs.Telling.{Sunk, Has}
 
 -- A call of `run` whose script is accepted, and whose files have records and no problem.
 pub record FineRun (call : Call) : Type 0 where
-  -- The arguments ask for this run, with any chunk, limit and workers. The form that it names is one
-  -- of those that are handed in.
+  -- The arguments ask for this run, with any chunk, limit and workers. The form that it names is
+  -- one of those that are handed in.
   pub run : Run
   pub asks : command_of call.asked ≡ Some (Runs run)
   -- The store tells the text of the script.

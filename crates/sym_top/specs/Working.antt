@@ -12,8 +12,9 @@ worked options chunk limit workers = record {
   max_bytes = options.max_bytes;
 }
 
--- The second command is the first with any `--chunk`, `--limit`, `--workers` and `--watch`. The limit
--- of `map` stays, since its text is tight for it. `check` and `reduce` have none of these options.
+-- The second command is the first with any `--chunk`, `--limit`, `--workers` and `--watch`. The
+-- limit of `map` stays, since its text is tight for it. `check` and `reduce` have none of these
+-- options.
 pub data IsWorkedOtherwise : Command → Command → Type 0 where
   run_otherwise : (run : Run) (chunk limit workers : ℕ) (watch : Bool)
       → IsWorkedOtherwise (Runs run) (Runs (record run {
