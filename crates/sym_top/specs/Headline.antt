@@ -13,7 +13,8 @@ use Rattle.sym_top.specs.Programs.{Program, IsProgram}
 use Rattle.sym_top.specs.Promises.{Call, IsUntouched}
 use Rattle.sym_top.specs.Telling.{Sunk, Has}
 
--- A call of `run` whose script is accepted, and whose files have records and no problem.
+-- A call of `run` whose script and files are visible, whose script is accepted, and whose files have
+-- no problem.
 pub record FineRun (call : Call) : Type 0 where
   -- The arguments ask for this run, with any chunk, limit and workers. The form that it names is
   -- one of those that are handed in.
@@ -28,8 +29,8 @@ pub record FineRun (call : Call) : Type 0 where
   -- The store tells the bytes of each file.
   pub bytes : List (List ℕ)
   pub tells_bytes : map call.holds run.files ≡ map Some bytes
-  -- Each file is small enough and has a fine header, all of its other rows, as the gate shows them,
-  -- are records, and these are the records of all files, in order.
+  -- Each file is small enough. It has no rows, or its first row is a fine header and all others, as
+  -- the gate shows them, are records. These are the records of all files, in order.
   pub records : List Record
   pub fine : AllFine program.plan (rules_of run.options.max_bytes call.asked.shown) 1 bytes records
 
@@ -38,8 +39,9 @@ abbrev pub pass_text : FormTexts → Program → List Record → List ℕ
 pass_text form program records =
     report_text form (heads_of program.tree program.plan) (rows_of program records)
 
--- The output grew by exactly the report of one sequential pass over the records, in this form. The
--- status is Faulted if a row of the pass is faulty, else Done. The sink for errors is untouched.
+-- The output, where its content is visible, grew by exactly the report of one sequential pass over
+-- the records, in this form. The status is Faulted if a row of the pass is faulty, else Done.
+-- Nothing was written to the sink for errors, as far as it tells. Observers have sinks of their own.
 pub record IsOnePass (form : FormTexts) (program : Program) (records : List Record)
     (out err : Sunk) (result : Status) : Type 0 where
   pub report : Has out (pass_text form program records)

@@ -1,4 +1,4 @@
--- Options that say how records are worked on. No end depends on them.
+-- Options that say how records are worked on. No end depends on them, but for the limit of `map`.
 use Rattle.std.specs.Prelude.{◌≡◌, ℕ, Bool, Some}
 use Rattle.sym_engine.specs.declared.options.Options.{Options}
 use Rattle.sym_top.specs.Commands.{Asked, Command, Run, Runs, Trace, Traces, Check, Checks, Make, Makes, Map, Maps, Reduce, Reduces, command_of}
@@ -12,9 +12,9 @@ worked options chunk limit workers = record {
   max_bytes = options.max_bytes;
 }
 
--- The second command is the first with any `--chunk`, `--limit`, `--workers` and `--watch`. The
--- limit of `map` stays, since its text is tight for it. `check` and `reduce` have none of these
--- options.
+-- The second command is the first with any `--chunk`, `--limit`, `--workers` and `--watch`. `run`
+-- alone has `--watch`. The limit of `map` stays, since its text is tight for it. `check` and
+-- `reduce` have none of these options.
 pub data IsWorkedOtherwise : Command → Command → Type 0 where
   run_otherwise : (run : Run) (chunk limit workers : ℕ) (watch : Bool)
       → IsWorkedOtherwise (Runs run) (Runs (record run {

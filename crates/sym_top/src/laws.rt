@@ -23,8 +23,8 @@ pub fn parts_are_reported_as_a_whole()
         IsEnd whole held end → IsWhole end → IsEnd apart runs end }
 {}
 
-/// No end depends on how records are worked on: two calls that differ in `--chunk`, `--limit`,
-/// `--workers` and `--watch` alone have one end.
+/// Two calls have the same end if their commands differ in `--chunk`, `--limit`, `--workers` and
+/// `--watch` alone. The limit of two calls of `map` has to be the same.
 pub fn ends_do_not_depend_on_work()
     ensures { (one other : Asked) (held : Held) (end : End) → DifferInWork one other →
         IsEnd one held end ↔ IsEnd other held end }
