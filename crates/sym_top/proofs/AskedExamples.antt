@@ -3,7 +3,6 @@ use Rattle.std.proofs.Common.{◌≡◌, ℕ, true, false, List, [], ◌∷◌, 
 use Rattle.clap.proofs.OnLiterals.{clap_on_literals}
 use Rattle.sym_base.specs.declared.values.record.Record.{Record}
 use Rattle.sym_check.specs.Meaning.Groups.{pass}
-use Rattle.sym_engine.specs.FileRecords.{FileRules}
 use Rattle.sym_parse.specs.Printed.{script_text}
 use Rattle.sym_report.specs.Forms.{FormTexts}
 use Rattle.sym_report.specs.ReportRows.{heads_of, row_of}
@@ -12,7 +11,7 @@ use Rattle.sym_trace.specs.TraceReports.{trace_heads, trace_rows}
 use Rattle.sym_top.specs.CheckLines.{check_line}
 use Rattle.sym_top.specs.CommandLines.{run_app, trace_app, check_app, make_app, map_app, reduce_app, matched}
 use Rattle.sym_top.specs.Commands.{Asked, Command, Run, Runs, Trace, Traces, Check, Checks, Make, Makes, Map, Maps, Reduce, Reduces, asks, command_in, command_of, names_of, file_rules, first_no, run_of, trace_of, check_of, make_of, map_of, reduce_of, run_found, trace_found, check_found, make_found, map_found, reduce_found, run_options, options_found, files_found}
-use Rattle.sym_top.specs.Ends.{End, Reported, Said, Summed, Mapped, Held, script_of, files_of, whole_end}
+use Rattle.sym_top.specs.Ends.{Reported, Said, Summed, Mapped, Held, script_of, files_of, whole_end}
 use Rattle.sym_top.specs.Making.{made_file, made_script}
 use Rattle.sym_top.specs.Numbers.{number_of}
 use Rattle.sym_top.specs.Programs.{Program}

@@ -1,33 +1,29 @@
 -- No end depends on how records are worked on.
-use Rattle.std.proofs.Common.{◌≡◌, ◌↔◌, ℕ, List, Option, Some, None, refl, sym, ap, subst, ◌∙◌}
+use Rattle.std.proofs.Common.{◌≡◌, ◌↔◌, ℕ, List, Some, None, refl, sym, ap, subst, ◌∙◌}
 use Rattle.sym_base.specs.declared.limits.TheConstants as limit
 use Rattle.sym_base.specs.declared.values.record.Record.{Record}
-use Rattle.sym_engine.specs.declared.error.PassErr.{PassErr}
 use Rattle.sym_engine.specs.FileRecords.{FileRules, rules_of}
 use Rattle.sym_engine.specs.FirstProblems.{AllFine, FirstProblem}
-use Rattle.sym_reduce.specs.Reducing.{Pairs}
-use Rattle.sym_report.specs.Forms.{FormTexts}
 use Rattle.sym_table.specs.Reading.{Row}
-use Rattle.sym_top.specs.declared.refusal.Refusal.{Refusal}
-use Rattle.sym_top.specs.Commands.{Asked, Command, Form, Runs, Traces, Checks, Makes, Maps, Reduce, Reduces, ReadsRecords, command_of, file_rules, first_no, texts_of}
+use Rattle.sym_top.specs.Commands.{Asked, Command, Form, Reduce, Reduces, ReadsRecords, command_of, file_rules, first_no, texts_of}
 use Rattle.sym_top.specs.Ends.{End, Held, IsEnd, usage, no_program, problem, finished, run_problem, reduced, script_of, files_of, whole_end, report_of, trace_report_of, groups_end}
 use Rattle.sym_top.specs.Programs.{Program, IsProgram, IsNoProgram}
-use Rattle.sym_top.specs.Working.{IsWorkedOtherwise, run_otherwise, trace_otherwise, check_likewise, make_otherwise, map_otherwise, reduce_likewise, DifferInWork}
+use Rattle.sym_top.specs.Working.{IsWorkedOtherwise, run_otherwise, trace_otherwise, check_likewise, make_otherwise, map_otherwise, reduce_likewise, worked, DifferInWork}
 
 -- The first command is the second worked otherwise as well.
 swapped : (command other : Command) → IsWorkedOtherwise command other → IsWorkedOtherwise other command
 swapped _ _ (run_otherwise run chunk limit workers watch) =
-    run_otherwise (record run { options = record { chunk = chunk; limit = limit; workers = workers; max_bytes = run.options.max_bytes }; watch = watch })
+    run_otherwise (record run { options = worked run.options chunk limit workers; watch = watch })
     run.options.chunk run.options.limit run.options.workers run.watch
 swapped _ _ (trace_otherwise trace chunk limit workers) =
-    trace_otherwise (record trace { options = record { chunk = chunk; limit = limit; workers = workers; max_bytes = trace.options.max_bytes } })
+    trace_otherwise (record trace { options = worked trace.options chunk limit workers })
     trace.options.chunk trace.options.limit trace.options.workers
 swapped _ _ (check_likewise check) = check_likewise check
 swapped _ _ (make_otherwise make chunk limit workers) =
-    make_otherwise (record make { options = record { chunk = chunk; limit = limit; workers = workers; max_bytes = make.options.max_bytes } })
+    make_otherwise (record make { options = worked make.options chunk limit workers })
     make.options.chunk make.options.limit make.options.workers
 swapped _ _ (map_otherwise part chunk workers) =
-    map_otherwise (record part { options = record { chunk = chunk; limit = part.options.limit; workers = workers; max_bytes = part.options.max_bytes } })
+    map_otherwise (record part { options = worked part.options chunk part.options.limit workers })
     part.options.chunk part.options.workers
 swapped _ _ (reduce_likewise reduce) = reduce_likewise reduce
 
