@@ -82,11 +82,7 @@ const LETTERS: [&str; 4] = ["a", "é", "日", "🦀"];
 // A word: a letter up to 6 times, or 9,500 times.
 fn push_note(log: &mut String, number: u32) -> Result<(), NoMemory> {
     let letter = LETTERS[number as usize % 4];
-    let times = if number % 50 == 0 {
-        9_500
-    } else {
-        number % 7
-    };
+    let times = if number % 50 == 0 { 9_500 } else { number % 7 };
     'letters: for _place in 0..times {
         log.push_str(letter)?;
     }
