@@ -15,6 +15,7 @@ use Rattle.sym_top.specs.Ends.{Reported, Said, Summed, Mapped, Held, script_of, 
 use Rattle.sym_top.specs.Making.{made_file, made_script}
 use Rattle.sym_top.specs.Numbers.{number_of}
 use Rattle.sym_top.specs.Programs.{Program}
+use Rattle.sym_top.specs.Working.{DifferInWork, trace_otherwise, make_otherwise, map_otherwise, worked}
 
 -- A form whose reports are all this text.
 abbrev saying : List ℕ → FormTexts
@@ -215,3 +216,62 @@ no_name = refl
 
 nothing_read : names_of None ≡ record { script = None; files = [] }
 nothing_read = refl
+
+-- ---- calls that differ in work alone
+
+-- `trace --every 20 --workers 2 --max-bytes 9 s f g`
+abbrev other_trace : Asked
+other_trace = call (codes "trace" ∷ codes "--every" ∷ codes "20" ∷ codes "--workers" ∷ codes "2" ∷ codes "--max-bytes" ∷ codes "9" ∷ codes "s" ∷ codes "f" ∷ codes "g" ∷ [])
+
+traces_otherwise : command_of other_trace ≡ Some (Traces (record trace { options = worked trace.options 1024 16 2 }))
+unfolding command_in trace_of matched trace_app trace_found run_options options_found files_found number_of clap_on_literals
+traces_otherwise = refl
+
+traces_differ : DifferInWork trace_call other_trace
+traces_differ = record {
+  forms = refl;
+  shown = refl;
+  command = Traces trace;
+  asks = traces;
+  other_command = Traces (record trace { options = worked trace.options 1024 16 2 });
+  other_asks = traces_otherwise;
+  otherwise = trace_otherwise trace 1024 16 2;
+}
+
+-- `make --chunk 7 5 1`
+abbrev other_make : Asked
+other_make = formless (codes "make" ∷ codes "--chunk" ∷ codes "7" ∷ codes "5" ∷ codes "1" ∷ [])
+
+makes_otherwise : command_of other_make ≡ Some (Makes (record make { options = worked make.options 7 16 4 }))
+unfolding command_in make_of matched make_app make_found options_found number_of clap_on_literals
+makes_otherwise = refl
+
+makings_differ : DifferInWork make_call other_make
+makings_differ = record {
+  forms = refl;
+  shown = refl;
+  command = Makes make;
+  asks = makes;
+  other_command = Makes (record make { options = worked make.options 7 16 4 });
+  other_asks = makes_otherwise;
+  otherwise = make_otherwise make 7 16 4;
+}
+
+-- `map --first 1001 --chunk 2 --limit 7 --workers 64 --max-bytes 9 s f g`
+abbrev other_map : Asked
+other_map = formless (codes "map" ∷ codes "--first" ∷ codes "1001" ∷ codes "--chunk" ∷ codes "2" ∷ codes "--limit" ∷ codes "7" ∷ codes "--workers" ∷ codes "64" ∷ codes "--max-bytes" ∷ codes "9" ∷ codes "s" ∷ codes "f" ∷ codes "g" ∷ [])
+
+maps_otherwise : command_of other_map ≡ Some (Maps (record part { options = worked part.options 2 7 64 }))
+unfolding command_in map_of matched map_app map_found run_options options_found files_found number_of clap_on_literals
+maps_otherwise = refl
+
+maps_differ : DifferInWork map_call other_map
+maps_differ = record {
+  forms = refl;
+  shown = refl;
+  command = Maps part;
+  asks = maps;
+  other_command = Maps (record part { options = worked part.options 2 7 64 });
+  other_asks = maps_otherwise;
+  otherwise = map_otherwise part 2 64;
+}
