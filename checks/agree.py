@@ -23,6 +23,9 @@ CHUNKS, LIMITS, WORKERS = (1, 7, 1024, 65536), (1, 2, 16, 256), (1, 2, 3, 4, 7, 
 SETTINGS = [(c, l, w) for c in CHUNKS for l in LIMITS for w in WORKERS]
 SETTINGS_A_CASE = 6
 TRACES_A_CASE = 3
+WATCHED_A_CASE = 2
+# A round has so many chunks.
+CHUNKS_A_ROUND = 64
 # The cases whose traces are compared with a run over each prefix of the log.
 PREFIXED = 50
 NUMBERS = [0, 1, 1, 2, 2, 3, 4, 5, 7, 10, 30, 99, 1000, 999999999999, 1000000000000]
@@ -475,6 +478,7 @@ class Program:
         self.takes_check = False
         self.takes_trace = False
         self.takes_map = False
+        self.takes_watch = False
 
     def probe(self):
         """Which commands and options the program takes."""
@@ -485,6 +489,7 @@ class Program:
         self.takes_check = self.start(["check", "probe.symple"])[0] == 0
         self.takes_trace = self.start(["trace", "probe.symple", "probe.csv"])[0] == 0
         self.takes_map = self.start(["map", "probe.symple", "probe.csv"])[0] == 0
+        self.takes_watch = self.run(["--watch", "probe.symple", "probe.csv"])[0] == 0
 
     def write(self, name, content):
         with open(os.path.join(self.folder, name), "wb") as file:
@@ -527,6 +532,8 @@ def answers(program, script, files, number):
             yield from prefixes(program, script, names, files)
     if program.takes_map:
         yield from parts(program, names, number)
+    if program.takes_watch:
+        yield from watches(program, names, number)
 
 
 def parts(program, names, number):
@@ -549,6 +556,18 @@ def parts(program, names, number):
     form = ("table", "csv", "pairs")[number % 3]
     wanted = reference.run(b"script", [name.encode() for name in names], form)
     yield "reduce --form " + form, wanted, program.start(["reduce", "--form", form, "script"] + runs)
+
+
+def watches(program, names, number):
+    """The report, and before it a line after each round: the records so far, and the groups."""
+    for turn in range(WATCHED_A_CASE):
+        chunk, limit, workers = SETTINGS[(number * 7 + turn * 19) % len(SETTINGS)]
+        asked = ["--chunk", str(chunk), "--limit", str(limit), "--workers", str(workers)]
+        wanted = reference.run(
+            b"script", [name.encode() for name in names], per_round=CHUNKS_A_ROUND * chunk
+        )
+        found = program.run(["--watch"] + asked + ["script"] + names)
+        yield "--watch " + " ".join(asked), wanted, found
 
 
 def traces(program, names, number):
@@ -636,6 +655,7 @@ def main(path, cases, seed):
             (program.takes_check, "check"),
             (program.takes_trace, "trace"),
             (program.takes_map, "map"),
+            (program.takes_watch, "--watch"),
         ):
             if not taken:
                 print(f"checks/agree.sh: skipped: the program takes no {what}")

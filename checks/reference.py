@@ -1198,6 +1198,8 @@ class Run:
         self.number = 0
         self.every = 0
         self.traced = []
+        self.per_round = 0
+        self.partials = b""
 
     def initial(self):
         state = {}
@@ -1214,6 +1216,7 @@ class Run:
 
     def take_file(self, name, content):
         places = None
+        begun = self.number
         for row in rows_of(content):
             if places is None:
                 width = len(row)
@@ -1230,6 +1233,13 @@ class Run:
                     raise Refused(4, where + b"field %s %s" % (header, fault))
                 record[own] = value
             self.take_record(record)
+            if self.per_round > 0 and (self.number - begun) % self.per_round == 0:
+                self.tell()
+        if self.per_round > 0 and (self.number - begun) % self.per_round > 0:
+            self.tell()
+
+    def tell(self):
+        self.partials += b"symple: %d records, %d groups\n" % (self.number, len(self.groups))
 
     def column(self, file, header, row):
         if row.count(header) == 0:
@@ -1279,18 +1289,24 @@ def read(name, most):
     return content
 
 
-def run(script, files, form="table", every=0):
-    """Status, report and line of a run over the named files; names are byte strings. Or of a trace,
-    where `every` is above 0."""
+def run(script, files, form="table", every=0, per_round=0):
+    """Status, report and lines of a run over the named files; names are byte strings. Or of a trace,
+    where `every` is above 0. The run is watched where `per_round` is above 0: after so many records
+    of a file, and at its end, there is a line."""
+    partials = b""
     try:
         whole = Run(checked(read(script, SCRIPT_BYTES)))
         whole.every = every
-        for name in files:
-            whole.take_file(name, read(name, FILE_BYTES))
+        whole.per_round = per_round
+        try:
+            for name in files:
+                whole.take_file(name, read(name, FILE_BYTES))
+        finally:
+            partials = whole.partials
         status, text = whole.ended(form)
-        return status, text, b""
+        return status, text, partials
     except Refused as refused:
-        return refused.status, b"", b"symple: " + refused.line + b"\n"
+        return refused.status, b"", partials + b"symple: " + refused.line + b"\n"
 
 
 def check(script):
