@@ -1,7 +1,7 @@
 #!/bin/sh
 # Compares the program with a second, independent reading of docs/LANGUAGE.md, checks/reference.py,
-# over random scripts and logs, and its runs over chunks, limits and workers with each other, and
-# with reports on the same files mapped apart:
+# over random scripts and logs, and its runs over chunks, limits and workers with each other, with
+# reports on the same files mapped apart, and with what runs that are watched tell:
 #
 #     checks/agree.sh [CASES [SEED]]
 #
