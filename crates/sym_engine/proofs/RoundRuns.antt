@@ -1,5 +1,6 @@
 -- The run of a round, and the groups that it is applied to.
-use Rattle.std.proofs.Common.{◌≡◌, ◌∙◌, refl, sym, ap, subst, arith, ℕ, ◌-◌, ◌<◌, List, [], ◌++◌, length, get_or, Some, None, Result, Ok, Err, slice_get}
+use Rattle.std.proofs.Common.{◌≡◌, ◌∙◌, refl, sym, ap, ap₂, subst, arith, ℕ, suc, ◌+◌, ◌-◌, ◌<◌, ◌≤◌, List, [], ◌∷◌, ◌++◌, drop, take, length, get_or, Option, Some, None, Result, Ok, Err, slice_get}
+use Rattle.std.proofs.Math.Seq.{drop-cons}
 use Rattle.std.specs.Prelude.{slice_range}
 use Rattle.std.proofs.lemmas.List.{take_all}
 use Rattle.std.proofs.lemmas.List.Elements.{All-nil}
@@ -13,7 +14,8 @@ use Rattle.sym_plain.specs.Pairs.{after_records}
 use Rattle.sym_plain.proofs.Apart.{pass_more}
 use Rattle.sym_table.specs.declared.bad.Bad.{Bad as BadRow}
 use Rattle.sym_table.specs.declared.chunk.Chunk.{Chunk}
-use Rattle.sym_table.specs.ChunkRecords.{all_records}
+use Rattle.sym_table.specs.ChunkRecords.{all_records, all_rows}
+use Rattle.sym_table.specs.Reading.{Row}
 use Rattle.sym_run.specs.declared.runs.Applied.{Applied}
 use Rattle.sym_run.specs.declared.runs.Applied.TheVariants as applied
 use Rattle.sym_run.specs.declared.runs.Run.{Run}
@@ -30,6 +32,18 @@ pub chunk_at : (cuts items : List Chunk) (k : ℕ) (cut : Chunk) → items ≡ c
 chunk_at cuts items k cut same h e =
     let P : List Chunk → Type 0 = λ xs. slice_get xs k ≡ Some cut in
     subst P same (slice_get_read items (length items) k cut refl h e)
+
+-- The rows of the chunks up to `end`, from a chunk on.
+pub next_between : (cursor : Option (List Row)) (cuts items : List Chunk) (k end : ℕ) (cut : Chunk) → items ≡ cuts → k < end → end ≤ length cuts → cut ≡ get_or items k cut
+    → cursor ≡ Some (all_rows (slice_range cuts k end)) → cursor ≡ Some (cut.rows ++ all_rows (slice_range cuts (k + 1) end))
+next_between cursor cuts items k end cut same below within is e =
+    let here : cut ≡ get_or cuts k cut = subst (λ (xs : List Chunk). cut ≡ get_or xs k cut) same is in
+    let next : suc k ≡ k + 1 = omega arith in
+    let size : end - k ≡ suc (end - (k + 1)) = omega (arith, below) in
+    let near : k < length cuts = omega (arith, below, within) in
+    let there : drop k cuts ≡ cut ∷ drop (k + 1) cuts = drop-cons cuts k cut near ∙ ap₂ (λ (x : Chunk) n. x ∷ drop n cuts) (sym here) next in
+    let split : slice_range cuts k end ≡ cut ∷ slice_range cuts (k + 1) end = ap₂ (λ (n : ℕ) (xs : List Chunk). take n xs) size there in
+    e ∙ ap (λ (xs : List Chunk). Some (all_rows xs)) split
 
 -- ---- the run of a round
 -- What the run of all chunks found.

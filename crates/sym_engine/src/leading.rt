@@ -19,7 +19,7 @@ ghost use Rattle.sym_engine.specs.Rounds.{AreWorkers, IsLimit, IsRound};
 use crate::rounds::Work;
 use crate::sharing::are_shared_out;
 use crate::stretches::{LendsStretches, Stretches};
-use crate::workers::{KEPT_MOST, run_between};
+use crate::workers::{kept_most, run_between};
 use std::alloc::Global;
 use std::thread::Threads;
 use sym_base::NoMemory;
@@ -89,7 +89,7 @@ fn run_of<S: LendsStretches, E: Enter>(
     let worker = thread.min(u32::MAX as usize) as u32;
     let first = number as u32 * each;
     let end = chunks.min(first + each);
-    run_between(alloc, work, worker, first, end, KEPT_MOST, hold)
+    run_between(alloc, work, worker, first, end, kept_most(work.limit), hold)
 }
 
 // The runs of all stretches of a round, made by so many threads.

@@ -5,7 +5,7 @@ ghost use Rattle.sym_engine.specs.Rounds.{IsRound};
 use crate::rounds::Work;
 use std::alloc::Global;
 use sym_base::{NoMemory, Sequence};
-use sym_check::{CellPlan, Do, Dos, Plan, Term};
+use sym_check::{CellPlan, Do, Dos, Line, Plan, Term};
 use sym_plain::Groups;
 use sym_shuffle::{Free, folded};
 
@@ -13,14 +13,33 @@ use sym_shuffle::{Free, folded};
 // round's stretches let several threads work on one group.
 const GROUPS_MANY: usize = 32;
 
-// Marks the cell that a statement sets to what it held in no cell before, and those that the
-// statements inside set so.
+// The cell that takes part in a number.
+fn cell_of(line: &Line) -> u16 {
+    match line {
+        Line::Cell(cell) => *cell,
+        Line::Neg(line) => cell_of(line),
+        Line::Add(line, _) => cell_of(line),
+        Line::Scale(_, line) => cell_of(line),
+    }
+}
+
+// Marks a cell if the one that takes part in its value has a mark.
+fn mark_as(sets: &mut Sequence<bool>, cell: u16, from: u16) {
+    if sets.get(usize::from(from)) == Some(&true) {
+        sets.set(usize::from(cell), true);
+    }
+}
+
+// Marks the cell that a statement sets to a value in which no cell takes part, or to that of a cell
+// with a mark, and those that the statements inside set so.
 #[cycle(setting)]
 fn mark_set(sets: &mut Sequence<bool>, statement: &Do) {
     match statement {
         Do::SetInt(cell, Term::Fixed(_)) | Do::SetEnum(cell, _) | Do::Keep(cell, _) => {
             sets.set(usize::from(*cell), true);
         }
+        Do::SetInt(cell, Term::Line(line)) => mark_as(sets, *cell, cell_of(line)),
+        Do::CopyEnum(cell, from) | Do::KeepFrom(cell, from) => mark_as(sets, *cell, *from),
         Do::If(_, then, otherwise) => {
             mark_all_set(sets, then);
             mark_all_set(sets, otherwise);
@@ -49,12 +68,16 @@ fn is_list(cell: Option<&CellPlan>) -> bool {
     }
 }
 
-// Whether each cell but the lists is set somewhere to a value in which no cell takes part. Where one
-// isn't, a stretch that begins with an unknown state never gets to know it, and explores all of its
-// records, which costs several steps of each.
+// Whether each cell but the lists is set somewhere to a value in which no cell takes part, or to
+// that of a cell of which this is so. Where one isn't, no record lets a stretch that begins with an
+// unknown state know it, and the stretch explores all of its records, which costs several steps of
+// each.
 fn may_get_known(alloc: Global, plan: &Plan) -> Result<bool, NoMemory> {
     let mut sets = Sequence::of(vec![in alloc; false; plan.cells.len()]?);
-    mark_all_set(&mut sets, &plan.update);
+    // A copy may stand before the statement that marks what is copied.
+    'copies: for _copy in 0..plan.cells.len() {
+        mark_all_set(&mut sets, &plan.update);
+    }
     'cells: for index in 0..plan.cells.len() {
         if !is_list(plan.cells.get(index)) && sets.get(index) != Some(&true) {
             return Ok(false);

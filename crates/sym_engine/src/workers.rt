@@ -1,5 +1,5 @@
 //! The workers of a round, who meet on a board.
-ghost use Rattle.std.specs.Prelude.{◌≡◌, ◌≤◌, ◌<◌, true, None, All, IfOk, IfSome, IfNone, length, vec_len};
+ghost use Rattle.std.specs.Prelude.{◌≡◌, ◌≤◌, ◌<◌, true, None, All, IfOk, IfSome, IfNone, length, slice_range, vec_len};
 ghost use Rattle.sym_base.specs.declared.limits.TheConstants as limit;
 ghost use Rattle.sym_board.specs.Passes.{board_input, board_leaves, board_seats, hand, has_ended, IsFree, IsNewPassOf, IsPassOf};
 ghost use Rattle.sym_check.specs.Checking.CheckedScripts.{checked_plan};
@@ -17,13 +17,32 @@ use sym_board::{Board, Made, Pass, Piece};
 use sym_fork::map_vec;
 use sym_run::{Run, Stretch};
 use sym_shuffle::Enter;
+use sym_table::{Chunk, RowCursor};
 
 /// Into how many stretches a round is cut for each worker.
 const STRETCHES: u32 = 1;
 
+// The least number of records of a key that several workers keep as they are, each in its stretch.
+const KEPT_LEAST: u32 = 32;
+
 /// How many records of a key several workers keep as they are, each in its stretch, before it
-/// explores them. Stepping them is left to the one who applies the runs.
-pub(crate) const KEPT_MOST: u32 = 64;
+/// explores them. Stepping them is left to the one who applies the runs. They are twice as many as
+/// a segment may have paths: a script that has a path more for every second record then is over the
+/// limit before a segment covers them, so that its records aren't explored.
+pub(crate) fn kept_most(limit: u32) -> u32 {
+    limit.saturating_mul(2).max(KEPT_LEAST)
+}
+
+// The chunks from `first` up to but without `end`.
+fn between(chunks: &[Chunk], first: usize, end: usize) -> &[Chunk]
+    requires some { first ≤ end }
+    requires within { end ≤ length chunks.now }
+    ensures { result.now ≡ slice_range chunks.now first end }
+{
+    let (_, rest) = chunks.split_at(first);
+    let (part, _) = rest.split_at(end - first);
+    part
+}
 
 /// The run of the chunks from `first` up to but without `end`, which takes them one after the other.
 /// Of a key so many records are kept before they are explored.
@@ -42,10 +61,12 @@ pub(crate) fn run_between<E: Enter>(
     ensures { IfOk result (StandsFrom work.now first end) }
 {
     let chunks = work.chunks.as_slice();
+    let mut cursor = RowCursor::over(alloc, between(chunks, first as usize, end as usize))?;
     let mut stretch = Stretch::new(alloc, first, most);
     'chunks: for number in first..end {
         hold.enter(worker, number);
-        stretch.take(alloc, &work.checked, &chunks[number as usize], work.limit)?;
+        let chunk = &chunks[number as usize];
+        stretch.take_next(alloc, &work.checked, &mut cursor, chunk, work.limit)?;
     }
     stretch.finish(alloc, &work.checked, work.limit)
 }
@@ -76,10 +97,11 @@ fn work_stretches<S: LendsStretches + Send, E: Enter>(
     let work = stretches.work();
     let each = stretches.chunks_each();
     let chunks = work.chunks.len() as u32;
+    let most = kept_most(work.limit);
     'stretches: while let Some(stretch) = board.claim(&mut pass) {
         let first = stretch * each;
         let end = chunks.min(first + each);
-        let Ok(run) = run_between(alloc, work, number, first, end, KEPT_MOST, hold) else {
+        let Ok(run) = run_between(alloc, work, number, first, end, most, hold) else {
             return pass;
         };
         let piece = RunPiece {

@@ -2,6 +2,7 @@
 ghost use Rattle.std.specs.Prelude.{◌≡◌, ◌<◌, ◌+◌, List, None, Some, IfOk, slice_get};
 ghost use Rattle.sym_check.specs.Checking.CheckedScripts.{checked_plan};
 ghost use Rattle.sym_table.specs.declared.chunk.Chunk.{Chunk as OneChunk};
+ghost use Rattle.sym_table.specs.Reading.{HasNext, Passes};
 ghost use Rattle.sym_table.specs.Rows.{FitsChunk};
 ghost use Rattle.sym_run.specs.OpenRuns.{IsOpenFromTo, OpenStandsForChunks, no_chunks, opened_run};
 ghost use Rattle.sym_run.specs.Opened.{OpenGroupsAreTight, OpenGroupsFit, OpenGroupsKeepNone};
@@ -15,7 +16,6 @@ use crate::runs::Run;
 use indexmap::IndexMap;
 use std::alloc::Global;
 use std::marker::Model;
-use std::slice;
 use sym_base::{Key, NoMemory};
 use sym_check::Checked;
 use sym_table::{Bad, Chunk, RowCursor};
@@ -87,19 +87,21 @@ impl OpenRun {
         })
     }
 
-    /// The run of this one's chunks and then the next chunk, up to the first row that is no record.
-    /// A key's first `most` records are kept as they are. Where the run has a bad row, the chunk
-    /// isn't read.
+    /// The run of this one's chunks and then the next chunk, whose rows the cursor has next, up to
+    /// the first row that is no record. A key's first `most` records are kept as they are. Where
+    /// the run has a bad row, the chunk isn't read.
     pub(crate) fn take(
         self,
         alloc: Global,
         checked: &Checked,
+        cursor: &mut RowCursor<'_>,
         chunk: &Chunk,
         limit: u32,
         most: u32,
         memory: &mut Memory,
     ) -> Result<OpenRun, NoMemory>
         requires chunk { FitsChunk (checked_plan checked.now).fields chunk.now }
+        requires rows { self.bad ≡ None → HasNext chunk.now.rows cursor.old }
         requires number { self.hi < 64 }
         requires fits { OpenGroupsFit (checked_plan checked.now) self.groups }
         requires tight { self.bad ≡ None →
@@ -114,6 +116,8 @@ impl OpenRun {
             IfOk result (OpenStandsForChunks (checked_plan checked.now) limit chunks) }
         ensures closed { most ≡ 0 → OpenGroupsKeepNone self.groups →
             IfOk result (λ run. OpenGroupsKeepNone run.groups) }
+        ensures passes { IfOk result (λ run. run.bad ≡ None →
+            (self.bad ≡ None) × Passes chunk.now.rows cursor.old cursor.new) }
     {
         let OpenRun {
             lo,
@@ -130,11 +134,10 @@ impl OpenRun {
             });
         }
         let mut groups = groups;
-        let mut cursor = RowCursor::over(alloc, slice::from_ref(chunk))?;
         let bad = take_rows(
             alloc,
             checked,
-            &mut cursor,
+            cursor,
             chunk,
             &mut groups,
             limit,

@@ -15,11 +15,12 @@ use crate::leading::{apply_beside, threads_for};
 use crate::open_runs::OpenRun;
 use crate::run_groups::RunGroups;
 use std::alloc::Global;
+use std::slice;
 use std::thread::Threads;
 use sym_base::NoMemory;
 use sym_check::Checked;
 use sym_plain::Groups;
-use sym_table::{Bad, Chunk};
+use sym_table::{Bad, Chunk, RowCursor};
 
 /// What the records of neighbouring chunks do to each group, or the first of their rows that is no
 /// record.
@@ -178,9 +179,10 @@ impl Run {
             groups,
             bad,
         } = self;
+        let mut cursor = RowCursor::over(alloc, slice::from_ref(chunk))?;
         let memory = &mut Memory::new(alloc);
         OpenRun::of(alloc, lo, hi, groups, bad)?
-            .take(alloc, checked, chunk, limit, 0, memory)?
+            .take(alloc, checked, &mut cursor, chunk, limit, 0, memory)?
             .close(alloc, checked, limit)
     }
 

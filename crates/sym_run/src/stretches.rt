@@ -3,6 +3,7 @@ ghost use Rattle.std.specs.Prelude.{◌≡◌, ◌<◌, ◌≤◌, ◌+◌, ℕ,
 ghost use Rattle.sym_check.specs.Checking.CheckedScripts.{checked_plan};
 ghost use Rattle.sym_check.specs.Plan.ScriptPlans.{ScriptPlan};
 ghost use Rattle.sym_table.specs.declared.chunk.Chunk.{Chunk as OneChunk};
+ghost use Rattle.sym_table.specs.Reading.{HasNext, Passes};
 ghost use Rattle.sym_table.specs.Rows.{FitsChunk};
 ghost use Rattle.sym_run.specs.OpenRuns.{IsOpenFromTo, OpenStandsForChunks};
 ghost use Rattle.sym_run.specs.Opened.{OpenGroupsAreTight, OpenGroupsFit, OpenGroupsKeepNone};
@@ -13,10 +14,10 @@ use crate::open_runs::OpenRun;
 use crate::runs::Run;
 use std::alloc::Global;
 use std::marker::Model;
-use std::mem;
+use std::{mem, slice};
 use sym_base::NoMemory;
 use sym_check::Checked;
-use sym_table::Chunk;
+use sym_table::{Chunk, RowCursor};
 
 /// The run of neighbouring chunks, which are taken one after the other. A contract sees the numbers
 /// of those so far, an open chain for each key, and the first row that is no record.
@@ -94,9 +95,40 @@ impl Stretch {
             slice_get chunks self.old.hi ≡ Some chunk.now →
             OnOk result (OpenStandsForChunks (checked_plan checked.now) limit chunks self.new) }
     {
+        let mut cursor = RowCursor::over(alloc, slice::from_ref(chunk))?;
+        self.take_next(alloc, checked, &mut cursor, chunk, limit)
+    }
+
+    /// As `take`, where the cursor has the chunk's rows next. Unless a row is no record, it has
+    /// those after them afterwards.
+    pub fn take_next(
+        &mut self,
+        alloc: Global,
+        checked: &Checked,
+        cursor: &mut RowCursor<'_>,
+        chunk: &Chunk,
+        limit: u32,
+    ) -> Result<(), NoMemory>
+        requires chunk { FitsChunk (checked_plan checked.now).fields chunk.now }
+        requires rows { self.old.bad ≡ None → HasNext chunk.now.rows cursor.old }
+        requires number { self.old.hi < 64 }
+        requires fits { OpenGroupsFit (checked_plan checked.now) self.old.groups }
+        requires tight { self.old.bad ≡ None →
+            OpenGroupsAreTight (checked_plan checked.now) limit self.old.groups }
+        ensures chunks { OnOk result (IsOpenFromTo self.old.lo (self.old.hi + 1) self.new) }
+        ensures fits { OnOk result (OpenGroupsFit (checked_plan checked.now) self.new.groups) }
+        ensures tight { OnOk result (self.new.bad ≡ None →
+            OpenGroupsAreTight (checked_plan checked.now) limit self.new.groups) }
+        ensures stands { (chunks : List OneChunk) →
+            OpenStandsForChunks (checked_plan checked.now) limit chunks self.old →
+            slice_get chunks self.old.hi ≡ Some chunk.now →
+            OnOk result (OpenStandsForChunks (checked_plan checked.now) limit chunks self.new) }
+        ensures passes { OnOk result (self.new.bad ≡ None →
+            (self.old.bad ≡ None) × Passes chunk.now.rows cursor.old cursor.new) }
+    {
         let run = mem::replace(&mut self.run, OpenRun::none(alloc, 0));
         let memory = &mut self.memory;
-        self.run = run.take(alloc, checked, chunk, limit, self.most, memory)?;
+        self.run = run.take(alloc, checked, cursor, chunk, limit, self.most, memory)?;
         Ok(())
     }
 

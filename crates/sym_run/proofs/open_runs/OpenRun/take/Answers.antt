@@ -1,9 +1,9 @@
 use Rattle.std.proofs.Common.{◌≡◌, ◌∙◌, ◌+◌, true, false, Option, None, Some, ap, sym, refl, subst, is_some}
-use Rattle.std.specs.Prelude.{slice_get}
+use Rattle.std.specs.Prelude.{IfNone, slice_get}
 use Rattle.sym_check.specs.Checking.CheckedScripts.{checked_plan}
 use Rattle.sym_table.specs.ChunkRecords.{chunk_records}
 use Rattle.sym_table.specs.declared.bad.Bad.{Bad}
-use Rattle.sym_table.proofs.Stepping.{one_chunk}
+use Rattle.sym_table.specs.Reading.{HasNext}
 use Rattle.sym_run.specs.OpenRuns.{OpenStandsForChunks, OpenedRun}
 use Rattle.sym_run.specs.Opened.{OpenGroupsAreTight, OpenGroupsFit, OpenGroupsKeepNone}
 use Rattle.sym_run.proofs.FoundRecords.{found_extended, taken_tight}
@@ -18,6 +18,10 @@ none_here bad e none = let other : false ≡ true = ap is_some (sym none) ∙ e 
 
 some_here : (bad : Option Bad) (b : Bad) → is_some bad ≡ false → bad ≡ Some b → ⊥
 some_here bad b e some = let other : true ≡ false = ap is_some (sym some) ∙ e in cc
+
+passed : {P : Type 0} (bad : Option Bad) → bad ≡ None → IfNone bad P → P
+passed None none h = h
+passed (Some b) none h = cc
 
 pub returns-then-is_some-clause-chunks : goal.returns-then-is_some-clause-chunks
 returns-then-is_some-clause-chunks c = record {
@@ -45,6 +49,9 @@ returns-then-is_some-clause-stands c = λ chunks h at.
 pub returns-then-is_some-clause-closed : goal.returns-then-is_some-clause-closed
 returns-then-is_some-clause-closed c = λ none before. subst (λ (run : OpenedRun). OpenGroupsKeepNone run.groups) (sym c.self.view_is) before
 
+pub returns-then-is_some-clause-passes : goal.returns-then-is_some-clause-passes
+returns-then-is_some-clause-passes c = λ none. absurd (none_here c.self.inside.bad (sym c.is_some.ensures ∙ c.if-is_some.true) none)
+
 pub take_rows-requires-clause-fits : goal.take_rows-requires-clause-fits
 take_rows-requires-clause-fits c = subst (λ (run : OpenedRun). OpenGroupsFit (checked_plan c.args.checked.now) run.groups) (sym c.self.view_is) c.requires.fits
 
@@ -54,7 +61,9 @@ take_rows-requires-clause-tight c =
     (no_bad c.self.inside.bad (sym c.is_some.ensures ∙ c.if-is_some.false))
 
 pub take_rows-requires-clause-rows : goal.take_rows-requires-clause-rows
-take_rows-requires-clause-rows c = one_chunk c.in_ok-cursor.cursor c.from_ref.result.now c.args.chunk.now c.in_ok-cursor.ensures c.from_ref.ensures.value
+take_rows-requires-clause-rows c =
+    subst (λ (run : OpenedRun). run.bad ≡ None → HasNext c.args.chunk.now.rows c.args.cursor.now) (sym c.self.view_is) c.requires.rows
+    (no_bad c.self.inside.bad (sym c.is_some.ensures ∙ c.if-is_some.false))
 
 pub returns-clause-chunks : goal.returns-clause-chunks
 returns-clause-chunks c = record {
@@ -80,3 +89,9 @@ returns-clause-stands c = λ chunks h at.
 
 pub returns-clause-closed : goal.returns-clause-closed
 returns-clause-closed c = λ none before. c.in_ok-bad.ensures.closed none (subst (λ (run : OpenedRun). OpenGroupsKeepNone run.groups) (sym c.self.view_is) before)
+
+pub returns-clause-passes : goal.returns-clause-passes
+returns-clause-passes c = λ none. (
+  subst (λ (run : OpenedRun). run.bad ≡ None) c.self.view_is (no_bad c.self.inside.bad (sym c.is_some.ensures ∙ c.if-is_some.false)),
+  passed c.in_ok-bad.bad none c.in_ok-bad.ensures.passes,
+)

@@ -3,6 +3,7 @@ use Rattle.std.proofs.lemmas.Result.{IfOk-weaker}
 use Rattle.std.specs.Prelude.{slice_get}
 use Rattle.sym_base.specs.declared.values.value.Key.{Key}
 use Rattle.sym_check.specs.Checking.CheckedScripts.{checked_plan}
+use Rattle.sym_table.proofs.Stepping.{one_chunk}
 use Rattle.sym_run.specs.OpenRuns.{OpenStandsForChunks, OpenedRun}
 use Rattle.sym_run.specs.Opened.{OpenGroupsAreTight, OpenGroupsFit, OpenGroupsKeepNone, open_kind, opened_group}
 use Rattle.sym_run.specs.Runs.{chain_kind}
@@ -10,6 +11,10 @@ use Rattle.sym_run.specs.declared.opened.Open.{Open}
 use Rattle.sym_run.proofs.FoundRecords.{stand_as}
 use Rattle.sym_run.proofs.OpenGroups.{opened_fit, opened_keep_none, opened_stand, opened_tight}
 use Rattle.sym_run.proofs.runs.Run.extend.Goals as goal
+
+pub take-requires-clause-rows : goal.take-requires-clause-rows
+take-requires-clause-rows c = λ none.
+    one_chunk c.in_ok-cursor.cursor c.from_ref.result.now c.args.chunk.now c.in_ok-cursor.ensures c.from_ref.ensures.value
 
 pub take-requires-clause-number : goal.take-requires-clause-number
 take-requires-clause-number c = subst (λ (run : OpenedRun). run.hi < 64) (sym c.in_ok-of.ensures) c.requires.number
