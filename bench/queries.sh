@@ -1,7 +1,8 @@
 #!/bin/sh
 # Measures the twelve queries of examples/queries over logs of 4,000,000 records: `symple run` with
 # 1, 2 and 4 workers, beside mawk, pandas and SQLite, which answer the same question over the same
-# file. All come to the same rows, and each runs three times, in turn (TURNS sets another number).
+# file. All come to the same rows, and each runs three times, in turn (TURNS sets another number),
+# but pandas and SQLite, which take several times as long, once.
 # One that takes over PATIENCE seconds, 300 where that isn't set, is stopped and not tried again.
 # Then `symple map` over eight parts of each log, with chunks of 16,384 records: how many paths the
 # summary of a group has, and how large the run files are beside the log, plain and by `gzip -1`.
@@ -169,6 +170,7 @@ for name in ${ONLY:-$queries}; do
     turn=1
     while [ $turn -le "$turns" ]; do
         for way in $ways; do
+            case $way in pandas | sqlite) [ $turn -eq 1 ] || continue ;; esac
             measure "$way"
         done
         turn=$((turn + 1))

@@ -4,7 +4,7 @@
 # and how many users its log has; of a skewed log half of the records are of ten users, and half of
 # 100,000 others. All come to the same groups, and symple writes the same report in each way.
 # The programs take turns, nine of them (TURNS sets another number), since machines change their
-# speed within minutes. A ratio is taken turn by turn, to the sequential pass of that turn, and its
+# speed within minutes; mawk, gawk and Rust run in the first three alone. A ratio is taken turn by turn, to the sequential pass of that turn, and its
 # median is printed, of several workers with that of the processor time in brackets. What the
 # machine gives at that time is in the column "4 at once": four runs with one worker that are begun
 # together, to one such run. The last column has the size of the log, and the median of the memory
@@ -31,7 +31,9 @@ records=${1:-4000000}
 workloads=$*
 limit=16
 most_bytes=268435456
-ways="sequential 1 2 4 together mawk gawk rust"
+ways="sequential 1 2 4 together"
+peers="mawk gawk rust"
+peer_turns=3
 rustc -O -o "$work/runs" "$here/runs.rs"
 
 # write_log SCRIPT USERS
@@ -128,7 +130,9 @@ for workload in $workloads; do
     echo "$workload log 0 0 0 $(($(wc -c <"$log") / 1024))" >>"$work/turns"
     turn=1
     while [ "$turn" -le "$turns" ]; do
-        for way in $ways; do
+        these=$ways
+        [ "$turn" -gt "$peer_turns" ] || these="$ways $peers"
+        for way in $these; do
             measure "$way" "${workload%-*}"
         done
         turn=$((turn + 1))
@@ -137,29 +141,29 @@ done
 
 echo "$records records; $turns turns; processors: $(nproc)"
 echo
-mawk -v workloads="$workloads" -v turns="$turns" '
+mawk -v workloads="$workloads" '
     { wall[$1, $2, $3] = $4; busy[$1, $2, $3] = $5; memory[$1, $2, $3] = $6 }
     $2 == "log" { log_of[$1] = $6 }
 
-    # The median of the values of all turns.
-    function median(values,    i, j, value) {
-        for (i = 2; i <= turns; i++) {
+    # The median of so many values.
+    function median(values, count,    i, j, value) {
+        for (i = 2; i <= count; i++) {
             value = values[i]
             for (j = i - 1; j >= 1 && values[j] > value; j--)
                 values[j + 1] = values[j]
             values[j + 1] = value
         }
-        return (values[int((turns + 1) / 2)] + values[int(turns / 2) + 1]) / 2
+        return (values[int((count + 1) / 2)] + values[int(count / 2) + 1]) / 2
     }
     function ratio(all, workload, way, base,    turn, values) {
-        for (turn = 1; turn <= turns; turn++)
+        for (turn = 1; (workload, way, turn) in all; turn++)
             values[turn] = all[workload, way, turn] / wall[workload, base, turn]
-        return sprintf("%.2f", median(values))
+        return sprintf("%.2f", median(values, turn - 1))
     }
     function of(all, workload, way, unit, digits,    turn, values) {
-        for (turn = 1; turn <= turns; turn++)
+        for (turn = 1; (workload, way, turn) in all; turn++)
             values[turn] = all[workload, way, turn] / unit
-        return sprintf("%." digits "f", median(values))
+        return sprintf("%." digits "f", median(values, turn - 1))
     }
 
     END {

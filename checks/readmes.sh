@@ -15,7 +15,8 @@ cd "$root" || exit 1
 tried=$work/repo/crates/readmes
 mkdir -p "$tried/src"
 cp HANDLES "$work/repo"
-for crate in crates/*; do
+for crate in crates/*/; do
+    crate=${crate%/}
     mkdir "$work/repo/$crate"
     for folder in src specs proofs; do
         if [ -d "$crate/$folder" ]; then
