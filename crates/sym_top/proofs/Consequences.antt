@@ -59,7 +59,7 @@ whole-reported (Said text) whole = tt
 whole-reported (Summed records rows) whole = faulty-reported (some_faulty rows)
 whole-reported (Mapped program from limit records) whole = tt
 
-decided : (result : Status) → IsReported result ⊎ IsRefused result
+pub decided : (result : Status) → IsReported result ⊎ IsRefused result
 decided status.Done = inl tt
 decided status.Faulted = inl tt
 decided status.Usage = inr (λ h. h)
@@ -217,7 +217,7 @@ script-told : (holds : Holds) (name : Option (List ℕ)) (text told : List ℕ) 
 script-told holds None text told may e = may ∙ sym e
 script-told holds (Some name) text told may e = may-told (holds name) text told may e
 
-held-told : (call : Call) (held told : Held) → MayHold call held → Told call told → held ≡ told
+pub held-told : (call : Call) (held told : Held) → MayHold call held → Told call told → held ≡ told
 held-told call held told may e =
     let names = call_names call in
     let script : held.script ≡ told.script = script-told call.holds names.script held.script told.script may.0 e.0 in

@@ -1,5 +1,6 @@
 mod AskedExamples
 pub mod Bounds
+pub mod CausesFound
 mod CommandExamples
 pub mod Consequences
 pub mod EndsFound

@@ -1,3 +1,4 @@
+pub mod Causes
 pub mod CheckLines
 pub mod CommandLines
 pub mod Commands

@@ -4,6 +4,7 @@ ghost use Rattle.std.specs.List.{All};
 ghost use Rattle.std.specs.String.{string_bytes};
 ghost use Rattle.sym_engine.specs.Options.{InRange};
 ghost use Rattle.sym_table.specs.Reading.{Row as OneRow};
+ghost use Rattle.sym_top.specs.Causes.{RefusalsHaveCauses};
 ghost use Rattle.sym_top.specs.Commands.{Asked, Runs, Checks, Makes, Maps, Reduces, asks, command_in, command_of, forms_of, texts_of};
 ghost use Rattle.sym_top.specs.Ends.{End, Held, IsEnd};
 ghost use Rattle.sym_top.specs.Headline.{FineRun, IsOnePass};
@@ -350,6 +351,13 @@ pub fn symple<T: Threads + Wait + Sync, F: Store, O: Sink, E: Sink, G: Gate + Sy
         let call = call_of F.holds F.faults asked files.old files.new in
         let out = sunk O.written O.faults O.short out.old out.new in
         MustReport call out → IsRefused result → result ≡ Status.NoMemory }
+    ensures causes { let words = map string_bytes words.now.items in
+        let forms = forms_of (λ f. called f) (λ f. texts f) forms.items in
+        let asked = asks words forms (G.shown gate.now) in
+        let call = call_of F.holds F.faults asked files.old files.new in
+        let out = sunk O.written O.faults O.short out.old out.new in
+        let err = sunk E.written E.faults E.short err.old err.new in
+        RefusalsHaveCauses call out err result }
     ensures usage { let words = map string_bytes words.now.items in
         let forms = forms_of (λ f. called f) (λ f. texts f) forms.items in
         let asked = asks words forms (G.shown gate.now) in

@@ -1,3 +1,4 @@
+use Rattle.sym_top.proofs.CausesFound.{causes-by}
 use Rattle.sym_top.proofs.Consequences.{expected-by, complete-by, usage-by, no-command-by}
 use Rattle.sym_top.proofs.OnePass.{one-pass-by}
 use Rattle.sym_top.proofs.top.symple.Goals as goal
@@ -10,6 +11,9 @@ returns-clause-expected g c held end told is = expected-by _ _ _ c.run.result c.
 
 pub returns-clause-complete : goal.returns-clause-complete
 returns-clause-complete g c must undone = complete-by _ _ _ c.run.result c.run.ensures.says must undone
+
+pub returns-clause-causes : goal.returns-clause-causes
+returns-clause-causes g c = causes-by _ _ _ c.run.result c.run.ensures.says
 
 pub returns-clause-usage : goal.returns-clause-usage
 returns-clause-usage g c = usage-by _ _ _ c.run.result c.run.ensures.says
