@@ -8,10 +8,11 @@ use Rattle.sym_report.specs.Forms.{FormTexts}
 use Rattle.sym_report.specs.ReportRows.{heads_of, row_of}
 use Rattle.sym_table.specs.Reading.{Row}
 use Rattle.sym_trace.specs.TraceReports.{trace_heads, trace_rows}
+use Rattle.sym_top.specs.declared.status.Status.TheVariants as status
 use Rattle.sym_top.specs.CheckLines.{check_line}
 use Rattle.sym_top.specs.CommandLines.{run_app, trace_app, check_app, make_app, map_app, reduce_app, matched}
-use Rattle.sym_top.specs.Commands.{Asked, Command, Run, Runs, Trace, Traces, Check, Checks, Make, Makes, Map, Maps, Reduce, Reduces, asks, command_in, command_of, names_of, file_rules, first_no, run_of, trace_of, check_of, make_of, map_of, reduce_of, run_found, trace_found, check_found, make_found, map_found, reduce_found, run_options, options_found, files_found}
-use Rattle.sym_top.specs.Ends.{Reported, Said, Summed, Mapped, Held, script_of, files_of, whole_end}
+use Rattle.sym_top.specs.Commands.{Asked, Command, Run, Runs, Trace, Traces, Check, Checks, Make, Makes, Map, Maps, Reduce, Reduces, asks, command_in, command_of, names_of, shown_names, file_rules, first_no, run_of, trace_of, check_of, make_of, map_of, reduce_of, run_found, trace_found, check_found, make_found, map_found, reduce_found, run_options, options_found, files_found}
+use Rattle.sym_top.specs.Ends.{Reported, Said, Summed, Mapped, Held, script_of, files_of, status_of, whole_end}
 use Rattle.sym_top.specs.Making.{made_file, made_script}
 use Rattle.sym_top.specs.Numbers.{number_of}
 use Rattle.sym_top.specs.Programs.{Program}
@@ -186,6 +187,92 @@ reduce_end : (program : Program) (records : List Record) → whole_end reduce_ca
     ≡ Reported (saying (codes "b")) (heads_of program.tree program.plan) (map (row_of program.tree program.plan) (pass program.plan records))
 reduce_end program records = refl
 
+-- ---- the names by which a line speaks of files: those that are read, and that of the log that is made
+run_shown : shown_names (command_of run_call) ≡ record { script = Some (codes "s"); files = codes "f" ∷ codes "g" ∷ [] }
+run_shown = ap (λ c. shown_names c) runs
+
+trace_shown : shown_names (command_of trace_call) ≡ record { script = Some (codes "s"); files = codes "f" ∷ codes "g" ∷ [] }
+trace_shown = ap (λ c. shown_names c) traces
+
+check_shown : shown_names (command_of check_call) ≡ record { script = Some (codes "s"); files = [] }
+check_shown = ap (λ c. shown_names c) checks
+
+make_shown : shown_names (command_of make_call) ≡ record { script = None; files = codes "made" ∷ [] }
+make_shown = ap (λ c. shown_names c) makes
+
+map_shown : shown_names (command_of map_call) ≡ record { script = Some (codes "s"); files = codes "f" ∷ codes "g" ∷ [] }
+map_shown = ap (λ c. shown_names c) maps
+
+reduce_shown : shown_names (command_of reduce_call) ≡ record { script = Some (codes "s"); files = codes "f" ∷ codes "g" ∷ [] }
+reduce_shown = ap (λ c. shown_names c) reduces
+
+-- ---- the status of a script that is checked, and of a log that is mapped, whatever its records do
+check_ends : (program : Program) (records : List Record) → status_of (whole_end check_call (Checks check) program records) ≡ status.Done
+check_ends program records = refl
+
+map_ends : (program : Program) (records : List Record) → status_of (whole_end map_call (Maps part) program records) ≡ status.Done
+map_ends program records = refl
+
+-- ---- `run`, `trace` and `reduce` with `--form csv s f`: the report is in that form, and not in the default one
+
+-- A call that is handed the form `csv` alone.
+abbrev with_csv : List (List ℕ) → Asked
+with_csv words = asks words (record { name = codes "csv"; texts = saying (codes "a") } ∷ []) doubled
+
+abbrev csv_run : Run
+csv_run = record run { form = codes "csv"; options = record run.options { max_bytes = 67108864 }; files = codes "f" ∷ [] }
+
+abbrev csv_run_words : List (List ℕ)
+csv_run_words = codes "run" ∷ codes "--form" ∷ codes "csv" ∷ codes "s" ∷ codes "f" ∷ []
+
+csv_runs : command_of (call csv_run_words) ≡ Some (Runs csv_run)
+unfolding command_in run_of matched run_app run_found run_options options_found files_found number_of clap_on_literals
+csv_runs = refl
+
+csv_alone_runs : command_of (with_csv csv_run_words) ≡ Some (Runs csv_run)
+unfolding command_in run_of matched run_app run_found run_options options_found files_found number_of clap_on_literals
+csv_alone_runs = refl
+
+csv_run_end : (program : Program) (records : List Record) → whole_end (call csv_run_words) (Runs csv_run) program records
+    ≡ Reported (saying (codes "a")) (heads_of program.tree program.plan) (map (row_of program.tree program.plan) (pass program.plan records))
+csv_run_end program records = refl
+
+abbrev csv_trace : Trace
+csv_trace = record trace { form = codes "csv"; every = 1; options = record trace.options { max_bytes = 67108864 }; files = codes "f" ∷ [] }
+
+abbrev csv_trace_words : List (List ℕ)
+csv_trace_words = codes "trace" ∷ codes "--form" ∷ codes "csv" ∷ codes "s" ∷ codes "f" ∷ []
+
+csv_traces : command_of (call csv_trace_words) ≡ Some (Traces csv_trace)
+unfolding command_in trace_of matched trace_app trace_found run_options options_found files_found number_of clap_on_literals
+csv_traces = refl
+
+csv_alone_traces : command_of (with_csv csv_trace_words) ≡ Some (Traces csv_trace)
+unfolding command_in trace_of matched trace_app trace_found run_options options_found files_found number_of clap_on_literals
+csv_alone_traces = refl
+
+csv_trace_end : (program : Program) (records : List Record) → whole_end (call csv_trace_words) (Traces csv_trace) program records
+    ≡ Reported (saying (codes "a")) (trace_heads program.tree program.plan) (trace_rows program.tree program.plan 1 records)
+csv_trace_end program records = refl
+
+abbrev csv_reduce : Reduce
+csv_reduce = record reduce { form = codes "csv"; max_bytes = 67108864; files = codes "f" ∷ [] }
+
+abbrev csv_reduce_words : List (List ℕ)
+csv_reduce_words = codes "reduce" ∷ codes "--form" ∷ codes "csv" ∷ codes "s" ∷ codes "f" ∷ []
+
+csv_reduces : command_of (call csv_reduce_words) ≡ Some (Reduces csv_reduce)
+unfolding command_in reduce_of matched reduce_app reduce_found files_found number_of clap_on_literals
+csv_reduces = refl
+
+csv_alone_reduces : command_of (with_csv csv_reduce_words) ≡ Some (Reduces csv_reduce)
+unfolding command_in reduce_of matched reduce_app reduce_found files_found number_of clap_on_literals
+csv_alone_reduces = refl
+
+csv_reduce_end : (program : Program) (records : List Record) → whole_end (call csv_reduce_words) (Reduces csv_reduce) program records
+    ≡ Reported (saying (codes "a")) (heads_of program.tree program.plan) (map (row_of program.tree program.plan) (pass program.plan records))
+csv_reduce_end program records = refl
+
 -- ---- calls of no command, which read nothing
 
 -- A run, a trace and a reduction whose form isn't handed in.
@@ -205,6 +292,14 @@ other_form : command_of (call (codes "run" ∷ codes "--form" ∷ codes "tables"
 unfolding command_in run_of matched run_app run_found run_options options_found files_found number_of clap_on_literals
 other_form = refl
 
+other_trace_form : command_of (call (codes "trace" ∷ codes "--form" ∷ codes "tables" ∷ codes "s" ∷ codes "f" ∷ [])) ≡ None
+unfolding command_in trace_of matched trace_app trace_found run_options options_found files_found number_of clap_on_literals
+other_trace_form = refl
+
+other_reduce_form : command_of (call (codes "reduce" ∷ codes "--form" ∷ codes "tables" ∷ codes "s" ∷ codes "f" ∷ [])) ≡ None
+unfolding command_in reduce_of matched reduce_app reduce_found files_found number_of clap_on_literals
+other_reduce_form = refl
+
 -- No arguments, and a word that names no command.
 no_words : command_of (call []) ≡ None
 unfolding command_in
@@ -216,6 +311,9 @@ no_name = refl
 
 nothing_read : names_of None ≡ record { script = None; files = [] }
 nothing_read = refl
+
+nothing_shown : shown_names None ≡ record { script = None; files = [] }
+nothing_shown = refl
 
 -- ---- calls that differ in work alone
 

@@ -1,6 +1,6 @@
 -- A run over two files and what one sequential pass over their records comes to, the same run with
 -- other options, and a call of `reduce`.
-use Rattle.std.proofs.Common.{◌≡◌, ◌↔◌, ◌≤◌, ℕ, pos, false, true, if◌then◌else◌, List, [], ◌∷◌, length, codes, Option, Some, None, Ok, refl, lit≤, lit<}
+use Rattle.std.proofs.Common.{◌≡◌, ◌↔◌, ◌≤◌, ◌⊎◌, ℕ, pos, false, true, if◌then◌else◌, List, [], ◌∷◌, length, map, codes, Option, Some, None, Ok, Err, refl, sym, ap, subst, lit≤, lit<}
 use Rattle.std.specs.Fmt.{digits}
 use Rattle.std.specs.List.{IsDistinct}
 use Rattle.std.specs.Str.{bytes_eq, chars, is_utf8}
@@ -34,8 +34,12 @@ use Rattle.sym_check.specs.Plan.DoPlans as do_
 use Rattle.sym_check.specs.Plan.ShowPlans as show
 use Rattle.sym_check.specs.Rules.Scripts.{plan_of}
 use Rattle.sym_check.proofs.ScriptsAgree.{planned_accepted}
+use Rattle.sym_table.specs.declared.bad.BadCause.TheVariants as cause
+use Rattle.sym_table.specs.declared.header.HeadFault.TheVariants as head
+use Rattle.sym_engine.specs.declared.error.PassErr.TheVariants as pass_error
+use Rattle.sym_engine.specs.FileRecords.{FileRules}
 use Rattle.sym_engine.specs.FirstProblems.{records_in}
-use Rattle.sym_engine.proofs.FilesAgree.{files_records}
+use Rattle.sym_engine.proofs.FilesAgree.{files_records, files_problem}
 use Rattle.sym_run.specs.SavedRuns.{IsLawfulSaved}
 use Rattle.sym_run.specs.declared.saved.Saved.{Saved}
 use Rattle.sym_file.specs.Stored.{IsStored}
@@ -43,17 +47,22 @@ use Rattle.sym_file.specs.Texts.{head_text, body_text, saved_text}
 use Rattle.sym_reduce.specs.Reducing.{IsTakenFile}
 use Rattle.sym_reduce.specs.Reducing as runs
 use Rattle.sym_report.specs.Tables.{table_form}
+use Rattle.sym_top.specs.declared.refusal.Place.TheVariants as place
+use Rattle.sym_top.specs.declared.refusal.Refusal.TheVariants as refusal
 use Rattle.sym_top.specs.declared.status.Status.{Status}
 use Rattle.sym_top.specs.declared.status.Status.TheVariants as status
+use Rattle.sym_top.specs.Causes.{IsStopped, IsToldOf, IsTooLarge, large_file}
 use Rattle.sym_top.specs.CommandLines.{run_app, reduce_app, matched}
-use Rattle.sym_top.specs.Commands.{Asked, Reduce, Reduces, Run, Runs, asks, command_in, command_of, run_of, reduce_of, run_found, reduce_found, run_options, options_found, files_found}
-use Rattle.sym_top.specs.Ends.{End, Held, IsEnd, reduced, groups_end, rows_of, rows_status}
+use Rattle.sym_top.specs.Commands.{Asked, Command, Reduce, Reduces, Run, Runs, asks, command_in, command_of, names_of, shown_names, run_of, reduce_of, run_found, reduce_found, run_options, options_found, files_found}
+use Rattle.sym_top.specs.Ends.{End, Summed, Mapped, Held, IsEnd, finished, reduced, groups_end, report_of, rows_of, rows_status, status_of}
 use Rattle.sym_top.specs.Headline.{FineRun, IsOnePass, pass_text}
+use Rattle.sym_top.specs.Messages.{line_of}
 use Rattle.sym_top.specs.Numbers.{number_of}
-use Rattle.sym_top.specs.Programs.{Program, IsProgram}
-use Rattle.sym_top.specs.Promises.{Call, Says, Unless}
+use Rattle.sym_top.specs.Programs.{Program, IsProgram, headers_in}
+use Rattle.sym_top.specs.Promises.{Call, Says, TellsScript, Told, Unless, call_line, call_script}
 use Rattle.sym_top.specs.Telling.{Sunk}
 use Rattle.sym_top.specs.Working.{DifferInWork, run_otherwise, worked}
+use Rattle.sym_top.proofs.CausesFound.{causes-by}
 use Rattle.sym_top.proofs.EndsFound.{one_end}
 use Rattle.sym_top.proofs.OnePass.{one-pass-by}
 use Rattle.sym_top.proofs.OtherWork.{one_end_by_work}
@@ -170,6 +179,126 @@ pass_ends = refl
 -- So the run writes this text and ends with this status.
 it_is_written : (out err : Sunk) (result : Status) → Says call out err result → Unless result (IsOnePass table_form visits records out err result)
 it_is_written out err result says = one-pass-by call out err result is_fine says
+
+-- ---- over the first file alone no row is faulty
+
+abbrev first_records : List Record
+first_records = visit 1 (codes "ann") ∷ visit 2 (codes "bob") ∷ []
+
+first_pass_is : pass_text table_form visits first_records ≡ codes "user | visits\nann | 1\nbob | 1\n--\n"
+unfolding digits
+first_pass_is = refl
+
+first_pass_ends : rows_status (rows_of visits first_records) ≡ status.Done
+first_pass_ends = refl
+
+-- A report and a summary are Faulted if a row is; a saved run is Done, whatever its records do.
+report_ends : status_of (report_of table_form visits records) ≡ status.Faulted
+report_ends = refl
+
+summary_ends : status_of (Summed 3 (rows_of visits records)) ≡ status.Faulted
+summary_ends = refl
+
+saved_ends : status_of (Mapped visits 1 16 records) ≡ status.Done
+saved_ends = refl
+
+-- ---- an empty file and a header alone have no records, and those after them are numbered on
+
+abbrev rules : FileRules
+rules = record { max_bytes = 67108864; shown = λ row. row }
+
+abbrev header_alone : List ℕ
+header_alone = codes "user\n"
+
+none_are_read : records_in visits.plan rules 0 1 ([] ∷ header_alone ∷ []) ≡ Ok []
+unfolding csv_on_literals is_utf8 chars encode
+none_are_read = refl
+
+others_are_read : records_in visits.plan rules 0 1 ([] ∷ first ∷ header_alone ∷ second ∷ []) ≡ Ok records
+unfolding csv_on_literals is_utf8 chars encode
+others_are_read = refl
+
+-- `run s f`, where the file is empty
+abbrev short_asked : Asked
+short_asked = asks (codes "run" ∷ codes "s" ∷ codes "f" ∷ []) (record { name = codes "table"; texts = table_form } ∷ []) (λ row. row)
+
+abbrev short_run : Run
+short_run = record run { options = record run.options { chunk = 1024; limit = 16; workers = 4 }; files = codes "f" ∷ [] }
+
+is_short : command_of short_asked ≡ Some (Runs short_run)
+unfolding command_in run_of matched run_app run_found run_options options_found files_found number_of clap_on_literals
+is_short = refl
+
+nothing_is_read : records_in visits.plan rules 0 1 ([] ∷ []) ≡ Ok []
+unfolding csv_on_literals
+nothing_is_read = refl
+
+-- It ends with a report of no groups.
+empty_ends : IsEnd short_asked (record { script = text; files = [] ∷ [] }) (report_of table_form visits [])
+empty_ends = finished (Runs short_run) visits [] is_short is_program tt ((files_records visits.plan rules 0 1 ([] ∷ []) []).1 nothing_is_read)
+
+empty_pass_is : pass_text table_form visits [] ≡ codes "user | visits\n--\n"
+empty_pass_is = refl
+
+empty_pass_ends : rows_status (rows_of visits []) ≡ status.Done
+empty_pass_ends = refl
+
+-- ---- `run --max-bytes 9 s f` is refused, since the file has 13 bytes
+
+abbrev tight_asked : Asked
+tight_asked = asks (codes "run" ∷ codes "--max-bytes" ∷ codes "9" ∷ codes "s" ∷ codes "f" ∷ []) (record { name = codes "table"; texts = table_form } ∷ []) (λ row. row)
+
+abbrev tight_run : Run
+tight_run = record short_run { options = record short_run.options { max_bytes = 9 } }
+
+is_tight : command_of tight_asked ≡ Some (Runs tight_run)
+unfolding command_in run_of matched run_app run_found run_options options_found files_found number_of clap_on_literals
+is_tight = refl
+
+abbrev tight_call : Call
+tight_call = record { asked = tight_asked; holds = holds; before = λ file. 0; after = λ file. 0 }
+
+abbrev one_file : Held
+one_file = record { script = text; files = first ∷ [] }
+
+-- What is said of the names of the call's files is said of `s` and `f`.
+are_told : Told tight_call one_file
+are_told =
+    let P : Option Command → Type 0 = λ o. TellsScript holds (names_of o).script text × (map holds (names_of o).files ≡ map Some (first ∷ [])) in
+    subst P (sym is_tight) (refl, refl)
+
+too_many_bytes : records_in visits.plan (record rules { max_bytes = 9 }) 0 1 (first ∷ []) ≡ Err (pass_error.TooLarge 0)
+too_many_bytes = refl
+
+is_too_large : IsTooLarge tight_call one_file (refusal.TooLarge (place.File 0))
+is_too_large =
+    large_file 0 (record {
+      command = Runs tight_run;
+      asks = is_tight;
+      program = visits;
+      accepted = is_program;
+      first = (files_problem visits.plan (record rules { max_bytes = 9 }) 0 1 (first ∷ []) (pass_error.TooLarge 0)).1 too_many_bytes;
+    })
+
+too_large_line : call_line tight_call one_file (refusal.TooLarge (place.File 0)) ≡ codes "symple: f: too large\n"
+too_large_line = ap (λ o. line_of (shown_names o) (headers_in (call_script o one_file)) (refusal.TooLarge (place.File 0))) is_tight
+
+-- So the status is TooLarge, and this line is told, unless a read fails or memory runs out.
+it_is_refused : (out err : Sunk) (result : Status) → Says tight_call out err result →
+    ((result ≡ status.TooLarge) × IsToldOf tight_call one_file out err (refusal.TooLarge (place.File 0))) ⊎ IsStopped result
+it_is_refused out err result says =
+    let table = causes-by tight_call out err result says in
+    table.too_large.always one_file (refusal.TooLarge (place.File 0)) are_told is_too_large
+
+-- The third record of two files is a row of two fields, where the header has one.
+a_bad_row : records_in visits.plan rules 0 1 (first ∷ codes "user\nann,2\n" ∷ []) ≡ Err (pass_error.Bad 1 (record { no = 3; cause = cause.Fields 2 }))
+unfolding csv_on_literals is_utf8 chars encode
+a_bad_row = refl
+
+-- A header without the field's column refuses before any row, and a file before it before that.
+a_bad_header : records_in visits.plan rules 0 1 (first ∷ codes "name\nann,2\n" ∷ []) ≡ Err (pass_error.Head 1 (head.NoField 0))
+unfolding csv_on_literals is_utf8 chars encode
+a_bad_header = refl
 
 -- ---- `run --watch s f g` differs from it in work alone
 
