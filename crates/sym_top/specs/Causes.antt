@@ -65,20 +65,24 @@ pub record BreaksRule (text : List ℕ) (why : CheckErr) : Type 0 where
   pub script : IsScriptOf text tree
   pub breaks : BreaksScript tree why
 
--- ---- the causes of each status, one for each refusal, and so for each line
+-- ---- the causes of each status, one for each refusal, with the line that is told after `symple: `
 
 -- Usage: the arguments are those of no command, or the form isn't handed in.
 pub data IsNoCommand (call : Call) (held : Held) : Refusal → Type 0 where
+  -- `usage`
   no_command : IsUsage call → IsNoCommand call held refusal.Usage
 
 -- TooLarge: the script has more than 65,536 bytes; or the first problem of the files is that one
 -- has more bytes than the command takes.
 pub data IsTooLarge (call : Call) (held : Held) : Refusal → Type 0 where
+  -- `SCRIPT: too large`
   large_script : ScriptIs call held (λ text. limit.SCRIPT_MAX < length text)
       → IsTooLarge call held (refusal.TooLarge place.Script)
+  -- `FILE: too large`
   large_file : (file : ℕ)
       → FilesHave call held (pass_error.TooLarge file)
       → IsTooLarge call held (refusal.TooLarge (place.File file))
+  -- `FILE: too large`
   large_run_file : (file : ℕ)
       → RunFilesHave call held (reduce_error.TooLarge file)
       → IsTooLarge call held (refusal.TooLarge (place.File file))
@@ -87,40 +91,52 @@ pub data IsTooLarge (call : Call) (held : Held) : Refusal → Type 0 where
 -- first token that passes a limit; else the first at which no sentence goes on; else the first
 -- rule that is broken.
 pub data IsUnaccepted (text : List ℕ) : Refusal → Type 0 where
+  -- `script: bad byte at byte AT`
   bad_byte : (at : ℕ)
       → Reads 0 text (Err (lex_fault.BadByte at))
       → IsUnaccepted text (refusal.Script fault.BadByte at)
+  -- `script: bad number at byte AT`
   bad_number : (at : ℕ)
       → Reads 0 text (Err (lex_fault.BadNumber at))
       → IsUnaccepted text (refusal.Script fault.BadNumber at)
+  -- `script: long name at byte AT`
   long_name : (at : ℕ)
       → Reads 0 text (Err (lex_fault.LongName at))
       → IsUnaccepted text (refusal.Script fault.LongName at)
+  -- `script: bad text at byte AT`
   bad_text : (at : ℕ)
       → Reads 0 text (Err (lex_fault.BadText at))
       → IsUnaccepted text (refusal.Script fault.BadText at)
+  -- `script: limit of WHICH at byte AT`
   limit_passed : (at : ℕ) (which : LimitKind)
       → IsPassed text at which
       → IsUnaccepted text (refusal.Script (fault.Limit which) at)
+  -- `script: unexpected token at byte AT`
   unexpected_token : (at : ℕ)
       → IsUnexpected text at
       → ((other : ℕ) (which : LimitKind) → IsPassed text other which → ⊥)
       → IsUnaccepted text (refusal.Script fault.Unexpected at)
+  -- `script: unknown name at byte AT`
   unknown_name : (at : ℕ)
       → BreaksRule text (check_error.Name at)
       → IsUnaccepted text (refusal.Script fault.UnknownName at)
+  -- `script: name taken at byte AT`
   name_taken : (at : ℕ)
       → BreaksRule text (check_error.Twice at)
       → IsUnaccepted text (refusal.Script fault.NameTaken at)
+  -- `script: wrong kind at byte AT`
   wrong_kind : (at : ℕ)
       → BreaksRule text (check_error.Kind at)
       → IsUnaccepted text (refusal.Script fault.WrongKind at)
+  -- `script: wrong range at byte AT`
   wrong_range : (at : ℕ)
       → BreaksRule text (check_error.Range at)
       → IsUnaccepted text (refusal.Script fault.WrongRange at)
+  -- `script: not linear at byte AT`
   not_linear : (at : ℕ)
       → BreaksRule text (check_error.NotLinear at)
       → IsUnaccepted text (refusal.Script fault.NotLinear at)
+  -- `script: PATHS paths`
   many_paths : (paths : ℕ)
       → BreaksRule text (check_error.Branchy paths)
       → IsUnaccepted text (refusal.Branchy paths)
@@ -134,27 +150,34 @@ IsNoScript call held why =
 -- of another script, is no run file, doesn't follow the one before it, or has a group without a
 -- path.
 pub data IsBadInput (call : Call) (held : Held) : Refusal → Type 0 where
+  -- `FILE: header: WHAT`
   bad_header : (file : ℕ) (what : HeadFault)
       → FilesHave call held (pass_error.Head file what)
       → IsBadInput call held (refusal.Head file what)
+  -- `FILE: record NUMBER: CAUSE`
   bad_row : (file : ℕ) (bad : Bad)
       → FilesHave call held (pass_error.Bad file bad)
       → IsBadInput call held (refusal.Bad file bad)
+  -- `FILE: run of another script`
   other_script : (file : ℕ)
       → RunFilesHave call held (reduce_error.OtherScript file)
       → IsBadInput call held (refusal.OtherScript file)
+  -- `FILE: not a run file`
   malformed : (file : ℕ)
       → RunFilesHave call held (reduce_error.Malformed file)
       → IsBadInput call held (refusal.Malformed file)
+  -- `FILE: records do not follow`
   apart : (file : ℕ)
       → RunFilesHave call held (reduce_error.Apart file)
       → IsBadInput call held (refusal.Apart file)
+  -- `FILE: no path for group GROUP`
   gap : (file group : ℕ)
       → RunFilesHave call held (reduce_error.Gap file group)
       → IsBadInput call held (refusal.Gap file group)
 
--- ReadFault: a read of the script failed, whose count rose; or one of a file, whose count rose and
--- before which no file has a problem, where the script is accepted (`IsStop`).
+-- ReadFault: a read of the script failed, whose count rose; or the script is accepted, and a read
+-- of a file failed, whose count rose and before which no file has a problem (`IsStop`). The line is
+-- `FILE: read fault`, with the name of the script or of that file.
 pub record IsUnread (call : Call) (held : Held) (why : Refusal) : Type 0 where
   pub at : Place
   pub why_is : why ≡ refusal.Read at
@@ -163,7 +186,8 @@ pub record IsUnread (call : Call) (held : Held) (why : Refusal) : Type 0 where
 
 -- ---- what is written
 
--- Nothing was written to `out`, and the line of this refusal was told on `err`.
+-- Nothing was written to `out`, and the line of this refusal was told on `err`, whole or in part as
+-- `Tells` says.
 pub record IsToldOf (call : Call) (held : Held) (out err : Sunk) (why : Refusal) : Type 0 where
   pub untouched : IsUntouched out
   pub line : Tells err (call_line call held why)
