@@ -29,7 +29,7 @@ use Rattle.sym_top.specs.declared.refusal.Refusal.{Refusal}
 use Rattle.sym_top.specs.declared.refusal.Refusal.TheVariants as refusal
 use Rattle.sym_top.specs.declared.status.Status.{Status}
 use Rattle.sym_top.specs.declared.status.Status.TheVariants as status
-use Rattle.sym_top.specs.Causes.{BreaksRule, IsNoCommand, no_command, IsTooLarge, large_script, large_file, large_run_file, IsUnaccepted, bad_byte, bad_number, long_name, bad_text, limit_passed, unexpected_token, unknown_name, name_taken, wrong_kind, wrong_range, not_linear, many_paths, IsNoScript, IsBadInput, bad_header, bad_row, other_script, malformed, apart, gap, IsUnread, IsToldOf, HasCause, IsCut, IsStopped, RefusalsHaveCauses}
+use Rattle.sym_top.specs.Causes.{BreaksRule, IsNoCommand, no_command, IsTooLarge, large_script, large_file, large_run_file, IsUnaccepted, bad_byte, bad_number, long_name, bad_text, limit_passed, unexpected_token, unknown_name, name_taken, wrong_kind, wrong_range, not_linear, many_paths, IsNoScript, IsBadInput, bad_header, bad_row, other_script, malformed, apart, gap, IsReadFault, IsToldOf, HasCause, IsWritingCut, IsStopped, RefusalsHaveCauses}
 use Rattle.sym_top.specs.Commands.{Command, Reduce, Runs, Traces, Checks, Makes, Maps, Reduces, command_of, file_rules, first_no}
 use Rattle.sym_top.specs.Ends.{End, Refused, Held, IsEnd, usage, no_program, problem, finished, run_problem, reduced, IsWhole, files_of, script_of, whole_end}
 use Rattle.sym_top.specs.Programs.{Program, IsProgram, IsUnparsed, lexical, unexpected, passed, IsNoProgram, too_large, unparsed, broken}
@@ -80,7 +80,7 @@ CausesOf call held status.Faulted why = ⊥
 CausesOf call held status.Usage why = IsNoCommand call held why
 CausesOf call held status.Script why = IsNoScript call held why
 CausesOf call held status.Input why = IsBadInput call held why
-CausesOf call held status.ReadFault why = IsUnread call held why
+CausesOf call held status.ReadFault why = IsReadFault call held why
 CausesOf call held status.WriteFault why = ⊥
 CausesOf call held status.TooLarge why = IsTooLarge call held why
 CausesOf call held status.NoMemory why = why ≡ refusal.NoMemory
@@ -244,7 +244,7 @@ module _ (call : Call) (out err : Sunk) (result : Status) where
   abbrev Comes : Status → Type 0
   Comes own =
       HasCause call out err (λ held why. CausesOf call held own why)
-      ⊎ ((why : Refusal) × (status_of_refusal why ≡ own) × IsCut call out err why)
+      ⊎ ((why : Refusal) × (status_of_refusal why ≡ own) × IsWritingCut call out err why)
 
   cause-comes : (r : Refuses call out err result) (own : Status) → status_of_refusal r.why ≡ own → IsCause call r.held out r.why → Comes own
   cause-comes r own e (stopped stop untouched) =
@@ -282,13 +282,13 @@ module _ (call : Call) (out err : Sunk) (result : Status) where
   write-short text _ (failed prefix rose) e = cc
   write-short text _ (short prefix rose) e = refl
 
-  write-cut : Comes status.WriteFault → IsCut call out err refusal.Write
+  write-cut : Comes status.WriteFault → IsWritingCut call out err refusal.Write
   write-cut (inl c) = absurd c.cause
-  write-cut (inr c) = subst (λ why. IsCut call out err why) (write-failed c.2.text c.0 c.2.fails c.1) c.2
+  write-cut (inr c) = subst (λ why. IsWritingCut call out err why) (write-failed c.2.text c.0 c.2.fails c.1) c.2
 
-  memory-cut : Comes status.NoMemory → HasCause call out err (λ held why. why ≡ refusal.NoMemory) ⊎ IsCut call out err refusal.NoMemory
+  memory-cut : Comes status.NoMemory → HasCause call out err (λ held why. why ≡ refusal.NoMemory) ⊎ IsWritingCut call out err refusal.NoMemory
   memory-cut (inl c) = inl c
-  memory-cut (inr c) = inr (subst (λ why. IsCut call out err why) (write-short c.2.text c.0 c.2.fails c.1) c.2)
+  memory-cut (inr c) = inr (subst (λ why. IsWritingCut call out err why) (write-short c.2.text c.0 c.2.fails c.1) c.2)
 
   -- The call has this status and tells of this refusal, or is stopped.
   abbrev TellsOr : Held → Status → Refusal → Type 0

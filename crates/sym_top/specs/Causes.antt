@@ -178,7 +178,7 @@ pub data IsBadInput (call : Call) (held : Held) : Refusal → Type 0 where
 -- ReadFault: a read of the script failed, whose count rose; or the script is accepted, and a read
 -- of a file failed, whose count rose and before which no file has a problem (`IsStop`). The line is
 -- `FILE: read fault`, with the name of the script or of that file.
-pub record IsUnread (call : Call) (held : Held) (why : Refusal) : Type 0 where
+pub record IsReadFault (call : Call) (held : Held) (why : Refusal) : Type 0 where
   pub at : Place
   pub why_is : why ≡ refusal.Read at
   pub failed : ReadFailed call at
@@ -193,17 +193,17 @@ pub record IsToldOf (call : Call) (held : Held) (out err : Sunk) (why : Refusal)
   pub line : Tells err (call_line call held why)
 
 -- There are bytes that the files may hold, by which a refusal has such a cause. It was told.
-pub record HasCause (call : Call) (out err : Sunk) (IsCause : Held → Refusal → Type 0)
+pub record HasCause (call : Call) (out err : Sunk) (Causes : Held → Refusal → Type 0)
     : Type 0 where
   pub held : Held
   pub may : MayHold call held
   pub why : Refusal
-  pub cause : IsCause held why
+  pub cause : Causes held why
   pub told : IsToldOf call held out err why
 
 -- There are bytes that the files may hold, by which the call comes to a text. The writing of it was
 -- cut for this reason, which was told.
-pub record IsCut (call : Call) (out err : Sunk) (why : Refusal) : Type 0 where
+pub record IsWritingCut (call : Call) (out err : Sunk) (why : Refusal) : Type 0 where
   pub held : Held
   pub may : MayHold call held
   pub status : Status
@@ -218,14 +218,14 @@ IsStopped result = (result ≡ status.ReadFault) ⊎ (result ≡ status.NoMemory
 
 -- The status `own` is returned exactly for these causes.
 pub record IsExactly (call : Call) (out err : Sunk) (result own : Status)
-    (IsCause : Held → Refusal → Type 0) : Type 0 where
+    (Causes : Held → Refusal → Type 0) : Type 0 where
   -- It is returned only for one of them.
-  pub only : result ≡ own → HasCause call out err IsCause
+  pub only : result ≡ own → HasCause call out err Causes
   -- If the files are visible and one of them is there, it is returned, and this one is told, unless
   -- a read fails or memory runs out.
   pub always : (held : Held) (why : Refusal)
       → Told call held
-      → IsCause held why
+      → Causes held why
       → ((result ≡ own) × IsToldOf call held out err why) ⊎ IsStopped result
 
 -- ---- the table
@@ -236,8 +236,8 @@ pub record RefusalsHaveCauses (call : Call) (out err : Sunk) (result : Status) :
   pub too_large : IsExactly call out err result status.TooLarge (IsTooLarge call)
   pub script : IsExactly call out err result status.Script (IsNoScript call)
   pub input : IsExactly call out err result status.Input (IsBadInput call)
-  pub read_fault : result ≡ status.ReadFault → HasCause call out err (IsUnread call)
-  pub write_fault : result ≡ status.WriteFault → IsCut call out err refusal.Write
+  pub read_fault : result ≡ status.ReadFault → HasCause call out err (IsReadFault call)
+  pub write_fault : result ≡ status.WriteFault → IsWritingCut call out err refusal.Write
   pub no_memory : result ≡ status.NoMemory
       → HasCause call out err (λ held why. why ≡ refusal.NoMemory)
-      ⊎ IsCut call out err refusal.NoMemory
+      ⊎ IsWritingCut call out err refusal.NoMemory
