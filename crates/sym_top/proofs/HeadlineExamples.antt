@@ -1,5 +1,5 @@
--- A run over two files and what one sequential pass over their records comes to, the same run with
--- other options, and a call of `reduce`.
+-- A run over two files and what one sequential pass over their records comes to, files without
+-- records, a refusal, the same run with other options, and a call of `reduce`.
 use Rattle.std.proofs.Common.{◌≡◌, ◌↔◌, ◌≤◌, ◌⊎◌, ℕ, pos, false, true, if◌then◌else◌, List, [], ◌∷◌, length, map, codes, Option, Some, None, Ok, Err, refl, sym, ap, subst, lit≤, lit<}
 use Rattle.std.specs.Fmt.{digits}
 use Rattle.std.specs.List.{IsDistinct}
@@ -192,7 +192,7 @@ first_pass_is = refl
 first_pass_ends : rows_status (rows_of visits first_records) ≡ status.Done
 first_pass_ends = refl
 
--- A report and a summary are Faulted if a row is; a saved run is Done, whatever its records do.
+-- A report and a summary are Faulted if a row is faulty. A saved run is Done, whatever its records do.
 report_ends : status_of (report_of table_form visits records) ≡ status.Faulted
 report_ends = refl
 
@@ -261,7 +261,7 @@ tight_call = record { asked = tight_asked; holds = holds; before = λ file. 0; a
 abbrev one_file : Held
 one_file = record { script = text; files = first ∷ [] }
 
--- What is said of the names of the call's files is said of `s` and `f`.
+-- The store tells that the files which the call names have these bytes.
 are_told : Told tight_call one_file
 are_told =
     let P : Option Command → Type 0 = λ o. TellsScript holds (names_of o).script text × (map holds (names_of o).files ≡ map Some (first ∷ [])) in
@@ -290,12 +290,12 @@ it_is_refused out err result says =
     let table = causes-by tight_call out err result says in
     table.too_large.always one_file (refusal.TooLarge (place.File 0)) are_told is_too_large
 
--- The third record of two files is a row of two fields, where the header has one.
+-- The third row of two files is no record: it has two fields, and the header one.
 a_bad_row : records_in visits.plan rules 0 1 (first ∷ codes "user\nann,2\n" ∷ []) ≡ Err (pass_error.Bad 1 (record { no = 3; cause = cause.Fields 2 }))
 unfolding csv_on_literals is_utf8 chars encode
 a_bad_row = refl
 
--- A header without the field's column refuses before any row, and a file before it before that.
+-- The header of the second file has no column `user`. It is tried before the rows.
 a_bad_header : records_in visits.plan rules 0 1 (first ∷ codes "name\nann,2\n" ∷ []) ≡ Err (pass_error.Head 1 (head.NoField 0))
 unfolding csv_on_literals is_utf8 chars encode
 a_bad_header = refl
