@@ -33,7 +33,7 @@ use Rattle.sym_top.specs.Causes.{BreaksRule, IsNoCommand, no_command, IsTooLarge
 use Rattle.sym_top.specs.Commands.{Command, Reduce, Runs, Traces, Checks, Makes, Maps, Reduces, command_of, file_rules, first_no}
 use Rattle.sym_top.specs.Ends.{End, Refused, Held, IsEnd, usage, no_program, problem, finished, run_problem, reduced, IsWhole, files_of, script_of, whole_end}
 use Rattle.sym_top.specs.Programs.{Program, IsProgram, IsUnparsed, lexical, unexpected, passed, IsNoProgram, too_large, unparsed, broken}
-use Rattle.sym_top.specs.Promises.{Call, Says, Told, IsStop, at_end, script_unread, file_unread, run_unread, no_memory, IsUntouched, WriteFails, failed, short, IsCause, stopped, cut, Refuses, Wrote, IsReported, IsRefused, IsUnwritten, call_line}
+use Rattle.sym_top.specs.Promises.{Call, Says, Told, IsStop, at_end, script_unread, file_unread, run_unread, no_memory, IsUntouched, WriteFails, failed, short, IsCause, stopped, cut, Refuses, IsReported, IsRefused, IsUnwritten, call_line}
 use Rattle.sym_top.specs.Refusals.{status_of_refusal, parse_refusal, check_refusal, pass_refusal, reduce_refusal}
 use Rattle.sym_top.specs.Telling.{Sunk, Tells}
 use Rattle.sym_top.proofs.Consequences.{decided, held-told, reported-written}
