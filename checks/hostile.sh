@@ -4,7 +4,8 @@
 # - streams: standard streams that are closed, full, slow or gone;
 # - files: that change while they are read, pipes, devices, directories, files without leave, names;
 # - killed: ended by kill -9 at random moments, what was written is a prefix of the report;
-# - resources: little memory, a small stack, no leave to start threads, and how many are started;
+# - resources: little memory, a small stack, no leave to start threads, how many are started, and
+#   that as many are at work at once;
 # - times: scripts and logs that are slow to take. None takes more than 20 times as long as a plain
 #   one of its size, but for those that docs/LANGUAGE.md names.
 #
@@ -61,6 +62,7 @@ many() {
 }
 
 cc -O2 -shared -fPIC -o "$work/calls.so" "$here/failing_call.c" || exit 1
+cc -O2 -shared -fPIC -o "$work/held.so" "$here/held_threads.c" || exit 1
 find_program
 cp "$root"/checks/scripts/*.symple "$work"
 cd "$work" || exit 1
@@ -557,25 +559,83 @@ no_threads() {
     note_end "resources: no leave to start threads" 0 three.txt ''
 }
 
-# started THREADS WORKERS: over a log of 8 chunks, so many threads are started by so many workers:
-# one for each, but no more than there are chunks, and none for one worker.
+# started THREADS WORKERS FILE COMMAND..: the command starts so many threads by so many workers over
+# the file, each row of which is a chunk.
 started() {
-    run env LD_PRELOAD="$work/calls.so" THREAD_COUNT=threads "$program" run --chunk 1 --workers "$2" \
-        eight.symple eight.csv
-    [ "$status" -eq 0 ] && [ "$(cat threads)" = "$1" ]
-    note $? "resources: $2 workers started $(cat threads) threads"
+    wanted=$1
+    by=$2
+    file=$3
+    shift 3
+    run env LD_PRELOAD="$work/calls.so" THREAD_COUNT=threads "$program" "$@" --chunk 1 \
+        --workers "$by" count.symple "$file"
+    [ "$status" -eq 0 ] && [ "$(cat threads)" = "$wanted" ]
+    note $? "resources: $* by $by workers over $file started $(cat threads) threads"
+}
+
+# at_work THREADS WORKERS FILE SCRIPT COMMAND..: by so many workers, so many threads are at work at
+# once. Each is held until the others have come to as many allocations.
+at_work() {
+    wanted=$1
+    by=$2
+    file=$3
+    script=$4
+    shift 4
+    run env LD_PRELOAD="$work/held.so" HELD_THREADS="$wanted" THREADS_MET=threads "$program" "$@" \
+        --chunk 16 --workers "$by" "$script" "$file"
+    read -r met in_vain <threads
+    [ "$status" -eq 0 ] && [ "$met" -ge "$wanted" ] && [ "$in_vain" -eq 0 ]
+    note $? "resources: $* by $by workers over $file with $script: $met threads worked at once"
 }
 
 threads() {
+    # Of a count, records are shared out by their groups; of the other script, whose state gets
+    # known, runs are made.
     {
-        echo 'field user: word; group user; state n: int [0..9] = 0;'
+        echo 'field user: word; group user; state n: int [0..999] = 0;'
         echo 'update { n = n + 1; } report { n = n; }'
-    } >eight.symple
-    printf 'user\na\na\na\na\na\na\na\na\n' >eight.csv
-    started 0 1
-    started 2 2
-    started 4 4
-    started 8 64
+    } >count.symple
+    sed 's/n + 1/1/' count.symple >known.symple
+    # 8 chunks, a round of 64, and two such rounds and one of 2.
+    for rows in 8 64 130; do
+        { echo user; yes a | head -n $rows; } >"$rows.csv"
+    done
+    # A thread for each worker, but no more than there are chunks, and none for one worker.
+    started 0 1 8.csv run
+    started 2 2 8.csv run
+    started 4 4 8.csv run
+    started 8 64 8.csv run
+    # Beside a full round one more, which cuts the next one.
+    started 0 1 64.csv run
+    started 3 2 64.csv run
+    started 65 64 64.csv run
+    started 8 2 130.csv run
+    started 8 2 130.csv map
+    # With --watch one more beside each round but the first, which tells of the round before.
+    started 2 1 130.csv run --watch
+    started 10 2 130.csv run --watch
+    # A trace starts the threads of a round twice.
+    started 0 1 130.csv trace
+    started 4 2 8.csv trace
+    started 16 64 8.csv trace
+    started 5 2 64.csv trace
+    started 14 2 130.csv trace
+    # A round of 64 chunks, and four of them, where the next one is cut beside the workers.
+    { echo user; seq 1024 | sed s/^/u/; } >round.csv
+    { echo user; seq 4096 | sed s/^/u/; } >rounds.csv
+    for by in 2 4 64; do
+        for command in run 'run --watch' map trace; do
+            # shellcheck disable=SC2086 # words
+            at_work "$by" "$by" round.csv known.symple $command
+            # shellcheck disable=SC2086 # words
+            at_work $((by + 1)) "$by" rounds.csv count.symple $command
+        done
+        at_work "$by" "$by" round.csv count.symple run
+    done
+    # One more than there are workers never meet.
+    run env LD_PRELOAD="$work/held.so" HELD_THREADS=3 HELD_MOST=100 THREADS_MET=threads \
+        "$program" run --chunk 16 --workers 2 count.symple round.csv
+    [ "$status" -eq 0 ] && echo 2 1 | cmp -s - threads
+    note $? "resources: three threads of two workers: $(cat threads)"
 }
 
 check_resources() {
