@@ -680,6 +680,54 @@ report {\n  n = n;\n}\n'
     out=$work/out
 fi
 
+# Keys of two and of three fields, in another order than the fields are declared in. Two keys have
+# words that are alike if they are put together.
+if takes trace counts.symple first.csv && takes map counts.symple first.csv; then
+    {
+        echo 'field user: word; field place: word; group place, user; state n: int [0..9] = 0;'
+        echo 'update { n = n + 1; } report { n = n; }'
+    } >pairs.symple
+    printf 'user,place\na,bc\nab,c\nb,bc\na,bc\n' >pairs.csv
+    printf 'place,user\nc,ab\nbc,ab\nbc,a\n' >later.csv
+    row "a trace of keys of two fields" 0 'record | place | user | n
+1 | bc | a | 1\n2 | c | ab | 1\n3 | bc | b | 1\n4 | bc | a | 2
+5 | c | ab | 2\n6 | bc | ab | 1\n7 | bc | a | 3\n--\n' \
+        trace --chunk 1 --workers 2 pairs.symple pairs.csv later.csv
+    "$program" map pairs.symple pairs.csv >a.run
+    "$program" map --first 5 --chunk 1 --workers 2 pairs.symple later.csv >b.run
+    row "run files of keys of two fields" 0 \
+        'place | user | n\nbc | a | 3\nc | ab | 2\nbc | b | 1\nbc | ab | 1\n--\n' \
+        reduce pairs.symple a.run b.run
+    row "run files of keys of two fields as pairs" 0 \
+        'place="bc" user="a" n=2\nplace="c" user="ab" n=1\nplace="bc" user="b" n=1\n' \
+        reduce --form pairs pairs.symple a.run
+    {
+        printf 'enum mode { idle, busy }\nfield user: word;\nfield day: num;\n'
+        printf 'field what: mode;\ngroup what, user, day;\nstate n: int [0..9] = 0;\n'
+        printf 'update {\n  n = 5;\n}\nreport {\n  n = n;\n}\n'
+    } >triples.symple
+    printf 'user,day,what\na,1,busy\na,-1,idle\na,1,idle\na,1,busy\n,1,busy\n' >triples.csv
+    {
+        printf 'symple run 1\nscript %s\n' "$(wc -c <triples.symple)"
+        cat triples.symple
+        printf 'first 1\nnext 6\ngroups 4\n'
+        for key in 'l1 w1:a n1' 'l0 w1:a n-1' 'l0 w1:a n1' 'l1 w0: n1'; do
+            printf 'key %s\nchain 1\nsegment 1\nwhen i0..9\nnext n5\n' "$key"
+        done
+        echo end
+    } >triples.run
+    row "a run file of keys of three fields" 0 "$(cat triples.run)\n" \
+        map --chunk 1 --workers 4 triples.symple triples.csv
+    row "a report on a run file of keys of three fields" 0 'what,user,day,n,fault
+busy,a,1,5,\nidle,a,-1,5,\nidle,a,1,5,\nbusy,,1,5,\n' \
+        reduce --form csv triples.symple triples.run
+    sed 's/n = 5/n = n + day/' triples.symple >sums_of_days.symple
+    row "a trace of keys of three fields" 1 'record | what | user | day | n
+1 | busy | a | 1 | 1\n2 | idle | a | -1 | fault: n overflows at record 2\n3 | idle | a | 1 | 1
+4 | busy | a | 1 | 2\n5 | busy |  | 1 | 1\n--\n' \
+        trace sums_of_days.symple triples.csv
+fi
+
 # Scripts that aren't read.
 row "an absent script" 5 'absent.symple: read fault' run absent.symple first.csv
 row "a folder as a script" 5 './: read fault' run ./ first.csv
