@@ -1,6 +1,6 @@
-//! Ways to have a round worked: as the program does, and two others with the same contract, which the
+//! Ways to have a round worked: as the program does, and others with the same contract, which the
 //! tests of workers have to tell from it.
-ghost use Rattle.std.specs.Prelude.{◌≡◌, ◌≤◌, ◌<◌, IfOk, length};
+ghost use Rattle.std.specs.Prelude.{◌≡◌, ◌≤◌, ◌<◌, IfOk, IsTrue, length};
 ghost use Rattle.sym_check.specs.Checking.CheckedScripts.{checked_plan};
 ghost use Rattle.sym_engine.specs.Rounds.{AreWorkers, IsLimit, IsRound, StandsForAll};
 ghost use Rattle.sym_engine.specs.Pieces.{StandsFrom};
@@ -24,6 +24,10 @@ pub(crate) enum Body {
     Serial,
     /// The first half of the chunks by one worker, and the others by a second one.
     Halves,
+    /// The same of up to nine chunks, and more of them on one thread.
+    FewHalves,
+    /// All chunks on one thread, after a thread that does nothing.
+    Idle,
 }
 
 // A value that lends the work of a round, so that two workers share it by its bound.
@@ -112,6 +116,22 @@ fn two_parts<T: Threads + Sync, W: LendsWork + Sync, E: Enter + Sync>(
     left.join(alloc, &work.checked, right, work.limit)
 }
 
+/// Starts a thread that does nothing, and waits for it.
+pub(crate) fn start_idle<T: Threads + Sync>(rt: &T) {
+    let ((), ()) = join(rt, || {}, || {});
+}
+
+// Whether so many chunks are worked in two parts.
+fn is_halved(body: Body, chunks: u32) -> bool
+    ensures { IsTrue result → 2 ≤ chunks }
+{
+    match body {
+        Body::Halves => chunks > 1,
+        Body::FewHalves => chunks > 1 && chunks <= 9,
+        Body::Round | Body::Gate | Body::Serial | Body::Idle => false,
+    }
+}
+
 /// The run of a round, which is worked in this way and enters the gate.
 pub(crate) fn made<T: Threads + Wait + Sync>(
     rt: &T,
@@ -128,10 +148,17 @@ pub(crate) fn made<T: Threads + Wait + Sync>(
         IfOk result (StandsForAll p work.now.limit work.now.chunks) }
 {
     let chunks = work.chunks.len() as u32;
+    if body == Body::Idle {
+        start_idle(rt);
+    }
     match body {
         Body::Round => round(rt, alloc, work, workers, gate),
         Body::Gate => gate.work_round(rt, alloc, work, workers),
-        Body::Halves if chunks > 1 => two_parts(rt, alloc, work, &gate.hold),
-        Body::Halves | Body::Serial => part(alloc, work, 0, 0, chunks, &gate.hold),
+        Body::Halves | Body::FewHalves if is_halved(body, chunks) => {
+            two_parts(rt, alloc, work, &gate.hold)
+        }
+        Body::Halves | Body::FewHalves | Body::Serial | Body::Idle => {
+            part(alloc, work, 0, 0, chunks, &gate.hold)
+        }
     }
 }

@@ -5,7 +5,7 @@ ghost use Rattle.sym_engine.specs.Rounds.{AreWorkers, IsLimit, IsRound, StandsFo
 ghost use Rattle.sym_run.specs.Applying.{AreValid, IfDone};
 ghost use Rattle.sym_gate_tests.specs.Comparing.{ComesTo};
 
-use crate::bodies::{Body, made};
+use crate::bodies::{Body, made, start_idle};
 use crate::holds::{Holder, Makes, MakesRuns, Refuses};
 use std::alloc::Global;
 use std::sync::Wait;
@@ -136,6 +136,10 @@ fn groups_before(alloc: Global, work: &Work, before: Before) -> Result<Groups, N
 pub(crate) enum Way {
     /// The gate's `lead_round`.
     Led,
+    /// The same of up to nine chunks, and of more of them by one worker.
+    LedFew,
+    /// The same by one worker, after a thread that does nothing.
+    LedIdle,
     /// `hold_lead` of a hold that has the run of each round made, and no more.
     HoldOfRuns,
     /// `lead_round` of a gate that has the run of each round made, and no more.
@@ -170,6 +174,18 @@ fn met<T: Threads + Wait + Sync>(
 {
     match worked.way {
         Way::Led => gate.lead_round(rt, alloc, work, worked.workers, groups),
+        Way::LedFew => {
+            let workers = if work.chunks.len() > 9 {
+                1
+            } else {
+                worked.workers
+            };
+            gate.lead_round(rt, alloc, work, workers, groups)
+        }
+        Way::LedIdle => {
+            start_idle(rt);
+            gate.lead_round(rt, alloc, work, 1, groups)
+        }
         Way::HoldOfRuns => {
             let holder = &gate.hold;
             Makes { holder }.hold_lead(rt, alloc, work, worked.workers, groups)

@@ -2,6 +2,7 @@
 use crate::bodies::Body;
 use crate::comparing::{Before, Seen, Way, Worked, seen_by};
 use crate::holds::{Holder, Until};
+use crate::many::log_of;
 use std::alloc::Global;
 use std::sync::Wait;
 use std::test::Fail;
@@ -80,8 +81,27 @@ fn of_three<T: Threads + Wait + Sync>(
         groups: 2,
         bad: None,
     };
-    let hold = Holder::new(Until::LastChunk, turns);
+    let hold = Holder::new(Until::Others(2, 3), turns);
     course_of(rt, alloc, THREE, worked, wanted, hold)
+}
+
+// A round of 64 chunks, the first of which is held until each chunk from this one on is claimed.
+fn of_many<T: Threads + Wait + Sync>(
+    rt: &T,
+    alloc: Global,
+    worked: Worked,
+    from: u32,
+    turns: u64,
+) -> Result<Course, NoMemory> {
+    let wanted = Seen {
+        chunks: 64,
+        same: true,
+        groups: 45,
+        bad: None,
+    };
+    let hold = Holder::new(Until::Others(from, 64), turns);
+    let log = log_of(alloc, 64, 0)?;
+    course_of(rt, alloc, log.as_str(), worked, wanted, hold)
 }
 
 const TWO_WORKERS: Worked = Worked {
@@ -163,5 +183,75 @@ fn the_other_worker_takes_the_next_stretch(rt: HostRuntime) -> Result<(), Fail> 
         of_three(&rt, rt.alloc(), SERIAL, FEW_TURNS)?,
         Course::GaveUp
     );
+    Ok(())
+}
+
+/// How many workers work a round of 64 chunks, and from which chunk on the others claim each one
+/// while the worker of the first stretch is held, where there is one stretch for each worker, where
+/// there are two, and where there are four.
+const FIRST_STRETCHES: [(u32, u32, u32, u32); 4] = [
+    (2, 32, 16, 8),
+    (3, 22, 11, 6),
+    (8, 8, 4, 2),
+    (64, 1, 1, 1),
+];
+
+// The first way of working a round of 64 chunks by so many workers that doesn't go through.
+fn stopped<T: Threads + Wait + Sync>(
+    rt: &T,
+    alloc: Global,
+    (workers, one, two, four): (u32, u32, u32, u32),
+) -> Result<Option<Worked>, NoMemory> {
+    let ways = [
+        (Way::Run(Body::Round), Before::Nothing, one),
+        (Way::Run(Body::Gate), Before::Nothing, one),
+        // By the runs of stretches.
+        (Way::Led, Before::Nothing, two),
+        // By the threads of the 45 groups.
+        (Way::Led, Before::TheRound, four),
+    ];
+    'ways: for (way, before, from) in ways {
+        let worked = Worked {
+            way,
+            before,
+            workers,
+        };
+        if of_many(rt, alloc, worked, from, TURNS)? != Course::Through {
+            return Ok(Some(worked));
+        }
+    }
+    Ok(None)
+}
+
+#[test]
+fn other_workers_take_all_chunks_but_those_of_the_first_stretch(
+    rt: HostRuntime,
+) -> Result<(), Fail> {
+    'workers: for row in FIRST_STRETCHES {
+        let wrong = stopped(&rt, rt.alloc(), row)?;
+        assert!(rt; wrong.is_none(), "{wrong:?}");
+    }
+    Ok(())
+}
+
+#[test]
+fn bodies_that_work_many_chunks_on_one_thread_are_seen(rt: HostRuntime) -> Result<(), Fail> {
+    'ways: for way in [
+        Way::Run(Body::Serial),
+        Way::Run(Body::FewHalves),
+        Way::Run(Body::Idle),
+        Way::LedFew,
+        Way::LedIdle,
+    ] {
+        'before: for before in [Before::Nothing, Before::TheRound] {
+            let worked = Worked {
+                way,
+                before,
+                workers: 2,
+            };
+            let course = of_many(&rt, rt.alloc(), worked, 63, 1_000)?;
+            assert_eq!(rt; course, Course::GaveUp, "{worked:?}");
+        }
+    }
     Ok(())
 }

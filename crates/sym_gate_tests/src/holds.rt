@@ -16,8 +16,8 @@ pub(crate) enum Until {
     Now,
     /// Until the other one of two workers has claimed a chunk.
     OtherWorker,
-    /// Until the third chunk is claimed.
-    LastChunk,
+    /// Until each chunk from the first number up to but without the second one is claimed.
+    Others(u32, u32),
 }
 
 /// Notes the chunks that are claimed, and holds the worker of the first one. A hold ends by itself
@@ -26,8 +26,8 @@ pub(crate) enum Until {
 pub(crate) struct Holder {
     until: Until,
     turns: u64,
-    // Four bits for each chunk: how many times it was claimed.
-    claims: AtomicU64,
+    // Four bits for each of 64 chunks, 16 in each number: how many times it was claimed.
+    claims: [AtomicU64; 4],
     // Whether a worker with an even number, or an odd one, has claimed a chunk.
     even: AtomicBool,
     odd: AtomicBool,
@@ -40,14 +40,29 @@ impl Holder {
         Holder {
             until,
             turns,
-            claims: AtomicU64::new(0),
+            claims: [
+                AtomicU64::new(0),
+                AtomicU64::new(0),
+                AtomicU64::new(0),
+                AtomicU64::new(0),
+            ],
             even: AtomicBool::new(false),
             odd: AtomicBool::new(false),
             gave_up: AtomicBool::new(false),
         }
     }
 
-    /// Whether each of so many chunks, of at most 16, was claimed once, and no other one.
+    // The number that has how many times this chunk was claimed.
+    fn claims_of(&self, chunk: u32) -> &AtomicU64 {
+        &self.claims[(chunk / 16 % 4) as usize]
+    }
+
+    // How many times a chunk was claimed; never more than 15 times.
+    fn count(&self, chunk: u32) -> u64 {
+        self.claims_of(chunk).load(Ordering::SeqCst) >> (4 * (chunk % 16)) & 15
+    }
+
+    /// Whether each of so many chunks, of at most 64, was claimed once, and no other one.
     pub(crate) fn claimed_once(&self, chunks: usize) -> bool {
         self.claimed(chunks, chunks)
     }
@@ -55,11 +70,10 @@ impl Holder {
     /// Whether each of the first `needed` chunks was claimed once, each other one of so many at
     /// most once, and no further one.
     pub(crate) fn claimed(&self, needed: usize, chunks: usize) -> bool {
-        let claims = self.claims.load(Ordering::SeqCst);
-        'chunks: for chunk in 0..16 {
-            let count = claims >> (4 * chunk) & 15;
-            let least = u64::from(chunk < needed);
-            let most = u64::from(chunk < chunks);
+        'chunks: for chunk in 0..64 {
+            let count = self.count(chunk);
+            let least = u64::from((chunk as usize) < needed);
+            let most = u64::from((chunk as usize) < chunks);
             if count < least || count > most {
                 return false;
             }
@@ -72,13 +86,23 @@ impl Holder {
         self.gave_up.load(Ordering::SeqCst)
     }
 
+    // Whether each chunk from the first of these numbers up to but without the second is claimed.
+    fn are_claimed(&self, first: u32, end: u32) -> bool {
+        'chunks: for chunk in first..end {
+            if self.count(chunk) == 0 {
+                return false;
+            }
+        }
+        true
+    }
+
     // Whether a worker may go on.
     fn is_over(&self, worker: u32) -> bool {
         match self.until {
             Until::Now => true,
             Until::OtherWorker if worker % 2 == 0 => self.odd.load(Ordering::SeqCst),
             Until::OtherWorker => self.even.load(Ordering::SeqCst),
-            Until::LastChunk => self.claims.load(Ordering::SeqCst) & 0xf00 == 0x100,
+            Until::Others(first, end) => self.are_claimed(first, end),
         }
     }
 
@@ -95,7 +119,7 @@ impl Holder {
 
 impl Enter for Holder {
     fn enter(&self, worker: u32, chunk: u32) {
-        self.claims
+        self.claims_of(chunk)
             .fetch_add(1 << (4 * (chunk % 16)), Ordering::SeqCst);
         if worker % 2 == 0 {
             self.even.store(true, Ordering::SeqCst);

@@ -31,10 +31,10 @@ fn team_of(place: u32) -> u32 {
     }
 }
 
-// A log of 60 teams. The row with this number is no record; 0 is none.
-fn log_of(alloc: Global, bad: u64) -> Result<String, NoMemory> {
+/// A log of so many rows, of up to 60 teams. The row with this number is no record; 0 is none.
+pub(crate) fn log_of(alloc: Global, rows: u32, bad: u64) -> Result<String, NoMemory> {
     let mut log = String::from_str(alloc, "team,result\n")?;
-    'rows: for place in 0..RECORDS {
+    'rows: for place in 0..rows {
         let team = team_of(place);
         let result = RESULTS[place as usize % 3];
         let line = if u64::from(place) + 1 == bad {
@@ -57,7 +57,7 @@ fn seen_of<T: Threads + Wait + Sync>(
 ) -> Result<(Option<Seen>, bool), NoMemory> {
     let hold = Holder::new(Until::Now, 0);
     let gate = OpenGate { hold };
-    let log = log_of(alloc, bad)?;
+    let log = log_of(alloc, RECORDS, bad)?;
     let seen = seen_in(rt, alloc, log.as_str(), ROWS, worked, &gate)?;
     let needed = if bad == 0 {
         5
@@ -134,7 +134,7 @@ fn two_workers_are_at_work_on_many_groups(rt: HostRuntime) -> Result<(), Fail> {
         before: Before::TheRound,
         workers: 2,
     };
-    let log = log_of(alloc, 0)?;
+    let log = log_of(alloc, RECORDS, 0)?;
     let seen = seen_in(&rt, alloc, log.as_str(), ROWS, worked, &gate)?;
     let wanted = Seen {
         chunks: 5,

@@ -2,15 +2,16 @@
 use crate::holds::{Holder, Until};
 use crate::showing::ShowsB;
 use std::alloc::Global;
-use std::sync::Wait;
+use std::sync::atomic::{AtomicU64, Ordering};
+use std::sync::{Arc, Wait};
 use std::test::Fail;
 use std::thread::Threads;
-use sym_base::{MemSink, MemStore, NoMemory};
+use sym_base::{Column, MemSink, MemStore, NoMemory};
 use sym_engine::{Gate, OpenGate, Work};
-use sym_report::{ReportForm, TableForm};
+use sym_report::{ReportForm, Row, RowBody, TableForm};
 use sym_run::Run;
 use sym_top::{Status, symple};
-use sym_watch::Observer;
+use sym_watch::{Observer, Partial};
 
 /// For how many turns a worker is held at most.
 const TURNS: u64 = 500_000_000;
@@ -25,6 +26,10 @@ const COUNTS: &str = "field user: word; group user; state n: int [0..1000000] = 
 // Comes to 1 for each user, whatever was held before, so that the state gets known.
 const ONES: &str = "field user: word; group user; state n: int [0..1] = 0; \
     update { n = 1; } report { n = n; }";
+
+// The same, with a run file that is easily written out.
+const FIVES: &str = "field user: word; group user; state n: int [0..9] = 0; \
+    update { n = 5; } report { n = n; }";
 
 /// Has all chunks worked on one thread, and else is as the program's gate.
 #[derive(Drop)]
@@ -79,7 +84,7 @@ fn no_observers(alloc: Global) -> Vec<Box<dyn Observer + Send>> {
     Vec::new(alloc)
 }
 
-// The top call, with the form `table` and no observers.
+// The top call, with the form `table`.
 fn called<T: Threads + Wait + Sync, G: Gate + Sync>(
     rt: &T,
     alloc: Global,
@@ -87,22 +92,12 @@ fn called<T: Threads + Wait + Sync, G: Gate + Sync>(
     store: &mut MemStore,
     out: &mut MemSink,
     err: &mut MemSink,
+    observers: &mut Vec<Box<dyn Observer + Send>>,
     gate: &G,
 ) -> Result<Status, NoMemory> {
     let table: Box<dyn ReportForm> = Box::new(alloc, TableForm::new(alloc))?;
     let forms = Vec::from_array(alloc, [table])?;
-    let mut observers = no_observers(alloc);
-    Ok(symple(
-        rt,
-        alloc,
-        words,
-        store,
-        out,
-        err,
-        forms,
-        &mut observers,
-        gate,
-    ))
+    Ok(symple(rt, alloc, words, store, out, err, forms, observers, gate))
 }
 
 fn is_end(call: &Call, status: Status, out: &MemSink, err: &MemSink) -> bool {
@@ -118,15 +113,16 @@ fn ends<T: Threads + Wait + Sync, G: Gate + Sync>(
     words: &Vec<String>,
     store: &mut MemStore,
     call: &Call,
+    observers: &mut Vec<Box<dyn Observer + Send>>,
     gate: &G,
 ) -> Result<bool, NoMemory> {
     let mut out = MemSink::new(alloc, 100);
     let mut err = MemSink::new(alloc, 100);
-    let status = called(rt, alloc, words, store, &mut out, &mut err, gate)?;
+    let status = called(rt, alloc, words, store, &mut out, &mut err, observers, gate)?;
     Ok(is_end(call, status, &out, &err))
 }
 
-// The same of the call's own words and store.
+// The same of the call's own words and store, with no observers.
 fn holds<T: Threads + Wait + Sync, G: Gate + Sync>(
     rt: &T,
     alloc: Global,
@@ -134,7 +130,9 @@ fn holds<T: Threads + Wait + Sync, G: Gate + Sync>(
     gate: &G,
 ) -> Result<bool, NoMemory> {
     let words = words_of(alloc, call)?;
-    ends(rt, alloc, &words, &mut store_of(alloc, call)?, call, gate)
+    let mut observers = no_observers(alloc);
+    let mut store = store_of(alloc, call)?;
+    ends(rt, alloc, &words, &mut store, call, &mut observers, gate)
 }
 
 /// Two records, each of which is a chunk, and two workers, who share the records out by their
@@ -146,6 +144,16 @@ const TWO: Call = Call {
     status: Status::Done,
     out: "user | n\na | 1\nb | 1\n--\n",
     err: "",
+};
+
+/// The same of 64 records of one group.
+const MANY: Call = Call {
+    log: "user\na\na\na\na\na\na\na\na\na\na\na\na\na\na\na\na\n\
+        a\na\na\na\na\na\na\na\na\na\na\na\na\na\na\na\n\
+        a\na\na\na\na\na\na\na\na\na\na\na\na\na\na\na\n\
+        a\na\na\na\na\na\na\na\na\na\na\na\na\na\na\na\n",
+    out: "user | n\na | 64\n--\n",
+    ..TWO
 };
 
 /// The same, but that the workers make runs.
@@ -170,6 +178,33 @@ fn two_workers_of_a_run_are_at_work_at_once(rt: HostRuntime) -> Result<(), Fail>
     Ok(())
 }
 
+// Whether a call over 64 chunks comes to what is said of it, each is claimed once, and the other
+// worker claims all from this one on while the worker of the first stretch is held.
+fn goes_through<T: Threads + Wait + Sync>(
+    rt: &T,
+    alloc: Global,
+    call: &Call,
+    from: u32,
+) -> Result<bool, NoMemory> {
+    let hold = Holder::new(Until::Others(from, 64), TURNS);
+    let gate = OpenGate { hold };
+    let is_so = holds(rt, alloc, call, &gate)?;
+    Ok(is_so && gate.hold.claimed_once(64) && !gate.hold.gave_up())
+}
+
+#[test]
+fn the_other_worker_of_a_run_takes_all_later_stretches(rt: HostRuntime) -> Result<(), Fail> {
+    let alloc = rt.alloc();
+    assert!(rt; goes_through(&rt, alloc, &MANY, 8)?);
+    let known = Call {
+        script: ONES,
+        out: "user | n\na | 1\n--\n",
+        ..MANY
+    };
+    assert!(rt; goes_through(&rt, alloc, &known, 16)?);
+    Ok(())
+}
+
 #[test]
 fn a_hold_on_the_only_worker_of_a_run_gives_up(rt: HostRuntime) -> Result<(), Fail> {
     let hold = Holder::new(Until::OtherWorker, FEW_TURNS);
@@ -182,8 +217,18 @@ fn a_hold_on_the_only_worker_of_a_run_gives_up(rt: HostRuntime) -> Result<(), Fa
     Ok(())
 }
 
+/// A run that is watched, over a log of which a row is no record.
+const WATCHED: Call = Call {
+    script: COUNTS,
+    words: &["run", "--chunk", "1", "--workers", "2", "--watch", "s", "f"],
+    log: "user\nc\na\nb\na,a\n",
+    status: Status::Done,
+    out: "user | n\nb | 4\n--\n",
+    err: "",
+};
+
 /// Calls whose gate shows each row as the one field `b`.
-const SHOWN: [Call; 6] = [
+const SHOWN: [Call; 10] = [
     Call {
         script: COUNTS,
         words: &["run", "s", "f"],
@@ -227,6 +272,34 @@ const SHOWN: [Call; 6] = [
         out: "",
         err: "symple: made: record 1: 1 fields\n",
     },
+    // Run files are of the rows that are shown, where rows of the file are records and where not.
+    Call {
+        script: FIVES,
+        words: &["map", "--chunk", "1", "--workers", "2", "s", "f"],
+        log: "user\nc\na\nb\na,a\n",
+        status: Status::Done,
+        out: "symple run 1\nscript 95\nfield user: word;\ngroup user;\nstate n: int [0..9] = 0;\n\
+            update {\n  n = 5;\n}\nreport {\n  n = n;\n}\nfirst 1\nnext 5\ngroups 1\nkey w1:b\n\
+            chain 1\nsegment 1\nwhen i0..9\nnext n5\nend\n",
+        err: "",
+    },
+    Call {
+        script: FIVES,
+        words: &["map", "--first", "7", "s", "f"],
+        log: "user,x\na,1\nb,2\n",
+        status: Status::Input,
+        out: "",
+        err: "symple: f: record 7: 1 fields\n",
+    },
+    WATCHED,
+    Call {
+        script: COUNTS,
+        words: &["run", "--chunk", "1", "--watch", "s", "f"],
+        log: "user,x\na,1\nb,2\n",
+        status: Status::Input,
+        out: "",
+        err: "symple: f: record 1: 1 fields\n",
+    },
     Call {
         script: COUNTS,
         words: &["check", "s"],
@@ -249,6 +322,77 @@ fn first_wrong<T: Threads + Wait + Sync>(
         }
     }
     Ok(None)
+}
+
+/// Notes how many partials it was told of: one for each, and a thousand more if it has the one row of
+/// the group `b`, with as many records as the border says.
+#[derive(Drop)]
+struct Counter {
+    told: Arc<AtomicU64>,
+    last: Option<u64>,
+}
+
+// Whether it is the row of the group `b` with so many records.
+fn is_of_b(row: &Row, records: u64) -> bool {
+    let is_b = match row.keys.as_slice() {
+        [Column::Word(text)] => text.as_bytes() == b"b".as_slice(),
+        _ => false,
+    };
+    match &row.body {
+        RowBody::Columns(columns) => {
+            is_b && columns.as_slice() == [Column::Num(i128::from(records))].as_slice()
+        }
+        RowBody::Over { .. } | RowBody::Arith { .. } => false,
+    }
+}
+
+impl Observer for Counter {
+    ghost use Rattle.std.specs.Prelude.{None};
+
+    ghost log = { λ _. None };
+
+    ghost last = { λ o. o.last };
+
+    fn tell(&mut self, _alloc: Global, partial: &Partial) -> Result<(), NoMemory> {
+        let more = match partial.rows.as_slice() {
+            [row] if is_of_b(row, partial.upto) => 1_001,
+            _ => 1,
+        };
+        let _before = self.told.fetch_add(more, Ordering::SeqCst);
+        self.last = Some(partial.upto);
+        Ok(())
+    }
+
+    fn last(&self) -> Option<u64> {
+        self.last
+    }
+}
+
+// Whether a call comes to what is said of it, and what its observer was told of.
+fn watched<T: Threads + Wait + Sync>(
+    rt: &T,
+    alloc: Global,
+    call: &Call,
+) -> Result<(bool, u64), NoMemory> {
+    let told = Arc::new(alloc, AtomicU64::new(0))?;
+    let observer: Box<dyn Observer + Send> = Box::new(
+        alloc,
+        Counter {
+            told: Arc::clone(&told)?,
+            last: None,
+        },
+    )?;
+    let mut observers = Vec::from_array(alloc, [observer])?;
+    let words = words_of(alloc, call)?;
+    let mut store = store_of(alloc, call)?;
+    let is_so = ends(rt, alloc, &words, &mut store, call, &mut observers, &ShowsB)?;
+    Ok((is_so, told.load(Ordering::SeqCst)))
+}
+
+#[test]
+fn partials_are_of_the_rows_that_the_gate_shows(rt: HostRuntime) -> Result<(), Fail> {
+    assert_eq!(rt; watched(&rt, rt.alloc(), &WATCHED)?, (true, 1_001));
+    Ok(())
 }
 
 #[test]
