@@ -1,5 +1,5 @@
 -- Parts one after the other, their runs and their starts.
-use Rattle.std.proofs.Common.{Vec, Global, ◌≡◌, ◌∙◌, ap, ap₂, sym, refl, subst, arith, ℕ, ◌+◌, ◌-◌, ◌≤◌, List, [], ◌∷◌, ◌++◌, append-nil, length, drop, Ok, Err}
+use Rattle.std.proofs.Common.{Vec, Global, ◌≡◌, ◌∙◌, ap, ap₂, sym, refl, subst, arith, ℕ, ◌+◌, ◌-◌, ◌≤◌, List, [], ◌∷◌, ◌++◌, append-nil, length, drop, Result, Ok, Err, IfOk}
 use Rattle.std.proofs.lemmas.List.{drop_all, take_all}
 use Rattle.std.specs.Map.{keys_of}
 use Rattle.std.specs.Prelude.{slice_range}
@@ -217,3 +217,8 @@ starting_all p every chunks first groups parts h =
     let all : all_records p chunks ≡ Ok h.records =
     h.are ∙ ap (λ (cs : List Chunk). in_turn (Ok h.records) (all_records p cs)) (drop_all (length chunks) chunks (omega arith)) ∙ ap Ok (append-nil h.records) in
     subst (λ (f : Found). StartsAll p every chunks f first (all_started.From parts) groups) (sym all) (h.ready, h.rows, h.led)
+
+-- What a run comes to whose first and last numbers are these.
+pub run_ended : {E : Type 0} (lo hi to : ℕ) (r : Result Run E) → lo ≡ 0 → hi ≡ to → IfOk r (IsFromTo lo hi) → IfOk r (IsFromTo 0 to)
+run_ended lo hi to (Ok run) from until ends = record { from = ends.from ∙ from; to = ends.to ∙ until }
+run_ended lo hi to (Err e) from until ends = tt

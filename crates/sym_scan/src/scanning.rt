@@ -8,6 +8,7 @@ ghost use Rattle.sym_check.specs.Meaning.Groups.{pass};
 ghost use Rattle.sym_table.specs.ChunkRecords.{all_records};
 ghost use Rattle.sym_table.specs.Rows.{FitsChunk};
 ghost use Rattle.sym_run.specs.Applying.{AreValid};
+ghost use Rattle.sym_run.specs.Runs.{IsFromTo, StandsForChunks};
 ghost use Rattle.sym_scan.specs.Parts.{AreParts, AreRuns, IsPart, IsReady, IsRunOf, part_rows};
 ghost use Rattle.sym_scan.specs.Scans.{IfDone, scanned_to, traced_to};
 
@@ -21,8 +22,11 @@ use sym_base::NoMemory;
 use sym_check::Checked;
 use sym_fork::map_vec;
 use sym_plain::Groups;
-use sym_run::of_chunks;
-use sym_table::{Bad, Chunk, Chunks};
+use sym_run::{Run, Stretch};
+use sym_table::{Bad, Chunk, Chunks, RowCursor};
+
+// The least number of records of a key that several workers keep as they are, each in its part.
+const KEPT_LEAST: u32 = 32;
 
 /// What a round comes to.
 #[derive(Drop)]
@@ -67,6 +71,41 @@ impl LendsScript for Checked {
     }
 }
 
+// How many records of a key are kept as they are, each in its part, before it explores them.
+// Stepping them is left to the one who applies the runs. They are twice as many as a segment may
+// have paths: a script that has a path more for every second record then is over the limit before a
+// segment covers them, so that its records aren't explored. Where one worker makes all runs, none
+// is.
+fn kept_most(workers: u32, limit: u32) -> u32 {
+    if workers == 1 {
+        return u32::MAX;
+    }
+    limit.saturating_mul(2).max(KEPT_LEAST)
+}
+
+// The run of chunks, which are taken one after the other. Of a key so many records are kept before
+// they are explored.
+fn run_chunks(
+    alloc: Global,
+    checked: &Checked,
+    chunks: &[Chunk],
+    limit: u32,
+    most: u32,
+) -> Result<Run, NoMemory>
+    requires fit { All (FitsChunk (checked_plan checked.now).fields) chunks.now }
+    requires few { length chunks.now ≤ 64 }
+    ensures ends { IfOk result (IsFromTo 0 (length chunks.now)) }
+    ensures stands { let p = checked_plan checked.now in
+        IfOk result (StandsForChunks p limit chunks.now) }
+{
+    let mut cursor = RowCursor::over(alloc, chunks)?;
+    let mut stretch = Stretch::new(alloc, 0, most);
+    'chunks: for chunk in chunks {
+        stretch.take_next(alloc, checked, &mut cursor, chunk, limit)?;
+    }
+    stretch.finish(alloc, checked, limit)
+}
+
 // The run of a part.
 fn run_part(
     alloc: Global,
@@ -74,13 +113,14 @@ fn run_part(
     chunks: &[Chunk],
     part: Part,
     limit: u32,
+    most: u32,
 ) -> Result<PartRun, NoMemory>
     requires fit { All (FitsChunk (checked_plan checked.now).fields) chunks.now }
     requires few { length chunks.now ≤ 64 }
     requires part { IsPart (length chunks.now) part }
     ensures { IfOk result (IsRunOf (checked_plan checked.now) limit chunks.now part) }
 {
-    let run = of_chunks(alloc, checked, part.of(chunks), limit)?;
+    let run = run_chunks(alloc, checked, part.of(chunks), limit, most)?;
     Ok(PartRun { part, run })
 }
 
@@ -135,6 +175,7 @@ fn run_all<T: Threads + Sync, S: LendsScript + Sync>(
     chunks: &[Chunk],
     parts: Vec<Part>,
     limit: u32,
+    most: u32,
 ) -> Result<Vec<PartRun>, NoMemory>
     requires fit { All (FitsChunk (checked_plan (S.lent lender.now)).fields) chunks.now }
     requires few { length chunks.now ≤ 64 }
@@ -151,7 +192,7 @@ fn run_all<T: Threads + Sync, S: LendsScript + Sync>(
                 × (length chunks.now ≤ 64) × IsPart (length chunks.now) part }
             ensures { let p = checked_plan (S.lent lender.entry.now) in
                 IfOk result (IsRunOf p limit chunks.entry.now part) }
-        { run_part(alloc, lender.script(), chunks, part, limit) },
+        { run_part(alloc, lender.script(), chunks, part, limit, most) },
     )?;
     values_of(alloc, done)
 }
@@ -207,7 +248,8 @@ fn scan_parts<T: Threads + Sync, S: LendsScript + Sync>(
         IfOk result (λ scanned. IfDone scanned (AreValid p)) }
 {
     let parts = parts(alloc, chunks.len(), workers)?;
-    let runs = run_all(rt, alloc, lender, chunks, parts, limit)?;
+    let most = kept_most(workers, limit);
+    let runs = run_all(rt, alloc, lender, chunks, parts, limit, most)?;
     let mut groups = groups;
     match start_all(alloc, lender.script(), runs, &mut groups)? {
         AllStarted::From(parts) => {

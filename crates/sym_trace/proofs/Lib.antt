@@ -1,3 +1,5 @@
 pub mod Keyed
 pub mod TracedRounds
 pub mod TraceTexts
+pub mod Numbers
+pub mod Hidden

@@ -71,7 +71,7 @@ more_rows tree p every before records rows e =
     ∙ map-append (trace_row tree p) (trace p every before) rows
 
 -- Their text, and whether one is faulty.
-rows_on : (tree : ScriptTree) (p : ScriptPlan) (every : ℕ) (texts : FormTexts) (begun text after : List ℕ) (faulty found new : Bool)
+pub rows_on : (tree : ScriptTree) (p : ScriptPlan) (every : ℕ) (texts : FormTexts) (begun text after : List ℕ) (faulty found new : Bool)
     (before records : List Record) (rows : List TraceRow) →
     rows ≡ trace_after p every before records → AreTraceRows tree p every texts begun text faulty before →
     after ≡ text ++ rows_text texts (trace_heads tree p) (map (trace_row tree p) rows) →

@@ -1,2 +1,3 @@
 pub mod TraceReports
 pub mod Tracing
+pub mod Showing

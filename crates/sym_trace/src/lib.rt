@@ -5,6 +5,7 @@ mod files;
 mod forms;
 mod rounds;
 mod rows;
+mod showing;
 mod writing;
 
 pub use files::{Traced, trace_files};
