@@ -1,5 +1,4 @@
 pub mod Keyed
 pub mod TracedRounds
 pub mod TraceTexts
-pub mod Numbers
-pub mod Hidden
+pub mod HiddenRounds
