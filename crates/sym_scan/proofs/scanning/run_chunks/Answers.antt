@@ -15,8 +15,7 @@ chunks-init c = record {
 
 pub take_next-requires-clause-rows : goal.take_next-requires-clause-rows
 take_next-requires-clause-rows c = λ none.
-    let chunks = c.args.chunks.now in
-    (
+    let chunks = c.args.chunks.now in (
       all_rows (drop (c.chunks.chunk-index + 1) chunks),
       next_chunk c.chunks.cursor chunks c.chunks.chunk-index c.chunk-item.result c.chunks-test.true c.chunk-item.is (c.chunks.invariant.left none),
     )
