@@ -84,7 +84,7 @@ const TRACE: Run = Run {
 };
 
 /// Scripts, the files that they are traced over, and the reports.
-const TRACES: [Run; 13] = [
+const TRACES: [Run; 15] = [
     Run {
         script: COUNTER,
         files: &["x\n5\n5\n5\n5\n5\n"],
@@ -120,6 +120,13 @@ const TRACES: [Run; 13] = [
         script: COUNTS,
         files: &[TWO_HUNDRED],
         out: "record | n\n50 | 50\n100 | 100\n150 | 150\n200 | 200\n--\n",
+        ..TRACE
+    },
+    Run {
+        words: &["trace", "count.symple", "log.csv", "--every=70"],
+        script: COUNTS,
+        files: &[TWO_HUNDRED],
+        out: "record | n\n70 | 70\n140 | 140\n--\n",
         ..TRACE
     },
     Run {
@@ -177,6 +184,20 @@ const TRACES: [Run; 13] = [
     },
     Run {
         words: &["trace", "count.symple", "log.csv", "second.csv"],
+        files: &["user\na\n", "user\na\na,b\na\n"],
+        status: Status::Input,
+        err: "symple: second.csv: record 3: 2 fields\n",
+        ..TRACE
+    },
+    Run {
+        words: &[
+            "trace",
+            "--every",
+            "9",
+            "count.symple",
+            "log.csv",
+            "second.csv",
+        ],
         files: &["user\na\n", "user\na\na,b\na\n"],
         status: Status::Input,
         err: "symple: second.csv: record 3: 2 fields\n",

@@ -1,12 +1,13 @@
 -- A round none of whose records is shown.
-use Rattle.std.proofs.Common.{◌≡◌, ◌∙◌, ap, sym, refl, subst, arith, ℕ, ◌+◌, ◌%◌, ◌==◌, ◌<◌, ◌≤◌, Bool, true, false, ◌||◌, if◌then◌else◌, List, [], ◌∷◌, ◌++◌, append-nil, length, Result, Ok, Err, IfOk}
+use Rattle.std.proofs.Common.{◌≡◌, ◌∙◌, ap, sym, refl, subst, arith, ℕ, ◌+◌, ◌%◌, ◌==◌, ◌<◌, ◌≤◌, Bool, false, if◌then◌else◌, List, [], ◌∷◌, ◌++◌, append-nil, length, Result, Ok, Err, IfOk}
+use Rattle.std.proofs.Math.Bool.{or-false}
+use Rattle.std.proofs.lemmas.Bool.{eqb-true, false_from_ne_true}
 use Rattle.std.specs.List.{All}
 use Rattle.std.proofs.lemmas.List.Elements.{All-append, All-cons, All-head, All-nil, All-tail}
 use Rattle.sym_base.specs.declared.values.record.Record.{Record}
 use Rattle.sym_base.specs.declared.values.value.Key.{Key}
 use Rattle.sym_base.specs.declared.values.value.Value.{Value}
 use Rattle.sym_base.specs.declared.values.state.Outcome.{Outcome}
-use Rattle.sym_check.proofs.SameKinds.{other_number}
 use Rattle.sym_check.specs.Meaning.Arithmetic.{and_then}
 use Rattle.sym_check.specs.Plan.ScriptPlans.{ScriptPlan}
 use Rattle.sym_table.specs.declared.bad.Bad.{Bad as BadRow}
@@ -23,9 +24,8 @@ use Rattle.sym_run.specs.declared.runs.Applied.TheVariants as applied
 use Rattle.sym_engine.specs.Rounds.{round_records}
 use Rattle.sym_engine.proofs.Folds.{plain_chunks}
 use Rattle.sym_engine.proofs.RoundRuns.{all_broken, all_led}
-use Rattle.sym_scan.specs.declared.rows.TraceRow.{TraceRow}
 use Rattle.sym_scan.specs.Traces.{from_initial, is_shown, row_after, rows_after, trace_after}
-use Rattle.sym_trace.specs.Showing.{IsNumberOf, ShowsNone}
+use Rattle.sym_trace.specs.Showing.{ShowsNone}
 use Rattle.sym_trace.specs.Tracing.{IsTracing, Tracer, Tracing}
 use Rattle.sym_trace.proofs.TracedRounds.{rows_on}
 
@@ -47,7 +47,7 @@ none_after p every begin before (rec ∷ rest) h =
 record_hidden : (every n : ℕ) (read : Result (List Value) BadCause) (others : Result (List Record) BadRow) → (n % every ≡ 0 → ⊥) → IfOk others (AreHidden every) →
     IfOk (and_then (λ rec. and_then (λ rest. Ok (rec ∷ rest)) others) (record_or_bad n read)) (AreHidden every)
 record_hidden every n (Ok values) (Ok rest) hidden all =
-    All-cons (λ (r : Record). is_shown every r ≡ false) (record { no = n; fields = values }) rest (other_number (n % every) 0 hidden) all
+    All-cons (λ (r : Record). is_shown every r ≡ false) (record { no = n; fields = values }) rest (false_from_ne_true (n % every == 0) (λ e. hidden (eqb-true (n % every) 0 e))) all
 record_hidden every n (Ok values) (Err why) hidden all = tt
 record_hidden every n (Err why) others hidden all = tt
 
@@ -78,10 +78,6 @@ records_hidden : (p : ScriptPlan) (every : ℕ) (cuts : List Chunk) (records : L
 records_hidden p every cuts records none e = subst (λ (found : Result (List Record) BadRow). IfOk found (AreHidden every)) e (chunks_hidden p every cuts none)
 
 -- ---- a round
-or_false : (b : Bool) → b ≡ (b || false)
-or_false true = refl
-or_false false = refl
-
 -- A round whose records are taken, and none of which is shown.
 pub round_hidden : (by : Tracing) (p : ScriptPlan) (cuts : List Chunk) (old : Tracer) (given new : List (Key × Outcome)) (found : Applied) →
     All (ShowsNone old.every) cuts → given ≡ old.groups → found ≡ applied_to p (all_records p cuts) given → IfDone found (AreValid p) → found ≡ applied.Done new →
@@ -108,7 +104,7 @@ round_hidden by p cuts old given new found none same is valid done =
             valid = on.valid;
             rows =
                 rows_on by.tree p by.every by.texts by.begun old.gathered old.gathered old.faulty false old.faulty before records [] rows h.rows
-                (sym (append-nil old.gathered)) refl (or_false old.faulty);
+                (sym (append-nil old.gathered)) refl (sym (or-false old.faulty));
           },
     )
 

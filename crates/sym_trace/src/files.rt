@@ -89,7 +89,8 @@ fn trace_rounds<S: Traces, T: Threads + Wait + Sync, F: Store>(
 /// form back, and says whether one of the rows is faulty.
 ///
 /// Rows are read as they are. A round is worked by parts, at once, by `scan_round` of `sym_scan`,
-/// and the rows of a round go to the form before the next round is worked on.
+/// and the rows of a round go to the form before the next round is worked on. A round of which no
+/// record is shown is worked as in a run, by `led` of `sym_engine`.
 ///
 /// # Errors
 ///

@@ -67,6 +67,7 @@ impl<'a, S: Traces> Rounds for TraceRounds<'a, S> {
     ) -> Result<Took, NoMemory> {
         let _plan = self.checked.plan();
         let groups = mem::replace(&mut self.groups, Groups::new(alloc));
+        // A round that shows no record has no rows, and is worked as in a run.
         if !any_shown(work.chunks.as_slice(), self.every) {
             return match led(rt, alloc, work, self.workers, groups, &Free)? {
                 Applied::Done(groups) => {

@@ -16,7 +16,7 @@ fn before_shown(no: u64, every: u64) -> u64
 }
 
 // Whether `every` divides the number of one of the chunk's rows.
-fn is_shown(chunk: &Chunk, every: u64) -> bool
+fn shows_one(chunk: &Chunk, every: u64) -> bool
     requires { 1 ≤ every }
     ensures some { result ≡ true → ShowsOne every chunk.now }
     ensures none { result ≡ false → ShowsNone every chunk.now }
@@ -31,7 +31,7 @@ pub(crate) fn any_shown(chunks: &[Chunk], every: u64) -> bool
     ensures none { result ≡ false → All (ShowsNone every) chunks.now }
 {
     'chunks: for chunk in chunks {
-        if is_shown(chunk, every) {
+        if shows_one(chunk, every) {
             return true;
         }
     }
