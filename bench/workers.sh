@@ -4,8 +4,9 @@
 # and how many users its log has; of a skewed log half of the records are of ten users, and half of
 # 100,000 others. All come to the same groups, and symple writes the same report in each way.
 # The programs take turns, nine of them (TURNS sets another number), since machines change their
-# speed within minutes; mawk, gawk and Rust run in the first three alone. A ratio is taken turn by turn, to the sequential pass of that turn, and its
-# median is printed, of several workers with that of the processor time in brackets. What the
+# speed within minutes; mawk, gawk and Rust run in the first three alone (PEER_TURNS sets another
+# number). A ratio is taken turn by turn, to the sequential pass of that turn, and its median is
+# printed, of several workers with that of the processor time in brackets. What the
 # machine gives at that time is in the column "4 at once": four runs with one worker that are begun
 # together, to one such run. The last column has the size of the log, and the median of the memory
 # with 1 and 4 workers.
@@ -33,7 +34,7 @@ limit=16
 most_bytes=268435456
 ways="sequential 1 2 4 together"
 peers="mawk gawk rust"
-peer_turns=3
+peer_turns=${PEER_TURNS:-3}
 rustc -O -o "$work/runs" "$here/runs.rs"
 
 # write_log SCRIPT USERS
