@@ -5,13 +5,9 @@
 #[cfg(test)]
 mod calls;
 #[cfg(test)]
-mod comparer;
-#[cfg(test)]
 mod courses;
 #[cfg(test)]
 mod given;
-#[cfg(test)]
-mod groups;
 #[cfg(test)]
 mod meeting;
 #[cfg(test)]

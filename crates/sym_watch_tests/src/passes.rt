@@ -2,8 +2,9 @@
 ghost use Rattle.std.specs.Prelude.{◌≤◌};
 ghost use Rattle.sym_engine.specs.Options.{InRange};
 
-use crate::noter::{Borders, noter_into};
+use crate::noter::noter_into;
 use std::alloc::{AllocError, Global};
+use std::sync::atomic::{AtomicU64, Ordering};
 use std::sync::{Arc, Wait};
 use std::test::Fail;
 use std::thread::Threads;
@@ -30,7 +31,7 @@ struct Course {
 // What a course came to: the borders that each of two observers was told of, and the last ones.
 #[derive(Clone, Copy, Debug, PartialEq, Eq)]
 struct Came {
-    told: ([u64; 6], [u64; 6]),
+    told: (u64, u64),
     last: (Option<u64>, Option<u64>),
     answer: Result<usize, Stopped>,
 }
@@ -41,16 +42,7 @@ enum Stopped {
     Bad(u64),
     NoMemory,
     Other,
-    // The script is refused, or workers or names are out of their ranges.
-    NoPass,
 }
-
-// What comes of no pass.
-const NO_PASS: Came = Came {
-    told: ([0; 6], [0; 6]),
-    last: (None, None),
-    answer: Err(Stopped::NoPass),
-};
 
 // The script of a text; `None` if the text is refused.
 fn accepted(alloc: Global, text: &str) -> Option<Checked> {
@@ -110,13 +102,11 @@ fn watched<T: Threads + Wait + Sync>(
     course: &Course,
     workers: u32,
 ) -> Result<Came, NoMemory> {
-    let Some(checked) = accepted(alloc, COUNTER) else {
-        return Ok(NO_PASS);
-    };
+    let checked = accepted(alloc, COUNTER).ok_or(NoMemory)?;
     let mut files = store_of(alloc, course)?;
     let names = names_of(alloc)?;
-    let first = Arc::new(alloc, Borders::none())?;
-    let second = Arc::new(alloc, Borders::none())?;
+    let first = Arc::new(alloc, AtomicU64::new(0))?;
+    let second = Arc::new(alloc, AtomicU64::new(0))?;
     let mut observers: Vec<Box<dyn Observer + Send>> = Vec::new(alloc);
     observers.push(Box::new(alloc, noter_into(&first, 1_000_000)?)?)?;
     observers.push(Box::new(alloc, noter_into(&second, course.refused)?)?)?;
@@ -127,7 +117,7 @@ fn watched<T: Threads + Wait + Sync>(
         max_bytes: FILE_MAX_DEFAULT,
     };
     if workers < 1 || workers > 64 || names.len() > 3 {
-        return Ok(NO_PASS);
+        return Err(NoMemory);
     }
     let gate = OpenGate { hold: Free };
     let names = names.as_slice();
@@ -146,7 +136,7 @@ fn watched<T: Threads + Wait + Sync>(
         _ => (None, None),
     };
     Ok(Came {
-        told: (first.told(), second.told()),
+        told: (first.load(Ordering::SeqCst), second.load(Ordering::SeqCst)),
         last,
         answer: match answer {
             Ok(groups) => Ok(groups.len()),
@@ -165,7 +155,7 @@ const COURSES: [(Course, Came); 6] = [
             refused: 1_000_000,
         },
         Came {
-            told: ([64, 128, 130, 0, 0, 0], [64, 128, 130, 0, 0, 0]),
+            told: (64_128_130, 64_128_130),
             last: (Some(130), Some(130)),
             answer: Ok(1),
         },
@@ -178,7 +168,7 @@ const COURSES: [(Course, Came); 6] = [
             refused: 1_000_000,
         },
         Came {
-            told: ([64, 70, 134, 140, 0, 0], [64, 70, 134, 140, 0, 0]),
+            told: (64_070_134_140, 64_070_134_140),
             last: (Some(140), Some(140)),
             answer: Ok(1),
         },
@@ -191,7 +181,7 @@ const COURSES: [(Course, Came); 6] = [
             refused: 1_000_000,
         },
         Came {
-            told: ([64, 0, 0, 0, 0, 0], [64, 0, 0, 0, 0, 0]),
+            told: (64, 64),
             last: (Some(64), Some(64)),
             answer: Err(Stopped::Bad(100)),
         },
@@ -204,7 +194,7 @@ const COURSES: [(Course, Came); 6] = [
             refused: 1_000_000,
         },
         Came {
-            told: ([64, 128, 130, 194, 0, 0], [64, 128, 130, 194, 0, 0]),
+            told: (64_128_130_194, 64_128_130_194),
             last: (Some(194), Some(194)),
             answer: Err(Stopped::Bad(201)),
         },
@@ -217,7 +207,7 @@ const COURSES: [(Course, Came); 6] = [
             refused: 128,
         },
         Came {
-            told: ([64, 128, 0, 0, 0, 0], [64, 0, 0, 0, 0, 0]),
+            told: (64_128, 64),
             last: (Some(128), Some(64)),
             answer: Err(Stopped::NoMemory),
         },
@@ -230,7 +220,7 @@ const COURSES: [(Course, Came); 6] = [
             refused: 130,
         },
         Came {
-            told: ([64, 128, 130, 0, 0, 0], [64, 128, 0, 0, 0, 0]),
+            told: (64_128_130, 64_128),
             last: (Some(130), Some(128)),
             answer: Err(Stopped::NoMemory),
         },

@@ -1,7 +1,8 @@
 //! Whole runs with observers: what each comes to, and what they are told of.
 use crate::calls::{COUNTS, Ended, call, log_of, words_of};
-use crate::noter::{Borders, noter_into};
+use crate::noter::noter_into;
 use std::alloc::Global;
+use std::sync::atomic::{AtomicU64, Ordering};
 use std::sync::{Arc, Wait};
 use std::test::Fail;
 use std::thread::Threads;
@@ -35,13 +36,13 @@ struct Call {
 }
 
 /// What it comes to: its end, the borders that the observer was told of, each with the report of
-/// one group of as many records, and the last one.
+/// one group of as many records, as three digits each, and the last one.
 #[derive(Clone, Copy)]
 struct Came {
     status: Status,
     out: &'static str,
     err: &'static str,
-    told: [u64; 6],
+    told: u64,
     last: Option<u64>,
 }
 
@@ -60,7 +61,7 @@ const UNTOLD: Came = Came {
     status: Status::Done,
     out: "",
     err: "",
-    told: [0, 0, 0, 0, 0, 0],
+    told: 0,
     last: None,
 };
 
@@ -71,7 +72,7 @@ const CALLS: [(Call, Came); 20] = [
             status: Status::Done,
             out: "user | n\na | 130\n--\n",
             err: "",
-            told: [64, 128, 130, 0, 0, 0],
+            told: 64_128_130,
             last: Some(130),
         },
     ),
@@ -84,7 +85,7 @@ const CALLS: [(Call, Came); 20] = [
         Came {
             status: Status::Input,
             err: "symple: f: record 100: 2 fields\n",
-            told: [64, 0, 0, 0, 0, 0],
+            told: 64,
             last: Some(64),
             ..UNTOLD
         },
@@ -108,7 +109,7 @@ const CALLS: [(Call, Came); 20] = [
         Came {
             status: Status::Input,
             err: "symple: f: record 129: 2 fields\n",
-            told: [64, 128, 0, 0, 0, 0],
+            told: 64_128,
             last: Some(128),
             ..UNTOLD
         },
@@ -152,7 +153,7 @@ const CALLS: [(Call, Came); 20] = [
         Came {
             status: Status::NoMemory,
             err: "symple: out of memory\n",
-            told: [64, 0, 0, 0, 0, 0],
+            told: 64,
             last: Some(64),
             ..UNTOLD
         },
@@ -165,7 +166,7 @@ const CALLS: [(Call, Came); 20] = [
         Came {
             status: Status::NoMemory,
             err: "symple: out of memory\n",
-            told: [64, 128, 0, 0, 0, 0],
+            told: 64_128,
             last: Some(128),
             ..UNTOLD
         },
@@ -179,7 +180,7 @@ const CALLS: [(Call, Came); 20] = [
         },
         Came {
             out: "user | n\na | 140\n--\n",
-            told: [64, 70, 134, 140, 0, 0],
+            told: 64_070_134_140,
             last: Some(140),
             ..UNTOLD
         },
@@ -221,7 +222,7 @@ const CALLS: [(Call, Came); 20] = [
         Came {
             status: Status::ReadFault,
             err: "symple: f: read fault\n",
-            told: [64, 70, 0, 0, 0, 0],
+            told: 64_070,
             last: Some(70),
             ..UNTOLD
         },
@@ -351,7 +352,7 @@ fn holds<T: Threads + Wait + Sync>(
 ) -> Result<bool, NoMemory> {
     let words = words_of(alloc, of.words)?;
     let mut store = store_of(alloc, of)?;
-    let told = Arc::new(alloc, Borders::none())?;
+    let told = Arc::new(alloc, AtomicU64::new(0))?;
     let observer: Box<dyn Observer + Send> = Box::new(alloc, noter_into(&told, of.refused)?)?;
     let mut observers = Vec::from_array(alloc, [observer])?;
     let gate = OpenGate { hold: Free };
@@ -360,7 +361,7 @@ fn holds<T: Threads + Wait + Sync>(
         [observer] => observer.last(),
         _ => Some(NEVER),
     };
-    Ok(is_end(&ended, came) && told.told() == came.told && last == came.last)
+    Ok(is_end(&ended, came) && told.load(Ordering::SeqCst) == came.told && last == came.last)
 }
 
 // The place of the first call that comes to something else, counted from 0.
