@@ -14,7 +14,7 @@ use Rattle.sym_run.specs.Chained.{Chained}
 use Rattle.sym_plain.specs.Pairs.{put}
 use Rattle.sym_plain.proofs.Puts.{lookup-put, lookup-put-same}
 use Rattle.sym_run.specs.Chains.{ChainStandsFor}
-use Rattle.sym_run.specs.Growing.{AreJoined, FoundIsClosed, FoundStands, FoundStandsFor, Grows, GrowsByChain}
+use Rattle.sym_run.specs.Growing.{AreJoined, FoundIsClosed, FoundStands, FoundStandsFor, Grows}
 use Rattle.sym_run.specs.Kinds.{EachFits, EachIsClosed, EachIsTight, EachStandsFor, Kind}
 use Rattle.sym_run.proofs.GroupPuts.{absent_key, all_found, all_put, keys-put}
 
@@ -95,7 +95,7 @@ taken_all p first rest k = ap (λ (rs : List Record). records_of p k first ++ rs
 
 module _ {C : Type 0} (kind : Kind C) (p : ScriptPlan) (limit : ℕ) (first rest : List Record) where
   -- What was found for a key stands for its records among the first ones.
-  found_stands : (done : List Key) (k : Key) (old : List (Key × C)) → is_among k done ≡ false → AreJoined kind p first rest done old
+  pub found_stands : (done : List Key) (k : Key) (old : List (Key × C)) → is_among k done ≡ false → AreJoined kind p first rest done old
       → FoundStands kind p (records_of p k first) (lookup (is_key k) old)
   found_stands done k old apart h = of (lookup (is_key k) old) refl
     where
@@ -179,9 +179,11 @@ pub take_none : (p : ScriptPlan) (left : Chains) → TakeOn p left [] left
 take_none p left key first rest h none =
     subst (λ (rs : List Record). FoundStandsFor p rs (lookup (is_key key) left)) (sym (ap (λ (rs : List Record). first ++ rs) none ∙ append-nil first)) h
 
-pub take_more : (p : ScriptPlan) (limit : ℕ) (left done old new : Chains) (k : Key) (chain : Chained) → is_among k (keys_of done) ≡ false
-    → GrowsByChain p limit k chain old new → TakeOn p left done old → TakeOn p left (done ++ (k, chain) ∷ []) new
-take_more p limit left done old new k chain apart g h key first rest a b = of (is_key key k) refl
+pub take_more : (p : ScriptPlan) (left done old new : Chains) (k : Key) (chain made : Chained) → is_among k (keys_of done) ≡ false
+    → new ≡ put old k made
+    → ((first rest : List Record) → FoundStandsFor p first (lookup (is_key k) old) → ChainStandsFor p rest chain → ChainStandsFor p (first ++ rest) made)
+    → TakeOn p left done old → TakeOn p left (done ++ (k, chain) ∷ []) new
+take_more p left done old new k chain made apart is stands h key first rest a b = of (is_key key k) refl
   where
     of : (t : Bool) → is_key key k ≡ t → FoundStandsFor p (first ++ rest) (lookup (is_key key) new)
     of true e =
@@ -194,13 +196,13 @@ take_more p limit left done old new k chain apart g h key first rest a b = of (i
         let before : FoundStandsFor p first (lookup (is_key key) old) =
         subst (λ (rs : List Record). FoundStandsFor p rs (lookup (is_key key) old)) (append-nil first)
         (h key first [] a (subst (FoundStandsFor p []) (sym none) refl)) in
-        let now : lookup (is_key key) new ≡ Some g.chain = rw (same, g.is) (lookup-put-same k g.chain old) in
+        let now : lookup (is_key key) new ≡ Some made = rw (same, is) (lookup-put-same k made old) in
         subst (FoundStandsFor p (first ++ rest)) (sym now)
-        (g.stands first rest (subst (λ (i : Key). FoundStandsFor p first (lookup (is_key i) old)) same before) adds)
+        (stands first rest (subst (λ (i : Key). FoundStandsFor p first (lookup (is_key i) old)) same before) adds)
     of false e =
         let found : lookup (is_key key) (done ++ (k, chain) ∷ []) ≡ lookup (is_key key) done =
         lookup-last key k chain done ∙ ap (λ (t : Bool). of_more (lookup (is_key key) done) (cond t (Some chain) None)) e ∙ more_none (lookup (is_key key) done) in
-        let now : lookup (is_key key) new ≡ lookup (is_key key) old = ap (lookup (is_key key)) g.is ∙ lookup-put key k g.chain old e in
+        let now : lookup (is_key key) new ≡ lookup (is_key key) old = ap (lookup (is_key key)) is ∙ lookup-put key k made old e in
         subst (FoundStandsFor p (first ++ rest)) (sym now) (h key first rest a (subst (FoundStandsFor p rest) found b))
 
 -- ---- what a key that takes on records keeps of all groups

@@ -4,6 +4,7 @@ pub mod ChainCuts
 pub mod ChainLeads
 pub mod ChainsShared
 pub mod ClosedGroups
+pub mod ClosedJoins
 pub mod CutRecords
 pub mod EmptyWords
 pub mod FoundRecords
@@ -14,6 +15,7 @@ pub mod LawfulGroups
 pub mod LedGroups
 pub mod OpenGroups
 pub mod OpenedChains
+pub mod PairsThere
 pub mod Stepping
 pub mod TakenGroups
 pub mod TakenRecords

@@ -80,7 +80,7 @@ joining_on p limit left right others old new q h distinct g =
           ap keys_of g.is
           ∙ grown_keys (keys_of left) (keys_of h.done) q.0 old g.chain apart h.keys_are
           ∙ ap (λ (ks : List Key). keys_of left ++ not_among (keys_of left) ks) (sym (keys-both h.done (q ∷ [])));
-      take = take_more p limit left h.done old new q.0 q.1 apart g h.take;
+      take = take_more p left h.done old new q.0 q.1 g.chain apart g.is g.stands h.take;
     }
 
 pub joining_all : (p : ScriptPlan) (limit : ℕ) (left right groups : Chains) → IsJoining p limit left right [] groups → (first rest : List Record) → GroupsStandFor p first left → GroupsStandFor p rest right

@@ -2,6 +2,7 @@ pub mod Applying
 pub mod Bracketing
 pub mod Chained
 pub mod Chains
+pub mod ClosedJoins
 pub mod Covering
 pub mod Growing
 pub mod Holding
