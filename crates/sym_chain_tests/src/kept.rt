@@ -8,12 +8,13 @@ use crate::logs::{SUMS, TOGGLE};
 use crate::setting::{Case, check_cases, chunks_of, passed, same_groups};
 use Log::{Sums, Turns};
 use std::alloc::Global;
+use std::slice;
 use std::test::Fail;
 use sym_base::NoMemory;
 use sym_check::Checked;
 use sym_plain::Groups;
 use sym_run::{Applied, Chain, Run, RunGroups, Stretch};
-use sym_table::Chunk;
+use sym_table::{Chunk, RowCursor};
 
 /// A log of one group.
 #[derive(Clone, Copy)]
@@ -68,8 +69,9 @@ fn stretched(
     ensures tight { IfOk result (λ run. run.bad ≡ None →
         AreTight (checked_plan checked.now) limit run.groups) }
 {
+    let mut cursor = RowCursor::over(alloc, slice::from_ref(chunk))?;
     let mut stretch = Stretch::new(alloc, 0, most);
-    stretch.take(alloc, checked, chunk, limit)?;
+    stretch.take(alloc, checked, &mut cursor, chunk, limit)?;
     stretch.finish(alloc, checked, limit)
 }
 

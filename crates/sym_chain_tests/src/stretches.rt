@@ -102,7 +102,9 @@ fn run_of(
 {
     let mut stretch = Stretch::new(alloc, first, way.most);
     'chunks: for number in first..end {
-        stretch.take(alloc, checked, &chunks[number as usize], way.limit)?;
+        let chunk = &chunks[number as usize];
+        let mut cursor = RowCursor::over(alloc, slice::from_ref(chunk))?;
+        stretch.take(alloc, checked, &mut cursor, chunk, way.limit)?;
     }
     stretch.finish(alloc, checked, way.limit)
 }

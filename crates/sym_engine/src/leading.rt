@@ -19,13 +19,13 @@ ghost use Rattle.sym_engine.specs.Rounds.{AreWorkers, IsLimit, IsRound};
 use crate::rounds::Work;
 use crate::sharing::are_shared_out;
 use crate::stretches::{LendsStretches, Stretches};
-use crate::workers::{kept_most, run_between};
+use crate::workers::run_between;
 use std::alloc::Global;
 use std::thread::Threads;
 use sym_base::NoMemory;
 use sym_fork::map_claimed;
 use sym_plain::Groups;
-use sym_run::{Applied, Run};
+use sym_run::{Applied, Run, kept_most};
 use sym_shuffle::{Enter, folded, shuffled};
 use sym_table::Bad;
 

@@ -15,23 +15,12 @@ use std::thread::Threads;
 use sym_base::NoMemory;
 use sym_board::{Board, Made, Pass, Piece};
 use sym_fork::map_vec;
-use sym_run::{Run, Stretch};
+use sym_run::{Run, Stretch, kept_most};
 use sym_shuffle::Enter;
 use sym_table::{Chunk, RowCursor};
 
 /// Into how many stretches a round is cut for each worker.
 const STRETCHES: u32 = 1;
-
-// The least number of records of a key that several workers keep as they are, each in its stretch.
-const KEPT_LEAST: u32 = 32;
-
-/// How many records of a key several workers keep as they are, each in its stretch, before it
-/// explores them. Stepping them is left to the one who applies the runs. They are twice as many as
-/// a segment may have paths: a script that has a path more for every second record then is over the
-/// limit before a segment covers them, so that its records aren't explored.
-pub(crate) fn kept_most(limit: u32) -> u32 {
-    limit.saturating_mul(2).max(KEPT_LEAST)
-}
 
 // The chunks from `first` up to but without `end`.
 fn between(chunks: &[Chunk], first: usize, end: usize) -> &[Chunk]
@@ -66,7 +55,7 @@ pub(crate) fn run_between<E: Enter>(
     'chunks: for number in first..end {
         hold.enter(worker, number);
         let chunk = &chunks[number as usize];
-        stretch.take_next(alloc, &work.checked, &mut cursor, chunk, work.limit)?;
+        stretch.take(alloc, &work.checked, &mut cursor, chunk, work.limit)?;
     }
     stretch.finish(alloc, &work.checked, work.limit)
 }

@@ -13,10 +13,11 @@ use crate::chunks::of_chunk;
 use crate::runs::{Applied, Run};
 use crate::stretches::Stretch;
 use std::alloc::Global;
+use std::slice;
 use sym_base::NoMemory;
 use sym_check::Checked;
 use sym_plain::Groups;
-use sym_table::Chunk;
+use sym_table::{Chunk, RowCursor};
 
 /// An order in which the runs of consecutive chunks are joined.
 #[derive(Drop)]
@@ -45,8 +46,9 @@ fn keep_chunk(
     ensures stands { (chunks : List OneChunk) → slice_get chunks number ≡ Some chunk.now →
         IfOk result (StandsForChunks (checked_plan checked.now) limit chunks) }
 {
+    let mut cursor = RowCursor::over(alloc, slice::from_ref(chunk))?;
     let mut stretch = Stretch::new(alloc, number, most);
-    stretch.take(alloc, checked, chunk, limit)?;
+    stretch.take(alloc, checked, &mut cursor, chunk, limit)?;
     stretch.finish(alloc, checked, limit)
 }
 

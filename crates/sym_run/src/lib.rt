@@ -37,4 +37,4 @@ pub use run_groups::RunGroups;
 pub use runs::{Applied, Run};
 pub use saved::Saved;
 pub use steps::Stepper;
-pub use stretches::Stretch;
+pub use stretches::{Stretch, kept_most};

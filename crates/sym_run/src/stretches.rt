@@ -14,10 +14,22 @@ use crate::open_runs::OpenRun;
 use crate::runs::Run;
 use std::alloc::Global;
 use std::marker::Model;
-use std::{mem, slice};
+use std::mem;
 use sym_base::NoMemory;
 use sym_check::Checked;
 use sym_table::{Chunk, RowCursor};
+
+/// The least number of records of a key that are kept where several threads make runs.
+const KEPT_LEAST: u32 = 32;
+
+/// How many records of a key a stretch keeps as they are, before it explores them, where several
+/// threads make runs under this path limit: stepping them is left to the one who applies the runs.
+/// They are twice as many as a segment may have paths: a script that has a path more for every
+/// second record then is over the limit before a segment covers them, so that its records aren't
+/// explored.
+pub fn kept_most(limit: u32) -> u32 {
+    limit.saturating_mul(2).max(KEPT_LEAST)
+}
 
 /// The run of neighbouring chunks, which are taken one after the other. A contract sees the numbers
 /// of those so far, an open chain for each key, and the first row that is no record.
@@ -72,36 +84,10 @@ impl Stretch {
         }
     }
 
-    /// Takes the next chunk. Each row that is a record is taken into the chain of its key, up to
-    /// the first that is none. After an `Err` it is unspecified.
+    /// Takes the next chunk, whose rows the cursor has next. Each row that is a record is taken into
+    /// the chain of its key, up to the first that is none. Unless there is such a row, the cursor has
+    /// the rows after the chunk's next. After an `Err` the stretch and the cursor are unspecified.
     pub fn take(
-        &mut self,
-        alloc: Global,
-        checked: &Checked,
-        chunk: &Chunk,
-        limit: u32,
-    ) -> Result<(), NoMemory>
-        requires chunk { FitsChunk (checked_plan checked.now).fields chunk.now }
-        requires number { self.old.hi < 64 }
-        requires fits { OpenGroupsFit (checked_plan checked.now) self.old.groups }
-        requires tight { self.old.bad ≡ None →
-            OpenGroupsAreTight (checked_plan checked.now) limit self.old.groups }
-        ensures chunks { OnOk result (IsOpenFromTo self.old.lo (self.old.hi + 1) self.new) }
-        ensures fits { OnOk result (OpenGroupsFit (checked_plan checked.now) self.new.groups) }
-        ensures tight { OnOk result (self.new.bad ≡ None →
-            OpenGroupsAreTight (checked_plan checked.now) limit self.new.groups) }
-        ensures stands { (chunks : List OneChunk) →
-            OpenStandsForChunks (checked_plan checked.now) limit chunks self.old →
-            slice_get chunks self.old.hi ≡ Some chunk.now →
-            OnOk result (OpenStandsForChunks (checked_plan checked.now) limit chunks self.new) }
-    {
-        let mut cursor = RowCursor::over(alloc, slice::from_ref(chunk))?;
-        self.take_next(alloc, checked, &mut cursor, chunk, limit)
-    }
-
-    /// As `take`, where the cursor has the chunk's rows next. Unless a row is no record, it has
-    /// those after them afterwards.
-    pub fn take_next(
         &mut self,
         alloc: Global,
         checked: &Checked,

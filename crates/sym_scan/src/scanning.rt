@@ -22,11 +22,8 @@ use sym_base::NoMemory;
 use sym_check::Checked;
 use sym_fork::map_vec;
 use sym_plain::Groups;
-use sym_run::{Run, Stretch};
+use sym_run::{Run, Stretch, kept_most};
 use sym_table::{Bad, Chunk, Chunks, RowCursor};
-
-// The least number of records of a key that several workers keep as they are, each in its part.
-const KEPT_LEAST: u32 = 32;
 
 /// What a round comes to.
 #[derive(Drop)]
@@ -71,16 +68,13 @@ impl LendsScript for Checked {
     }
 }
 
-// How many records of a key are kept as they are, each in its part, before it explores them.
-// Stepping them is left to the one who applies the runs. They are twice as many as a segment may
-// have paths: a script that has a path more for every second record then is over the limit before a
-// segment covers them, so that its records aren't explored. Where one worker makes all runs, none
-// is.
-fn kept_most(workers: u32, limit: u32) -> u32 {
+// How many records of a key a part keeps before it explores them. Where one worker makes all runs,
+// none is explored.
+fn kept_by(workers: u32, limit: u32) -> u32 {
     if workers == 1 {
         return u32::MAX;
     }
-    limit.saturating_mul(2).max(KEPT_LEAST)
+    kept_most(limit)
 }
 
 // The run of chunks, which are taken one after the other. Of a key so many records are kept before
@@ -101,7 +95,7 @@ fn run_chunks(
     let mut cursor = RowCursor::over(alloc, chunks)?;
     let mut stretch = Stretch::new(alloc, 0, most);
     'chunks: for chunk in chunks {
-        stretch.take_next(alloc, checked, &mut cursor, chunk, limit)?;
+        stretch.take(alloc, checked, &mut cursor, chunk, limit)?;
     }
     stretch.finish(alloc, checked, limit)
 }
@@ -248,7 +242,7 @@ fn scan_parts<T: Threads + Sync, S: LendsScript + Sync>(
         IfOk result (λ scanned. IfDone scanned (AreValid p)) }
 {
     let parts = parts(alloc, chunks.len(), workers)?;
-    let most = kept_most(workers, limit);
+    let most = kept_by(workers, limit);
     let runs = run_all(rt, alloc, lender, chunks, parts, limit, most)?;
     let mut groups = groups;
     match start_all(alloc, lender.script(), runs, &mut groups)? {

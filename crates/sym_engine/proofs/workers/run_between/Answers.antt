@@ -15,8 +15,8 @@ chunks-init g c = record {
       c.in_ok-cursor.ensures ∙ ap (λ (cuts : List Chunk). Some (all_rows cuts)) (c.between.ensures ∙ ap (λ (cuts : List Chunk). slice_range cuts c.args.first c.args.end) c.as_slice-chunks.ensures);
 }
 
-pub take_next-requires-clause-rows : goal.take_next-requires-clause-rows
-take_next-requires-clause-rows g c = λ none.
+pub take-requires-clause-rows : goal.take-requires-clause-rows
+take-requires-clause-rows g c = λ none.
     let cuts = c.args.work.now.chunks in
     let items = c.as_slice-chunks.result.now in
     let within : c.args.end ≤ length cuts = c.requires.within in (
@@ -33,13 +33,13 @@ chunks-preserved g c =
     chunk_at cuts items c.chunks.number c.index-chunks-number.result c.as_slice-chunks.ensures near c.index-chunks-number.is in
     record {
       ends = record {
-        from = c.in_ok-take_next.ensures.chunks.from ∙ c.chunks.invariant.ends.from;
-        to = c.in_ok-take_next.ensures.chunks.to ∙ ap (λ (n : ℕ). n + 1) c.chunks.invariant.ends.to;
+        from = c.in_ok-take.ensures.chunks.from ∙ c.chunks.invariant.ends.from;
+        to = c.in_ok-take.ensures.chunks.to ∙ ap (λ (n : ℕ). n + 1) c.chunks.invariant.ends.to;
       };
-      tight = c.in_ok-take_next.ensures.tight;
-      stands = c.in_ok-take_next.ensures.stands cuts c.chunks.invariant.stands (ap (slice_get cuts) c.chunks.invariant.ends.to ∙ at);
+      tight = c.in_ok-take.ensures.tight;
+      stands = c.in_ok-take.ensures.stands cuts c.chunks.invariant.stands (ap (slice_get cuts) c.chunks.invariant.ends.to ∙ at);
       left = λ none.
-          let passed = c.in_ok-take_next.ensures.passes none in
+          let passed = c.in_ok-take.ensures.passes none in
           passed.1 (all_rows (slice_range cuts (c.chunks.number + 1) c.args.end))
           (next_between c.chunks.cursor cuts items c.chunks.number c.args.end c.index-chunks-number.result c.as_slice-chunks.ensures c.chunks-test.true c.requires.within c.index-chunks-number.is (c.chunks.invariant.left passed.0));
     }

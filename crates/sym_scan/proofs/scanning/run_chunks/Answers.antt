@@ -13,8 +13,8 @@ chunks-init c = record {
   left = λ none. c.in_ok-cursor.ensures;
 }
 
-pub take_next-requires-clause-rows : goal.take_next-requires-clause-rows
-take_next-requires-clause-rows c = λ none.
+pub take-requires-clause-rows : goal.take-requires-clause-rows
+take-requires-clause-rows c = λ none.
     let chunks = c.args.chunks.now in (
       all_rows (drop (c.chunks.chunk-index + 1) chunks),
       next_chunk c.chunks.cursor chunks c.chunks.chunk-index c.chunk-item.result c.chunks-test.true c.chunk-item.is (c.chunks.invariant.left none),
@@ -26,13 +26,13 @@ chunks-preserved c =
     let at : slice_get chunks c.chunks.chunk-index ≡ Some c.chunk-item.result = slice_get_read chunks (length chunks) c.chunks.chunk-index c.chunk-item.result refl c.chunks-test.true c.chunk-item.is in
     record {
       ends = record {
-        from = c.in_ok-take_next.ensures.chunks.from ∙ c.chunks.invariant.ends.from;
-        to = c.in_ok-take_next.ensures.chunks.to ∙ ap (λ (n : ℕ). n + 1) c.chunks.invariant.ends.to;
+        from = c.in_ok-take.ensures.chunks.from ∙ c.chunks.invariant.ends.from;
+        to = c.in_ok-take.ensures.chunks.to ∙ ap (λ (n : ℕ). n + 1) c.chunks.invariant.ends.to;
       };
-      tight = c.in_ok-take_next.ensures.tight;
-      stands = c.in_ok-take_next.ensures.stands chunks c.chunks.invariant.stands (ap (slice_get chunks) c.chunks.invariant.ends.to ∙ at);
+      tight = c.in_ok-take.ensures.tight;
+      stands = c.in_ok-take.ensures.stands chunks c.chunks.invariant.stands (ap (slice_get chunks) c.chunks.invariant.ends.to ∙ at);
       left = λ none.
-          let passed = c.in_ok-take_next.ensures.passes none in
+          let passed = c.in_ok-take.ensures.passes none in
           passed.1 (all_rows (drop (c.chunks.chunk-index + 1) chunks))
           (next_chunk c.chunks.cursor chunks c.chunks.chunk-index c.chunk-item.result c.chunks-test.true c.chunk-item.is (c.chunks.invariant.left passed.0));
     }
