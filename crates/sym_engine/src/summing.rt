@@ -9,7 +9,7 @@ use std::mem;
 use std::sync::Wait;
 use std::thread::Threads;
 use sym_base::NoMemory;
-use sym_run::{RunGroups, join_groups};
+use sym_run::{RunGroups, join_and_close};
 
 /// The groups of the runs of the rounds so far, whose chains keep no records, the gate that has the
 /// run of each round made, and how many workers make it.
@@ -53,9 +53,15 @@ impl<'a, G: Gate + Sync> Rounds for SummedRounds<'a, G> {
         }
         let next = mem::replace(&mut run.groups, RunGroups::new(alloc));
         let earlier = mem::replace(&mut self.groups, RunGroups::new(alloc));
-        let next = next.closed(alloc, &work.checked, work.limit)?;
-        let joined = join_groups(alloc, &work.checked, earlier, next, work.limit)?;
-        self.groups = joined;
+        self.groups = join_and_close(
+            rt,
+            alloc,
+            &work.checked,
+            earlier,
+            next,
+            work.limit,
+            self.workers,
+        )?;
         Ok(Took::Done)
     }
 }

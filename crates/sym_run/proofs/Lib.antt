@@ -5,6 +5,7 @@ pub mod ChainLeads
 pub mod ChainsShared
 pub mod ClosedGroups
 pub mod ClosedJoins
+pub mod ClosingGroups
 pub mod CutRecords
 pub mod EmptyWords
 pub mod FoundRecords

@@ -42,7 +42,7 @@ none_of j k ks h = of (is_key j k) (is_among j ks) h
     of true c e = absurd (true≢false e)
     of false c e = (refl, e)
 
-none_of_more : (j : Key) (xs : Chains) (q : Key × Chained) → is_among j (keys_of (xs ++ q ∷ [])) ≡ false → (is_among j (keys_of xs) ≡ false) × (is_key j q.0 ≡ false)
+pub none_of_more : (j : Key) (xs : Chains) (q : Key × Chained) → is_among j (keys_of (xs ++ q ∷ [])) ≡ false → (is_among j (keys_of xs) ≡ false) × (is_key j q.0 ≡ false)
 none_of_more j [] q h = (refl, (none_of j q.0 [] h).0)
 none_of_more j (x ∷ xs) q h =
     let both = none_of j x.0 (keys_of (xs ++ q ∷ [])) h in
@@ -63,18 +63,18 @@ unlike_one k (y ∷ ks) j h e = of (is_key j y) refl e (unlike_one k ks j h.1)
     of false t f later = later f
 
 -- ---- groups that are alike
-pub alike_same : (ks : List Key) (groups : Groups) → AreAlikeBut ks groups groups
+pub alike_same : {V : Type 0} (ks : List Key) (groups : List (Key × V)) → AreAlikeBut ks groups groups
 alike_same ks groups = record { keys_are = refl; others = λ j e. refl }
 
 -- A key that is there takes another outcome.
-pub alike_put : (key : Key) (now : Outcome) (groups : Groups) → has_key groups key ≡ true → AreAlikeBut (key ∷ []) groups (put groups key now)
+pub alike_put : {V : Type 0} (key : Key) (now : V) (groups : List (Key × V)) → has_key groups key ≡ true → AreAlikeBut (key ∷ []) groups (put groups key now)
 alike_put key now groups h = record {
   keys_are = keys-put key now groups ∙ ap (λ (b : Bool). if b then keys_of groups else keys_of groups ++ key ∷ []) h;
   others = λ j e. lookup-put j key now groups (none_of j key [] e).0;
 }
 
 -- What is put for a key makes groups alike in it.
-put_both : (ks : List Key) (k : Key) (v : Outcome) (old new : Groups) → AreAlikeBut (k ∷ ks) old new → AreAlikeBut ks (put old k v) (put new k v)
+pub put_both : {V : Type 0} (ks : List Key) (k : Key) (v : V) (old new : List (Key × V)) → AreAlikeBut (k ∷ ks) old new → AreAlikeBut ks (put old k v) (put new k v)
 put_both ks k v old new h = record {
   keys_are = keys-put k v new ∙ ap (λ (js : List Key). if is_among k js then js else js ++ k ∷ []) h.keys_are ∙ sym (keys-put k v old);
   others = λ j e. of j e (is_key j k) refl;
@@ -92,18 +92,18 @@ put_both ks k v old new h = record {
         ∙ sym (lookup-put j k v old t)
 
 -- Pairs with the same keys and the same values are the same.
-same_pairs : (xs ys : Groups) → keys_of xs ≡ keys_of ys → ((i : ℕ) (key : Key) → slice_get (keys_of ys) i ≡ Some key → slice_get (values_of xs) i ≡ slice_get (values_of ys) i) → xs ≡ ys
+same_pairs : {V : Type 0} (xs ys : List (Key × V)) → keys_of xs ≡ keys_of ys → ((i : ℕ) (key : Key) → slice_get (keys_of ys) i ≡ Some key → slice_get (values_of xs) i ≡ slice_get (values_of ys) i) → xs ≡ ys
 same_pairs [] [] e h = refl
 same_pairs [] (y ∷ ys) e h = absurd cc
 same_pairs (x ∷ xs) [] e h = absurd cc
-same_pairs (x ∷ xs) (y ∷ ys) e h =
+same_pairs {V} (x ∷ xs) (y ∷ ys) e h =
     let key : x.0 ≡ y.0 = cc in
     let rest : keys_of xs ≡ keys_of ys = cc in
     let value : Some x.1 ≡ Some y.1 = h zero y.0 refl in
     let one : x.1 ≡ y.1 = cc in
-    ap₂ (λ (p : Key × Outcome) (ps : Groups). p ∷ ps) (ap₂ (λ (k : Key) (o : Outcome). (k, o)) key one) (same_pairs xs ys rest (λ i k at. h (suc i) k at))
+    ap₂ (λ (p : Key × V) (ps : List (Key × V)). p ∷ ps) (ap₂ (λ (k : Key) (o : V). (k, o)) key one) (same_pairs xs ys rest (λ i k at. h (suc i) k at))
 
-pub alike_all : (old new : Groups) → HaveDistinctKeys new → AreAlikeBut [] old new → new ≡ old
+pub alike_all : {V : Type 0} (old new : List (Key × V)) → HaveDistinctKeys new → AreAlikeBut [] old new → new ≡ old
 alike_all old new apart h =
     same_pairs new old h.keys_are
     (λ i key at.

@@ -34,8 +34,8 @@ IsFound groups (Some group) place = IsAt groups group.0 place
 abbrev pub AreFound : List (Key × Outcome) → List (Key × Chained) → List (Option ℕ) → Type 0
 AreFound groups chains places = AllZip (λ group place. IsAt groups group.0 place) chains places
 
--- The same keys, in order, each with the same outcome where it is none of these.
-pub record AreAlikeBut (ks : List Key) (old new : List (Key × Outcome)) : Type 0 where
+-- The same keys, in order, each with the same value where it is none of these.
+pub record AreAlikeBut {V : Type 0} (ks : List Key) (old new : List (Key × V)) : Type 0 where
   pub keys_are : keys_of new ≡ keys_of old
   pub others :
       (key : Key) → is_among key ks ≡ false → lookup (is_key key) new ≡ lookup (is_key key) old

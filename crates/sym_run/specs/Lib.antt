@@ -3,6 +3,7 @@ pub mod Bracketing
 pub mod Chained
 pub mod Chains
 pub mod ClosedJoins
+pub mod Closing
 pub mod Covering
 pub mod Growing
 pub mod Holding

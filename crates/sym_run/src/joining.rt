@@ -133,7 +133,7 @@ fn join_segments(
 
 /// Puts the right chain's records after the left one's. What the right one keeps is moved after what
 /// the left one keeps, where the right one has no segments.
-fn join_chain(
+pub(crate) fn join_chain(
     alloc: Global,
     checked: &Checked,
     left: &mut Chain,
