@@ -1,5 +1,5 @@
 //! Rounds of chunks, and what takes them.
-ghost use Rattle.std.specs.Prelude.{◌≡◌, ℕ, List, IfOk};
+ghost use Rattle.std.specs.Prelude.{◌≡◌, ◌≤◌, ℕ, List, IfOk, length, slice_range};
 ghost use Rattle.std.specs.Thread.{IsSync};
 ghost use Rattle.sym_base.specs.declared.values.record.Record.{Record as OneRecord};
 ghost use Rattle.sym_check.specs.Checking.CheckedScripts.{checked_plan, checked_tree};
@@ -7,12 +7,13 @@ ghost use Rattle.sym_check.specs.Plan.ScriptPlans.{ScriptPlan};
 ghost use Rattle.sym_table.specs.Reading.{Row as OneRow};
 ghost use Rattle.sym_engine.specs.Rounds.{IsLimit, IsRound, Takes, round_records, stands_by};
 
+use crate::workers::between;
 use std::alloc::Global;
 use std::sync::Wait;
 use std::thread::Threads;
 use sym_base::NoMemory;
 use sym_check::Checked;
-use sym_table::{Bad, Chunks};
+use sym_table::{Bad, Chunk, Chunks};
 
 /// What is shared by those who work on a round: the script, the round's chunks, and the path
 /// limit.
@@ -33,6 +34,17 @@ impl Drop for Work {
     }
 }
 
+// Equal chunks of their own.
+fn copy_chunks(alloc: Global, chunks: &[Chunk]) -> Result<Chunks, NoMemory>
+    ensures { IfOk result (λ copied. copied ≡ chunks.now) }
+{
+    let mut copied = Vec::with_capacity(alloc, chunks.len())?;
+    'chunks: for chunk in chunks {
+        copied.push(chunk.copy(alloc)?)?;
+    }
+    Ok(Chunks::of(copied))
+}
+
 impl Work {
     /// An equal work of its own.
     pub fn copy(&self, alloc: Global) -> Result<Work, NoMemory>
@@ -44,6 +56,23 @@ impl Work {
         Ok(Work {
             checked: self.checked.copy(alloc)?,
             chunks: self.chunks.copy(alloc)?,
+            limit: self.limit,
+        })
+    }
+
+    /// A work of its own over copies of the chunks from `first` up to but without `end`, counted
+    /// from 0.
+    pub fn part(&self, alloc: Global, first: usize, end: usize) -> Result<Work, NoMemory>
+        requires some { first ≤ end }
+        requires within { end ≤ length self.now.chunks }
+        ensures script { IfOk result (λ w. checked_tree w.checked ≡ checked_tree self.now.checked) }
+        ensures plan { IfOk result (λ w. checked_plan w.checked ≡ checked_plan self.now.checked) }
+        ensures chunks { IfOk result (λ w. w.chunks ≡ slice_range self.now.chunks first end) }
+        ensures limit { IfOk result (λ w. w.limit ≡ self.now.limit) }
+    {
+        Ok(Work {
+            checked: self.checked.copy(alloc)?,
+            chunks: copy_chunks(alloc, between(self.chunks.as_slice(), first, end))?,
             limit: self.limit,
         })
     }

@@ -22,8 +22,8 @@ use sym_table::{Chunk, RowCursor};
 /// Into how many stretches a round is cut for each worker.
 const STRETCHES: u32 = 1;
 
-// The chunks from `first` up to but without `end`.
-fn between(chunks: &[Chunk], first: usize, end: usize) -> &[Chunk]
+/// The chunks from `first` up to but without `end`.
+pub(crate) fn between(chunks: &[Chunk], first: usize, end: usize) -> &[Chunk]
     requires some { first ≤ end }
     requires within { end ≤ length chunks.now }
     ensures { result.now ≡ slice_range chunks.now first end }

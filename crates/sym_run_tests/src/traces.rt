@@ -1,7 +1,7 @@
 //! Traces over stores and sinks in memory, in chunks of several sizes and by several workers.
 use crate::runs::{
-    COUNTER, DONE, QUOTIENT, Run, SESSIONS, SHOWN, TWO_HUNDRED, UNREAD, USAGE, ends_by, push_words,
-    store_of, words_of, wrong_run,
+    COUNTER, DONE, QUOTIENT, Run, SESSIONS, SHOWN, TOGGLE, TWO_HUNDRED, UNREAD, USAGE, ends_by,
+    push_words, store_of, words_of, wrong_run,
 };
 use crate::scripts::all_hold;
 use std::alloc::Global;
@@ -18,6 +18,12 @@ const WORKERS: [&str; 3] = ["1", "4", "64"];
 // Counts records up to a thousand.
 const COUNTS: &str =
     "field x: num; state n: int [0..1000] = 0; update { n = n + 1; } report { n = n; }";
+
+// Seventy rows, of which the fiftieth is no record.
+const FIFTIETH: &str = "x\n\
+    1\n1\n1\n1\n1\n1\n1\n1\n1\n1\n1\n1\n1\n1\n1\n1\n1\n1\n1\n1\n1\n1\n1\n1\n1\n\
+    1\n1\n1\n1\n1\n1\n1\n1\n1\n1\n1\n1\n1\n1\n1\n1\n1\n1\n1\n1\n1\n1\n1\n1\n1,1\n\
+    1\n1\n1\n1\n1\n1\n1\n1\n1\n1\n1\n1\n1\n1\n1\n1\n1\n1\n1\n1\n";
 
 // Whether a trace in chunks of this size and by so many workers comes to what is said of it.
 fn ends_cut<T: Threads + Wait + Sync>(
@@ -84,7 +90,7 @@ const TRACE: Run = Run {
 };
 
 /// Scripts, the files that they are traced over, and the reports.
-const TRACES: [Run; 15] = [
+const TRACES: [Run; 22] = [
     Run {
         script: COUNTER,
         files: &["x\n5\n5\n5\n5\n5\n"],
@@ -127,6 +133,59 @@ const TRACES: [Run; 15] = [
         script: COUNTS,
         files: &[TWO_HUNDRED],
         out: "record | n\n70 | 70\n140 | 140\n--\n",
+        ..TRACE
+    },
+    Run {
+        words: &["trace", "count.symple", "log.csv", "--every=64"],
+        script: COUNTS,
+        files: &[TWO_HUNDRED],
+        out: "record | n\n64 | 64\n128 | 128\n192 | 192\n--\n",
+        ..TRACE
+    },
+    Run {
+        words: &["trace", "count.symple", "log.csv", "--every=65"],
+        script: TOGGLE,
+        files: &[TWO_HUNDRED],
+        out: "record | phase\n65 | busy\n130 | idle\n195 | busy\n--\n",
+        ..TRACE
+    },
+    Run {
+        words: &["trace", "count.symple", "log.csv", "--every=97"],
+        script: COUNTS,
+        files: &[TWO_HUNDRED],
+        out: "record | n\n97 | 97\n194 | 194\n--\n",
+        ..TRACE
+    },
+    Run {
+        words: &["trace", "count.symple", "log.csv", "--every=25"],
+        script: TOGGLE,
+        files: &[TWO_HUNDRED],
+        out: "record | phase\n25 | busy\n50 | idle\n75 | busy\n100 | idle\n125 | busy\n\
+            150 | idle\n175 | busy\n200 | idle\n--\n",
+        ..TRACE
+    },
+    Run {
+        words: &["trace", "count.symple", "log.csv", "--every=60"],
+        script: COUNTS,
+        files: &[FIFTIETH],
+        status: Status::Input,
+        err: "symple: log.csv: record 50: 2 fields\n",
+        ..TRACE
+    },
+    Run {
+        words: &["trace", "count.symple", "log.csv", "--every=40"],
+        script: COUNTS,
+        files: &[FIFTIETH],
+        status: Status::Input,
+        err: "symple: log.csv: record 50: 2 fields\n",
+        ..TRACE
+    },
+    Run {
+        words: &["trace", "count.symple", "log.csv", "--every=20"],
+        script: COUNTS,
+        files: &[FIFTIETH],
+        status: Status::Input,
+        err: "symple: log.csv: record 50: 2 fields\n",
         ..TRACE
     },
     Run {

@@ -6,4 +6,5 @@ pub mod ReplaySteps
 pub mod StartLaws
 pub mod PartLaws
 pub mod Jobs
+pub mod RoundRecords
 pub mod ScanLaws

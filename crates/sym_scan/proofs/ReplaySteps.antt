@@ -1,5 +1,5 @@
 -- Replays that go on, record by record and chunk by chunk.
-use Rattle.std.proofs.Common.{◌≡◌, ◌∙◌, ap, sym, refl, subst, arith, ℕ, ◌+◌, ◌<◌, if◌then◌else◌, List, [], ◌∷◌, ◌++◌, append-nil, append_assoc, length, drop, get_or, Option, Some, None, is_some, true, false, Result, Ok, Err}
+use Rattle.std.proofs.Common.{◌≡◌, ◌∙◌, ap, ap₂, sym, refl, subst, arith, ℕ, ◌+◌, ◌<◌, if◌then◌else◌, List, [], ◌∷◌, ◌++◌, append-nil, append_assoc, length, drop, get_or, Option, Some, None, is_some, true, false, Result, Ok, Err}
 use Rattle.std.specs.Map.{lookup}
 use Rattle.sym_base.specs.declared.values.value.Key.{Key}
 use Rattle.sym_base.specs.declared.values.value.Value.{Value}
@@ -22,7 +22,7 @@ use Rattle.sym_table.specs.Reading.{Row}
 use Rattle.sym_table.specs.RowRecords.{in_turn, record_or_bad, records_or_bad}
 use Rattle.sym_table.specs.Rows.{read_row}
 use Rattle.sym_scan.specs.declared.replaying.Progress.{Progress}
-use Rattle.sym_scan.specs.declared.replaying.Replayed.TheVariants.{Rows}
+use Rattle.sym_scan.specs.declared.replaying.Replayed.TheVariants.{Rows, Bad}
 use Rattle.sym_scan.specs.declared.rows.TraceRow.{TraceRow}
 use Rattle.sym_scan.specs.Traces.{from_groups, is_shown, row_after, rows_after}
 use Rattle.sym_scan.specs.Replays.{GoesOn, replayed_to, row_of}
@@ -108,10 +108,19 @@ pub replaying_all : (p : ScriptPlan) (every : ℕ) (found rest : Result (List Re
 replaying_all p every found rest old now none h =
     subst (λ (f : Found). GoesOn p every f old None now) (sym (replayed_whole p every found rest old.groups old.rows.items now none h)) (refl, h.groups, h.rows)
 
-pub replay_told : (p : ScriptPlan) (every : ℕ) (found rest : Result (List Record) BadRow) (starts : List (Key × Outcome)) (now : Progress) → rest ≡ Ok [] → IsReplaying p every found rest starts [] now
-    → Rows now.rows.items ≡ replayed_to p every starts found
-replay_told p every found rest starts now none h =
-    ap Rows h.rows ∙ ap (replayed_to p every starts) (sym (replayed_whole p every found rest starts [] now none h))
+pub replaying_stops : (p : ScriptPlan) (every : ℕ) (found : Result (List Record) BadRow) (bad : BadRow) (old new : Progress) → found ≡ Err bad → GoesOn p every found old (Some bad) new
+replaying_stops p every found bad old new all = subst (λ (f : Found). GoesOn p every f old (Some bad) new) (sym all) refl
+
+-- What goes on from starts comes to their replay.
+pub replay_told : (p : ScriptPlan) (every : ℕ) (found : Result (List Record) BadRow) (starts : List (Key × Outcome)) (old new : Progress) → GoesOn p every found old None new → old.groups ≡ starts → old.rows.items ≡ []
+    → Rows new.rows.items ≡ replayed_to p every starts found
+replay_told p every (Ok records) starts old new goes groups rows =
+    ap Rows (goes.2 ∙ ap₂ (λ (shown : List TraceRow) (gs : Pairs). shown ++ rows_after p every (from_groups p gs) [] records) rows groups)
+replay_told p every (Err why) starts old new goes groups rows = absurd (cc)
+
+pub replay_bad : (p : ScriptPlan) (every : ℕ) (found : Result (List Record) BadRow) (starts : List (Key × Outcome)) (bad : BadRow) (old new : Progress) → GoesOn p every found old (Some bad) new → Bad bad ≡ replayed_to p every starts found
+replay_bad p every (Ok records) starts bad old new goes = let none = goes.0 in absurd (cc)
+replay_bad p every (Err why) starts bad old new goes = let same : bad ≡ why = cc in ap Bad same
 
 -- ---- rows
 record_is : (n : ℕ) (read : Result (List Value) BadCause) (rec : Record) → numbered n read ≡ decoded.Is rec → record_or_bad n read ≡ Ok rec

@@ -53,12 +53,12 @@ pub(crate) struct Progress {
 
 impl Progress {
     /// No rows yet. It takes no memory.
-    pub(crate) fn new(alloc: Global, starts: Starts) -> Progress
-        ensures groups { result.groups ≡ starts }
+    pub(crate) fn new(alloc: Global, groups: Groups) -> Progress
+        ensures groups { result.groups ≡ groups }
         ensures rows { result.rows.items ≡ [] }
     {
         Progress {
-            groups: starts.into_groups(),
+            groups,
             rows: Vec::new(alloc),
             rec: Record {
                 no: 0,
@@ -68,6 +68,20 @@ impl Progress {
                 values: Values::new(alloc),
             },
         }
+    }
+
+    /// The rows, and the groups as they stand. It takes no memory.
+    pub(crate) fn into_parts(self) -> (TraceRows, Groups)
+        ensures rows { result.0 ≡ self.rows.items }
+        ensures groups { result.1 ≡ self.groups }
+    {
+        let Progress {
+            groups,
+            rows,
+            rec: _rec,
+            key: _key,
+        } = self;
+        (TraceRows::of(rows), groups)
     }
 }
 
@@ -157,6 +171,39 @@ fn take_rows(
     Ok(None)
 }
 
+/// Takes the records of chunks in order, up to the first row that is none.
+pub(crate) fn take_chunks(
+    alloc: Global,
+    checked: &Checked,
+    chunks: &[Chunk],
+    every: u64,
+    progress: &mut Progress,
+) -> Result<Option<Bad>, NoMemory>
+    requires chunks { All (FitsChunk (checked_plan checked.now).fields) chunks.now }
+    requires every { 1 ≤ every }
+    ensures { let p = checked_plan checked.now in
+        let found = all_records p chunks.now in
+        IfOk result (λ bad. GoesOn p every found progress.old bad progress.new) }
+{
+    let mut cursor = RowCursor::over(alloc, chunks)?;
+    let mut row = Row::with_room(alloc)?;
+    'chunks: for chunk in chunks {
+        let taken = take_rows(
+            alloc,
+            checked,
+            &mut cursor,
+            &mut row,
+            chunk,
+            every,
+            progress,
+        )?;
+        if let Some(bad) = taken {
+            return Ok(Some(bad));
+        }
+    }
+    Ok(None)
+}
+
 /// The rows of those of the chunks' records whose numbers `every` divides, in order: how the
 /// record's group stands after it, which began with its start or, if it has none, with the initial
 /// state. `Bad` exactly where a row is no record: the first such row. The starts are led on where
@@ -175,24 +222,11 @@ pub fn replay_all(
     ensures { let p = checked_plan checked.now in
         IfOk result (λ replayed. replayed ≡ replayed_to p every starts (all_records p chunks.now)) }
 {
-    let mut progress = Progress::new(alloc, starts);
-    let mut cursor = RowCursor::over(alloc, chunks)?;
-    let mut row = Row::with_room(alloc)?;
-    'chunks: for chunk in chunks {
-        let taken = take_rows(
-            alloc,
-            checked,
-            &mut cursor,
-            &mut row,
-            chunk,
-            every,
-            &mut progress,
-        )?;
-        if let Some(bad) = taken {
-            return Ok(Replayed::Bad(bad));
-        }
+    let mut progress = Progress::new(alloc, starts.into_groups());
+    match take_chunks(alloc, checked, chunks, every, &mut progress)? {
+        Some(bad) => Ok(Replayed::Bad(bad)),
+        None => Ok(Replayed::Rows(progress.into_parts().0)),
     }
-    Ok(Replayed::Rows(TraceRows::of(progress.rows)))
 }
 
 /// `replay_all` of one chunk, from starts that stay and are copied.

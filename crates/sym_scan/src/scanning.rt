@@ -13,7 +13,7 @@ ghost use Rattle.sym_scan.specs.Parts.{AreParts, AreRuns, IsPart, IsReady, IsRun
 ghost use Rattle.sym_scan.specs.Scans.{IfDone, scanned_to, traced_to};
 
 use crate::parts::{Part, parts};
-use crate::replaying::{Replayed, replay_all};
+use crate::replaying::{Progress, Replayed, replay_all, take_chunks};
 use crate::rows::{TraceRow, TraceRows};
 use crate::starting::{AllStarted, PartRun, PartStarts, start_all};
 use std::alloc::Global;
@@ -66,15 +66,6 @@ impl LendsScript for Checked {
     fn script(&self) -> &Checked {
         self
     }
-}
-
-// How many records of a key a part keeps before it explores them. Where one worker makes all runs,
-// none is explored.
-fn kept_by(workers: u32, limit: u32) -> u32 {
-    if workers == 1 {
-        return u32::MAX;
-    }
-    kept_most(limit)
 }
 
 // The run of chunks, which are taken one after the other. Of a key so many records are kept before
@@ -242,7 +233,7 @@ fn scan_parts<T: Threads + Sync, S: LendsScript + Sync>(
         IfOk result (λ scanned. IfDone scanned (AreValid p)) }
 {
     let parts = parts(alloc, chunks.len(), workers)?;
-    let most = kept_by(workers, limit);
+    let most = kept_most(limit);
     let runs = run_all(rt, alloc, lender, chunks, parts, limit, most)?;
     let mut groups = groups;
     match start_all(alloc, lender.script(), runs, &mut groups)? {
@@ -254,15 +245,44 @@ fn scan_parts<T: Threads + Sync, S: LendsScript + Sync>(
     }
 }
 
+// The rows of a round and the groups after it, on this thread. Each record makes its step when it
+// is read, and nothing else is copied than what is shown.
+fn scan_alone(
+    alloc: Global,
+    checked: &Checked,
+    chunks: &[Chunk],
+    every: u64,
+    groups: Groups,
+) -> Result<Scanned, NoMemory>
+    requires fit { All (FitsChunk (checked_plan checked.now).fields) chunks.now }
+    requires every { 1 ≤ every }
+    requires valid { AreValid (checked_plan checked.now) groups }
+    ensures scanned { let p = checked_plan checked.now in
+        IfOk result (λ scanned. scanned ≡ scanned_to p every groups (all_records p chunks.now)) }
+    ensures valid { let p = checked_plan checked.now in
+        IfOk result (λ scanned. IfDone scanned (AreValid p)) }
+{
+    let _plan = checked.plan();
+    let mut progress = Progress::new(alloc, groups);
+    match take_chunks(alloc, checked, chunks, every, &mut progress)? {
+        Some(bad) => Ok(Scanned::Bad(bad)),
+        None => {
+            let (rows, groups) = progress.into_parts();
+            Ok(Scanned::Done { rows, groups })
+        }
+    }
+}
+
 /// The rows of those of the round's records whose numbers `every` divides, in order, and the groups
 /// after all of its records; `Bad` exactly where a row is no record: the first such row. Where the
 /// groups are the pass over some records, the rows are the part of the trace that belongs to the
 /// round's, and the groups the pass over all.
 ///
-/// The chunks are cut into as many parts as there are workers, or fewer. The parts' runs are made at
-/// once and applied in order; before each, how the groups of its keys stand is copied. From there
-/// the parts are replayed at once. With one worker no thread is made. The result doesn't depend on
-/// the number of workers or on the path limit.
+/// The chunks are cut into as many parts as there are workers, or fewer. The parts' runs are made
+/// at once and applied in order; before each, how the groups of its keys stand is copied. From
+/// there the parts are replayed at once. With one worker, or one chunk, no thread is made: each
+/// record makes its step when it is read. The result doesn't depend on the number of workers or on
+/// the path limit.
 ///
 /// `NoMemory` where an allocation failed. Then the groups are dropped, as they are with `Bad`.
 pub fn scan_round<T: Threads + Sync>(
@@ -288,14 +308,9 @@ pub fn scan_round<T: Threads + Sync>(
     ensures valid { let p = checked_plan checked.now in
         IfOk result (λ scanned. IfDone scanned (AreValid p)) }
 {
-    scan_parts(
-        rt,
-        alloc,
-        checked,
-        chunks.as_slice(),
-        workers,
-        limit,
-        every,
-        groups,
-    )
+    let chunks = chunks.as_slice();
+    if workers == 1 || chunks.len() == 1 {
+        return scan_alone(alloc, checked, chunks, every, groups);
+    }
+    scan_parts(rt, alloc, checked, chunks, workers, limit, every, groups)
 }

@@ -5,6 +5,7 @@ use Rattle.std.proofs.lemmas.List.Elements.{All-nil}
 use Rattle.std.proofs.lemmas.Grind.{flat_map-append}
 use Rattle.std.proofs.lemmas.List.{map-append}
 use Rattle.std.proofs.lemmas.List.Folds.{list_any-append}
+use Rattle.sym_base.specs.declared.values.memory.NoMemory.{NoMemory}
 use Rattle.sym_base.specs.declared.values.record.Record.{Record}
 use Rattle.sym_base.specs.declared.values.value.Key.{Key}
 use Rattle.sym_base.specs.declared.values.state.Outcome.{Outcome}
@@ -29,10 +30,12 @@ use Rattle.sym_scan.specs.declared.scanning.Scanned.{Scanned}
 use Rattle.sym_scan.specs.declared.scanning.Scanned.TheVariants.{Done, Bad}
 use Rattle.sym_scan.specs.Scans.{IfDone, scanned_to, traced_to}
 use Rattle.sym_scan.specs.Traces.{from_groups, rows_after, trace, trace_after}
+use Rattle.sym_scan.proofs.RoundRecords.{round_are}
+use Rattle.sym_scan.proofs.ScanLaws.{scan_traces}
 use Rattle.sym_scan.proofs.Standing.{trace_more}
 use Rattle.sym_trace.specs.TraceReports.{trace_heads, trace_row, trace_rows}
 use Rattle.sym_trace.specs.Tracing.{AreTraceRows, IsTracing, Tracer, Tracing}
-use Rattle.sym_trace.proofs.Keyed.{round_are, rows_keyed}
+use Rattle.sym_trace.proofs.Keyed.{rows_keyed}
 
 abbrev Pairs : Type 0
 Pairs = List (Key × Outcome)
@@ -139,20 +142,21 @@ traced_on by p old new texts text found faulty before records rows e valid same 
 -- A round whose records are taken.
 pub round_traced : (by : Tracing) (p : ScriptPlan) (cuts : List Chunk) (old : Tracer) (given new : List (Key × Outcome)) (rows : List TraceRow)
     (scanned : Scanned) (texts : FormTexts) (text : List ℕ) (found faulty : Bool) →
-    given ≡ old.groups → scanned ≡ Done rows new → scanned ≡ scanned_to p old.every given (all_records p cuts) →
-    ((before : List Record) → given ≡ pass p before → scanned ≡ traced_to p old.every before (all_records p cuts)) → IfDone scanned (AreValid p) →
+    given ≡ old.groups → scanned ≡ Done rows new → scanned ≡ scanned_to p old.every given (all_records p cuts) → IfDone scanned (AreValid p) →
     texts ≡ old.texts → text ≡ old.gathered ++ rows_text old.texts old.heads (map (trace_row old.tree old.plan) rows) →
     found ≡ some_faulty (map (trace_row old.tree old.plan) rows) → faulty ≡ (old.faulty || found) →
     (records : List Record) × (round_records p (λ row. row) cuts ≡ Ok records)
     × ((before : List Record) → IsTracing by p old before →
     IsTracing by p (record old { groups = new; texts = texts; gathered = text; faulty = faulty }) (before ++ records))
-round_traced by p cuts old given new rows scanned texts text found faulty same done is traces valid texts_are text_is found_is faulty_is =
+round_traced by p cuts old given new rows scanned texts text found faulty same done is valid texts_are text_is found_is faulty_is =
     let all = found_by p old.every (all_records p cuts) given new rows (sym done ∙ is) in (
       all.records,
       ap (all_records p) (plain_chunks cuts) ∙ all.are,
       λ before h.
           traced_on by p old new texts text found faulty before all.records rows
-          (sym done ∙ traces before (same ∙ h.passed) ∙ ap (traced_to p old.every before) all.are)
+          (sym done
+          ∙ scan_traces {E = NoMemory} p old.every given before (all_records p cuts) (Ok scanned) (same ∙ h.passed) is
+          ∙ ap (traced_to p old.every before) all.are)
           (subst (λ (x : Scanned). IfDone x (AreValid p)) done valid) texts_are text_is found_is faulty_is h,
     )
 

@@ -3,6 +3,7 @@
 
 mod files;
 mod forms;
+mod parts;
 mod rounds;
 mod rows;
 mod showing;

@@ -2,7 +2,7 @@
 ghost use Rattle.sym_check.specs.Checking.CheckedScripts.{checked_plan, checked_tree};
 ghost use Rattle.sym_trace.specs.Tracing.{IsTracing, Tracer, Tracing, some_tracing};
 
-use crate::showing::any_shown;
+use crate::parts::scan_shown;
 use crate::writing::write_rows;
 use std::alloc::Global;
 use std::marker::{Brand, PhantomData};
@@ -11,11 +11,10 @@ use std::sync::Wait;
 use std::thread::Threads;
 use sym_base::NoMemory;
 use sym_check::Checked;
-use sym_engine::{Free, Rounds, Took, Work, led};
+use sym_engine::{Rounds, Took, Work};
 use sym_plain::Groups;
 use sym_report::{Heads, ReportForm};
-use sym_run::Applied;
-use sym_scan::{Scanned, scan_round};
+use sym_scan::Scanned;
 
 /// What stays the same from round to round. Of a value that takes rounds nothing is known but what
 /// it stands for, so what stays the same belongs to its type. Each call picks it.
@@ -67,26 +66,7 @@ impl<'a, S: Traces> Rounds for TraceRounds<'a, S> {
     ) -> Result<Took, NoMemory> {
         let _plan = self.checked.plan();
         let groups = mem::replace(&mut self.groups, Groups::new(alloc));
-        // A round that shows no record has no rows, and is worked as in a run.
-        if !any_shown(work.chunks.as_slice(), self.every) {
-            return match led(rt, alloc, work, self.workers, groups, &Free)? {
-                Applied::Done(groups) => {
-                    self.groups = groups;
-                    Ok(Took::Done)
-                }
-                Applied::Bad(bad) => Ok(Took::Bad(bad)),
-            };
-        }
-        match scan_round(
-            rt,
-            alloc,
-            &work.checked,
-            &work.chunks,
-            self.workers,
-            work.limit,
-            self.every,
-            groups,
-        )? {
+        match scan_shown(rt, alloc, work, self.workers, self.every, groups)? {
             Scanned::Done { rows, groups } => {
                 self.groups = groups;
                 let found = write_rows(

@@ -15,4 +15,10 @@ pub returns-clause-trace : goal.returns-clause-trace
 returns-clause-trace g c = λ before same.
     let p = checked_plan c.args.checked.now in
     scan_traces p c.args.every c.args.groups before (all_records p c.args.chunks.now) c.scan_parts.result same
-    (subst (λ (chunks : List Chunk). IfOk c.scan_parts.result (λ s. s ≡ scanned_to p c.args.every c.args.groups (all_records p chunks))) c.as_slice.ensures c.scan_parts.ensures.scanned)
+    (subst (λ (chunks : List Chunk). IfOk c.scan_parts.result (λ s. s ≡ scanned_to p c.args.every c.args.groups (all_records p chunks))) c.as_slice-chunks.ensures c.scan_parts.ensures.scanned)
+
+pub returns-then-workers-eq1-clause-trace : goal.returns-then-workers-eq1-clause-trace
+returns-then-workers-eq1-clause-trace g c = λ before same.
+    let p = checked_plan c.args.checked.now in
+    scan_traces p c.args.every c.args.groups before (all_records p c.args.chunks.now) c.scan_alone.result same
+    (subst (λ (chunks : List Chunk). IfOk c.scan_alone.result (λ s. s ≡ scanned_to p c.args.every c.args.groups (all_records p chunks))) c.as_slice-chunks.ensures c.scan_alone.ensures.scanned)
