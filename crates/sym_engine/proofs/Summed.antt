@@ -6,6 +6,7 @@ use Rattle.std.proofs.lemmas.List.{take_all}
 use Rattle.std.proofs.lemmas.List.Elements.{All-nil, All-cons, All-head, All-tail, All-append, All-filter}
 use Rattle.std.proofs.lemmas.Map.Views.{All-from_any}
 use Rattle.std.proofs.lemmas.Option.{slice_get_within}
+use Rattle.std.specs.Map.{keys_of}
 use Rattle.sym_base.specs.declared.values.record.Record.{Record}
 use Rattle.sym_base.specs.declared.values.state.Outcome.{Outcome}
 use Rattle.sym_base.specs.declared.values.value.Key.{Key}
@@ -34,7 +35,7 @@ use Rattle.sym_run.specs.Chains.{SegmentsStandFor}
 use Rattle.sym_run.specs.declared.runs.Run.{Run}
 use Rattle.sym_run.specs.declared.saved.Saved.{Saved}
 use Rattle.sym_run.specs.Runs.{AreClosed, AreTight, GroupsFit, GroupsStandFor, HasFound}
-use Rattle.sym_run.specs.SavedRuns.{AreNumbered, EndsWithin, IsLawfulGroup, IsLawfulSaved, IsLawfulSegment}
+use Rattle.sym_run.specs.SavedRuns.{AreNumbered, EndsWithin, IsLawfulGroup, IsLawfulSaved, IsLawfulSegment, SavedStandsFor}
 use Rattle.sym_run.proofs.KeptRecords.{closed_segments}
 use Rattle.sym_engine.specs.FileRecords.{FileRules, IsFine}
 use Rattle.sym_engine.specs.FileRecords as fine
@@ -212,13 +213,12 @@ some_segments p found [] is many = absurd (omega (arith, ap length is))
 some_segments p found (segment ∷ segments) is many = omega arith
 
 -- ---- lawful groups
-pub groups_lawful : (p : ScriptPlan) (first next : ℕ) (found : List Record) (groups : Chains) → IsWellFormed p → All (IsRecord p) found → AreNumbered first next found → AreClosed groups → GroupsStandFor p found groups
+pub keyed_groups_lawful : (p : ScriptPlan) (first next : ℕ) (found : List Record) (groups : Chains) → IsWellFormed p → All (IsKey p) (keys p found) → AreNumbered first next found → AreClosed groups → GroupsStandFor p found groups
     → All (IsLawfulGroup p first next) groups
-groups_lawful p first next found groups w kinds numbered closed stand =
+keyed_groups_lawful p first next found groups w are_keys numbered closed stand =
     let in_range = numbers_in first first next found (omega arith) numbered in
     let some_keys = subst (All (λ (key : Key). 1 ≤ length (records_of p key found))) (sym stand.keys_are) (some_of p found) in
     let some = unmapped (λ (g : Key × Chained). g.0) (λ (key : Key). 1 ≤ length (records_of p key found)) groups some_keys in
-    let are_keys : All (IsKey p) (keys p found) = unmapped _ (λ (pair : Key × Outcome). IsKey p pair.0) (keys p found) (pass_keys p found kinds) in
     let key = unmapped (λ (g : Key × Chained). g.0) (IsKey p) groups (subst (All (IsKey p)) (sym stand.keys_are) are_keys) in
     λ k d near.
     let group = slice_index_or groups k d in
@@ -232,6 +232,22 @@ groups_lawful p first next found groups w kinds numbered closed stand =
         each = segments_lawful p first next own group.1.segments w (All-filter (λ rec. is_key (key_of p rec) group.0) (IsIn first next) found in_range) segments;
       };
     }
+
+pub groups_lawful : (p : ScriptPlan) (first next : ℕ) (found : List Record) (groups : Chains) → IsWellFormed p → All (IsRecord p) found → AreNumbered first next found → AreClosed groups → GroupsStandFor p found groups
+    → All (IsLawfulGroup p first next) groups
+groups_lawful p first next found groups w kinds numbered closed stand =
+    let are_keys : All (IsKey p) (keys p found) = unmapped _ (λ (pair : Key × Outcome). IsKey p pair.0) (keys p found) (pass_keys p found kinds) in
+    keyed_groups_lawful p first next found groups w are_keys numbered closed stand
+
+-- A saved run that stands for records and keeps none, whose keys are of the script's kinds, is lawful.
+pub keyed_saved_lawful : (p : ScriptPlan) (found : List Record) (saved : Saved) → IsWellFormed p → 1 ≤ saved.first → AreClosed saved.groups → SavedStandsFor p found saved → All (IsKey p) (keys_of saved.groups)
+    → IsLawfulSaved p saved
+keyed_saved_lawful p found saved w from closed stand are_keys = record {
+  from = from;
+  order = numbered_order saved.first saved.next found stand.numbered;
+  distinct = subst (IsDistinct is_key) (sym stand.groups.keys_are) (keys_apart p found);
+  each = keyed_groups_lawful p saved.first saved.next found saved.groups w (subst (All (IsKey p)) stand.groups.keys_are are_keys) stand.numbered closed stand.groups;
+}
 
 pub saved_lawful : (p : ScriptPlan) (rules : FileRules) (files : List (List ℕ)) (found : List Record) (saved : Saved) → IsWellFormed p → 1 ≤ saved.first
     → AllFine p rules saved.first files found → saved.next ≡ saved.first + length found → AreClosed saved.groups → GroupsStandFor p found saved.groups → IsLawfulSaved p saved

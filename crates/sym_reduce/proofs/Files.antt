@@ -20,33 +20,33 @@ may_one None = tt
 may_one (Some bytes) = refl
 
 -- Some bytes for each name.
-abbrev some_files : Holds → List (List ℕ) → List (List ℕ)
+abbrev pub some_files : Holds → List (List ℕ) → List (List ℕ)
 some_files holds names = map (λ name. unwrap_or (holds name) []) names
 
-may_some : (holds : Holds) (names : List (List ℕ)) → MayAll holds names (some_files holds names)
+pub may_some : (holds : Holds) (names : List (List ℕ)) → MayAll holds names (some_files holds names)
 may_some holds [] = tt
 may_some holds (name ∷ names) = (may_one (holds name), may_some holds names)
 
-may_both : (holds : Holds) (names others told more : List (List ℕ)) → MayAll holds names told → MayAll holds others more → MayAll holds (names ++ others) (told ++ more)
+pub may_both : (holds : Holds) (names others told more : List (List ℕ)) → MayAll holds names told → MayAll holds others more → MayAll holds (names ++ others) (told ++ more)
 may_both holds [] others [] more a b = b
 may_both holds [] others (t ∷ told) more a b = absurd a
 may_both holds (n ∷ names) others [] more a b = absurd a
 may_both holds (n ∷ names) others (t ∷ told) more a b = (a.0, may_both holds names others told more a.1 b)
 
-may_whole : (holds : Holds) (names told more : List (List ℕ)) (k : ℕ) → MayAll holds (take k names) told → MayAll holds (drop k names) more → MayAll holds names (told ++ more)
+pub may_whole : (holds : Holds) (names told more : List (List ℕ)) (k : ℕ) → MayAll holds (take k names) told → MayAll holds (drop k names) more → MayAll holds names (told ++ more)
 may_whole holds names told more k a b =
     let P : List (List ℕ) → Type 0 = λ ns. MayAll holds ns (told ++ more) in
     subst P (take-append-drop k names) (may_both holds (take k names) (drop k names) told more a b)
 
 -- The name at a place, and those after it.
-drop_at : (names : List (List ℕ)) (k : ℕ) (name : List ℕ) → slice_get names k ≡ Some name → drop k names ≡ name ∷ drop (k + 1) names
+pub drop_at : (names : List (List ℕ)) (k : ℕ) (name : List ℕ) → slice_get names k ≡ Some name → drop k names ≡ name ∷ drop (k + 1) names
 drop_at [] k name e = absurd (cc)
 drop_at (n ∷ names) zero name e = let same : n ≡ name = cc in ap (λ x. x ∷ names) same
 drop_at (n ∷ names) (suc k) name e =
     let more : suc (k + 1) ≡ suc k + 1 = omega arith in
     drop_at names k name e ∙ ap (λ m. name ∷ drop m (n ∷ names)) more
 
-take_at : (names : List (List ℕ)) (k : ℕ) (name : List ℕ) → slice_get names k ≡ Some name → take (k + 1) names ≡ take k names ++ name ∷ []
+pub take_at : (names : List (List ℕ)) (k : ℕ) (name : List ℕ) → slice_get names k ≡ Some name → take (k + 1) names ≡ take k names ++ name ∷ []
 take_at [] k name e = absurd (cc)
 take_at (n ∷ names) zero name e = let same : n ≡ name = cc in ap (λ x. x ∷ []) same
 take_at (n ∷ names) (suc k) name e =
@@ -58,16 +58,16 @@ within [] k name e = absurd (cc)
 within (n ∷ names) zero name e = refl
 within (n ∷ names) (suc k) name e = let more = within names k name e in omega (arith, more)
 
-told_count : (holds : Holds) (names told : List (List ℕ)) (k : ℕ) (name : List ℕ) → MayAll holds (take k names) told → slice_get names k ≡ Some name → length told ≡ k
+pub told_count : (holds : Holds) (names told : List (List ℕ)) (k : ℕ) (name : List ℕ) → MayAll holds (take k names) told → slice_get names k ≡ Some name → length told ≡ k
 told_count holds names told k name may at =
     sym (length_all_zip (λ n bytes. May (holds n) bytes) (take k names) told may) ∙ within names k name at
 
 -- More bytes than are allowed, which the file may hold.
-larger : (max : ℕ) (o : Option (List ℕ)) → IfSome o (λ bytes. max < length bytes) → (bytes : List ℕ) × May o bytes × (max < length bytes)
+pub larger : (max : ℕ) (o : Option (List ℕ)) → IfSome o (λ bytes. max < length bytes) → (bytes : List ℕ) × May o bytes × (max < length bytes)
 larger max None h = (replicate (max + 1) 0, tt, omega (arith, length-replicate {A = ℕ} (max + 1) 0))
 larger max (Some bytes) h = (bytes, refl, h)
 
-rose_later : (a b c : ℕ) → a ≤ b → Rose b c → Rose a c
+pub rose_later : (a b c : ℕ) → a ≤ b → Rose b c → Rose a c
 rose_later a b c h rose = omega arith
 
 module _ (script : List ℕ) (p : ScriptPlan) (max_bytes : ℕ) where

@@ -22,7 +22,7 @@ use Rattle.sym_reduce.proofs.LawfulFound.{lawful_found}
 module _ (script : List ℕ) (p : ScriptPlan) (formed : IsWellFormed p) where
   module _ (bytes : List ℕ) (few : length bytes < 2 ^ 64) where
     -- What a file is: of another script, of no saved run, or of this one.
-    data Is : Type 0 where
+    pub data Is : Type 0 where
       other : IsOfOtherScript script bytes → Is
       broken : IsMalformed script p bytes → Is
       own : (saved : Saved) → IsRunFile script p bytes saved → Is
@@ -44,7 +44,7 @@ module _ (script : List ℕ) (p : ScriptPlan) (formed : IsWellFormed p) where
       | inr apart ↦ other (other_script script p formed bytes few found rest e apart)
     ]
 
-    is : Is
+    pub is : Is
     is = of_script (script_at bytes) refl
 
   -- The file is taken, or it has a fault.

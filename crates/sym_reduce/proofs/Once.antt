@@ -15,13 +15,13 @@ use Rattle.sym_reduce.specs.Reducing as runs
 module _ (script : List ℕ) (p : ScriptPlan) (formed : IsWellFormed p) where
   -- ---- one file
   module _ (bytes : List ℕ) (few : length bytes < 2 ^ 64) where
-    same : (first second : Saved) → IsRunFile script p bytes first → IsRunFile script p bytes second → first ≡ second
+    pub same : (first second : Saved) → IsRunFile script p bytes first → IsRunFile script p bytes second → first ≡ second
     same first second a b = one_saved script p formed bytes few first second a.is a.stored b.is b.stored
 
-    no_other : (saved : Saved) → IsRunFile script p bytes saved → IsOfOtherScript script bytes → ⊥
+    pub no_other : (saved : Saved) → IsRunFile script p bytes saved → IsOfOtherScript script bytes → ⊥
     no_other saved is other = one_script bytes few script p saved is.is other
 
-    whole : (saved : Saved) → IsRunFile script p bytes saved → IsMalformed script p bytes → ⊥
+    pub whole : (saved : Saved) → IsRunFile script p bytes saved → IsMalformed script p bytes → ⊥
     whole saved is malformed = malformed.none saved is.stored is.is
 
     module _ (next file : ℕ) (totals : Pairs) where

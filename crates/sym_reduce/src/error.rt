@@ -1,6 +1,7 @@
-//! Why files have no totals.
+//! Why files have no totals, or can't be joined.
 
-/// Why files of saved runs have no totals. Files are counted from 0, the groups of a file from 1.
+/// Why files of saved runs have no totals, or can't be joined. Files are counted from 0, the groups
+/// of a file from 1.
 #[derive(Clone, Copy, Debug, PartialEq, Eq)]
 pub enum ReduceErr {
     /// A read of the file failed.

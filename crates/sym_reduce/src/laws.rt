@@ -2,6 +2,8 @@
 ghost use Rattle.std.specs.Prelude.{◌≡◌, ◌<◌, ◌⊎◌, ◌^◌, ℕ, List};
 ghost use Rattle.sym_check.specs.Plan.ScriptPlans.{ScriptPlan};
 ghost use Rattle.sym_check.specs.Plan.WellFormed.{IsWellFormed};
+ghost use Rattle.sym_run.specs.declared.saved.Saved.{Saved as OneSaved};
+ghost use Rattle.sym_reduce.specs.Joining.{AreRunFiles, FirstJoinProblem};
 ghost use Rattle.sym_reduce.specs.Reducing.{AreReduced, FirstRunProblem, Pairs};
 ghost use Rattle.sym_reduce.specs.declared.error.ReduceErr.{ReduceErr as OneErr};
 
@@ -27,4 +29,28 @@ pub fn files_have_totals_or_a_problem()
         IsWellFormed p → max_bytes < 2 ^ 64 →
         AreReduced script p max_bytes next totals files end all →
         FirstRunProblem script p max_bytes file next totals files why → ⊥ }
+{}
+
+/// Files of saved runs can be joined, and then have one list of saved runs, or they have one first
+/// problem, and never both.
+pub fn files_have_runs_or_a_problem()
+    ensures some { (script : List ℕ) (p : ScriptPlan) (max_bytes : ℕ) (files : List (List ℕ)) →
+        IsWellFormed p → max_bytes < 2 ^ 64 →
+        ((runs : List OneSaved) × AreRunFiles script p max_bytes files runs)
+        ⊎ ((why : OneErr) × FirstJoinProblem script p max_bytes files why) }
+    ensures runs { (script : List ℕ) (p : ScriptPlan) (max_bytes : ℕ) (files : List (List ℕ))
+        (runs others : List OneSaved) →
+        IsWellFormed p → max_bytes < 2 ^ 64 →
+        AreRunFiles script p max_bytes files runs →
+        AreRunFiles script p max_bytes files others → runs ≡ others }
+    ensures problem { (script : List ℕ) (p : ScriptPlan) (max_bytes : ℕ) (files : List (List ℕ))
+        (why other : OneErr) →
+        IsWellFormed p → max_bytes < 2 ^ 64 →
+        FirstJoinProblem script p max_bytes files why →
+        FirstJoinProblem script p max_bytes files other → why ≡ other }
+    ensures never { (script : List ℕ) (p : ScriptPlan) (max_bytes : ℕ) (files : List (List ℕ))
+        (runs : List OneSaved) (why : OneErr) →
+        IsWellFormed p → max_bytes < 2 ^ 64 →
+        AreRunFiles script p max_bytes files runs →
+        FirstJoinProblem script p max_bytes files why → ⊥ }
 {}

@@ -1,10 +1,13 @@
-//! Files of saved runs, taken in order to the groups of all their records.
+//! Files of saved runs, taken in order to the groups of all their records, or joined to one saved
+//! run.
 #![tactic(auto)]
 
 mod error;
+mod joins;
 pub mod laws;
 mod reducing;
 mod taking;
 
 pub use error::ReduceErr;
+pub use joins::join_files;
 pub use reducing::reduce_files;

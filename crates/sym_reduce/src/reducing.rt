@@ -16,8 +16,8 @@ use sym_base::{ReadErr, Store, read_all};
 use sym_check::Checked;
 use sym_file::Totals;
 
-// All bytes of the file with the number `file`.
-fn read_file<F: Store>(
+/// All bytes of the file with the number `file`.
+pub(crate) fn read_file<F: Store>(
     alloc: Global,
     files: &mut F,
     name: &str,
