@@ -3,13 +3,15 @@
 # of 1,024 and 16,384 records: the sessions of 10 and of 98,304 users. Then `symple reduce` over 16
 # run files of 98,304 groups each, beside the sequential pass over as many records as they have
 # groups in sum, and beside a run with one worker over the logs of which they are. What reduce
-# writes is what run writes.
+# writes is what run writes. Then `symple join` over the first eight of them, beside `reduce` over
+# these, and what reduce writes of what join wrote is what it writes of the eight.
 # Each runs three times, in turn (TURNS sets another number). Prints the least wall time of each in
-# seconds, the memory of that run, and ratios: of map to run with the same options, and of reduce to
-# the sequential pass and to the run. Of the sequential pass, sym_bench's, it is the processor time
+# seconds, the memory of that run, and ratios: of map to run with the same options, of reduce to
+# the sequential pass and to the run, and of join to reduce. Of the sequential pass, sym_bench's, it is the processor time
 # of the pass over a log in memory, without file and report.
 # Last, the bytes of a run file for each group, and for each group beside its key: of the 16 files,
-# and of a script by which each group has one path.
+# of the eight that were joined, and of a script by which each group has one path, of one part and of
+# two parts joined.
 # Needs rt, to build the programs, and mawk and GNU date and time (Debian's packages mawk, coreutils
 # and time).
 # Usage: bench/map.sh [RECORDS]
@@ -94,6 +96,11 @@ while [ $part -le $parts ]; do
     part=$((part + 1))
 done
 
+eight=
+for part in 1 2 3 4 5 6 7 8; do
+    eight="$eight $work/part-$part.run"
+done
+
 turn=1
 while [ "$turn" -le "$turns" ]; do
     for size in 10 $users; do
@@ -105,6 +112,10 @@ while [ "$turn" -le "$turns" ]; do
     measure run-parts run --workers 1 "$script" $(printf '%s.csv ' "$@")
     # shellcheck disable=SC2046 # so many names
     measure reduce-parts reduce "$script" $(printf '%s.run ' "$@")
+    # shellcheck disable=SC2086 # eight names
+    measure reduce-eight reduce "$script" $eight
+    # shellcheck disable=SC2086 # eight names
+    measure join-eight join "$script" $eight
     turn=$((turn + 1))
 done
 
@@ -116,6 +127,8 @@ for size in 10 $users; do
     done
 done
 cmp "$work/reduce-parts.out" "$work/run-parts.out" || stop "reduce differs from run over parts"
+"$symple" reduce --max-bytes $most_bytes "$script" "$work/join-eight.out" |
+    cmp - "$work/reduce-eight.out" || stop "reduce differs over the parts that were joined"
 
 # shellcheck disable=SC2016 # what is quoted is awk's
 mawk '
@@ -143,6 +156,8 @@ mawk '
         row("sequential pass over the parts", "sequential", "")
         row("run over the parts, 1 worker", "run-parts", "sequential")
         row("reduce over the parts", "reduce-parts", "sequential")
+        row("reduce over eight parts", "reduce-eight", "")
+        row("join of eight parts", "join-eight", "reduce-eight")
         printf "reduce to the run over the parts: %.2f\n", \
             least["reduce-parts"] / least["run-parts"]
     }
@@ -150,6 +165,7 @@ mawk '
 
 # shellcheck disable=SC2046 # so many names
 bytes "sessions" $(printf '%s.run ' "$@")
+bytes "sessions, eight parts joined" "$work/join-eight.out"
 cat >"$work/one.symple" <<'end'
 field ts: num;
 field user: word;
@@ -161,3 +177,6 @@ report { n = n; last = part(last, 1); }
 end
 "$symple" map "$work/one.symple" "$work/part-1.csv" >"$work/one.run"
 bytes "one path" "$work/one.run"
+"$symple" map --first $((users + 1)) "$work/one.symple" "$work/part-2.csv" >"$work/next.run"
+"$symple" join "$work/one.symple" "$work/one.run" "$work/next.run" >"$work/both.run"
+bytes "one path, two parts joined" "$work/both.run"

@@ -23,6 +23,7 @@ CHUNKS, LIMITS, WORKERS = (1, 7, 1024, 65536), (1, 2, 16, 256), (1, 2, 3, 4, 7, 
 SETTINGS = [(c, l, w) for c in CHUNKS for l in LIMITS for w in WORKERS]
 SETTINGS_A_CASE = 6
 TRACES_A_CASE = 3
+JOIN_LIMITS = (1, 2, 3, 5, 16, 256)
 WATCHED_A_CASE = 2
 # A round has so many chunks.
 CHUNKS_A_ROUND = 64
@@ -478,6 +479,7 @@ class Program:
         self.takes_check = False
         self.takes_trace = False
         self.takes_map = False
+        self.takes_join = False
         self.takes_watch = False
 
     def probe(self):
@@ -489,6 +491,9 @@ class Program:
         self.takes_check = self.start(["check", "probe.symple"])[0] == 0
         self.takes_trace = self.start(["trace", "probe.symple", "probe.csv"])[0] == 0
         self.takes_map = self.start(["map", "probe.symple", "probe.csv"])[0] == 0
+        if self.takes_map:
+            self.write("probe.run", self.start(["map", "probe.symple", "probe.csv"])[1])
+            self.takes_join = self.start(["join", "probe.symple", "probe.run"])[0] == 0
         self.takes_watch = self.run(["--watch", "probe.symple", "probe.csv"])[0] == 0
 
     def write(self, name, content):
@@ -531,12 +536,12 @@ def answers(program, script, files, number):
         if number <= PREFIXED:
             yield from prefixes(program, script, names, files)
     if program.takes_map:
-        yield from parts(program, names, number)
+        yield from parts(program, names, files, number)
     if program.takes_watch:
         yield from watches(program, names, number)
 
 
-def parts(program, names, number):
+def parts(program, names, files, number):
     """The report on the run files of all files, each of which is mapped alone; or, at the first file
     that is refused, the refusal of its part."""
     first = 1
@@ -556,6 +561,51 @@ def parts(program, names, number):
     form = ("table", "csv", "pairs")[number % 3]
     wanted = reference.run(b"script", [name.encode() for name in names], form)
     yield "reduce --form " + form, wanted, program.start(["reduce", "--form", form, "script"] + runs)
+    if program.takes_join:
+        yield from joins(program, files, number, form, wanted)
+
+
+def pieces(files, drawn):
+    """The files, each cut between records into one to four, with the header repeated."""
+    for content in files:
+        rows = list(reference.rows_of(content))
+        cuts = sorted(drawn.choices(range(1, len(rows) + 1), k=drawn.randint(0, 3))) if rows else []
+        for begin, end in zip([1] + cuts, cuts + [len(rows)]):
+            yield b"".join(reference.csv_row(row) for row in rows[:1] + rows[begin:end])
+
+
+def joins(program, files, number, form, wanted):
+    """The report on what the run files of pieces are joined to: neighbours at random, one to four of
+    them at a time, by random limits, until one or two are left."""
+    drawn = random.Random(number)
+    runs = []
+    first = 1
+    for place, piece in enumerate(pieces(files, drawn)):
+        program.write("piece.csv", piece)
+        limit = str(drawn.choice(JOIN_LIMITS))
+        asked = ["map", "--first", str(first), "--limit", limit, "script", "piece.csv"]
+        status, text, line = program.start(asked)
+        yield " ".join(asked), (0, b""), (status, line)
+        if status != 0:
+            return
+        runs.append(f"piece{place}.run")
+        program.write(runs[-1], text)
+        first = int(re.search(rb"^next ([0-9]+)$", text, re.MULTILINE).group(1))
+    left = drawn.choice((1, 1, 2))
+    turn = 0
+    while turn == 0 or len(runs) > left:
+        at = drawn.randrange(len(runs))
+        some = runs[at : at + drawn.randint(1, 4)]
+        asked = ["join", "--limit", str(drawn.choice(JOIN_LIMITS)), "script"] + some
+        status, text, line = program.start(asked)
+        yield " ".join(asked), (0, b""), (status, line)
+        if status != 0:
+            return
+        runs = runs[:at] + [f"joined{turn}.run"] + runs[at + len(some) :]
+        program.write(runs[at], text)
+        turn += 1
+    asked = ["reduce", "--form", form, "script"] + runs
+    yield " ".join(asked), wanted, program.start(asked)
 
 
 def watches(program, names, number):

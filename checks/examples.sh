@@ -135,6 +135,33 @@ try_loop() {
     note $? "a part made again: another report than that of a run"
 }
 
+# Whether the report on this one run file is that of a run over the whole log.
+reports_one_as_run() {
+    ./symple reduce "$script" "$1" >"$parts/report" && cmp "$parts/whole" "$parts/report" >&2
+}
+
+# Joined at once, and going on from yesterday: what was joined so far, and one part more.
+try_join() {
+    ./symple join "$script" "$parts"/part-*.csv.run >"$parts/log.run" &&
+        reports_one_as_run "$parts/log.run"
+    note $? "parts joined at once: another report than that of a run"
+
+    rm -f "$parts/month.run"
+    for part in "$@"; do
+        if [ -e "$parts/month.run" ]; then
+            next=$(awk '/^next [0-9]+$/ { print $2; exit }' "$parts/month.run")
+            ./symple map --first "$next" "$script" "$part" >"$parts/day.run" &&
+                ./symple join "$script" "$parts/month.run" "$parts/day.run" >"$parts/month.new" &&
+                mv "$parts/month.new" "$parts/month.run"
+        else
+            ./symple map "$script" "$part" >"$parts/month.run"
+        fi
+        note $? "$part isn't joined to those before it"
+    done
+    reports_one_as_run "$parts/month.run"
+    note $? "each part joined to those before it: another report than that of a run"
+}
+
 # By GNU parallel.
 try_parallel() {
     if ! command -v parallel >/dev/null; then
@@ -147,6 +174,9 @@ try_parallel() {
     note $? "reduce.sh: another report than that of a run"
     reports_as_run
     note $? "the run files of reduce.sh: another report than that of a run"
+    "$distributed/join.sh" "$script" "$parts"/part-*.csv.run >"$parts/log.run" &&
+        reports_one_as_run "$parts/log.run"
+    note $? "join.sh: another report than that of a run"
 }
 
 # By make: all parts at once, and then the one that has changed.
@@ -166,11 +196,21 @@ try_make() {
     note $? "make after a change of one part: not one map"
     cmp "$parts/whole" "$parts/report" >&2
     note $? "make after a change of one part: another report than that of a run"
+    make_target joined.run "$@" >"$parts/said"
+    [ "$(grep -c ' join ' "$parts/said")" -eq 3 ] && reports_one_as_run "$parts/joined.run"
+    note $? "make joined.run: other joins than three, or another report than that of a run"
 }
 
 make_report() {
+    make_target report "$@"
+}
+
+# make_target TARGET PART..
+make_target() {
+    target=$1
+    shift
     make -j4 -C "$parts" -f "$distributed/Makefile" SCRIPT="$root/$script" \
-        COUNT="$distributed/count.symple" PARTS="$*"
+        COUNT="$distributed/count.symple" PARTS="$*" "$target"
 }
 
 # A log in twelve parts, and what each way makes of it.
@@ -193,6 +233,7 @@ try_distributed() {
     ./symple run "$script" "$parts/log.csv" >"$parts/whole"
     note $? "a run over the whole log ended with another status than 0"
     try_loop "$@"
+    try_join "$@"
     try_parallel "$@"
     try_make "$@"
 }

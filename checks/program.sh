@@ -728,6 +728,127 @@ busy,a,1,5,\nidle,a,-1,5,\nidle,a,1,5,\nbusy,,1,5,\n' \
         trace sums_of_days.symple triples.csv
 fi
 
+# Run files joined.
+if [ -e a.run ] && takes join changed.symple a.run; then
+    "$program" map --first 6 changed.symple empty.csv >none.run
+    "$program" map --first 7 changed.symple two.csv >later.run
+    "$program" map --first 1000 changed.symple two.csv >last.run
+    row "a run file joined alone" 0 "${kept}first 1\nnext 3\n$group" join changed.symple a.run
+    row "a run file of a later part alone" 0 "${kept}first 3\nnext 6\n$group" \
+        join changed.symple b.run
+    row "two run files joined" 0 "${kept}first 1\nnext 6\n$group" \
+        join --limit 1 changed.symple a.run b.run
+    row "a part without records joined" 0 "${kept}first 1\nnext 6\n$group" \
+        join changed.symple a.run b.run none.run
+    row "parts joined that have no records" 0 "${kept}first 6\nnext 6\ngroups 0\nend\n" \
+        join changed.symple none.run none.run
+    row "run files joined out of order" 4 'a.run: records do not follow' \
+        join changed.symple b.run a.run
+    row "a run file joined twice" 4 'a.run: records do not follow' join changed.symple a.run a.run
+    row "run files joined without the one between" 4 'later.run: records do not follow' \
+        join changed.symple a.run b.run later.run
+    row "a run file joined that is cut off" 4 'cut.run: not a run file' \
+        join changed.symple a.run cut.run
+    row "a first run file that is cut off" 4 'cut.run: not a run file' \
+        join changed.symple cut.run b.run
+    row "a run of another script joined" 4 'other.run: run of another script' \
+        join changed.symple a.run other.run
+    row "a first run of another script" 4 'other.run: run of another script' \
+        join changed.symple other.run b.run
+    row "a large later run file" 7 'last.run: too large' \
+        join --max-bytes "$(wc -c <a.run)" changed.symple a.run last.run
+    row "a large first run file" 7 'a.run: too large' join --max-bytes 9 changed.symple a.run
+    row "an absent run file to join" 5 'absent.run: read fault' join changed.symple a.run absent.run
+    row "a join in a form" 2 usage join --form csv changed.symple a.run
+    row "a join in chunks" 2 usage join --chunk 1 changed.symple a.run
+    row "a join from a record on" 2 usage join --first 1 changed.symple a.run
+    row "a join by no path" 2 usage join --limit 0 changed.symple a.run
+    row "a join of no file" 2 usage join changed.symple
+    out=/dev/full
+    row "run files joined on a full device" 6 'write fault' join changed.symple a.run b.run
+    out=$work/out
+
+    # A run file that was changed by hand: where no path goes on, segments stay apart.
+    sed 's/^next x0,1,0/next n0/' a.run >zero.run
+    sed 's/^when i0/when i1/' b.run >ones.run
+    row "run files joined where no path goes on" 0 "${kept}first 1\nnext 6\ngroups 1\nkey
+chain 2\nsegment 1\nwhen i0..3\nnext n0\nsegment 1\nwhen i1..3\nnext x0,1,0\nend\n" \
+        join changed.symple zero.run ones.run
+    "$program" join changed.symple zero.run ones.run >apart.run
+    row "a report where no path goes on" 4 'apart.run: no path for group 1' \
+        reduce changed.symple apart.run
+
+    # Five parts: a fault in the second and another group's in the last, and keys that are first seen
+    # in later parts. In each bracketing `reduce` writes what `run` writes over all of them.
+    cat >levels.symple <<'END'
+field user: word;
+field up: num;
+group user;
+state level: int [0..9] = 5;
+state seen: nums [0..9];
+update { level = level + up; push seen level; }
+report { level = level; seen = count(seen); highest = max(seen); }
+END
+    printf 'user,up\na,1\nb,1\na,2\n' >l1.csv
+    printf 'user,up\nb,3\nc,-2\na,2\nb,-1\n' >l2.csv
+    printf 'user,up\n' >l3.csv
+    printf 'user,up\nd,4\nb,-3\nc,1\n' >l4.csv
+    printf 'user,up\nd,1\ne,-5\nb,2\ne,1\nc,-9\n' >l5.csv
+    run "$program" run levels.symple l1.csv l2.csv l3.csv l4.csv l5.csv
+    expect "$status" ''
+    cp "$work/out" "$work/whole.out"
+    number=1
+    for part in 1 2 3 4 5; do
+        "$program" map --limit $((part % 3 + 1)) --first "$number" levels.symple "l$part.csv" \
+            >"tree.$part.$part.1"
+        number=$((number + $(wc -l <"l$part.csv") - 1))
+    done
+    for length in 2 3 4 5; do
+        for first in 1 2 3 4; do
+            last=$((first + length - 1))
+            [ "$last" -le 5 ] || continue
+            tree=0
+            split=$first
+            while [ "$split" -lt "$last" ]; do
+                for left in tree."$first.$split".*; do
+                    for right in tree."$((split + 1)).$last".*; do
+                        tree=$((tree + 1))
+                        "$program" join --limit $((tree * 5 % 17 + 1)) levels.symple \
+                            "$left" "$right" >"tree.$first.$last.$tree"
+                        note $? "$left and $right aren't joined"
+                    done
+                done
+                split=$((split + 1))
+            done
+        done
+    done
+    for tree in tree.1.5.*; do
+        run "$program" reduce levels.symple "$tree"
+        [ "$status" -eq "$wanted" ] && cmp -s "$work/whole.out" "$work/out"
+        note $? "a bracketing of five run files, $tree: another report than that of a run"
+    done
+    [ "$(find . -name 'tree.1.5.*' | wc -l)" -eq 14 ]
+    note $? "five run files have other bracketings than 14"
+    "$program" join levels.symple tree.1.2.1 tree.3.3.1 tree.4.5.1 >three.run
+    run "$program" reduce levels.symple three.run
+    [ "$status" -eq "$wanted" ] && cmp -s "$work/whole.out" "$work/out"
+    note $? "three run files joined at once: another report than that of a run"
+
+    # A count that can't overflow stays one segment a group: below the end of its range, and there.
+    cat >tallies.symple <<'END'
+field user: word;
+group user;
+state n: int [0..1000000] = 0 clamp;
+update { n = n + 1; }
+report { n = n; }
+END
+    "$program" map tallies.symple l1.csv >tally.run
+    "$program" map --first 4 tallies.symple l2.csv >tally.2.run
+    "$program" join tallies.symple tally.run tally.2.run >tallies.run
+    [ "$(grep -c '^segment 2$' tallies.run)" -eq 3 ] && [ "$(grep -c '^chain 1$' tallies.run)" -eq 3 ]
+    note $? "joined counts have other than one segment of two paths a group"
+fi
+
 # Scripts that aren't read.
 row "an absent script" 5 'absent.symple: read fault' run absent.symple first.csv
 row "a folder as a script" 5 './: read fault' run ./ first.csv

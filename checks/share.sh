@@ -129,8 +129,8 @@ usage_words() {
         /^    --[a-z]/ {
             for (i = 1; i <= many; i++) {
                 has_file = commands[i] !~ /^(check|make)$/
-                has_records = commands[i] !~ /^(check|reduce)$/
-                if (/all with FILE/ ? has_file : /all with records/ ? has_records : \
+                has_records = commands[i] !~ /^(check|reduce|join)$/
+                if ((/all with FILE/ && has_file) || (/all with records/ && has_records) || \
                     $0 ~ ("[ ,]" commands[i] "(,| |$)"))
                     print commands[i], $1
             }
@@ -142,7 +142,7 @@ usage_words() {
 # Whether a command takes an option; the arguments beside it are right.
 takes() {
     case $1 in
-        run | trace | map | reduce) set -- "$1" "$2" "${3-}" "$script" "$log" ;;
+        run | trace | map | reduce | join) set -- "$1" "$2" "${3-}" "$script" "$log" ;;
         check) set -- check "$2" "${3-}" "$script" ;;
         make) set -- make "$2" "${3-}" 1 1 ;;
     esac
@@ -170,7 +170,7 @@ try_words() {
     usage_words >"$work/usage"
     same "$usage: other words than the manual page" "$work/manual" "$work/usage"
 
-    for command in run trace map reduce check make; do
+    for command in run trace map reduce join check make; do
         grep -qx "$command" "$work/manual"
         note $? "$manual: no $command"
     done
@@ -188,7 +188,7 @@ try_words() {
     sed -n 's/.*_NAME: &str = "\(.*\)";/\1/p' crates/sym_top/src/arguments.rt >"$work/names"
     [ -s "$work/names" ]
     note $? "crates/sym_top/src/arguments.rt: no name of an argument"
-    for command in run trace map reduce check make; do
+    for command in run trace map reduce join check make; do
         : >"$work/taken"
         { sed -n 's/^[a-z]* --//p' "$work/manual"; cat "$work/names"; } | sort -u >"$work/tried"
         while read -r name; do

@@ -7,6 +7,7 @@ _symple_options() {
         trace) echo --form --every --chunk --limit --workers --max-bytes ;;
         map) echo --first --chunk --limit --workers --max-bytes ;;
         reduce) echo --form --max-bytes ;;
+        join) echo --limit --max-bytes ;;
         check) echo --print ;;
         make) echo --chunk --limit --workers ;;
     esac
@@ -28,7 +29,7 @@ _symple() {
         mapfile -t COMPREPLY < <(compgen -W "--help --version" -- "$current")
         return
     elif [ "$COMP_CWORD" -eq 1 ]; then
-        mapfile -t COMPREPLY < <(compgen -W "run trace map reduce check make" -- "$current")
+        mapfile -t COMPREPLY < <(compgen -W "run trace map reduce join check make" -- "$current")
         return
     fi
 
@@ -64,9 +65,9 @@ _symple() {
             [[ $given == *" $word "* ]] || left+=("$word")
         done
         mapfile -t COMPREPLY < <(compgen -W "${left[*]}" -- "$current")
-    elif [[ $command == @(run|trace|map|reduce|check) ]] && [ "$others" -eq 0 ]; then
+    elif [[ $command == @(run|trace|map|reduce|join|check) ]] && [ "$others" -eq 0 ]; then
         _symple_files "$current" .symple
-    elif [[ $command == @(run|trace|map|reduce) ]]; then
+    elif [[ $command == @(run|trace|map|reduce|join) ]]; then
         _symple_files "$current" ''
     fi
 }

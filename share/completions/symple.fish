@@ -42,6 +42,7 @@ complete -c symple -n __symple_command -a run -d 'Run a script over the records 
 complete -c symple -n __symple_command -a trace -d 'Write how the group of each record stands'
 complete -c symple -n __symple_command -a map -d 'Write the run file of a part of a log'
 complete -c symple -n __symple_command -a reduce -d 'Write the report on run files'
+complete -c symple -n __symple_command -a join -d 'Write one run file of run files'
 complete -c symple -n __symple_command -a check -d 'Read a script, and write its numbers'
 complete -c symple -n __symple_command -a make -d 'Make a log, and write a summary of it'
 
@@ -79,6 +80,12 @@ complete -c symple -n $is_reduce -l form -x -a 'table csv pairs' -d 'Form of the
 complete -c symple -n $is_reduce -l max-bytes -x -d 'Bytes of a file: 1 to 268435456'
 complete -c symple -n "$is_reduce; and test (__symple_place) -eq 0" -k -a '(__symple_scripts)'
 complete -c symple -n "$is_reduce; and test (__symple_place) -gt 0" -F
+
+set -l is_join '__symple_command join'
+complete -c symple -n $is_join -l limit -x -d 'Paths of a summary: 1 to 256'
+complete -c symple -n $is_join -l max-bytes -x -d 'Bytes of a file: 1 to 268435456'
+complete -c symple -n "$is_join; and test (__symple_place) -eq 0" -k -a '(__symple_scripts)'
+complete -c symple -n "$is_join; and test (__symple_place) -gt 0" -F
 
 set -l is_check '__symple_command check'
 complete -c symple -n $is_check -l print -d 'Write the script in one layout'

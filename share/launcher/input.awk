@@ -205,7 +205,7 @@ function on_run_file(said) {
     if (said ~ /: not a run file$/)
         say("run files are what symple map writes; one that was cut off isn't one")
     else if (said ~ /: run of another script$/)
-        say("map wrote it by another script: reduce takes the script that map took")
+        say("map wrote it by another script: reduce and join take the script that map took")
     else if (said ~ /: records do not follow$/)
         say("a part is missing, comes twice or comes too early; map --first N gives a part's" \
             " first number")

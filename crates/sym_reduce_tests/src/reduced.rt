@@ -1,8 +1,9 @@
-//! `reduce` over run files: the report of all their records, and the first problem.
+//! `reduce` and `join` over run files: the report of all their records, or one run file of them, and
+//! the first problem.
 use crate::calls::{Call, File, check_calls};
 use crate::scripts::{
-    COUNTER, CUT_OFF, ENDS, FROM_ONE, KEPT, KEPT_OTHERWISE, LATER_FROM_ONE, MORE_USERS, NO_SCRIPT,
-    NONE, NOT_FIVE, SET, SIXTH, THREE, TURNED, TWO, USERS,
+    ALL_USERS, COUNTER, CUT_OFF, ENDS, FIVE, FROM_ONE, KEPT, KEPT_OTHERWISE, LATER_FROM_ONE,
+    MORE_USERS, NO_SCRIPT, NONE, NOT_FIVE, SET, SIXTH, THREE, TURNED, TWO, USERS,
 };
 use std::test::Fail;
 use sym_top::Status;
@@ -25,8 +26,8 @@ const REDUCED: Call = Call {
     stops: false,
 };
 
-/// Run files, and the reports on them.
-const REPORTS: [Call; 13] = [
+/// Run files, and the reports on them, or what they are joined to.
+const REPORTS: [Call; 17] = [
     REDUCED,
     Call {
         words: TWO_FILES,
@@ -94,6 +95,33 @@ const REPORTS: [Call; 13] = [
         words: &["reduce", "--max-bytes", "175", "s", "a"],
         ..REDUCED
     },
+    Call {
+        words: &["join", "s", "a", "b"],
+        files: &[("a", TWO), ("b", THREE)],
+        out: FIVE,
+        ..REDUCED
+    },
+    // The first file may begin anywhere.
+    Call {
+        words: &["join", "s", "a"],
+        files: &[("a", THREE)],
+        out: THREE,
+        ..REDUCED
+    },
+    Call {
+        words: &["join", "--limit", "1", "s", "a", "b", "c"],
+        files: &[("a", NONE), ("b", TWO), ("c", THREE)],
+        out: FIVE,
+        ..REDUCED
+    },
+    // The first file's keys come first, and its records.
+    Call {
+        words: &["join", "s", "a", "b"],
+        script: SET,
+        files: &[("a", USERS), ("b", MORE_USERS)],
+        out: ALL_USERS,
+        ..REDUCED
+    },
     // A name that stands twice is read twice.
     Call {
         words: &["reduce", "s", "a", "a"],
@@ -129,7 +157,7 @@ const AT_SECOND: Call = Call {
 const BROKEN: File = ("b", "");
 
 /// Run files that aren't taken, by what is wrong with each.
-const FAULTS: [Call; 12] = [
+const FAULTS: [Call; 14] = [
     Call {
         files: &[("a", THREE), BROKEN],
         err: "symple: a: records do not follow\n",
@@ -161,7 +189,19 @@ const FAULTS: [Call; 12] = [
         err: "symple: a: no path for group 1\n",
         ..AT_FIRST
     },
+    Call {
+        words: &["join", "s", "a", "b"],
+        files: &[("a", CUT_OFF), BROKEN],
+        err: "symple: a: not a run file\n",
+        ..AT_FIRST
+    },
     // A file is missing, stands twice, or comes too late.
+    Call {
+        words: &["join", "s", "a", "b", "c"],
+        files: &[("a", TWO), ("b", SIXTH), ("c", "")],
+        err: "symple: b: records do not follow\n",
+        ..AT_SECOND
+    },
     Call {
         files: &[("a", TWO), ("b", SIXTH), ("c", "")],
         err: "symple: b: records do not follow\n",

@@ -75,6 +75,11 @@ pub(crate) const THREE: &str = kept!(
     "first 3\nnext 6\ngroups 1\nkey\nchain 1\nsegment 1\nwhen i0..3\nnext x0,1,0\nend\n"
 );
 
+/// Both, joined.
+pub(crate) const FIVE: &str = kept!(
+    "first 1\nnext 6\ngroups 1\nkey\nchain 1\nsegment 1\nwhen i0..3\nnext x0,1,0\nend\n"
+);
+
 /// One record, of the number 6.
 pub(crate) const SIXTH: &str = kept!(
     "first 6\nnext 7\ngroups 1\nkey\nchain 1\nsegment 1\nwhen i0..3\nnext x0,1,0\nend\n"
@@ -119,7 +124,15 @@ pub(crate) const MORE_USERS: &str = set!(
     key w1:a\nchain 1\nsegment 1\nwhen i0..9\nnext n6\nend\n"
 );
 
-/// The same, where the second group has no path for 5.
+/// Both, joined.
+pub(crate) const ALL_USERS: &str = set!(
+    "first 1\nnext 7\ngroups 4\nkey w1:c\nchain 1\nsegment 1\nwhen i0..9\nnext n5\n\
+    key w1:a\nchain 1\nsegment 1\nwhen i0..9\nnext n6\n\
+    key w1:b\nchain 1\nsegment 1\nwhen i0..9\nnext n5\n\
+    key w1:d\nchain 1\nsegment 1\nwhen i0..9\nnext n5\nend\n"
+);
+
+/// The same as the two more, where the second group has no path for 5.
 pub(crate) const NOT_FIVE: &str = set!(
     "first 5\nnext 7\ngroups 2\nkey w1:d\nchain 1\nsegment 1\nwhen i0..9\nnext n5\n\
     key w1:a\nchain 1\nsegment 1\nwhen i0..4\nnext n6\nend\n"

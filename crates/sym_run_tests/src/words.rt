@@ -267,7 +267,7 @@ fn other_lists_are_no_trace(rt: HostRuntime) -> Result<(), Fail> {
     all_hold(&rt, wrong_list(&rt, rt.alloc(), &NO_TRACES, USAGE))
 }
 
-const NO_PARTS: [&[&str]; 16] = [
+const NO_PARTS: [&[&str]; 22] = [
     &["map"],
     &["map", "s"],
     &["map", "--first", "0", "s", "f"],
@@ -283,15 +283,21 @@ const NO_PARTS: [&[&str]; 16] = [
     &["reduce", "--workers", "1", "s", "f"],
     &["reduce", "--max-bytes", "0", "s", "f"],
     &["reduce", "--form", "html", "s", "f"],
+    &["join"],
+    &["join", "s"],
+    &["join", "--form", "csv", "s", "f"],
+    &["join", "--first", "1", "s", "f"],
+    &["join", "--limit", "0", "s", "f"],
+    &["join", "--limit", "257", "s", "f"],
     &["run", "--first", "1", "s", "f"],
 ];
 
 #[test]
-fn other_lists_are_no_map_or_reduce(rt: HostRuntime) -> Result<(), Fail> {
+fn other_lists_are_no_map_reduce_or_join(rt: HostRuntime) -> Result<(), Fail> {
     all_hold(&rt, wrong_list(&rt, rt.alloc(), &NO_PARTS, USAGE))
 }
 
-const NOT_WATCHED: [&[&str]; 12] = [
+const NOT_WATCHED: [&[&str]; 13] = [
     &["run", "--watch", "--watch", "s", "f"],
     &["run", "--watch", "s", "f", "--watch"],
     &["run", "--watch=yes", "s", "f"],
@@ -304,6 +310,7 @@ const NOT_WATCHED: [&[&str]; 12] = [
     &["make", "--watch", "5", "1"],
     &["map", "--watch", "s", "f"],
     &["reduce", "--watch", "s", "f"],
+    &["join", "--watch", "s", "f"],
 ];
 
 #[test]

@@ -6,13 +6,14 @@ use Rattle.sym_check.specs.Meaning.Groups.{pass}
 use Rattle.sym_parse.specs.Printed.{script_text}
 use Rattle.sym_report.specs.Forms.{FormTexts}
 use Rattle.sym_report.specs.ReportRows.{heads_of, row_of}
+use Rattle.sym_run.specs.declared.saved.Saved.{Saved}
 use Rattle.sym_table.specs.Reading.{Row}
 use Rattle.sym_trace.specs.TraceReports.{trace_heads, trace_rows}
 use Rattle.sym_top.specs.declared.status.Status.TheVariants as status
 use Rattle.sym_top.specs.CheckLines.{check_line}
-use Rattle.sym_top.specs.CommandLines.{run_app, trace_app, check_app, make_app, map_app, reduce_app, matched}
-use Rattle.sym_top.specs.Commands.{Asked, Command, Run, Runs, Trace, Traces, Check, Checks, Make, Makes, Map, Maps, Reduce, Reduces, asks, command_in, command_of, names_of, shown_names, file_rules, first_no, run_of, trace_of, check_of, make_of, map_of, reduce_of, run_found, trace_found, check_found, make_found, map_found, reduce_found, run_options, options_found, files_found}
-use Rattle.sym_top.specs.Ends.{Reported, Said, Summed, Mapped, Held, script_of, files_of, status_of, whole_end}
+use Rattle.sym_top.specs.CommandLines.{run_app, trace_app, check_app, make_app, map_app, reduce_app, join_app, matched}
+use Rattle.sym_top.specs.Commands.{Asked, Command, Run, Runs, Trace, Traces, Check, Checks, Make, Makes, Map, Maps, Reduce, Reduces, Join, Joins, asks, command_in, command_of, names_of, shown_names, file_rules, first_no, run_of, trace_of, check_of, make_of, map_of, reduce_of, join_of, run_found, trace_found, check_found, make_found, map_found, reduce_found, join_found, run_options, options_found, files_found}
+use Rattle.sym_top.specs.Ends.{Reported, Said, Summed, Mapped, Joined, Held, script_of, files_of, status_of, whole_end}
 use Rattle.sym_top.specs.Making.{made_file, made_script}
 use Rattle.sym_top.specs.Numbers.{number_of}
 use Rattle.sym_top.specs.Programs.{Program}
@@ -187,6 +188,29 @@ reduce_end : (program : Program) (records : List Record) → whole_end reduce_ca
     ≡ Reported (saying (codes "b")) (heads_of program.tree program.plan) (map (row_of program.tree program.plan) (pass program.plan records))
 reduce_end program records = refl
 
+-- ---- `join --limit 7 --max-bytes 9 s f g`: its files have no rows, and no form is handed in
+abbrev join : Join
+join = record {
+  limit = 7;
+  max_bytes = 9;
+  script = codes "s";
+  files = codes "f" ∷ codes "g" ∷ [];
+}
+
+abbrev join_call : Asked
+join_call = formless (codes "join" ∷ codes "--limit" ∷ codes "7" ∷ codes "--max-bytes" ∷ codes "9" ∷ codes "s" ∷ codes "f" ∷ codes "g" ∷ [])
+
+joins : command_of join_call ≡ Some (Joins join)
+unfolding command_in join_of matched join_app join_found files_found number_of clap_on_literals
+joins = refl
+
+a_join : Asks join_call (Joins join) (Some (codes "s")) (codes "f" ∷ codes "g" ∷ []) 9 doubled 1 (λ held. held.script) (λ held. [])
+a_join = record { asks = joins; names = ap (λ c. names_of c) joins; rules = refl; first_is = refl; script_is = λ held. refl; files_are = λ held. refl }
+
+-- The end of a join comes by the saved runs of its files, and not by records.
+join_end : (program : Program) (records : List Record) → whole_end join_call (Joins join) program records ≡ Joined program 7 []
+join_end program records = refl
+
 -- ---- the names by which a line speaks of files: those that are read, and that of the log that is made
 run_shown : shown_names (command_of run_call) ≡ record { script = Some (codes "s"); files = codes "f" ∷ codes "g" ∷ [] }
 run_shown = ap (λ c. shown_names c) runs
@@ -206,12 +230,18 @@ map_shown = ap (λ c. shown_names c) maps
 reduce_shown : shown_names (command_of reduce_call) ≡ record { script = Some (codes "s"); files = codes "f" ∷ codes "g" ∷ [] }
 reduce_shown = ap (λ c. shown_names c) reduces
 
--- ---- the status of a script that is checked, and of a log that is mapped, whatever its records do
+join_shown : shown_names (command_of join_call) ≡ record { script = Some (codes "s"); files = codes "f" ∷ codes "g" ∷ [] }
+join_shown = ap (λ c. shown_names c) joins
+
+-- ---- the status of a script that is checked, of a log that is mapped and of files that are joined, whatever their records do
 check_ends : (program : Program) (records : List Record) → status_of (whole_end check_call (Checks check) program records) ≡ status.Done
 check_ends program records = refl
 
 map_ends : (program : Program) (records : List Record) → status_of (whole_end map_call (Maps part) program records) ≡ status.Done
 map_ends program records = refl
+
+join_ends : (program : Program) (limit : ℕ) (saved : List Saved) → status_of (Joined program limit saved) ≡ status.Done
+join_ends program limit saved = refl
 
 -- ---- `run`, `trace` and `reduce` with `--form csv s f`: the report is in that form, and not in the default one
 

@@ -22,6 +22,8 @@ use Rattle.sym_engine.specs.FirstProblems.{FirstProblem}
 use Rattle.sym_engine.specs.FirstProblems as of_files
 use Rattle.sym_reduce.specs.declared.error.ReduceErr.{ReduceErr}
 use Rattle.sym_reduce.specs.declared.error.ReduceErr.TheVariants as reduce_error
+use Rattle.sym_reduce.specs.Joining.{FirstFileProblem, FirstJoinProblem, HasRunFault}
+use Rattle.sym_reduce.specs.Joining as of_joins
 use Rattle.sym_reduce.specs.Reducing.{FirstRunProblem, HasFault, HasRunProblem, Pairs}
 use Rattle.sym_reduce.specs.Reducing as of_runs
 use Rattle.sym_top.specs.declared.refusal.Place.TheVariants as place
@@ -29,11 +31,11 @@ use Rattle.sym_top.specs.declared.refusal.Refusal.{Refusal}
 use Rattle.sym_top.specs.declared.refusal.Refusal.TheVariants as refusal
 use Rattle.sym_top.specs.declared.status.Status.{Status}
 use Rattle.sym_top.specs.declared.status.Status.TheVariants as status
-use Rattle.sym_top.specs.Causes.{BreaksRule, IsNoCommand, no_command, IsTooLarge, large_script, large_file, large_run_file, IsUnaccepted, bad_byte, bad_number, long_name, bad_text, limit_passed, unexpected_token, unknown_name, name_taken, wrong_kind, wrong_range, not_linear, many_paths, IsNoScript, IsBadInput, bad_header, bad_row, other_script, malformed, apart, gap, IsReadFault, IsToldOf, HasCause, IsWritingCut, IsStopped, RefusalsHaveCauses}
-use Rattle.sym_top.specs.Commands.{Command, Reduce, Runs, Traces, Checks, Makes, Maps, Reduces, command_of, file_rules, first_no}
-use Rattle.sym_top.specs.Ends.{End, Refused, Held, IsEnd, usage, no_program, problem, finished, run_problem, reduced, IsWhole, files_of, script_of, whole_end}
+use Rattle.sym_top.specs.Causes.{BreaksRule, IsNoCommand, no_command, IsTooLarge, large_script, large_file, large_run_file, large_joined_file, IsUnaccepted, bad_byte, bad_number, long_name, bad_text, limit_passed, unexpected_token, unknown_name, name_taken, wrong_kind, wrong_range, not_linear, many_paths, IsNoScript, IsBadInput, bad_header, bad_row, other_script, malformed, apart, gap, other_script_joined, malformed_joined, apart_joined, IsReadFault, IsToldOf, HasCause, IsWritingCut, IsStopped, RefusalsHaveCauses}
+use Rattle.sym_top.specs.Commands.{Command, Join, Reduce, Runs, Traces, Checks, Makes, Maps, Reduces, Joins, command_of, file_rules, first_no}
+use Rattle.sym_top.specs.Ends.{End, Refused, Held, IsEnd, usage, no_program, problem, finished, run_problem, reduced, join_problem, runs_joined, IsWhole, files_of, script_of, whole_end}
 use Rattle.sym_top.specs.Programs.{Program, IsProgram, IsUnparsed, lexical, unexpected, passed, IsNoProgram, too_large, unparsed, broken}
-use Rattle.sym_top.specs.Promises.{Call, Says, Told, IsStop, at_end, script_unread, file_unread, run_unread, no_memory, IsUntouched, WriteFails, failed, short, IsCause, stopped, cut, Refuses, IsReported, IsRefused, IsUnwritten, call_line}
+use Rattle.sym_top.specs.Promises.{Call, Says, Told, IsStop, at_end, script_unread, file_unread, run_unread, join_unread, no_memory, IsUntouched, WriteFails, failed, short, IsCause, stopped, cut, Refuses, IsReported, IsRefused, IsUnwritten, call_line}
 use Rattle.sym_top.specs.Refusals.{status_of_refusal, parse_refusal, check_refusal, pass_refusal, reduce_refusal}
 use Rattle.sym_top.specs.Telling.{Sunk, Tells}
 use Rattle.sym_top.proofs.Consequences.{decided, held-told, reported-written}
@@ -70,6 +72,32 @@ unread-runs : (script : List ℕ) (p : ScriptPlan) (most file next : ℕ) (total
 unread-runs script p most _ _ _ _ _ at (of_runs.here file next totals bytes files why has) e = unread-run script p most next file totals bytes why at has e
 unread-runs script p most _ _ _ _ _ at (of_runs.later file next totals bytes files saved more why small taken rest) e =
     unread-runs script p most (file + 1) saved.next more files why at rest e
+
+-- ---- files that can't be joined are not those of which a read failed or a group has no path
+
+unread-joined : (script : List ℕ) (p : ScriptPlan) (most file next : ℕ) (files : List (List ℕ)) (why : ReduceErr) (at : ℕ) →
+    FirstFileProblem script p most file next files why → why ≡ reduce_error.Read at → ⊥
+unread-joined script p most _ _ _ _ at (of_joins.too_large file next bytes files large) e = cc
+unread-joined script p most _ _ _ _ at (of_joins.faulty file next bytes files why small has) e = by why has e
+  where
+    by : (own : ReduceErr) → HasRunFault script p next file bytes own → own ≡ reduce_error.Read at → ⊥
+    by _ (of_joins.other_script is) e = cc
+    by _ (of_joins.malformed is) e = cc
+    by _ (of_joins.apart saved is differs) e = cc
+unread-joined script p most _ _ _ _ at (of_joins.later file next bytes files saved why small is follows rest) e =
+    unread-joined script p most (file + 1) saved.next files why at rest e
+
+pathless-joined : (script : List ℕ) (p : ScriptPlan) (most file next : ℕ) (files : List (List ℕ)) (why : ReduceErr) (at group : ℕ) →
+    FirstFileProblem script p most file next files why → why ≡ reduce_error.Gap at group → ⊥
+pathless-joined script p most _ _ _ _ at group (of_joins.too_large file next bytes files large) e = cc
+pathless-joined script p most _ _ _ _ at group (of_joins.faulty file next bytes files why small has) e = by why has e
+  where
+    by : (own : ReduceErr) → HasRunFault script p next file bytes own → own ≡ reduce_error.Gap at group → ⊥
+    by _ (of_joins.other_script is) e = cc
+    by _ (of_joins.malformed is) e = cc
+    by _ (of_joins.apart saved is differs) e = cc
+pathless-joined script p most _ _ _ _ at group (of_joins.later file next bytes files saved why small is follows rest) e =
+    pathless-joined script p most (file + 1) saved.next files why at group rest e
 
 -- ---- each refusal has a cause
 
@@ -155,6 +183,22 @@ module _ (call : Call) (held : Held) where
       gap file group (record { reduce = reduce; asks = asks; program = program; accepted = is; first = first })
   runs-caused reduce program reduce_error.NoMemory asks is first = refl
 
+  joins-caused : (join : Join) (program : Program) (why : ReduceErr) → command_of call.asked ≡ Some (Joins join) → IsProgram held.script program →
+      FirstJoinProblem (script_text program.tree) program.plan join.max_bytes held.files why → IsCaused call held (reduce_refusal why)
+  joins-caused join program (reduce_error.Read file) asks is first =
+      absurd (unread-joined (script_text program.tree) program.plan join.max_bytes 0 first.first held.files (reduce_error.Read file) file first.problem refl)
+  joins-caused join program (reduce_error.TooLarge file) asks is first =
+      large_joined_file file (record { join = join; asks = asks; program = program; accepted = is; first = first })
+  joins-caused join program (reduce_error.OtherScript file) asks is first =
+      other_script_joined file (record { join = join; asks = asks; program = program; accepted = is; first = first })
+  joins-caused join program (reduce_error.Malformed file) asks is first =
+      malformed_joined file (record { join = join; asks = asks; program = program; accepted = is; first = first })
+  joins-caused join program (reduce_error.Apart file) asks is first =
+      apart_joined file (record { join = join; asks = asks; program = program; accepted = is; first = first })
+  joins-caused join program (reduce_error.Gap file group) asks is first =
+      absurd (pathless-joined (script_text program.tree) program.plan join.max_bytes 0 first.first held.files (reduce_error.Gap file group) file group first.problem refl)
+  joins-caused join program reduce_error.NoMemory asks is first = refl
+
   whole-refused : (command : Command) (program : Program) (records : List Record) (why : Refusal) →
       whole_end call.asked command program records ≡ Refused why → ⊥
   whole-refused (Runs run) program records why e = cc
@@ -163,6 +207,7 @@ module _ (call : Call) (held : Held) where
   whole-refused (Makes make) program records why e = cc
   whole-refused (Maps part) program records why e = cc
   whole-refused (Reduces reduce) program records why e = cc
+  whole-refused (Joins join) program records why e = cc
 
   same-caused : (one other : Refusal) → Refused one ≡ Refused other → IsCaused call held one → IsCaused call held other
   same-caused one other e is = let same : one ≡ other = cc in subst (λ why. IsCaused call held why) same is
@@ -174,6 +219,8 @@ module _ (call : Call) (held : Held) where
   end-caused _ why (finished command program records asks is own fine) e = absurd (whole-refused command program records why e)
   end-caused _ why (run_problem reduce program own asks is first) e = same-caused (reduce_refusal own) why e (runs-caused reduce program own asks is first)
   end-caused _ why (reduced reduce program stop totals asks is are) e = absurd (cc)
+  end-caused _ why (join_problem join program own asks is first) e = same-caused (reduce_refusal own) why e (joins-caused join program own asks is first)
+  end-caused _ why (runs_joined join program runs asks is are) e = absurd (cc)
 
   stop-caused : (why : Refusal) → IsStop call held why → IsCaused call held why
   stop-caused _ (at_end why is) = end-caused (Refused why) why is refl
@@ -182,6 +229,8 @@ module _ (call : Call) (held : Held) where
       record { at = place.File number; why_is = refl; failed = unread; stop = file_unread command program records number asks prog own fine unread }
   stop-caused _ (run_unread reduce program stop totals number asks prog are unread) =
       record { at = place.File number; why_is = refl; failed = unread; stop = run_unread reduce program stop totals number asks prog are unread }
+  stop-caused _ (join_unread join program runs number asks prog are unread) =
+      record { at = place.File number; why_is = refl; failed = unread; stop = join_unread join program runs number asks prog are unread }
   stop-caused _ no_memory = refl
 
   -- ---- each cause is refused, if nothing stops the call before
@@ -197,6 +246,7 @@ module _ (call : Call) (held : Held) where
   large-end _ (large_script s) = (no_program s.command _ s.asks (too_large s.is_so), refl)
   large-end _ (large_file file h) = (problem h.command h.program (pass_error.TooLarge file) h.asks h.accepted h.first, refl)
   large-end _ (large_run_file file h) = (run_problem h.reduce h.program (reduce_error.TooLarge file) h.asks h.accepted h.first, refl)
+  large-end _ (large_joined_file file h) = (join_problem h.join h.program (reduce_error.TooLarge file) h.asks h.accepted h.first, refl)
 
   unparsed-end : (command : Command) (why : ParseErr) → command_of call.asked ≡ Some command → length (script_of command held) ≤ limit.SCRIPT_MAX →
       IsUnparsed (script_of command held) why → IsEnd call.asked held (Refused (parse_refusal why))
@@ -236,6 +286,9 @@ module _ (call : Call) (held : Held) where
   input-end _ (malformed file h) = (run_problem h.reduce h.program (reduce_error.Malformed file) h.asks h.accepted h.first, refl)
   input-end _ (apart file h) = (run_problem h.reduce h.program (reduce_error.Apart file) h.asks h.accepted h.first, refl)
   input-end _ (gap file group h) = (run_problem h.reduce h.program (reduce_error.Gap file group) h.asks h.accepted h.first, refl)
+  input-end _ (other_script_joined file h) = (join_problem h.join h.program (reduce_error.OtherScript file) h.asks h.accepted h.first, refl)
+  input-end _ (malformed_joined file h) = (join_problem h.join h.program (reduce_error.Malformed file) h.asks h.accepted h.first, refl)
+  input-end _ (apart_joined file h) = (join_problem h.join h.program (reduce_error.Apart file) h.asks h.accepted h.first, refl)
 
 -- ---- the table
 
@@ -303,6 +356,7 @@ module _ (call : Call) (out err : Sunk) (result : Status) where
   stop-told held why _ is (script_unread unread) status_is untouched line = inr (inl status_is)
   stop-told held why _ is (file_unread command program records number asks prog own fine unread) status_is untouched line = inr (inl status_is)
   stop-told held why _ is (run_unread reduce program stop totals number asks prog are unread) status_is untouched line = inr (inl status_is)
+  stop-told held why _ is (join_unread join program runs number asks prog are unread) status_is untouched line = inr (inl status_is)
   stop-told held why _ is no_memory status_is untouched line = inr (inr status_is)
 
   never-whole : {A : Type 0} (held : Held) (end : End) (why : Refusal) → IsEnd call.asked held (Refused why) → IsEnd call.asked held end → IsWhole end → A

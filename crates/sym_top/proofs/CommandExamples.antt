@@ -1,8 +1,8 @@
 -- Lists of arguments, and the commands that they ask for.
 use Rattle.std.proofs.Common.{◌≡◌, [], ◌∷◌, Some, None, true, false, refl, codes}
 use Rattle.clap.proofs.OnLiterals.{clap_on_literals}
-use Rattle.sym_top.specs.CommandLines.{run_app, trace_app, check_app, make_app, map_app, reduce_app, matched}
-use Rattle.sym_top.specs.Commands.{Runs, Traces, Checks, Makes, Maps, Reduces, command_in, run_of, trace_of, check_of, make_of, map_of, reduce_of, run_found, trace_found, check_found, make_found, map_found, reduce_found, run_options, options_found, files_found}
+use Rattle.sym_top.specs.CommandLines.{run_app, trace_app, check_app, make_app, map_app, reduce_app, join_app, matched}
+use Rattle.sym_top.specs.Commands.{Runs, Traces, Checks, Makes, Maps, Reduces, Joins, command_in, run_of, trace_of, check_of, make_of, map_of, reduce_of, join_of, run_found, trace_found, check_found, make_found, map_found, reduce_found, join_found, run_options, options_found, files_found}
 use Rattle.sym_top.specs.Numbers.{number_of}
 
 -- `run s f`
@@ -137,3 +137,18 @@ reported_on : command_in (codes "reduce" ∷ codes "s" ∷ codes "f" ∷ codes "
 }))
 unfolding command_in reduce_of matched reduce_app reduce_found files_found number_of clap_on_literals
 reported_on = refl
+
+-- `join s f g --limit 7`
+joined : command_in (codes "join" ∷ codes "s" ∷ codes "f" ∷ codes "g" ∷ codes "--limit" ∷ codes "7" ∷ []) ≡ Some (Joins (record {
+  limit = 7;
+  max_bytes = 67108864;
+  script = codes "s";
+  files = codes "f" ∷ codes "g" ∷ [];
+}))
+unfolding command_in join_of matched join_app join_found files_found number_of clap_on_literals
+joined = refl
+
+-- `join --form csv s f`
+join_in_form : command_in (codes "join" ∷ codes "--form" ∷ codes "csv" ∷ codes "s" ∷ codes "f" ∷ []) ≡ None
+unfolding command_in join_of matched join_app join_found files_found number_of clap_on_literals
+join_in_form = refl

@@ -20,13 +20,13 @@ use Rattle.sym_top.specs.declared.refusal.Refusal.{Refusal}
 use Rattle.sym_top.specs.declared.refusal.Refusal.TheVariants as refusal
 use Rattle.sym_top.specs.declared.status.Status.{Status}
 use Rattle.sym_top.specs.declared.status.Status.TheVariants as status
-use Rattle.sym_top.specs.Commands.{Command, ReadsNoRuns, Runs, Traces, Checks, Makes, Maps, Reduces, FileNames, name_at, names_of}
-use Rattle.sym_top.specs.Ends.{End, whole_end, Refused, Reported, Said, Summed, Mapped, Held, IsEnd, usage, no_program, problem, finished, run_problem, reduced, IsWhole, script_of, status_of}
+use Rattle.sym_top.specs.Commands.{Command, ReadsNoRuns, Runs, Traces, Checks, Makes, Maps, Reduces, Joins, FileNames, name_at, names_of}
+use Rattle.sym_top.specs.Ends.{End, whole_end, Refused, Reported, Said, Summed, Mapped, Joined, Held, IsEnd, usage, no_program, problem, finished, run_problem, reduced, join_problem, runs_joined, IsWhole, script_of, status_of}
 use Rattle.sym_top.specs.EndReading.{command_end}
 use Rattle.sym_top.specs.Loading.{Ready, Stops, failure_line}
 use Rattle.sym_top.specs.Messages.{line_of}
 use Rattle.sym_top.specs.Programs.{Program, IsNoProgram, too_large, unparsed, broken}
-use Rattle.sym_top.specs.Promises.{Call, Says, Leaves, IsUsage, call_line, call_names, MayScript, MayHold, TellsScript, Told, ReadFailed, IsStop, at_end, script_unread, file_unread, run_unread, no_memory, IsUntouched, WriteFails, failed, short, IsCause, stopped, cut, Refuses, Wrote, line_told, text_written, Answers, Unless, IsReported, IsRefused, IsUnwritten, MustReport}
+use Rattle.sym_top.specs.Promises.{Call, Says, Leaves, IsUsage, call_line, call_names, MayScript, MayHold, TellsScript, Told, ReadFailed, IsStop, at_end, script_unread, file_unread, run_unread, join_unread, no_memory, IsUntouched, WriteFails, failed, short, IsCause, stopped, cut, Refuses, Wrote, line_told, text_written, Answers, Unless, IsReported, IsRefused, IsUnwritten, MustReport}
 use Rattle.sym_top.specs.Refusals.{status_of_refusal, parse_refusal, check_refusal, pass_refusal, reduce_refusal}
 use Rattle.sym_top.specs.Telling.{Sunk, Has, Short, Tells}
 use Rattle.sym_top.proofs.EndsFound.{found, one_end}
@@ -58,6 +58,7 @@ whole-reported (Reported form heads rows) whole = faulty-reported (some_faulty r
 whole-reported (Said text) whole = tt
 whole-reported (Summed records rows) whole = faulty-reported (some_faulty rows)
 whole-reported (Mapped program from limit records) whole = tt
+whole-reported (Joined program limit runs) whole = tt
 
 pub decided : (result : Status) → IsReported result ⊎ IsRefused result
 decided status.Done = inl tt
@@ -248,6 +249,8 @@ module _ (call : Call) (out err : Sunk) (result : Status) where
       subst (λ s. Unless s (Answers call held end out err result)) (sym status_is) tt
   stop-expected held end _ is (run_unread reduce program stop totals number asked prog are unread) status_is untouched line =
       subst (λ s. Unless s (Answers call held end out err result)) (sym status_is) tt
+  stop-expected held end _ is (join_unread join program runs number asked prog are unread) status_is untouched line =
+      subst (λ s. Unless s (Answers call held end out err result)) (sym status_is) tt
   stop-expected held end _ is no_memory status_is untouched line =
       subst (λ s. Unless s (Answers call held end out err result)) (sym status_is) tt
 
@@ -302,6 +305,8 @@ module _ (call : Call) (out err : Sunk) (result : Status) where
       absurd (m.read (place.File number) unread)
   stop-complete m _ (run_unread reduce program stop totals number asked prog are unread) status_is =
       absurd (m.read (place.File number) unread)
+  stop-complete m _ (join_unread join program runs number asked prog are unread) status_is =
+      absurd (m.read (place.File number) unread)
   stop-complete m _ no_memory status_is = status_is
 
   cut-complete : (m : MustReport call out) (text : List ℕ) (why : Refusal) → WriteFails out text why →
@@ -345,6 +350,8 @@ module _ (call : Call) (out err : Sunk) (result : Status) where
   usage-stop held _ none (file_unread command program records number asked prog own fine unread) status_is =
       absurd (unnamed (place.File number) none unread)
   usage-stop held _ none (run_unread reduce program stop totals number asked prog are unread) status_is =
+      absurd (unnamed (place.File number) none unread)
+  usage-stop held _ none (join_unread join program runs number asked prog are unread) status_is =
       absurd (unnamed (place.File number) none unread)
   usage-stop held _ none no_memory status_is = inr status_is
 
@@ -416,6 +423,7 @@ module _ (call : Call) (out err : Sunk) (result : Status) where
   whole-words (Makes make) program records e = fault-words _ e
   whole-words (Maps part) program records e = cc
   whole-words (Reduces reduce) program records e = fault-words _ e
+  whole-words (Joins join) program records e = cc
 
   end-words : (held : Held) (end : End) → IsEnd call.asked held end → status_of end ≡ status.Usage → IsUsage call
   end-words held _ (usage none) e = none
@@ -424,12 +432,15 @@ module _ (call : Call) (out err : Sunk) (result : Status) where
   end-words held _ (finished command program records asked is own fine) e = absurd (whole-words command program records e)
   end-words held _ (run_problem reduce program why asked is first) e = absurd (reduce-words why e)
   end-words held _ (reduced reduce program stop totals asked is are) e = absurd (fault-words _ e)
+  end-words held _ (join_problem join program why asked is first) e = absurd (reduce-words why e)
+  end-words held _ (runs_joined join program runs asked is are) e = absurd (cc)
 
   stop-words : (held : Held) (why : Refusal) → IsStop call held why → status_of_refusal why ≡ status.Usage → IsUsage call
   stop-words held _ (at_end why stop) e = end-words held (Refused why) stop e
   stop-words held _ (script_unread unread) e = cc
   stop-words held _ (file_unread command program records number asked prog own fine unread) e = cc
   stop-words held _ (run_unread reduce program stop totals number asked prog are unread) e = cc
+  stop-words held _ (join_unread join program runs number asked prog are unread) e = cc
   stop-words held _ no_memory e = cc
 
   cut-words : (text : List ℕ) (why : Refusal) → WriteFails out text why → status_of_refusal why ≡ status.Usage → ⊥

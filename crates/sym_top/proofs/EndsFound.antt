@@ -5,11 +5,12 @@ use Rattle.sym_engine.specs.declared.error.PassErr.{PassErr}
 use Rattle.sym_engine.specs.FirstProblems.{records_in}
 use Rattle.sym_engine.proofs.FilesAgree.{files_records, files_problem}
 use Rattle.sym_top.specs.declared.refusal.Refusal.{Refusal}
-use Rattle.sym_top.specs.Commands.{Asked, Command, ReadsNoRuns, ReadsRecords, Runs, Traces, Checks, Makes, Maps, Reduces, command_of, file_rules, first_no}
-use Rattle.sym_top.specs.Ends.{End, Held, IsEnd, usage, no_program, problem, finished, run_problem, reduced, script_of, files_of}
+use Rattle.sym_top.specs.Commands.{Asked, Command, ReadsNoRuns, ReadsRecords, Runs, Traces, Checks, Makes, Maps, Reduces, Joins, command_of, file_rules, first_no}
+use Rattle.sym_top.specs.Ends.{End, Held, IsEnd, usage, no_program, problem, finished, run_problem, reduced, join_problem, runs_joined, script_of, files_of}
 use Rattle.sym_top.specs.EndReading.{files_end, program_end, command_end, end_of}
 use Rattle.sym_top.specs.Programs.{Program, IsProgram, program_in}
 use Rattle.sym_top.proofs.ProgramsFound.{program-found, none-found, Reading, reading}
+use Rattle.sym_top.proofs.JoinedEnds.{joined_once, joined_some}
 use Rattle.sym_top.proofs.ReducedEnds.{reduced_once, reduced_some}
 
 pub found : (asked : Asked) (held : Held) (end : End) → ReadsNoRuns (command_of asked) → IsEnd asked held end → end_of asked held ≡ end
@@ -27,6 +28,8 @@ found asked held _ reads (finished command program records some is own fine) =
     ∙ ap (files_end asked command program) ((files_records program.plan (file_rules asked command) 0 (first_no command) (files_of command held) records).0 fine)
 found asked held _ reads (run_problem reduce program why some is first) = absurd (subst ReadsNoRuns some reads)
 found asked held _ reads (reduced reduce program stop totals some is are) = absurd (subst ReadsNoRuns some reads)
+found asked held _ reads (join_problem join program why some is first) = absurd (subst ReadsNoRuns some reads)
+found asked held _ reads (runs_joined join program runs some is are) = absurd (subst ReadsNoRuns some reads)
 
 files-is : (asked : Asked) (held : Held) (command : Command) (program : Program) →
     command_of asked ≡ Some command → ReadsRecords command → IsProgram (script_of command held) program → (r : Result (List Record) PassErr) →
@@ -71,6 +74,7 @@ some_end asked held = by (command_of asked) refl
     by (Some (Makes make)) e = own (subst ReadsNoRuns (sym e) tt)
     by (Some (Maps part)) e = own (subst ReadsNoRuns (sym e) tt)
     by (Some (Reduces reduce)) e = reduced_some asked held reduce e
+    by (Some (Joins join)) e = joined_some asked held join e
 
 two_found : (asked : Asked) (held : Held) (end other : End) → ReadsNoRuns (command_of asked) → IsEnd asked held end → IsEnd asked held other → end ≡ other
 two_found asked held end other reads is also = sym (found asked held end reads is) ∙ found asked held other reads also
@@ -87,3 +91,4 @@ one_end asked held end other is also = by (command_of asked) refl
     by (Some (Makes make)) e = two_found asked held end other (subst ReadsNoRuns (sym e) tt) is also
     by (Some (Maps part)) e = two_found asked held end other (subst ReadsNoRuns (sym e) tt) is also
     by (Some (Reduces reduce)) e = reduced_once asked held reduce e end other is also
+    by (Some (Joins join)) e = joined_once asked held join e end other is also

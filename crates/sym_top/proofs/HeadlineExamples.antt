@@ -1,6 +1,6 @@
 -- A run over two files and what one sequential pass over their records comes to, files without
--- records, a refusal, the same run with other options, and a call of `reduce`.
-use Rattle.std.proofs.Common.{◌≡◌, ◌↔◌, ◌≤◌, ◌⊎◌, ℕ, pos, false, true, if◌then◌else◌, List, [], ◌∷◌, length, map, codes, Option, Some, None, Ok, Err, refl, sym, ap, subst, lit≤, lit<}
+-- records, a refusal, the same run with other options, and calls of `reduce` and `join`.
+use Rattle.std.proofs.Common.{◌≡◌, ◌↔◌, ◌≤◌, ◌⊎◌, ℕ, pos, false, true, if◌then◌else◌, List, [], ◌∷◌, length, map, codes, Option, Some, None, Ok, Err, refl, sym, ap, subst, lit≤, lit<, arith}
 use Rattle.std.specs.Fmt.{digits}
 use Rattle.std.specs.List.{IsDistinct}
 use Rattle.std.specs.Str.{bytes_eq, chars, is_utf8}
@@ -44,17 +44,20 @@ use Rattle.sym_run.specs.SavedRuns.{IsLawfulSaved}
 use Rattle.sym_run.specs.declared.saved.Saved.{Saved}
 use Rattle.sym_file.specs.Stored.{IsStored}
 use Rattle.sym_file.specs.Texts.{head_text, body_text, saved_text}
-use Rattle.sym_reduce.specs.Reducing.{IsTakenFile}
+use Rattle.sym_reduce.specs.declared.error.ReduceErr.TheVariants as reduce_error
+use Rattle.sym_reduce.specs.Joining as joins
+use Rattle.sym_reduce.specs.Reducing.{IsRunFile, IsTakenFile}
 use Rattle.sym_reduce.specs.Reducing as runs
+use Rattle.sym_reduce.proofs.Once.{same}
 use Rattle.sym_report.specs.Tables.{table_form}
 use Rattle.sym_top.specs.declared.refusal.Place.TheVariants as place
 use Rattle.sym_top.specs.declared.refusal.Refusal.TheVariants as refusal
 use Rattle.sym_top.specs.declared.status.Status.{Status}
 use Rattle.sym_top.specs.declared.status.Status.TheVariants as status
-use Rattle.sym_top.specs.Causes.{IsStopped, IsToldOf, IsTooLarge, large_file}
-use Rattle.sym_top.specs.CommandLines.{run_app, reduce_app, matched}
-use Rattle.sym_top.specs.Commands.{Asked, Command, Reduce, Reduces, Run, Runs, asks, command_in, command_of, names_of, shown_names, run_of, reduce_of, run_found, reduce_found, run_options, options_found, files_found}
-use Rattle.sym_top.specs.Ends.{End, Summed, Mapped, Held, IsEnd, finished, reduced, groups_end, report_of, rows_of, rows_status, status_of}
+use Rattle.sym_top.specs.Causes.{IsBadInput, IsStopped, IsToldOf, IsTooLarge, apart_joined, large_file}
+use Rattle.sym_top.specs.CommandLines.{run_app, reduce_app, join_app, matched}
+use Rattle.sym_top.specs.Commands.{Asked, Command, Join, Joins, Reduce, Reduces, Run, Runs, asks, command_in, command_of, names_of, shown_names, run_of, reduce_of, join_of, run_found, reduce_found, join_found, run_options, options_found, files_found}
+use Rattle.sym_top.specs.Ends.{End, Summed, Mapped, Joined, Held, IsEnd, finished, reduced, runs_joined, groups_end, report_of, rows_of, rows_status, status_of}
 use Rattle.sym_top.specs.Headline.{FineRun, IsOnePass, pass_text}
 use Rattle.sym_top.specs.Messages.{line_of}
 use Rattle.sym_top.specs.Numbers.{number_of}
@@ -66,6 +69,7 @@ use Rattle.sym_top.proofs.CausesFound.{causes-by}
 use Rattle.sym_top.proofs.EndsFound.{one_end}
 use Rattle.sym_top.proofs.OnePass.{one-pass-by}
 use Rattle.sym_top.proofs.OtherWork.{one_end_by_work}
+use Rattle.sym_top.proofs.ReducedEnds.{program-formed}
 
 -- The visits of each user. There may be one at most.
 abbrev text : List ℕ
@@ -365,3 +369,77 @@ is_reduced = reduced reduce visits 1 [] is_reduction is_program
 
 one_end_alone : (end : End) → IsEnd reduce_asked read end → end ≡ groups_end table_form visits []
 one_end_alone end is = one_end reduce_asked read end (groups_end table_form visits []) is is_reduced
+
+-- ---- `join s f g`, where the files are those of saved runs of no records. The first one may begin anywhere.
+
+abbrev join_asked : Asked
+join_asked = asks (codes "join" ∷ codes "s" ∷ codes "f" ∷ codes "g" ∷ []) [] (λ row. row)
+
+abbrev join : Join
+join = record { limit = 16; max_bytes = 67108864; script = codes "s"; files = codes "f" ∷ codes "g" ∷ [] }
+
+is_join : command_of join_asked ≡ Some (Joins join)
+unfolding command_in join_of matched join_app join_found files_found number_of clap_on_literals
+is_join = refl
+
+-- What no records after the fourth one come to.
+abbrev after_four : Saved
+after_four = record { first = 5; next = 5; groups = [] }
+
+abbrev later_file : List ℕ
+later_file = saved_text (script_text tree) after_four
+
+later_file_is_small : length later_file ≤ 67108864
+unfolding script_text form.script form.range form.clamp_of head_text body_text digits
+later_file_is_small = lit≤ tt
+
+later_is_lawful : IsLawfulSaved visits.plan after_four
+unfolding IsDistinct
+later_is_lawful = record { from = lit≤ tt; order = lit≤ tt; distinct = tt; each = All-nil _ }
+
+later_is_stored : IsStored after_four
+later_is_stored = record { first = lit< tt; next = lit< tt; groups = record { many = lit< tt; each = All-nil _ } }
+
+later_is_run_file : IsRunFile (script_text tree) visits.plan later_file after_four
+later_is_run_file = record { is = record { lawful = later_is_lawful; text = refl }; stored = later_is_stored }
+
+they_follow : joins.AreRunFiles (script_text tree) visits.plan 67108864 (later_file ∷ later_file ∷ []) (after_four ∷ after_four ∷ [])
+they_follow = record {
+  first = 5;
+  end = 5;
+  follow =
+      joins.one_more 5 later_file (later_file ∷ []) after_four (after_four ∷ []) 5 later_file_is_small later_is_run_file refl
+      (joins.one_more 5 later_file [] after_four [] 5 later_file_is_small later_is_run_file refl (joins.no_file 5));
+}
+
+they_are_joined : IsEnd join_asked (record { script = text; files = later_file ∷ later_file ∷ [] }) (Joined visits 16 (after_four ∷ after_four ∷ []))
+they_are_joined = runs_joined join visits (after_four ∷ after_four ∷ []) is_join is_program they_follow
+
+join_ends : status_of (Joined visits 16 (after_four ∷ after_four ∷ [])) ≡ status.Done
+join_ends = refl
+
+-- The other way round, the second file doesn't follow the first one: `symple: g: records do not follow`
+
+abbrev wrong_order : Held
+wrong_order = record { script = text; files = later_file ∷ run_file ∷ [] }
+
+abbrev join_call : Call
+join_call = record { asked = join_asked; holds = λ file. None; before = λ file. 0; after = λ file. 0 }
+
+they_are_apart : IsBadInput join_call wrong_order (refusal.Apart 1)
+they_are_apart =
+    apart_joined 1 (record {
+      join = join;
+      asks = is_join;
+      program = visits;
+      accepted = is_program;
+      first = record {
+        first = 5;
+        begins = λ saved few own. ap (λ (s : Saved). s.first) (same (script_text tree) visits.plan (program-formed text visits is_program) later_file (omega (arith, later_file_is_small)) saved after_four own later_is_run_file);
+        problem = joins.later 0 5 later_file (run_file ∷ []) after_four (reduce_error.Apart 1) later_file_is_small later_is_run_file refl
+            (joins.faulty 1 5 run_file [] (reduce_error.Apart 1) run_file_is_small (joins.apart nothing is_taken.file (λ e. cc)));
+      };
+    })
+
+apart_line : call_line join_call wrong_order (refusal.Apart 1) ≡ codes "symple: g: records do not follow\n"
+apart_line = ap (λ o. line_of (shown_names o) (headers_in (call_script o wrong_order)) (refusal.Apart 1)) is_join

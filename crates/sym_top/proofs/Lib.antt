@@ -6,10 +6,13 @@ pub mod Consequences
 pub mod EndsFound
 pub mod Handed
 mod HeadlineExamples
+pub mod JoinedEnds
+pub mod JoinedTexts
+pub mod JoinsReported
 mod MadeExamples
 pub mod MadeLines
-pub mod Matching
 pub mod MappedTexts
+pub mod Matching
 mod MessageExamples
 pub mod Numerals
 pub mod Observed

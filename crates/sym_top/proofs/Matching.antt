@@ -6,7 +6,7 @@ use Rattle.clap.specs.Faults.{is_simple_and_free}
 use Rattle.clap.specs.declared.error.Error.{Error}
 use Rattle.clap.specs.declared.error.kind.ErrorKind.{ErrorKind}
 use Rattle.clap.specs.declared.error.kind.ErrorKind.TheVariants as kind
-use Rattle.sym_top.specs.CommandLines.{run_app, trace_app, check_app, make_app, map_app, reduce_app, matched}
+use Rattle.sym_top.specs.CommandLines.{run_app, trace_app, check_app, make_app, map_app, reduce_app, join_app, matched}
 use Rattle.sym_top.specs.Commands.{command_in, command_by}
 
 pub run-free : is_simple_and_free run_app ≡ true
@@ -32,6 +32,10 @@ map-free = refl
 pub reduce-free : is_simple_and_free reduce_app ≡ true
 unfolding reduce_app
 reduce-free = refl
+
+pub join-free : is_simple_and_free join_app ≡ true
+unfolding join_app
+join-free = refl
 
 left : (a b : Bool) → (a && b) ≡ true → a ≡ true
 left true b e = refl

@@ -6,7 +6,7 @@ use Rattle.sym_report.specs.Forms.{FormTexts, report_text}
 use Rattle.sym_top.specs.declared.status.Status.{Status}
 use Rattle.sym_top.specs.declared.status.Status.TheVariants as status
 use Rattle.sym_top.specs.Commands.{Command, Runs, names_of, texts_of}
-use Rattle.sym_top.specs.Ends.{End, Reported, Held, IsEnd, finished, IsTextOf, nothing, report_in, said, summed, mapped, report_of}
+use Rattle.sym_top.specs.Ends.{End, Reported, Held, IsEnd, finished, IsTextOf, nothing, report_in, said, summed, mapped, joined, report_of}
 use Rattle.sym_top.specs.Headline.{FineRun, IsOnePass}
 use Rattle.sym_top.specs.Promises.{Call, Says, Answers, LeavesSinks, line_told, text_written, Told, TellsScript, IsUntouched, Unless}
 use Rattle.sym_top.specs.Telling.{Sunk, Has}
@@ -30,6 +30,7 @@ report-text _ _ form heads rows same (nothing why) = absurd (cc)
 report-text _ _ form heads rows same (said text) = absurd (cc)
 report-text _ _ form heads rows same (summed count own) = absurd (cc)
 report-text _ _ form heads rows same (mapped program first limit records text is) = absurd (cc)
+report-text _ _ form heads rows same (joined program limit saved text is) = absurd (cc)
 report-text _ _ form heads rows same (report_in own names shown) =
     let a : own ≡ form = cc in
     let b : names ≡ heads = cc in

@@ -5,10 +5,10 @@ use Rattle.sym_base.specs.declared.values.record.Record.{Record}
 use Rattle.sym_engine.specs.FileRecords.{FileRules, rules_of}
 use Rattle.sym_engine.specs.FirstProblems.{AllFine, FirstProblem}
 use Rattle.sym_table.specs.Reading.{Row}
-use Rattle.sym_top.specs.Commands.{Asked, Command, Form, Reduce, Reduces, ReadsRecords, command_of, file_rules, first_no, texts_of}
-use Rattle.sym_top.specs.Ends.{End, Held, IsEnd, usage, no_program, problem, finished, run_problem, reduced, script_of, files_of, whole_end, report_of, trace_report_of, groups_end}
+use Rattle.sym_top.specs.Commands.{Asked, Command, Form, Join, Joins, Reduce, Reduces, ReadsRecords, command_of, file_rules, first_no, texts_of}
+use Rattle.sym_top.specs.Ends.{End, Held, IsEnd, usage, no_program, problem, finished, run_problem, reduced, join_problem, runs_joined, script_of, files_of, whole_end, report_of, trace_report_of, groups_end}
 use Rattle.sym_top.specs.Programs.{Program, IsProgram, IsNoProgram}
-use Rattle.sym_top.specs.Working.{IsWorkedOtherwise, run_otherwise, trace_otherwise, check_likewise, make_otherwise, map_otherwise, reduce_likewise, worked, DifferInWork}
+use Rattle.sym_top.specs.Working.{IsWorkedOtherwise, run_otherwise, trace_otherwise, check_likewise, make_otherwise, map_otherwise, reduce_likewise, join_likewise, worked, DifferInWork}
 
 -- The first command is the second worked otherwise as well.
 swapped : (command other : Command) → IsWorkedOtherwise command other → IsWorkedOtherwise other command
@@ -26,6 +26,7 @@ swapped _ _ (map_otherwise part chunk workers) =
     map_otherwise (record part { options = worked part.options chunk part.options.limit workers })
     part.options.chunk part.options.workers
 swapped _ _ (reduce_likewise reduce) = reduce_likewise reduce
+swapped _ _ (join_likewise join) = join_likewise join
 
 -- ---- what the two commands share
 
@@ -36,6 +37,7 @@ same_script held _ _ (check_likewise check) = refl
 same_script held _ _ (make_otherwise make chunk limit workers) = refl
 same_script held _ _ (map_otherwise part chunk workers) = refl
 same_script held _ _ (reduce_likewise reduce) = refl
+same_script held _ _ (join_likewise join) = refl
 
 same_files : (held : Held) (command other : Command) → IsWorkedOtherwise command other → files_of command held ≡ files_of other held
 same_files held _ _ (run_otherwise run chunk limit workers watch) = refl
@@ -44,6 +46,7 @@ same_files held _ _ (check_likewise check) = refl
 same_files held _ _ (make_otherwise make chunk limit workers) = refl
 same_files held _ _ (map_otherwise part chunk workers) = refl
 same_files held _ _ (reduce_likewise reduce) = refl
+same_files held _ _ (join_likewise join) = refl
 
 same_first : (command other : Command) → IsWorkedOtherwise command other → first_no command ≡ first_no other
 same_first _ _ (run_otherwise run chunk limit workers watch) = refl
@@ -52,6 +55,7 @@ same_first _ _ (check_likewise check) = refl
 same_first _ _ (make_otherwise make chunk limit workers) = refl
 same_first _ _ (map_otherwise part chunk workers) = refl
 same_first _ _ (reduce_likewise reduce) = refl
+same_first _ _ (join_likewise join) = refl
 
 reads_too : (command other : Command) → IsWorkedOtherwise command other → ReadsRecords command → ReadsRecords other
 reads_too _ _ (run_otherwise run chunk limit workers watch) reads = tt
@@ -60,6 +64,7 @@ reads_too _ _ (check_likewise check) reads = tt
 reads_too _ _ (make_otherwise make chunk limit workers) reads = tt
 reads_too _ _ (map_otherwise part chunk workers) reads = tt
 reads_too _ _ (reduce_likewise reduce) reads = reads
+reads_too _ _ (join_likewise join) reads = reads
 
 -- `reduce` has none of the options.
 same_reduce : (command other : Command) (reduce : Reduce) → IsWorkedOtherwise command other → command ≡ Reduces reduce → other ≡ Reduces reduce
@@ -69,6 +74,17 @@ same_reduce _ _ reduce (check_likewise check) e = absurd (cc)
 same_reduce _ _ reduce (make_otherwise make chunk limit workers) e = absurd (cc)
 same_reduce _ _ reduce (map_otherwise part chunk workers) e = absurd (cc)
 same_reduce _ _ reduce (reduce_likewise own) e = e
+same_reduce _ _ reduce (join_likewise join) e = absurd (cc)
+
+-- Nor has `join`, but for the limit, which stays.
+same_join : (command other : Command) (join : Join) → IsWorkedOtherwise command other → command ≡ Joins join → other ≡ Joins join
+same_join _ _ join (run_otherwise run chunk limit workers watch) e = absurd (cc)
+same_join _ _ join (trace_otherwise trace chunk limit workers) e = absurd (cc)
+same_join _ _ join (check_likewise check) e = absurd (cc)
+same_join _ _ join (make_otherwise make chunk limit workers) e = absurd (cc)
+same_join _ _ join (map_otherwise part chunk workers) e = absurd (cc)
+same_join _ _ join (reduce_likewise reduce) e = absurd (cc)
+same_join _ _ join (join_likewise own) e = e
 
 module _ (one other : Asked) (forms : one.forms ≡ other.forms) (shown : one.shown ≡ other.shown) where
   same_rules : (command likewise : Command) → IsWorkedOtherwise command likewise → file_rules one command ≡ file_rules other likewise
@@ -78,6 +94,7 @@ module _ (one other : Asked) (forms : one.forms ≡ other.forms) (shown : one.sh
   same_rules _ _ (make_otherwise make chunk limit workers) = ap (λ (show : Row → Row). rules_of make.options.max_bytes show) shown
   same_rules _ _ (map_otherwise part chunk workers) = ap (λ (show : Row → Row). rules_of part.options.max_bytes show) shown
   same_rules _ _ (reduce_likewise reduce) = ap (λ (show : Row → Row). rules_of reduce.max_bytes show) shown
+  same_rules _ _ (join_likewise join) = ap (λ (show : Row → Row). rules_of join.max_bytes show) shown
 
   same_whole : (command likewise : Command) (program : Program) (records : List Record) → IsWorkedOtherwise command likewise
       → whole_end one command program records ≡ whole_end other likewise program records
@@ -90,6 +107,7 @@ module _ (one other : Asked) (forms : one.forms ≡ other.forms) (shown : one.sh
   same_whole _ _ program records (map_otherwise part chunk workers) = refl
   same_whole _ _ program records (reduce_likewise reduce) =
       ap (λ (fs : List Form). report_of (texts_of fs reduce.form) program records) forms
+  same_whole _ _ program records (join_likewise join) = refl
 
   module _ (held : Held) (likewise : Command) (asks : command_of other ≡ Some likewise) where
     -- The second call has the end that the first one has, at each stage.
@@ -124,6 +142,12 @@ module _ (one other : Asked) (forms : one.forms ≡ other.forms) (shown : one.sh
         let same = same_reduce (Reduces reduce) likewise reduce (differs (Reduces reduce) own) refl in
         subst (λ (fs : List Form). IsEnd other held (groups_end (texts_of fs reduce.form) program totals)) (sym forms)
         (reduced reduce program stop totals (asks ∙ ap (λ (c : Command). Some c) same) is are)
+    across _ (join_problem join program why own is first) differs some =
+        let same = same_join (Joins join) likewise join (differs (Joins join) own) refl in
+        join_problem join program why (asks ∙ ap (λ (c : Command). Some c) same) is first
+    across _ (runs_joined join program runs own is are) differs some =
+        let same = same_join (Joins join) likewise join (differs (Joins join) own) refl in
+        runs_joined join program runs (asks ∙ ap (λ (c : Command). Some c) same) is are
 
 over : (one other : Asked) (held : Held) (end : End) → DifferInWork one other → IsEnd one held end → IsEnd other held end
 over one other held end d is = across one other d.forms d.shown held d.other_command d.other_asks end is differs some

@@ -21,9 +21,9 @@ use Rattle.sym_reduce.specs.Reducing.{AreReduced, Pairs}
 use Rattle.sym_reduce.specs.Reducing as runs
 use Rattle.sym_run.specs.SavedRuns.{AreNumbered}
 use Rattle.sym_table.specs.Reading.{Row}
-use Rattle.sym_top.specs.Commands.{Asked, Command, Map, Maps, Reduces, Runs, command_of, file_rules, first_no, texts_of}
+use Rattle.sym_top.specs.Commands.{Asked, Command, Joins, Map, Maps, Reduces, Runs, command_of, file_rules, first_no, texts_of}
 use Rattle.sym_report.specs.Forms.{FormTexts}
-use Rattle.sym_top.specs.Ends.{End, Mapped, Held, IsEnd, usage, no_program, problem, finished, run_problem, reduced, IsTextOf, IsWhole, nothing, report_in, said, summed, mapped, files_of, groups_end, script_of, whole_end}
+use Rattle.sym_top.specs.Ends.{End, Mapped, Held, IsEnd, usage, no_program, problem, finished, run_problem, reduced, join_problem, runs_joined, IsTextOf, IsWhole, nothing, report_in, said, summed, mapped, joined, files_of, groups_end, script_of, whole_end}
 use Rattle.sym_top.specs.Parts.{AreParts, IsPart, IsReportedApart}
 use Rattle.sym_top.specs.Parts as parts
 use Rattle.sym_top.specs.Programs.{Program, IsProgram}
@@ -44,7 +44,7 @@ all_wider p shown small large _ _ _ more (all_fine.no_file first) = all_fine.no_
 all_wider p shown small large _ _ _ more (all_fine.one_more first bytes files records others is rest) =
     all_fine.one_more first bytes files records others (wider p shown small large first bytes records more is) (all_wider p shown small large (first + length records) files others more rest)
 
-fine_once : (p : ScriptPlan) (shown : Row → Row) (small large first : ℕ) (files : List (List ℕ)) (some others : List Record)
+pub fine_once : (p : ScriptPlan) (shown : Row → Row) (small large first : ℕ) (files : List (List ℕ)) (some others : List Record)
     → AllFine p (rules_of small shown) first files some → AllFine p (rules_of large shown) first files others → some ≡ others
 fine_once p shown small large first files some others a b =
     let rules = rules_of (small + large) shown in
@@ -53,14 +53,14 @@ fine_once p shown small large first files some others a b =
     let both : Ok some ≡ Ok others = sym x ∙ y in cc
 
 -- ---- the records of files before others, and of those
-record AreCut (p : ScriptPlan) (rules : FileRules) (first : ℕ) (files others : List (List ℕ)) (records : List Record) : Type 0 where
-  front : List Record
-  rest : List Record
-  are : records ≡ front ++ rest
-  fine : AllFine p rules first files front
-  later : AllFine p rules (first + length front) others rest
+pub record AreCut (p : ScriptPlan) (rules : FileRules) (first : ℕ) (files others : List (List ℕ)) (records : List Record) : Type 0 where
+  pub front : List Record
+  pub rest : List Record
+  pub are : records ≡ front ++ rest
+  pub fine : AllFine p rules first files front
+  pub later : AllFine p rules (first + length front) others rest
 
-cut_at : (p : ScriptPlan) (rules : FileRules) (first : ℕ) (all files others : List (List ℕ)) (records : List Record) → all ≡ files ++ others
+pub cut_at : (p : ScriptPlan) (rules : FileRules) (first : ℕ) (all files others : List (List ℕ)) (records : List Record) → all ≡ files ++ others
     → AllFine p rules first all records → AreCut p rules first files others records
 cut_at p rules first all [] others records same is =
     let P : List (List ℕ) → Type 0 = λ fs. AllFine p rules first fs records in
@@ -83,17 +83,17 @@ cut_at p rules _ _ (own ∷ files) others _ same (all_fine.one_more first bytes 
       later = subst Q next cut.later;
     }
 
-none_left : (p : ScriptPlan) (rules : FileRules) (first : ℕ) (files : List (List ℕ)) (records : List Record) → files ≡ [] → AllFine p rules first files records → [] ≡ records
+pub none_left : (p : ScriptPlan) (rules : FileRules) (first : ℕ) (files : List (List ℕ)) (records : List Record) → files ≡ [] → AllFine p rules first files records → [] ≡ records
 none_left p rules _ _ _ same (all_fine.no_file first) = refl
 none_left p rules _ _ _ same (all_fine.one_more first bytes files records others is rest) = absurd (cc)
 
 -- ---- numbers
-next_is : (first next : ℕ) (records : List Record) → AreNumbered first next records → next ≡ first + length records
+pub next_is : (first next : ℕ) (records : List Record) → AreNumbered first next records → next ≡ first + length records
 next_is first next [] h = omega (arith, h)
 next_is first next (rec ∷ records) h = let later = next_is (suc first) next records h.1 in omega (arith, later)
 
 -- ---- a text has one program
-same_program : (text : List ℕ) (one other : Program) → IsProgram text one → IsProgram text other → one ≡ other
+pub same_program : (text : List ℕ) (one other : Program) → IsProgram text one → IsProgram text other → one ≡ other
 same_program text one other a b = let both : Ok one ≡ Ok other = sym (program-found text one a) ∙ program-found text other b in cc
 
 -- ---- what a part wrote
@@ -103,6 +103,7 @@ mapped_text _ _ program from limit records same (nothing why) = absurd (cc)
 mapped_text _ _ program from limit records same (report_in form heads rows) = absurd (cc)
 mapped_text _ _ program from limit records same (said text) = absurd (cc)
 mapped_text _ _ program from limit records same (summed count rows) = absurd (cc)
+mapped_text _ _ program from limit records same (joined own most runs text is) = absurd (cc)
 mapped_text _ _ program from limit records same (mapped own start most found text is) =
     let a : own ≡ program = cc in
     let b : start ≡ from = cc in
@@ -118,7 +119,7 @@ module _ (asked : Asked) (held : Held) (program : Program) (part : Map) (asks : 
   this command some = let both : Some (Maps part) ≡ Some command = sym asks ∙ some in cc
 
   -- The saved run is that of the files' records.
-  wrote_mapped : (end : End) (text : List ℕ) (records : List Record) → IsEnd asked held end → IsWhole end → IsTextOf end text
+  pub wrote_mapped : (end : End) (text : List ℕ) (records : List Record) → IsEnd asked held end → IsWhole end → IsTextOf end text
       → AllFine program.plan (file_rules asked (Maps part)) part.first held.files records → IsMapped program part.first part.options.limit records text
   wrote_mapped _ text records (usage none) whole is fine = absurd whole
   wrote_mapped _ text records (no_program command why some faulty) whole is fine = absurd whole
@@ -126,6 +127,9 @@ module _ (asked : Asked) (held : Held) (program : Program) (part : Map) (asks : 
   wrote_mapped _ text records (run_problem reduce other why some found bad) whole is fine = absurd whole
   wrote_mapped _ text records (reduced reduce other stop totals some found are) whole is fine =
       let same : Maps part ≡ Reduces reduce = this (Reduces reduce) some in absurd (cc)
+  wrote_mapped _ text records (join_problem join other why some found bad) whole is fine = absurd whole
+  wrote_mapped _ text records (runs_joined join other runs some found are) whole is fine =
+      let same : Maps part ≡ Joins join = this (Joins join) some in absurd (cc)
   wrote_mapped _ text records (finished command other found some script reads all) whole is fine =
       by command (sym (this command some)) other found script all is
     where
@@ -212,6 +216,8 @@ module _ (whole : Asked) (held : Held) (apart : Asked) (saved : Held) (is : IsRe
   reported_apart _ (problem command other why some found bad) done = absurd done
   reported_apart _ (run_problem reduce other why some found bad) done = absurd done
   reported_apart _ (reduced reduce other stop totals some found are) done = let same : Runs is.run ≡ Reduces reduce = runs_this (Reduces reduce) some in absurd (cc)
+  reported_apart _ (join_problem join other why some found bad) done = absurd done
+  reported_apart _ (runs_joined join other runs some found are) done = let same : Runs is.run ≡ Joins join = runs_this (Joins join) some in absurd (cc)
   reported_apart _ (finished command w records some script reads all) done =
       let same = sym (runs_this command some) in
       let P : Command → Type 0 = λ k. IsProgram (script_of k held) w in

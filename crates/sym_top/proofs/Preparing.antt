@@ -26,6 +26,7 @@ use Rattle.sym_engine.specs.Passing.{AllRead, Holds, Counts, May, MayAll, Passed
 use Rattle.sym_parse.specs.Printed.{script_text}
 use Rattle.sym_reduce.specs.declared.error.ReduceErr.{ReduceErr}
 use Rattle.sym_reduce.specs.declared.error.ReduceErr.TheVariants as reduce_error
+use Rattle.sym_reduce.specs.Joining.{HasJoinProblem, StopsJoin}
 use Rattle.sym_reduce.specs.Reducing.{HasFirstRunProblem, Pairs, ReducedAll, StopsReduce}
 use Rattle.sym_report.specs.Forms.{FormTexts, report_text}
 use Rattle.sym_report.specs.ReportRows.{heads_of, row_of, some_faulty}
@@ -38,9 +39,9 @@ use Rattle.sym_top.specs.declared.status.Status.TheVariants as status
 use Rattle.sym_top.specs.declared.commands.Command.{Command as CommandRead}
 use Rattle.sym_trace.specs.TraceReports.{trace_heads, trace_rows}
 use Rattle.sym_trace.specs.Tracing.{IsTraceReport}
-use Rattle.sym_top.specs.Commands.{Runs, Traces, Checks, Makes, Maps, Reduces, FileNames, ReadsRecords, command_of, file_rules, first_no, name_at, names_of, shown_names, texts_of}
-use Rattle.sym_top.specs.Ends.{End, Held, IsWhole, status_of, IsTextOf, report_in, said, summed, mapped, usage, no_program, problem, finished, run_problem, reduced, script_of, files_of, group_rows, groups_end, report_of, trace_report_of, rows_of, rows_status, said_of, whole_end}
-use Rattle.sym_top.specs.Loading.{MayRefuse, Loads, Unloads, refused, unread, no_memory, Passed, StopsRecords, first, no_more, Reports, MapsFiles, StopsFiles, stops, ReportsRuns, StopsRuns, stops_runs, Ready, Stops}
+use Rattle.sym_top.specs.Commands.{Runs, Traces, Checks, Makes, Maps, Reduces, Joins, FileNames, ReadsRecords, command_of, file_rules, first_no, name_at, names_of, shown_names, texts_of}
+use Rattle.sym_top.specs.Ends.{End, Held, IsWhole, status_of, IsTextOf, report_in, said, summed, mapped, usage, no_program, problem, finished, run_problem, reduced, join_problem, runs_joined, joined, Joined, script_of, files_of, group_rows, groups_end, report_of, trace_report_of, rows_of, rows_status, said_of, whole_end}
+use Rattle.sym_top.specs.Loading.{MayRefuse, Loads, Unloads, refused, unread, no_memory, Passed, StopsRecords, first, no_more, Reports, JoinsFiles, MapsFiles, StopsFiles, stops, ReportsRuns, StopsJoins, stops_joins, StopsRuns, stops_runs, Ready, Stops}
 use Rattle.sym_top.specs.Making.{made_file, made_script}
 use Rattle.sym_top.specs.Messages.{headers_of, line_of}
 use Rattle.sym_top.specs.Programs.{Program, IsProgram, IsNoProgram, checked_program, program_headers, headers_in}
@@ -56,7 +57,8 @@ use Rattle.sym_top.specs.declared.commands.Check.{Check as CheckRead}
 use Rattle.sym_top.specs.declared.commands.Make.{Make as MakeRead}
 use Rattle.sym_top.specs.declared.commands.Map.{Map as MapRead}
 use Rattle.sym_top.specs.declared.commands.Reduce.{Reduce as ReduceRead}
-use Rattle.sym_top.specs.Words.{command_seen, run_seen, trace_seen, check_seen, make_seen, map_seen, reduce_seen}
+use Rattle.sym_top.specs.declared.commands.Join.{Join as JoinRead}
+use Rattle.sym_top.specs.Words.{command_seen, run_seen, trace_seen, check_seen, make_seen, map_seen, reduce_seen, join_seen}
 use Rattle.sym_top.specs.Telling.{Sunk, HasPrefix, Failed, Short}
 use Rattle.sym_top.proofs.ProgramsFound.{parsed-unparsed, program-found, none-found}
 
@@ -492,6 +494,71 @@ maps-along program rules likewise holds told names words from limit text ruled s
     subst (λ rs. MapsFiles program rs told words from limit text) (sym ruled)
     (subst (λ h. MapsFiles program rules h words from limit text) stores
     (subst (λ ns. MapsFiles program rules holds ns from limit text) same m))
+
+-- ---- a join of saved runs
+
+module _ (call : Call) (read : JoinRead) (asked : command_of call.asked ≡ Some (Joins (join_seen read))) where
+  pub join-load-stops : (why : Refusal) → Unloads (call.holds read.script.now) (call.before read.script.now) (call.after read.script.now) why →
+      Stops call (record { why = why; command = Some (command.Join read); checked = None })
+  join-load-stops = reading-load-stops call (command.Join read) asked read.script.now (join_seen read).files refl (λ held. refl)
+
+  pub join-ready : (program : Program) (text : List ℕ) → Loads (call.holds read.script.now) program →
+      JoinsFiles program read.max_bytes read.limit call.holds (join_seen read).files text →
+      Ready call status.Done text
+  join-ready program text loads joins =
+      let held : Held = record { script = loads.text; files = joins.files } in
+      record {
+        held = held;
+        may = reading-may call (command.Join read) asked read.script.now (join_seen read).files refl (λ h. refl) held loads.may joins.may;
+        has = record {
+          end = Joined program read.limit joins.runs;
+          is_end = runs_joined (join_seen read) program joins.runs asked loads.is_program joins.are;
+          whole = tt;
+          status_is = refl;
+          text_is = joined program read.limit joins.runs text joins.text_is;
+        };
+      }
+
+  -- What stops it after its script was accepted.
+  module _ (checked : Checked) (middle : Counts) (lower : (name : List ℕ) → call.before name ≤ middle name)
+      (loads : Loads (call.holds read.script.now) (checked_program checked)) where
+    joins-known : (why : Refusal) (files : List (List ℕ)) → MayAll call.holds (join_seen read).files files →
+        IsStop call (record { script = loads.text; files = files }) why →
+        Stops call (record { why = why; command = Some (command.Join read); checked = Some checked })
+    joins-known = known call (command.Join read) asked read.script.now (join_seen read).files refl (λ held. refl) checked middle lower loads
+
+    join-problem-stops : (why : ReduceErr) →
+        HasJoinProblem (script_text (checked_program checked).tree) (checked_program checked).plan read.max_bytes call.holds (join_seen read).files why →
+        Stops call (record { why = reduce_refusal why; command = Some (command.Join read); checked = Some checked })
+    join-problem-stops why s =
+        joins-known (reduce_refusal why) s.files s.may
+        (promise.at_end (reduce_refusal why) (join_problem (join_seen read) (checked_program checked) why asked loads.is_program s.problem))
+
+    join-error-stops : (why : ReduceErr) →
+        StopsJoin (script_text (checked_program checked).tree) (checked_program checked).plan read.max_bytes call.holds (join_seen read).files middle call.after why →
+        Stops call (record { why = reduce_refusal why; command = Some (command.Join read); checked = Some checked })
+    join-error-stops (reduce_error.Read file) s =
+        joins-known (refusal.Read (place.File file)) s.files s.may
+        (promise.join_unread (join_seen read) (checked_program checked) s.runs file asked loads.is_program s.are
+        (file-failed call (command.Join read) asked read.script.now (join_seen read).files refl (λ held. refl) file s.name s.named (omega (arith, lower s.name, s.rose))))
+    join-error-stops (reduce_error.TooLarge file) s = join-problem-stops (reduce_error.TooLarge file) s
+    join-error-stops (reduce_error.OtherScript file) s = join-problem-stops (reduce_error.OtherScript file) s
+    join-error-stops (reduce_error.Malformed file) s = join-problem-stops (reduce_error.Malformed file) s
+    join-error-stops (reduce_error.Apart file) s = join-problem-stops (reduce_error.Apart file) s
+    join-error-stops (reduce_error.Gap file group) s = absurd s
+    join-error-stops reduce_error.NoMemory s = memory-out call (command.Join read) asked (Some checked)
+
+    pub join-files-stop : (why : Refusal) →
+        StopsJoins (checked_program checked) read.max_bytes call.holds (join_seen read).files middle call.after why →
+        Stops call (record { why = why; command = Some (command.Join read); checked = Some checked })
+    join-files-stop _ (stops_joins why s) = join-error-stops why s
+
+-- The same of equal names, over a store that tells the same.
+pub joins-along : (program : Program) (max_bytes limit : ℕ) (holds told : Holds) (names words : List (List ℕ)) (text : List ℕ) →
+    holds ≡ told → names ≡ words → JoinsFiles program max_bytes limit holds names text → JoinsFiles program max_bytes limit told words text
+joins-along program max_bytes limit holds told names words text stores same j =
+    subst (λ h. JoinsFiles program max_bytes limit h words text) stores
+    (subst (λ ns. JoinsFiles program max_bytes limit holds ns text) same j)
 
 -- ---- a report on saved runs
 

@@ -14,8 +14,8 @@ use Rattle.sym_reduce.specs.Reducing.{AreReduced, FirstRunProblem, Pairs}
 use Rattle.sym_reduce.proofs.Found.{found as files_found}
 use Rattle.sym_reduce.proofs.Once.{first_once, no_problem, totals_once}
 use Rattle.sym_top.specs.declared.refusal.Refusal.{Refusal}
-use Rattle.sym_top.specs.Commands.{Asked, Command, ReadsRecords, Reduce, Reduces, command_of, file_rules, first_no, texts_of}
-use Rattle.sym_top.specs.Ends.{End, Refused, Held, IsEnd, usage, no_program, problem, finished, run_problem, reduced, files_of, groups_end, script_of}
+use Rattle.sym_top.specs.Commands.{Asked, Command, Joins, ReadsRecords, Reduce, Reduces, command_of, file_rules, first_no, texts_of}
+use Rattle.sym_top.specs.Ends.{End, Refused, Held, IsEnd, usage, no_program, problem, finished, run_problem, reduced, join_problem, runs_joined, files_of, groups_end, script_of}
 use Rattle.sym_top.specs.Programs.{Program, IsProgram, program_in}
 use Rattle.sym_top.specs.Refusals.{reduce_refusal}
 use Rattle.sym_top.proofs.Bounds.{asked_few}
@@ -24,7 +24,7 @@ use Rattle.sym_top.proofs.ProgramsFound.{program-found, none-found, Reading, rea
 pub program-formed : (text : List ℕ) (program : Program) → IsProgram text program → IsWellFormed program.plan
 program-formed text program is = accepted_well program.tree program.plan (text-lawful text program.tree is.script) is.accepted
 
-no_first : (p : ScriptPlan) (rules : FileRules) (file from : ℕ) (files : List (List ℕ)) (why : PassErr) → files ≡ [] → FirstProblem p rules file from files why → ⊥
+pub no_first : (p : ScriptPlan) (rules : FileRules) (file from : ℕ) (files : List (List ℕ)) (why : PassErr) → files ≡ [] → FirstProblem p rules file from files why → ⊥
 no_first p rules _ _ _ _ none (first.here file from bytes files why is) = cc
 no_first p rules _ _ _ _ none (first.later file from bytes files records why fine is) = cc
 
@@ -57,6 +57,8 @@ module _ (asked : Asked) (held : Held) (reduce : Reduce) (is : command_of asked 
       let Q : Result Program Refusal → Type 0 = λ r. Ends r (Refused (reduce_refusal why)) in
       let P : Reduce → Type 0 = λ r. FirstRunProblem (script_text program.tree) program.plan r.max_bytes 0 1 [] held.files why in
       subst Q (sym (program-found held.script program found)) (inl (why, subst P (sym (own other some)) bad, refl))
+  ends _ (join_problem join program why some found bad) = let same : Reduces reduce ≡ Joins join = this (Joins join) some in absurd (cc)
+  ends _ (runs_joined join program runs some found are) = let same : Reduces reduce ≡ Joins join = this (Joins join) some in absurd (cc)
   ends _ (reduced other program stop totals some found are) =
       let Q : Result Program Refusal → Type 0 = λ r. Ends r (groups_end (texts_of asked.forms other.form) program totals) in
       let P : Reduce → Type 0 = λ r. AreReduced (script_text program.tree) program.plan r.max_bytes 1 [] held.files stop totals in

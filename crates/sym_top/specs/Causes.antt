@@ -19,6 +19,7 @@ use Rattle.sym_engine.specs.declared.error.PassErr.TheVariants as pass_error
 use Rattle.sym_engine.specs.FirstProblems.{FirstProblem}
 use Rattle.sym_reduce.specs.declared.error.ReduceErr.{ReduceErr}
 use Rattle.sym_reduce.specs.declared.error.ReduceErr.TheVariants as reduce_error
+use Rattle.sym_reduce.specs.Joining.{FirstJoinProblem}
 use Rattle.sym_reduce.specs.Reducing.{FirstRunProblem}
 use Rattle.sym_top.specs.declared.refusal.Place.{Place}
 use Rattle.sym_top.specs.declared.refusal.Place.TheVariants as place
@@ -27,7 +28,7 @@ use Rattle.sym_top.specs.declared.refusal.Refusal.TheVariants as refusal
 use Rattle.sym_top.specs.declared.refusal.ScriptFault.TheVariants as fault
 use Rattle.sym_top.specs.declared.status.Status.{Status}
 use Rattle.sym_top.specs.declared.status.Status.TheVariants as status
-use Rattle.sym_top.specs.Commands.{Command, Reduce, Reduces, command_of, file_rules, first_no}
+use Rattle.sym_top.specs.Commands.{Command, Join, Joins, Reduce, Reduces, command_of, file_rules, first_no}
 use Rattle.sym_top.specs.Ends.{Held, files_of, script_of}
 use Rattle.sym_top.specs.Programs.{Program, IsProgram}
 use Rattle.sym_top.specs.Promises.{Call, HasReport, IsStop, IsUntouched, IsUsage, MayHold, ReadFailed, Told, WriteFails, call_line}
@@ -59,6 +60,15 @@ pub record RunFilesHave (call : Call) (held : Held) (why : ReduceErr) : Type 0 w
   pub first : FirstRunProblem (script_text program.tree) program.plan reduce.max_bytes 0 1 []
       held.files why
 
+-- The script of a join is accepted, and this is the first problem of its files of saved runs.
+pub record JoinedFilesHave (call : Call) (held : Held) (why : ReduceErr) : Type 0 where
+  pub join : Join
+  pub asks : command_of call.asked ≡ Some (Joins join)
+  pub program : Program
+  pub accepted : IsProgram held.script program
+  pub first : FirstJoinProblem (script_text program.tree) program.plan join.max_bytes held.files
+      why
+
 -- The text is that of a script, and this is the first rule that the script breaks.
 pub record BreaksRule (text : List ℕ) (why : CheckErr) : Type 0 where
   pub tree : ScriptTree
@@ -85,6 +95,10 @@ pub data IsTooLarge (call : Call) (held : Held) : Refusal → Type 0 where
   -- `FILE: too large`
   large_run_file : (file : ℕ)
       → RunFilesHave call held (reduce_error.TooLarge file)
+      → IsTooLarge call held (refusal.TooLarge (place.File file))
+  -- `FILE: too large`
+  large_joined_file : (file : ℕ)
+      → JoinedFilesHave call held (reduce_error.TooLarge file)
       → IsTooLarge call held (refusal.TooLarge (place.File file))
 
 -- Why a text isn't that of an accepted script. If it has a lexical fault, the first one; else the
@@ -148,7 +162,7 @@ IsNoScript call held why =
 
 -- Input: the first problem of the files is a header or a row; of files of saved runs, that one is
 -- of another script, is no run file, doesn't follow the one before it, or has a group without a
--- path.
+-- path. `join` looks for no path, and its first file follows none.
 pub data IsBadInput (call : Call) (held : Held) : Refusal → Type 0 where
   -- `FILE: header: WHAT`
   bad_header : (file : ℕ) (what : HeadFault)
@@ -174,6 +188,18 @@ pub data IsBadInput (call : Call) (held : Held) : Refusal → Type 0 where
   gap : (file group : ℕ)
       → RunFilesHave call held (reduce_error.Gap file group)
       → IsBadInput call held (refusal.Gap file group)
+  -- `FILE: run of another script`
+  other_script_joined : (file : ℕ)
+      → JoinedFilesHave call held (reduce_error.OtherScript file)
+      → IsBadInput call held (refusal.OtherScript file)
+  -- `FILE: not a run file`
+  malformed_joined : (file : ℕ)
+      → JoinedFilesHave call held (reduce_error.Malformed file)
+      → IsBadInput call held (refusal.Malformed file)
+  -- `FILE: records do not follow`
+  apart_joined : (file : ℕ)
+      → JoinedFilesHave call held (reduce_error.Apart file)
+      → IsBadInput call held (refusal.Apart file)
 
 -- ReadFault: a read of the script failed, whose count rose; or the script is accepted, and a read
 -- of a file failed, whose count rose and before which no file has a problem (`IsStop`). The line is

@@ -78,6 +78,13 @@ reduce_app =
     let sized = with_rule formed (option_rule own.MAX_BYTES_NAME.now) in
     with_rule (with_rule sized (word_rule own.SCRIPT_NAME.now)) (words_rule own.FILES_NAME.now)
 
+-- `join [--limit N] [--max-bytes N] SCRIPT FILE...`
+unfoldable pub join_app : App
+join_app =
+    let limited = with_rule (bare_app own.JOIN_NAME.now) (option_rule own.LIMIT_NAME.now) in
+    let sized = with_rule limited (option_rule own.MAX_BYTES_NAME.now) in
+    with_rule (with_rule sized (word_rule own.SCRIPT_NAME.now)) (words_rule own.FILES_NAME.now)
+
 -- What `clap` finds for each argument of a command, where it takes the words.
 unfoldable pub matched : App → List Text → Option (List Row)
 matched app words =

@@ -14,7 +14,7 @@ use Rattle.sym_report.specs.Forms.{FormTexts, form_named}
 use Rattle.sym_top.specs.declared.numbers.NumberOption.{NumberOption}
 use Rattle.sym_top.specs.declared.numbers.NumberRange.{NumberRange}
 use Rattle.sym_top.specs.declared.arguments.TheConstants as own
-use Rattle.sym_top.specs.CommandLines.{run_app, trace_app, check_app, make_app, map_app, reduce_app, matched}
+use Rattle.sym_top.specs.CommandLines.{run_app, trace_app, check_app, make_app, map_app, reduce_app, join_app, matched}
 use Rattle.sym_top.specs.Numbers.{number_in_range, option_number}
 
 -- A form of reports: what it is called, and its texts.
@@ -80,6 +80,13 @@ pub record Reduce : Type 0 where
   pub script : List ℕ
   pub files : List (List ℕ)
 
+-- `join`: the path limit, the most bytes of each file, the script, and the files of saved runs.
+pub record Join : Type 0 where
+  pub limit : ℕ
+  pub max_bytes : ℕ
+  pub script : List ℕ
+  pub files : List (List ℕ)
+
 -- What is asked for.
 pub data Command : Type 0 where
   Runs : Run → Command
@@ -88,6 +95,7 @@ pub data Command : Type 0 where
   Makes : Make → Command
   Maps : Map → Command
   Reduces : Reduce → Command
+  Joins : Join → Command
 
 infixl 10 ◌>>=◌
 abbrev pub ◌>>=◌ : {A B : Type 0} → Option A → (A → Option B) → Option B
@@ -200,6 +208,15 @@ reduce_found rows = do
     files = files;
   })
 
+-- The join of saved runs that was found.
+unfoldable pub join_found : List Row → Option Join
+join_found rows = do
+  limit ← number_found own.LIMITS own.LIMIT_NAME.now rows
+  max_bytes ← number_found own.MAX_BYTES own.MAX_BYTES_NAME.now rows
+  script ← first_of own.SCRIPT_NAME.now rows
+  files ← files_found rows
+  Some (record { limit = limit; max_bytes = max_bytes; script = script; files = files })
+
 -- What words ask for by the command that is the first of them.
 unfoldable pub run_of : List (List ℕ) → Option Run
 run_of words = option_and_then run_found (matched run_app words)
@@ -219,6 +236,9 @@ map_of words = option_and_then map_found (matched map_app words)
 unfoldable pub reduce_of : List (List ℕ) → Option Reduce
 reduce_of words = option_and_then reduce_found (matched reduce_app words)
 
+unfoldable pub join_of : List (List ℕ) → Option Join
+join_of words = option_and_then join_found (matched join_app words)
+
 -- The same as a command, by its name.
 abbrev pub command_by : List ℕ → List (List ℕ) → Option Command
 command_by name words =
@@ -230,6 +250,7 @@ command_by name words =
     else if bytes_eq name own.MAP_NAME.now then option_map (λ part. Maps part) (map_of words)
     else if bytes_eq name own.REDUCE_NAME.now then
     option_map (λ reduce. Reduces reduce) (reduce_of words)
+    else if bytes_eq name own.JOIN_NAME.now then option_map (λ join. Joins join) (join_of words)
     else None
 
 -- The command of a list of words.
@@ -256,6 +277,7 @@ is_handed forms (Checks check) = true
 is_handed forms (Makes make) = true
 is_handed forms (Maps part) = true
 is_handed forms (Reduces reduce) = is_some (form_of forms reduce.form)
+is_handed forms (Joins join) = true
 
 abbrev pub handed : List Form → Option Command → Option Command
 handed forms None = None
@@ -279,6 +301,7 @@ names_of (Some (Checks check)) = record { script = Some check.script; files = []
 names_of (Some (Makes make)) = record { script = None; files = [] }
 names_of (Some (Maps part)) = record { script = Some part.script; files = part.files }
 names_of (Some (Reduces reduce)) = record { script = Some reduce.script; files = reduce.files }
+names_of (Some (Joins join)) = record { script = Some join.script; files = join.files }
 
 -- The names by which a line speaks of a command's files: the same, and that of the log that is made.
 abbrev pub shown_names : Option Command → FileNames
@@ -289,6 +312,7 @@ shown_names (Some (Checks check)) = record { script = Some check.script; files =
 shown_names (Some (Makes make)) = record { script = None; files = own.MADE_NAME.now ∷ [] }
 shown_names (Some (Maps part)) = record { script = Some part.script; files = part.files }
 shown_names (Some (Reduces reduce)) = record { script = Some reduce.script; files = reduce.files }
+shown_names (Some (Joins join)) = record { script = Some join.script; files = join.files }
 
 -- The name of the file at this place.
 abbrev pub name_at : FileNames → Place → Option (List ℕ)
@@ -308,8 +332,9 @@ file_rules asked (Checks check) = rules_of limit.FILE_MAX_DEFAULT asked.shown
 file_rules asked (Makes make) = rules_of make.options.max_bytes asked.shown
 file_rules asked (Maps part) = rules_of part.options.max_bytes asked.shown
 file_rules asked (Reduces reduce) = rules_of reduce.max_bytes asked.shown
+file_rules asked (Joins join) = rules_of join.max_bytes asked.shown
 
--- The files of the command have records; those of `reduce` have saved runs.
+-- The files of the command have records; those of `reduce` and `join` have saved runs.
 abbrev pub ReadsRecords : Command → Type 0
 ReadsRecords (Runs run) = Unit {0}
 ReadsRecords (Traces trace) = Unit {0}
@@ -317,6 +342,7 @@ ReadsRecords (Checks check) = Unit {0}
 ReadsRecords (Makes make) = Unit {0}
 ReadsRecords (Maps part) = Unit {0}
 ReadsRecords (Reduces reduce) = ⊥
+ReadsRecords (Joins join) = ⊥
 
 -- The same where there may be no command.
 abbrev pub ReadsNoRuns : Option Command → Type 0
@@ -331,3 +357,4 @@ first_no (Checks check) = 1
 first_no (Makes make) = 1
 first_no (Maps part) = part.first
 first_no (Reduces reduce) = 1
+first_no (Joins join) = 1

@@ -7,10 +7,12 @@ use Rattle.sym_check.specs.Meaning.Groups.{pass}
 use Rattle.sym_engine.specs.declared.error.PassErr.{PassErr}
 use Rattle.sym_engine.specs.FirstProblems.{AllFine, FirstProblem}
 use Rattle.sym_reduce.specs.declared.error.ReduceErr.{ReduceErr}
+use Rattle.sym_reduce.specs.Joining.{AreRunFiles, FirstJoinProblem}
 use Rattle.sym_reduce.specs.Reducing.{AreReduced, FirstRunProblem, Pairs}
 use Rattle.sym_report.specs.declared.rows.Heads.{Heads}
 use Rattle.sym_report.specs.declared.rows.Row.{Row}
 use Rattle.sym_report.specs.ReportRows.{heads_of, row_of, some_faulty}
+use Rattle.sym_run.specs.declared.saved.Saved.{Saved}
 use Rattle.sym_report.specs.Forms.{FormTexts, report_text}
 use Rattle.sym_parse.specs.Printed.{script_text}
 use Rattle.sym_top.specs.declared.refusal.Refusal.{Refusal}
@@ -18,24 +20,25 @@ use Rattle.sym_top.specs.declared.refusal.Refusal.TheVariants as refusal
 use Rattle.sym_top.specs.declared.status.Status.{Status}
 use Rattle.sym_top.specs.declared.status.Status.TheVariants as status
 use Rattle.sym_trace.specs.TraceReports.{trace_heads, trace_rows}
-use Rattle.sym_top.specs.Commands.{Asked, Command, Reduce, Runs, Traces, Checks, Makes, Maps, Reduces, ReadsRecords, command_of, file_rules, first_no, texts_of}
+use Rattle.sym_top.specs.Commands.{Asked, Command, Join, Reduce, Runs, Traces, Checks, Makes, Maps, Reduces, Joins, ReadsRecords, command_of, file_rules, first_no, texts_of}
 use Rattle.sym_top.specs.CheckLines.{check_line}
 use Rattle.sym_top.specs.Making.{made_file, made_script}
 use Rattle.sym_top.specs.Programs.{Program, IsProgram, IsNoProgram}
-use Rattle.sym_top.specs.SavedFiles.{IsMapped}
+use Rattle.sym_top.specs.SavedFiles.{IsJoined, IsMapped}
 use Rattle.sym_top.specs.Summaries.{summary_text}
 use Rattle.sym_top.specs.Refusals.{pass_refusal, reduce_refusal, status_of_refusal}
 
 -- How a call ends: refused for a cause; with a report, which is shown in this form and has these
 -- names and rows; with a text of a script; with the summary of so many records, which have these
--- report rows; or with a saved run of records, the first of which has this number, whose chains are
--- tight for a limit.
+-- report rows; with a saved run of records, the first of which has this number, whose chains are
+-- tight for a limit; or with the join, by a limit, of saved runs.
 pub data End : Type 0 where
   Refused : Refusal → End
   Reported : FormTexts → Heads → List Row → End
   Said : List ℕ → End
   Summed : ℕ → List Row → End
   Mapped : Program → ℕ → ℕ → List Record → End
+  Joined : Program → ℕ → List Saved → End
 
 -- An end with a text: no refusal.
 abbrev pub IsWhole : End → Type 0
@@ -44,6 +47,7 @@ IsWhole (Reported form heads rows) = Unit {0}
 IsWhole (Said text) = Unit {0}
 IsWhole (Summed records rows) = Unit {0}
 IsWhole (Mapped program first limit records) = Unit {0}
+IsWhole (Joined program limit runs) = Unit {0}
 
 -- The status of rows: Faulted if one of them is faulty.
 abbrev pub rows_status : List Row → Status
@@ -56,6 +60,7 @@ status_of (Reported form heads rows) = rows_status rows
 status_of (Said text) = status.Done
 status_of (Summed records rows) = rows_status rows
 status_of (Mapped program first limit records) = status.Done
+status_of (Joined program limit runs) = status.Done
 
 -- The text of an end: nothing if the call is refused, else the report in its form, what is said of
 -- the script, the summary, or the text of a saved run, of which there may be several.
@@ -69,6 +74,9 @@ pub data IsTextOf : End → List ℕ → Type 0 where
   mapped : (program : Program) (first limit : ℕ) (records : List Record) (text : List ℕ)
       → IsMapped program first limit records text
       → IsTextOf (Mapped program first limit records) text
+  joined : (program : Program) (limit : ℕ) (runs : List Saved) (text : List ℕ)
+      → IsJoined program limit runs text
+      → IsTextOf (Joined program limit runs) text
 
 -- The bytes of the files of the store that a command reads: the script, and the files in order, as
 -- many as are named (`MayHold` says so of a call's store).
@@ -84,8 +92,10 @@ script_of (Checks check) held = held.script
 script_of (Makes make) held = made_script
 script_of (Maps part) held = held.script
 script_of (Reduces reduce) held = held.script
+script_of (Joins join) held = held.script
 
--- The bytes of a command's files of records. `reduce` has none: its files are of saved runs.
+-- The bytes of a command's files of records. `reduce` and `join` have none: their files are of
+-- saved runs.
 abbrev pub files_of : Command → Held → List (List ℕ)
 files_of (Runs run) held = held.files
 files_of (Traces trace) held = held.files
@@ -93,6 +103,7 @@ files_of (Checks check) held = []
 files_of (Makes make) held = made_file make.records make.seed ∷ []
 files_of (Maps part) held = held.files
 files_of (Reduces reduce) held = []
+files_of (Joins join) held = []
 
 -- The report rows of groups.
 abbrev pub group_rows : Program → Pairs → List Row
@@ -123,7 +134,8 @@ said_of true program = script_text program.tree
 said_of false program = check_line program.plan
 
 -- The end of a command whose script is accepted, and whose files are fine and have these records. Of
--- `reduce`, whose files are of saved runs, these are the records that the saved runs stand for.
+-- `reduce`, whose files are of saved runs, these are the records that the saved runs stand for. No
+-- end of `join` comes by records: this is that of no files.
 abbrev pub whole_end : Asked → Command → Program → List Record → End
 whole_end asked (Runs run) program records =
     report_of (texts_of asked.forms run.form) program records
@@ -135,9 +147,10 @@ whole_end asked (Maps part) program records =
     Mapped program part.first part.options.limit records
 whole_end asked (Reduces reduce) program records =
     report_of (texts_of asked.forms reduce.form) program records
+whole_end asked (Joins join) program records = Joined program join.limit []
 
--- The end of a call. The stages stand in the order in which they are tried; the last two are those
--- of `reduce`, in place of the two before them.
+-- The end of a call. The stages stand in the order in which they are tried; the last four are those
+-- of `reduce` and of `join`, in place of the two before them.
 pub data IsEnd (asked : Asked) (held : Held) : End → Type 0 where
   usage : command_of asked ≡ None
       → IsEnd asked held (Refused refusal.Usage)
@@ -170,3 +183,13 @@ pub data IsEnd (asked : Asked) (held : Held) : End → Type 0 where
       → AreReduced (script_text program.tree) program.plan reduce.max_bytes 1 [] held.files
       end totals
       → IsEnd asked held (groups_end (texts_of asked.forms reduce.form) program totals)
+  join_problem : (join : Join) (program : Program) (why : ReduceErr)
+      → command_of asked ≡ Some (Joins join)
+      → IsProgram held.script program
+      → FirstJoinProblem (script_text program.tree) program.plan join.max_bytes held.files why
+      → IsEnd asked held (Refused (reduce_refusal why))
+  runs_joined : (join : Join) (program : Program) (runs : List Saved)
+      → command_of asked ≡ Some (Joins join)
+      → IsProgram held.script program
+      → AreRunFiles (script_text program.tree) program.plan join.max_bytes held.files runs
+      → IsEnd asked held (Joined program join.limit runs)

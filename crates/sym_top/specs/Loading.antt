@@ -14,7 +14,9 @@ use Rattle.sym_engine.specs.FirstProblems.{AllFine, FirstProblem}
 use Rattle.sym_engine.specs.Passing.{AllRead, Holds, Counts, May, MayAll, StopsFrom}
 use Rattle.sym_parse.specs.Printed.{script_text}
 use Rattle.sym_reduce.specs.declared.error.ReduceErr.{ReduceErr}
+use Rattle.sym_reduce.specs.Joining.{AreRunFiles, StopsJoin}
 use Rattle.sym_reduce.specs.Reducing.{AreReduced, Pairs, StopsReduce}
+use Rattle.sym_run.specs.declared.saved.Saved.{Saved}
 use Rattle.sym_report.specs.Forms.{FormTexts}
 use Rattle.sym_top.specs.declared.refusal.Place.TheVariants as place
 use Rattle.sym_top.specs.declared.refusal.Refusal.{Refusal}
@@ -29,7 +31,7 @@ use Rattle.sym_top.specs.Messages.{headers_of, line_of}
 use Rattle.sym_top.specs.Programs.{Program, IsProgram, IsNoProgram}
 use Rattle.sym_top.specs.Promises.{Call, MayHold, IsStop, HasReport, call_line}
 use Rattle.sym_top.specs.Refusals.{pass_refusal, reduce_refusal, status_of_refusal}
-use Rattle.sym_top.specs.SavedFiles.{IsMapped}
+use Rattle.sym_top.specs.SavedFiles.{IsJoined, IsMapped}
 use Rattle.sym_top.specs.Words.{command_seen}
 
 -- A text that isn't too large is refused for its own sake, or memory ran out.
@@ -115,6 +117,22 @@ pub data StopsRuns (program : Program) (max_bytes : ℕ) (holds : Holds)
   stops_runs : (why : ReduceErr)
       → StopsReduce (script_text program.tree) program.plan max_bytes holds names before after why
       → StopsRuns program max_bytes holds names before after (reduce_refusal why)
+
+-- This text is that of the join of the saved runs of files which the names may hold.
+pub record JoinsFiles (program : Program) (max_bytes limit : ℕ) (holds : Holds)
+    (names : List (List ℕ)) (text : List ℕ) : Type 0 where
+  pub files : List (List ℕ)
+  pub may : MayAll holds names files
+  pub runs : List Saved
+  pub are : AreRunFiles (script_text program.tree) program.plan max_bytes files runs
+  pub text_is : IsJoined program limit runs text
+
+-- Why there is none: the files can't be joined, or memory ran out.
+pub data StopsJoins (program : Program) (max_bytes : ℕ) (holds : Holds)
+    (names : List (List ℕ)) (before after : Counts) : Refusal → Type 0 where
+  stops_joins : (why : ReduceErr)
+      → StopsJoin (script_text program.tree) program.plan max_bytes holds names before after why
+      → StopsJoins program max_bytes holds names before after (reduce_refusal why)
 
 -- A call that is ready to write this text, and then to end with this status.
 pub record Ready (call : Call) (status : Status) (text : List ℕ) : Type 0 where

@@ -12,7 +12,7 @@ use Rattle.sym_top.specs.declared.load.Failure.{Failure}
 use Rattle.sym_top.specs.declared.refusal.Refusal.{Refusal}
 use Rattle.sym_top.specs.declared.status.Status.{Status}
 use Rattle.sym_top.specs.declared.status.Status.TheVariants as status
-use Rattle.sym_top.specs.Commands.{Command, Run, Runs, Traces, Checks, Makes, Maps, Reduces, command_of, file_rules}
+use Rattle.sym_top.specs.Commands.{Command, Run, Runs, Traces, Checks, Makes, Maps, Reduces, Joins, command_of, file_rules}
 use Rattle.sym_top.specs.Loading.{Loads, Unloads}
 use Rattle.sym_top.specs.Programs.{Program}
 use Rattle.sym_top.specs.Promises.{Call}
@@ -40,6 +40,7 @@ watched_run (Some (Checks check)) = None
 watched_run (Some (Makes make)) = None
 watched_run (Some (Maps part)) = None
 watched_run (Some (Reduces reduce)) = None
+watched_run (Some (Joins join)) = None
 
 -- No observers of the call are told.
 abbrev pub IsUnwatched : Call → Type 0

@@ -5,7 +5,9 @@ use Rattle.sym_base.specs.Counts.{Rose}
 use Rattle.sym_base.specs.declared.values.record.Record.{Record}
 use Rattle.sym_engine.specs.FirstProblems.{AllFine}
 use Rattle.sym_parse.specs.Printed.{script_text}
+use Rattle.sym_reduce.specs.Joining.{AreRunFiles}
 use Rattle.sym_reduce.specs.Reducing.{AreReduced, Pairs}
+use Rattle.sym_run.specs.declared.saved.Saved.{Saved}
 use Rattle.sym_engine.specs.Passing.{Holds, Counts, May, MayAll}
 use Rattle.sym_top.specs.declared.refusal.Place.{Place}
 use Rattle.sym_top.specs.declared.refusal.Place.TheVariants as place
@@ -13,7 +15,7 @@ use Rattle.sym_top.specs.declared.refusal.Refusal.{Refusal}
 use Rattle.sym_top.specs.declared.refusal.Refusal.TheVariants as refusal
 use Rattle.sym_top.specs.declared.status.Status.{Status}
 use Rattle.sym_top.specs.declared.status.Status.TheVariants as status
-use Rattle.sym_top.specs.Commands.{Asked, Command, FileNames, ReadsRecords, Reduce, Reduces, command_of, file_rules, first_no, name_at, names_of, shown_names}
+use Rattle.sym_top.specs.Commands.{Asked, Command, FileNames, ReadsRecords, Join, Joins, Reduce, Reduces, command_of, file_rules, first_no, name_at, names_of, shown_names}
 use Rattle.sym_top.specs.Ends.{End, Refused, Held, IsEnd, IsTextOf, IsWhole, script_of, status_of}
 use Rattle.sym_top.specs.Messages.{line_of}
 use Rattle.sym_top.specs.Programs.{Program, IsProgram, headers_in}
@@ -106,6 +108,13 @@ pub data IsStop (call : Call) (held : Held) : Refusal → Type 0 where
       → IsProgram held.script program
       → AreReduced (script_text program.tree) program.plan reduce.max_bytes 1 []
       (take number held.files) end totals
+      → ReadFailed call (place.File number)
+      → IsStop call held (refusal.Read (place.File number))
+  join_unread : (join : Join) (program : Program) (runs : List Saved) (number : ℕ)
+      → command_of call.asked ≡ Some (Joins join)
+      → IsProgram held.script program
+      → AreRunFiles (script_text program.tree) program.plan join.max_bytes
+      (take number held.files) runs
       → ReadFailed call (place.File number)
       → IsStop call held (refusal.Read (place.File number))
   no_memory : IsStop call held refusal.NoMemory

@@ -83,7 +83,7 @@ pass_refusal (pass_error.Head file what) = refusal.Head file what
 pass_refusal (pass_error.Bad file bad) = refusal.Bad file bad
 pass_refusal pass_error.NoMemory = refusal.NoMemory
 
--- Files of saved runs that have no totals.
+-- Files of saved runs that have no totals, or can't be joined.
 abbrev pub reduce_refusal : ReduceErr → Refusal
 reduce_refusal (reduce_error.Read file) = refusal.Read (place.File file)
 reduce_refusal (reduce_error.TooLarge file) = refusal.TooLarge (place.File file)

@@ -11,12 +11,13 @@ use Rattle.sym_top.specs.declared.commands.Check.{Check as CheckRead}
 use Rattle.sym_top.specs.declared.commands.Make.{Make as MakeRead}
 use Rattle.sym_top.specs.declared.commands.Map.{Map as MapRead}
 use Rattle.sym_top.specs.declared.commands.Reduce.{Reduce as ReduceRead}
+use Rattle.sym_top.specs.declared.commands.Join.{Join as JoinRead}
 use Rattle.sym_top.specs.declared.commands.Command.{Command as CommandRead}
 use Rattle.sym_top.specs.declared.commands.Command.TheVariants as read
 use Rattle.sym_top.specs.declared.commands.NamedFiles.{NamedFiles}
 use Rattle.sym_top.specs.declared.commands.NamedFiles.TheVariants as named
 use Rattle.sym_top.specs.declared.commands.FileNames.{FileNames as NamesRead}
-use Rattle.sym_top.specs.Commands.{Run, Trace, Check, Make, Map, Reduce, Command, Runs, Traces, Checks, Makes, Maps, Reduces, FileNames}
+use Rattle.sym_top.specs.Commands.{Run, Trace, Check, Make, Map, Reduce, Join, Command, Runs, Traces, Checks, Makes, Maps, Reduces, Joins, FileNames}
 
 abbrev pub run_seen : RunRead → Run
 run_seen run = record {
@@ -58,6 +59,14 @@ reduce_seen reduce = record {
   files = map string_bytes reduce.files.items;
 }
 
+abbrev pub join_seen : JoinRead → Join
+join_seen join = record {
+  limit = join.limit;
+  max_bytes = join.max_bytes;
+  script = join.script.now;
+  files = map string_bytes join.files.items;
+}
+
 abbrev pub command_seen : CommandRead → Command
 command_seen (read.Run run) = Runs (run_seen run)
 command_seen (read.Trace trace) = Traces (trace_seen trace)
@@ -65,6 +74,7 @@ command_seen (read.Check check) = Checks (check_seen check)
 command_seen (read.Make make) = Makes (make_seen make)
 command_seen (read.Map part) = Maps (map_seen part)
 command_seen (read.Reduce reduce) = Reduces (reduce_seen reduce)
+command_seen (read.Join join) = Joins (join_seen join)
 
 abbrev pub files_seen : NamedFiles → List (List ℕ)
 files_seen named.None = []
@@ -100,6 +110,11 @@ pub record IsReduce (reduce : ReduceRead) : Type 0 where
   pub size : reduce.max_bytes ≤ limit.FILE_MAX
   pub few : length reduce.files.items ≤ limit.FILES_MAX
 
+-- The same of `join`.
+pub record IsJoin (join : JoinRead) : Type 0 where
+  pub size : join.max_bytes ≤ limit.FILE_MAX
+  pub few : length join.files.items ≤ limit.FILES_MAX
+
 abbrev pub IsInRange : CommandRead → Type 0
 IsInRange (read.Run run) = IsRun run
 IsInRange (read.Trace trace) = IsTrace trace
@@ -107,3 +122,4 @@ IsInRange (read.Check check) = Unit {0}
 IsInRange (read.Make make) = InRange make.options
 IsInRange (read.Map part) = IsMap part
 IsInRange (read.Reduce reduce) = IsReduce reduce
+IsInRange (read.Join join) = IsJoin join

@@ -1,7 +1,8 @@
--- Options that say how records are worked on. No end depends on them, but for the limit of `map`.
+-- Options that say how records are worked on. No end depends on them, but for the limits of `map`
+-- and `join`.
 use Rattle.std.specs.Prelude.{◌≡◌, ℕ, Bool, Some}
 use Rattle.sym_engine.specs.declared.options.Options.{Options}
-use Rattle.sym_top.specs.Commands.{Asked, Command, Run, Runs, Trace, Traces, Check, Checks, Make, Makes, Map, Maps, Reduce, Reduces, command_of}
+use Rattle.sym_top.specs.Commands.{Asked, Command, Run, Runs, Trace, Traces, Check, Checks, Make, Makes, Map, Maps, Reduce, Reduces, Join, Joins, command_of}
 
 -- Options with this chunk, limit and number of workers. The most bytes of a file stay as they were.
 abbrev pub worked : Options → ℕ → ℕ → ℕ → Options
@@ -13,8 +14,8 @@ worked options chunk limit workers = record {
 }
 
 -- The second command is the first with any `--chunk`, `--limit`, `--workers` and `--watch`. `run`
--- alone has `--watch`. The limit of `map` stays, since its text is tight for it. `check` and
--- `reduce` have none of these options.
+-- alone has `--watch`. The limits of `map` and `join` stay, since their texts are tight for them.
+-- `check` and `reduce` have none of these options.
 pub data IsWorkedOtherwise : Command → Command → Type 0 where
   run_otherwise : (run : Run) (chunk limit workers : ℕ) (watch : Bool)
       → IsWorkedOtherwise (Runs run) (Runs (record run {
@@ -35,6 +36,7 @@ pub data IsWorkedOtherwise : Command → Command → Type 0 where
         options = worked part.options chunk part.options.limit workers;
       }))
   reduce_likewise : (reduce : Reduce) → IsWorkedOtherwise (Reduces reduce) (Reduces reduce)
+  join_likewise : (join : Join) → IsWorkedOtherwise (Joins join) (Joins join)
 
 -- Two calls that differ in these options alone.
 pub record DifferInWork (one other : Asked) : Type 0 where

@@ -21,6 +21,9 @@ pub const MAP_NAME: &str = "map";
 /// The command that reports on summaries of parts.
 pub const REDUCE_NAME: &str = "reduce";
 
+/// The command that joins summaries of parts.
+pub const JOIN_NAME: &str = "join";
+
 /// The log that is made, as messages name it.
 pub const MADE_NAME: &str = "made";
 

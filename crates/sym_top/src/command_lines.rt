@@ -1,12 +1,12 @@
 //! The command lines, as `clap` reads them.
 ghost use Rattle.std.specs.Prelude.{◌≡◌, IfOk};
 ghost use Rattle.clap.specs.Words.{app_of, with_rule};
-ghost use Rattle.sym_top.specs.CommandLines.{option_rule, flag_rule, word_rule, words_rule, bare_app, with_pass_options, run_app, trace_app, check_app, make_app, map_app, reduce_app};
+ghost use Rattle.sym_top.specs.CommandLines.{option_rule, flag_rule, word_rule, words_rule, bare_app, with_pass_options, run_app, trace_app, check_app, make_app, map_app, reduce_app, join_app};
 
 use crate::arguments::{
-    CHECK_NAME, CHUNK_NAME, EVERY_NAME, FILES_NAME, FIRST_NAME, FORM_NAME, LIMIT_NAME, MAKE_NAME,
-    MAP_NAME, MAX_BYTES_NAME, PRINT_NAME, RECORDS_NAME, REDUCE_NAME, RUN_NAME, SCRIPT_NAME,
-    SEED_NAME, TRACE_NAME, WATCH_NAME, WORKERS_NAME,
+    CHECK_NAME, CHUNK_NAME, EVERY_NAME, FILES_NAME, FIRST_NAME, FORM_NAME, JOIN_NAME, LIMIT_NAME,
+    MAKE_NAME, MAP_NAME, MAX_BYTES_NAME, PRINT_NAME, RECORDS_NAME, REDUCE_NAME, RUN_NAME,
+    SCRIPT_NAME, SEED_NAME, TRACE_NAME, WATCH_NAME, WORKERS_NAME,
 };
 use clap::{Arg, ArgAction, Command};
 use std::alloc::{AllocError, Global};
@@ -141,6 +141,16 @@ pub fn reduce_command<'a>(alloc: Global) -> Result<Command<'a>, AllocError>
 {
     let formed = with_option(alloc, bare_command(alloc, REDUCE_NAME), FORM_NAME)?;
     let sized = with_option(alloc, formed, MAX_BYTES_NAME)?;
+    let scripted = with_word(alloc, sized, SCRIPT_NAME)?;
+    with_words(alloc, scripted, FILES_NAME)
+}
+
+/// `join [--limit N] [--max-bytes N] SCRIPT FILE...`
+pub fn join_command<'a>(alloc: Global) -> Result<Command<'a>, AllocError>
+    ensures { IfOk result (λ c. app_of c ≡ join_app) }
+{
+    let limited = with_option(alloc, bare_command(alloc, JOIN_NAME), LIMIT_NAME)?;
+    let sized = with_option(alloc, limited, MAX_BYTES_NAME)?;
     let scripted = with_word(alloc, sized, SCRIPT_NAME)?;
     with_words(alloc, scripted, FILES_NAME)
 }

@@ -66,6 +66,16 @@ pub struct Reduce<'a> {
     pub files: Vec<String>,
 }
 
+/// `join`: the path limit, the most bytes of each file, and the names of the script and of the
+/// files of saved runs.
+#[derive(Drop)]
+pub struct Join<'a> {
+    pub limit: u32,
+    pub max_bytes: u64,
+    pub script: &'a str,
+    pub files: Vec<String>,
+}
+
 /// What is asked for.
 #[derive(Drop)]
 pub enum Command<'a> {
@@ -75,6 +85,7 @@ pub enum Command<'a> {
     Make(Make),
     Map(Map<'a>),
     Reduce(Reduce<'a>),
+    Join(Join<'a>),
 }
 
 /// The files of records, or of saved runs, of a command: none, those that the arguments name, or the
@@ -121,6 +132,10 @@ pub fn shown_names<'m>(command: &'m Option<Command<'_>>) -> FileNames<'m>
         Some(Command::Reduce(reduce)) => FileNames {
             script: Some(reduce.script),
             files: NamedFiles::Given(reduce.files.as_slice()),
+        },
+        Some(Command::Join(join)) => FileNames {
+            script: Some(join.script),
+            files: NamedFiles::Given(join.files.as_slice()),
         },
         None => FileNames {
             script: None,

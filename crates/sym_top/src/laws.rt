@@ -1,9 +1,10 @@
 //! Laws of the definitions that contracts cite.
-ghost use Rattle.std.specs.Prelude.{◌≡◌, ◌↔◌};
+ghost use Rattle.std.specs.Prelude.{◌≡◌, ◌↔◌, ℕ, List, [], ◌∷◌};
 ghost use Rattle.sym_top.specs.Commands.{Asked, ReadsNoRuns, command_of};
 ghost use Rattle.sym_top.specs.Ends.{End, Held, IsEnd, IsWhole};
 ghost use Rattle.sym_top.specs.EndReading.{end_of};
-ghost use Rattle.sym_top.specs.Parts.{IsReportedApart};
+ghost use Rattle.sym_top.specs.Parts.{IsJoinOfTexts, IsReportedApart, IsReportedInOne, IsReportedJoined};
+ghost use Rattle.sym_top.specs.Programs.{Program};
 ghost use Rattle.sym_top.specs.Working.{DifferInWork};
 
 /// Each call has one end. That of a call whose files have records is the one that the function finds.
@@ -23,8 +24,22 @@ pub fn parts_are_reported_as_a_whole()
         IsEnd whole held end → IsWhole end → IsEnd apart runs end }
 {}
 
+/// `reduce` over texts that were joined, in any bracketing and by any limits, comes to what
+/// `reduce` comes to over the texts themselves, and so to what `run` comes to over all files if the
+/// texts are those that `map` wrote of consecutive parts. The join of one text is that text.
+pub fn joins_change_no_report()
+    ensures joined { (parts : Asked) (texts : Held) (joined : Asked) (runs : Held) (end : End) →
+        IsReportedJoined parts texts joined runs →
+        IsEnd parts texts end → IsWhole end → IsEnd joined runs end }
+    ensures whole { (whole : Asked) (held : Held) (joined : Asked) (runs : Held) (end : End) →
+        IsReportedInOne whole held joined runs →
+        IsEnd whole held end → IsWhole end → IsEnd joined runs end }
+    ensures alone { (program : Program) (bytes text : List ℕ) →
+        IsJoinOfTexts program (bytes ∷ []) text → text ≡ bytes }
+{}
+
 /// Two calls have the same end if their commands differ in `--chunk`, `--limit`, `--workers` and
-/// `--watch` alone. The limit of two calls of `map` has to be the same.
+/// `--watch` alone. The limits of two calls of `map`, and of two of `join`, have to be the same.
 pub fn ends_do_not_depend_on_work()
     ensures { (one other : Asked) (held : Held) (end : End) → DifferInWork one other →
         IsEnd one held end ↔ IsEnd other held end }

@@ -6,6 +6,7 @@ mod check_line;
 mod command_lines;
 mod commands;
 mod finishing;
+mod joining;
 pub mod laws;
 mod load;
 mod made;

@@ -5,15 +5,15 @@ ghost use Rattle.std.specs.String.{string_bytes};
 ghost use Rattle.clap.specs.Words.{found_of, rows_of, first_of, all_of};
 ghost use Rattle.sym_base.specs.declared.limits.TheConstants as limit;
 ghost use Rattle.sym_engine.specs.Options.{InRange};
-ghost use Rattle.sym_top.specs.Commands.{number_found, word_number, flag_found, options_found, run_options as run_options_of, form_found, files_found, run_found, trace_found, check_found, make_found, map_found, reduce_found};
-ghost use Rattle.sym_top.specs.Words.{run_seen, trace_seen, check_seen, make_seen, map_seen, reduce_seen, IsRun, IsTrace, IsMap, IsReduce};
+ghost use Rattle.sym_top.specs.Commands.{number_found, word_number, flag_found, options_found, run_options as run_options_of, form_found, files_found, run_found, trace_found, check_found, make_found, map_found, reduce_found, join_found};
+ghost use Rattle.sym_top.specs.Words.{run_seen, trace_seen, check_seen, make_seen, map_seen, reduce_seen, join_seen, IsRun, IsTrace, IsMap, IsReduce, IsJoin};
 
 use crate::arguments::{
     CHUNK_NAME, CHUNKS, EVERY, EVERY_NAME, FILES_NAME, FIRST_NAME, FIRSTS, FORM_DEFAULT, FORM_NAME,
     GIVEN, LIMIT_NAME, LIMITS, MAX_BYTES, MAX_BYTES_NAME, PRINT_NAME, RECORDS, RECORDS_NAME,
     SCRIPT_NAME, SEED_NAME, SEEDS, WATCH_NAME, WORKERS, WORKERS_NAME,
 };
-use crate::commands::{Check, Make, Map, Reduce, Run, Trace};
+use crate::commands::{Check, Join, Make, Map, Reduce, Run, Trace};
 use crate::numbers::{NumberOption, NumberRange, number_or_default, number_within};
 use clap::ArgMatches;
 use std::alloc::Global;
@@ -261,6 +261,33 @@ pub fn read_reduce<'a>(
     };
     Ok(Some(Reduce {
         form: read_form(matches),
+        max_bytes,
+        script,
+        files: copy_names(alloc, names)?,
+    }))
+}
+
+/// The join of saved runs that was found.
+#[tactic(auto, unfolding(crate::specs::Commands::join_found))]
+pub fn read_join<'a>(alloc: Global, matches: &ArgMatches<'a>) -> Result<Option<Join<'a>>, NoMemory>
+    ensures read { IfOk result (λ join.
+        option_map join_seen join ≡ join_found (rows_of (found_of matches.now))) }
+    ensures range { IfOk result (λ join. IfSome join IsJoin) }
+{
+    let Some(limit) = read_option(matches, LIMIT_NAME, LIMITS) else {
+        return Ok(None);
+    };
+    let Some(max_bytes) = read_option(matches, MAX_BYTES_NAME, MAX_BYTES) else {
+        return Ok(None);
+    };
+    let Some(script) = text_of(matches, SCRIPT_NAME) else {
+        return Ok(None);
+    };
+    let Some(names) = read_files(matches) else {
+        return Ok(None);
+    };
+    Ok(Some(Join {
+        limit: limit as u32,
         max_bytes,
         script,
         files: copy_names(alloc, names)?,

@@ -192,7 +192,7 @@ pub fn pass_refusal(error: PassErr) -> Refusal
     }
 }
 
-/// Why a call is refused whose files of saved runs have no totals.
+/// Why a call is refused whose files of saved runs have no totals, or can't be joined.
 pub fn reduce_refusal(error: ReduceErr) -> Refusal
     ensures { result ≡ refusal_of_reduce error }
 {

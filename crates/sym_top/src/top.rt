@@ -5,16 +5,17 @@ ghost use Rattle.std.specs.String.{string_bytes};
 ghost use Rattle.sym_engine.specs.Options.{InRange};
 ghost use Rattle.sym_table.specs.Reading.{Row as OneRow};
 ghost use Rattle.sym_top.specs.Causes.{RefusalsHaveCauses};
-ghost use Rattle.sym_top.specs.Commands.{Asked, Runs, Checks, Makes, Maps, Reduces, asks, command_in, command_of, forms_of, texts_of};
+ghost use Rattle.sym_top.specs.Commands.{Asked, Runs, Checks, Makes, Maps, Reduces, asks, command_in, command_of, forms_of, texts_of, Joins};
 ghost use Rattle.sym_top.specs.Ends.{End, Held, IsEnd};
 ghost use Rattle.sym_top.specs.Headline.{FineRun, IsOnePass};
 ghost use Rattle.sym_top.specs.Observers.{AreTold, IsUnwatched, logs_of};
 ghost use Rattle.sym_top.specs.Promises.{Call, call_of, IsUsage, Told, Answers, MustReport, Refuses, Says, Leaves, Unless, Wrote, IsRefused, IsReported, IsUnwritten};
 ghost use Rattle.sym_top.specs.Telling.{Later, Short, sunk};
-ghost use Rattle.sym_top.specs.Words.{run_seen, check_seen, make_seen, map_seen, reduce_seen, IsRun, IsMap, IsReduce};
+ghost use Rattle.sym_top.specs.Words.{run_seen, check_seen, make_seen, map_seen, reduce_seen, join_seen, IsRun, IsMap, IsReduce, IsJoin};
 
-use crate::commands::{Check, Command, Make, Map, Reduce, Run};
+use crate::commands::{Check, Command, Join, Make, Map, Reduce, Run};
 use crate::finishing::{finish, refuse};
+use crate::joining::prepare_join;
 use crate::load::no_command;
 use crate::made::prepare_make;
 use crate::mapping::prepare_map;
@@ -212,6 +213,35 @@ fn run_reduce<F: Store, O: Sink, E: Sink>(
     finish(out, err, reduced, report_bytes(&form))
 }
 
+// Joins saved runs of files, and writes the text of the one that they come to.
+fn run_join<F: Store, O: Sink, E: Sink>(
+    alloc: Global,
+    join: Join<'_>,
+    files: &mut F,
+    out: &mut O,
+    err: &mut E,
+) -> Status
+    requires { IsJoin join }
+    ensures says { (asked : Asked) → command_of asked ≡ Some (Joins (join_seen join.entry)) →
+        let call = call_of F.holds F.faults asked files.old files.new in
+        let out = sunk O.written O.faults O.short out.old out.new in
+        let err = sunk E.written E.faults E.short err.old err.new in
+        Says call out err result }
+    ensures leaves { (asked : Asked) → command_of asked ≡ Some (Joins (join_seen join.entry)) →
+        let call = call_of F.holds F.faults asked files.old files.new in
+        let sunk_out = sunk O.written O.faults O.short out.old out.new in
+        Leaves call sunk_out files.old files.new out.old out.new err.old err.new result }
+    ensures files { F.holds files.new ≡ F.holds files.old }
+    ensures later { (name : List ℕ) → F.faults files.old name ≤ F.faults files.new name }
+    ensures later_out { Later (sunk O.written O.faults O.short out.old out.new) }
+    ensures later_err { Later (sunk E.written E.faults E.short err.old err.new) }
+{
+    match prepare_join(alloc, join, files) {
+        Ok(text) => finish(out, err, Ok(Status::Done), text.as_slice()),
+        Err(failure) => finish(out, err, Err(failure), &[]),
+    }
+}
+
 // Carries out the command that the arguments ask for.
 fn run<T: Threads + Wait + Sync, F: Store, O: Sink, E: Sink, G: Gate + Sync>(
     rt: &T,
@@ -263,6 +293,7 @@ fn run<T: Threads + Wait + Sync, F: Store, O: Sink, E: Sink, G: Gate + Sync>(
         Ok(Some(Command::Make(make))) => run_make(rt, alloc, make, out, err, gate),
         Ok(Some(Command::Map(part))) => run_map(rt, alloc, part, files, out, err, gate),
         Ok(Some(Command::Reduce(reduce))) => { run_reduce(alloc, reduce, files, out, err, forms) }
+        Ok(Some(Command::Join(join))) => run_join(alloc, join, files, out, err),
         Ok(None) => refuse(err, &no_command(Refusal::Usage)),
         Err(_) => refuse(err, &no_command(Refusal::NoMemory)),
     }
@@ -284,7 +315,9 @@ fn run<T: Threads + Wait + Sync, F: Store, O: Sink, E: Sink, G: Gate + Sync>(
 /// `map [--first N] [--chunk N] [--limit N] [--workers N] [--max-bytes N] SCRIPT FILE...` writes what
 /// the records of the files do to each group, as a text; they are numbered from N on, by default from
 /// 1. `reduce [--form NAME] [--max-bytes N] SCRIPT FILE...` takes files of such texts, whose records
-/// follow each other from 1 on, and writes the report of all of them.
+/// follow each other from 1 on, and writes the report of all of them. `join [--limit N]
+/// [--max-bytes N] SCRIPT FILE...` takes files of such texts, whose records follow each other from
+/// any number on, and writes one such text of all of them.
 ///
 /// Options may stand anywhere, each at most once. The form is `table`. A number is 1 to 10 digits:
 ///

@@ -6,15 +6,20 @@ ghost use Rattle.clap.specs.Words.{app_of, found_of, rows_of};
 ghost use Rattle.clap.specs.Faults.{is_simple_and_free};
 ghost use Rattle.sym_engine.specs.Options.{InRange};
 ghost use Rattle.sym_top.specs.CommandLines.{matched};
-ghost use Rattle.sym_top.specs.Commands.{run_of, trace_of, check_of, make_of, map_of, reduce_of, command_by, command_in};
-ghost use Rattle.sym_top.specs.Words.{run_seen, trace_seen, check_seen, make_seen, map_seen, reduce_seen, command_seen, IsRun, IsTrace, IsMap, IsReduce, IsInRange};
+ghost use Rattle.sym_top.specs.Commands.{run_of, trace_of, check_of, make_of, map_of, reduce_of, join_of, command_by, command_in};
+ghost use Rattle.sym_top.specs.Words.{run_seen, trace_seen, check_seen, make_seen, map_seen, reduce_seen, join_seen, command_seen, IsRun, IsTrace, IsMap, IsReduce, IsJoin, IsInRange};
 
-use crate::arguments::{CHECK_NAME, MAKE_NAME, MAP_NAME, REDUCE_NAME, RUN_NAME, TRACE_NAME};
-use crate::command_lines::{
-    check_command, make_command, map_command, reduce_command, run_command, trace_command,
+use crate::arguments::{
+    CHECK_NAME, JOIN_NAME, MAKE_NAME, MAP_NAME, REDUCE_NAME, RUN_NAME, TRACE_NAME,
 };
-use crate::commands::{Check, Command, Make, Map, Reduce, Run, Trace};
-use crate::matches::{read_check, read_make, read_map, read_reduce, read_run, read_trace};
+use crate::command_lines::{
+    check_command, join_command, make_command, map_command, reduce_command, run_command,
+    trace_command,
+};
+use crate::commands::{Check, Command, Join, Make, Map, Reduce, Run, Trace};
+use crate::matches::{
+    read_check, read_join, read_make, read_map, read_reduce, read_run, read_trace,
+};
 use clap::ArgMatches;
 use clap::error::ErrorKind;
 use std::alloc::Global;
@@ -121,6 +126,20 @@ fn read_reduce_words<'a>(alloc: Global, words: &'a [String]) -> Result<Option<Re
     }
 }
 
+// The join of saved runs that words ask for, the first of which is `join`.
+#[tactic(auto, unfolding(crate::specs::Commands::join_of))]
+fn read_join_words<'a>(alloc: Global, words: &'a [String]) -> Result<Option<Join<'a>>, NoMemory>
+    ensures read { IfOk result (λ join.
+        option_map join_seen join ≡ join_of (map string_bytes words.now)) }
+    ensures range { IfOk result (λ join. IfSome join IsJoin) }
+{
+    let command = join_command(alloc)?;
+    match find_matches(command, words)? {
+        Some(matches) => read_join(alloc, &matches),
+        None => Ok(None),
+    }
+}
+
 // The command of this name that words ask for.
 fn read_command<'a>(
     alloc: Global,
@@ -164,6 +183,12 @@ fn read_command<'a>(
     if name == REDUCE_NAME {
         return match read_reduce_words(alloc, words)? {
             Some(reduce) => Ok(Some(Command::Reduce(reduce))),
+            None => Ok(None),
+        };
+    }
+    if name == JOIN_NAME {
+        return match read_join_words(alloc, words)? {
+            Some(join) => Ok(Some(Command::Join(join))),
             None => Ok(None),
         };
     }

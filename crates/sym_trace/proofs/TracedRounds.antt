@@ -10,7 +10,6 @@ use Rattle.sym_base.specs.declared.values.record.Record.{Record}
 use Rattle.sym_base.specs.declared.values.value.Key.{Key}
 use Rattle.sym_base.specs.declared.values.state.Outcome.{Outcome}
 use Rattle.sym_base.specs.Trees.{ScriptTree}
-use Rattle.sym_check.specs.Meaning.Groups.{pass}
 use Rattle.sym_check.specs.Meaning.Validity.{IsKey, IsValidOutcome}
 use Rattle.sym_check.specs.Plan.ScriptPlans.{ScriptPlan}
 use Rattle.sym_check.specs.Plan.WellFormed.{IsWellFormed}

@@ -66,6 +66,11 @@ returns-in-Ok-Some-Reduce-clause-logs g c =
     unwatched_told _ _ c.run_reduce.result _
     (sym c.in-Ok-Some-Reduce.ensures.read ∙ ap (option_map command_seen) (c.in-Ok-Some-Reduce.field-0-is ∙ ap Some c.in-Ok-Some-Reduce.field-0-0-is)) refl refl
 
+pub returns-in-Ok-Some-Join-clause-logs : goal.returns-in-Ok-Some-Join-clause-logs
+returns-in-Ok-Some-Join-clause-logs g c =
+    unwatched_told _ _ c.run_join.result _
+    (sym c.in-Ok-Some-Join.ensures.read ∙ ap (option_map command_seen) (c.in-Ok-Some-Join.field-0-is ∙ ap Some c.in-Ok-Some-Join.field-0-0-is)) refl refl
+
 pub returns-in-Ok-None-clause-logs : goal.returns-in-Ok-None-clause-logs
 returns-in-Ok-None-clause-logs g c =
     unwatched_told _ _ c.refuse.result _ (sym c.in-Ok-None.ensures.read ∙ ap (option_map command_seen) c.in-Ok-None.field-0-is) refl refl
