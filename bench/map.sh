@@ -1,6 +1,6 @@
 #!/bin/sh
 # Measures `symple map` beside `symple run` over the same log, with 1 and 4 workers and with chunks
-# of 1,024 and 16,384 records: the sessions of 10 and of 98,304 users. Then `symple reduce` over 16
+# of 3,072 and 16,384 records: the sessions of 10 and of 98,304 users. Then `symple reduce` over 16
 # run files of 98,304 groups each, beside the sequential pass over as many records as they have
 # groups in sum, and beside a run with one worker over the logs of which they are. What reduce
 # writes is what run writes. Then `symple join` over the first eight of them, beside `reduce` over
@@ -53,7 +53,7 @@ measure_sequential() {
 # Both commands over the log of so many users, with 1 and 4 workers and both sizes of chunks.
 measure_map() {
     for workers in 1 4; do
-        for chunk in 1024 16384; do
+        for chunk in 3072 16384; do
             for command in run map; do
                 measure "$command-$1-$workers-$chunk" "$command" --workers "$workers" \
                     --chunk $chunk --max-bytes $most_bytes "$script" "$work/log-$1.csv"
@@ -121,7 +121,7 @@ done
 
 # What is measured is right.
 for size in 10 $users; do
-    for chunk in 1024 16384; do
+    for chunk in 3072 16384; do
         "$symple" reduce --max-bytes $most_bytes "$script" "$work/map-$size-1-$chunk.out" |
             cmp - "$work/run-$size-1-$chunk.out" || stop "reduce differs from run at $size users"
     done
@@ -143,7 +143,7 @@ mawk '
         print "| Way | s | MiB | ratio |"
         print "|---|---|---|---|"
         split("10 98304", sizes, " ")
-        split("1024 16384", chunks, " ")
+        split("3072 16384", chunks, " ")
         for (i = 1; i <= 2; i++)
             for (workers = 1; workers <= 4; workers += 3)
                 for (k = 1; k <= 2; k++) {

@@ -1,7 +1,7 @@
 #!/bin/sh
 # Measures a pass by runs beside the sequential pass of the same crates, over five workloads: the
 # sessions of 10 and of 98,304 users, a count of 10 users, a funnel of 1,000 users, and one group
-# with a list of every record; on one thread, in chunks of 1,024 rows and rounds of 64 chunks, with
+# with a list of every record; on one thread, in chunks of 3,072 rows and rounds of 64 chunks, with
 # at most 16 pairs of paths. Beside them bare rows of `csv`, gawk, mawk, and a program written by
 # hand in Rust. All come to the same groups, and each runs three times, in turn. Prints the least
 # time of each in seconds, and its ratio to the sequential pass's.

@@ -1,6 +1,6 @@
 #!/bin/sh
 # Measures `symple run --watch` beside the same run without it: the sessions of 10 and of 98,304
-# users, and those of 98,304 users in chunks of 16,384 records too, so in sixteen times fewer
+# users, and those of 98,304 users in chunks of 16,384 records too, so in five times fewer
 # rounds. Each runs three times, in turn (TURNS sets another number). Prints the least wall time of
 # each in seconds, its ratio, the memory of that run and how many partials it told. Both write the
 # same report.
@@ -54,6 +54,6 @@ compare() {
 for users in 10 98304; do
     log=$work/log.csv
     mawk -f "$here/visits.awk" -v records="$records" -v users="$users" >"$log"
-    compare "$users" 1024
+    compare "$users" 3072
 done
 compare 98304 16384

@@ -9,7 +9,7 @@ use sym_base::NoMemory;
 use sym_table::{Chunks, Cutter, Spare};
 
 /// How many rows a full chunk has.
-pub(crate) const CHUNK: u32 = 1_024;
+pub(crate) const CHUNK: u32 = 3_072;
 
 /// How many chunks a round has at most.
 pub(crate) const CHUNKS: u32 = 64;

@@ -4,7 +4,7 @@
 pub const LIMIT_MAX: u32 = 256;
 
 /// The records of a full chunk where a run doesn't name another number.
-pub const CHUNK_DEFAULT: u32 = 1_024;
+pub const CHUNK_DEFAULT: u32 = 3_072;
 
 /// The path limit where a run doesn't name another one.
 pub const LIMIT_DEFAULT: u32 = 16;

@@ -51,7 +51,7 @@ fn names(alloc: Global) -> Result<Vec<String>, NoMemory> {
 
 fn options(chunk: u32, limit: u32) -> Options
     requires some_rows { 1 ≤ chunk }
-    requires most_rows { chunk ≤ 1024 }
+    requires most_rows { chunk ≤ 3072 }
     requires some_pairs { 1 ≤ limit }
     requires most_pairs { limit ≤ 256 }
     ensures { InRange result }

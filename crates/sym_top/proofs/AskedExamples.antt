@@ -56,7 +56,7 @@ record Asks (asked : Asked) (command : Command) (script_name : Option (List ℕ)
 abbrev run : Run
 run = record {
   form = codes "table";
-  options = record { chunk = 1024; limit = 16; workers = 4; max_bytes = 9 };
+  options = record { chunk = 3072; limit = 16; workers = 4; max_bytes = 9 };
   watch = false;
   script = codes "s";
   files = codes "f" ∷ codes "g" ∷ [];
@@ -81,7 +81,7 @@ abbrev trace : Trace
 trace = record {
   form = codes "table";
   every = 20;
-  options = record { chunk = 1024; limit = 16; workers = 4; max_bytes = 9 };
+  options = record { chunk = 3072; limit = 16; workers = 4; max_bytes = 9 };
   script = codes "s";
   files = codes "f" ∷ codes "g" ∷ [];
 }
@@ -124,7 +124,7 @@ print_end program records = refl
 -- ---- `make 5 1`: the script and the log are its own
 abbrev make : Make
 make = record {
-  options = record { chunk = 1024; limit = 16; workers = 4; max_bytes = 67108864 };
+  options = record { chunk = 3072; limit = 16; workers = 4; max_bytes = 67108864 };
   records = 5;
   seed = 1;
 }
@@ -147,7 +147,7 @@ make_end program records = refl
 abbrev part : Map
 part = record {
   first = 1001;
-  options = record { chunk = 1024; limit = 7; workers = 4; max_bytes = 9 };
+  options = record { chunk = 3072; limit = 7; workers = 4; max_bytes = 9 };
   script = codes "s";
   files = codes "f" ∷ codes "g" ∷ [];
 }
@@ -351,7 +351,7 @@ nothing_shown = refl
 abbrev other_trace : Asked
 other_trace = call (codes "trace" ∷ codes "--every" ∷ codes "20" ∷ codes "--workers" ∷ codes "2" ∷ codes "--max-bytes" ∷ codes "9" ∷ codes "s" ∷ codes "f" ∷ codes "g" ∷ [])
 
-traces_otherwise : command_of other_trace ≡ Some (Traces (record trace { options = worked trace.options 1024 16 2 }))
+traces_otherwise : command_of other_trace ≡ Some (Traces (record trace { options = worked trace.options 3072 16 2 }))
 unfolding command_in trace_of matched trace_app trace_found run_options options_found files_found number_of clap_on_literals
 traces_otherwise = refl
 
@@ -361,9 +361,9 @@ traces_differ = record {
   shown = refl;
   command = Traces trace;
   asks = traces;
-  other_command = Traces (record trace { options = worked trace.options 1024 16 2 });
+  other_command = Traces (record trace { options = worked trace.options 3072 16 2 });
   other_asks = traces_otherwise;
-  otherwise = trace_otherwise trace 1024 16 2;
+  otherwise = trace_otherwise trace 3072 16 2;
 }
 
 -- `make --chunk 7 5 1`

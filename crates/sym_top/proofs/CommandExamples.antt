@@ -8,7 +8,7 @@ use Rattle.sym_top.specs.Numbers.{number_of}
 -- `run s f`
 defaults : command_in (codes "run" ∷ codes "s" ∷ codes "f" ∷ []) ≡ Some (Runs (record {
   form = codes "table";
-  options = record { chunk = 1024; limit = 16; workers = 4; max_bytes = 67108864 };
+  options = record { chunk = 3072; limit = 16; workers = 4; max_bytes = 67108864 };
   watch = false;
   script = codes "s";
   files = codes "f" ∷ [];
@@ -30,7 +30,7 @@ given = refl
 -- `run s --watch f`
 watched : command_in (codes "run" ∷ codes "s" ∷ codes "--watch" ∷ codes "f" ∷ []) ≡ Some (Runs (record {
   form = codes "table";
-  options = record { chunk = 1024; limit = 16; workers = 4; max_bytes = 67108864 };
+  options = record { chunk = 3072; limit = 16; workers = 4; max_bytes = 67108864 };
   watch = true;
   script = codes "s";
   files = codes "f" ∷ [];
@@ -77,7 +77,7 @@ help = refl
 traced : command_in (codes "trace" ∷ codes "s" ∷ codes "--every" ∷ codes "20" ∷ codes "f" ∷ []) ≡ Some (Traces (record {
   form = codes "table";
   every = 20;
-  options = record { chunk = 1024; limit = 16; workers = 4; max_bytes = 67108864 };
+  options = record { chunk = 3072; limit = 16; workers = 4; max_bytes = 67108864 };
   script = codes "s";
   files = codes "f" ∷ [];
 }))
@@ -101,7 +101,7 @@ two_scripts = refl
 
 -- `make --workers 2 5 1`
 made : command_in (codes "make" ∷ codes "--workers" ∷ codes "2" ∷ codes "5" ∷ codes "1" ∷ []) ≡ Some (Makes (record {
-  options = record { chunk = 1024; limit = 16; workers = 2; max_bytes = 67108864 };
+  options = record { chunk = 3072; limit = 16; workers = 2; max_bytes = 67108864 };
   records = 5;
   seed = 1;
 }))
@@ -116,7 +116,7 @@ no_records = refl
 -- `map s f --first 1001`
 summarised : command_in (codes "map" ∷ codes "s" ∷ codes "f" ∷ codes "--first" ∷ codes "1001" ∷ []) ≡ Some (Maps (record {
   first = 1001;
-  options = record { chunk = 1024; limit = 16; workers = 4; max_bytes = 67108864 };
+  options = record { chunk = 3072; limit = 16; workers = 4; max_bytes = 67108864 };
   script = codes "s";
   files = codes "f" ∷ [];
 }))

@@ -227,7 +227,7 @@ abbrev short_asked : Asked
 short_asked = asks (codes "run" ∷ codes "s" ∷ codes "f" ∷ []) (record { name = codes "table"; texts = table_form } ∷ []) (λ row. row)
 
 abbrev short_run : Run
-short_run = record run { options = record run.options { chunk = 1024; limit = 16; workers = 4 }; files = codes "f" ∷ [] }
+short_run = record run { options = record run.options { chunk = 3072; limit = 16; workers = 4 }; files = codes "f" ∷ [] }
 
 is_short : command_of short_asked ≡ Some (Runs short_run)
 unfolding command_in run_of matched run_app run_found run_options options_found files_found number_of clap_on_literals
@@ -309,7 +309,7 @@ a_bad_header = refl
 abbrev other : Asked
 other = asks (codes "run" ∷ codes "--watch" ∷ codes "s" ∷ codes "f" ∷ codes "g" ∷ []) (record { name = codes "table"; texts = table_form } ∷ []) (λ row. row)
 
-other_asks : command_of other ≡ Some (Runs (record run { options = worked run.options 1024 16 4; watch = true }))
+other_asks : command_of other ≡ Some (Runs (record run { options = worked run.options 3072 16 4; watch = true }))
 unfolding command_in run_of matched run_app run_found run_options options_found files_found number_of clap_on_literals
 other_asks = refl
 
@@ -319,9 +319,9 @@ they_differ = record {
   shown = refl;
   command = Runs run;
   asks = is_asked;
-  other_command = Runs (record run { options = worked run.options 1024 16 4; watch = true });
+  other_command = Runs (record run { options = worked run.options 3072 16 4; watch = true });
   other_asks = other_asks;
-  otherwise = run_otherwise run 1024 16 4 true;
+  otherwise = run_otherwise run 3072 16 4 true;
 }
 
 one_end_of_both : (held : Held) (end : End) → IsEnd asked held end ↔ IsEnd other held end

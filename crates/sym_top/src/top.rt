@@ -323,7 +323,7 @@ fn run<T: Threads + Wait + Sync, F: Store, O: Sink, E: Sink, G: Gate + Sync>(
 ///
 /// - `--every`, which records have a row: 1 to 1,000,000, by default 1;
 /// - `--first`, the number of the first record: 1 to 9,999,999,999, by default 1;
-/// - `--chunk`, the rows of a chunk: 1 to 65,536, by default 1,024;
+/// - `--chunk`, the rows of a chunk: 1 to 65,536, by default 3,072;
 /// - `--limit`, the path limit: 1 to 256, by default 16;
 /// - `--workers`, the workers of a round: 1 to 64, by default 4;
 /// - `--max-bytes`, the most bytes of each file: 1 to 268,435,456, by default 67,108,864.

@@ -166,6 +166,14 @@ impl<'a, R: Files> Store for DiskStore<'a, R> {
             }
         }
     }
+
+    /// The size that the system tells of it. Nothing is opened.
+    fn size_hint(&self, name: &str) -> u64 {
+        match fs::metadata(self.runtime, name) {
+            Ok(found) => found.len(),
+            Err(_) => 0,
+        }
+    }
 }
 
 #[cfg(test)]
@@ -185,6 +193,9 @@ mod tests {
         fs::write(&rt, "long", long.as_slice())?;
         fs::write(&rt, "short", "short file")?;
         let mut store = DiskStore::new(rt.alloc(), &rt)?;
+        assert_eq!(rt; store.size_hint("long"), 200_000);
+        assert_eq!(rt; store.size_hint("short"), 10);
+        assert_eq!(rt; store.size_hint("absent"), 0);
         assert_eq!(rt; store.reads, 0);
 
         assert!(rt; read_all(rt.alloc(), &mut store, "long", 200_000)? == long);

@@ -39,6 +39,14 @@ pub(crate) fn find<'a>(files: &'a Files, name: &str) -> Option<&'a [u8]>
     Some(bytes.as_slice())
 }
 
+// The number of a file's bytes; 0 where there is no file.
+pub(crate) fn size_of(files: &Files, name: &str) -> u64 {
+    match find(files, name) {
+        Some(bytes) => bytes.len() as u64,
+        None => 0,
+    }
+}
+
 // Copies the bytes from a place on to the start of a buffer, at most so many of them.
 pub(crate) fn copy_from(bytes: &[u8], at: u64, into: &mut [u8], most: usize) -> usize
     requires at { at ≤ FILE_MAX }

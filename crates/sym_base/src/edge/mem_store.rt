@@ -4,7 +4,7 @@ ghost use Rattle.sym_base.specs.Counts.{Rose};
 ghost use Rattle.sym_base.specs.Transfers.{ReadsAt};
 ghost use Rattle.sym_base.specs.InMemory.{file_at, FailsNext, after_read, after_fault, at_most};
 
-use crate::edge::files::{Files, copy_from, find, put};
+use crate::edge::files::{Files, copy_from, find, put, size_of};
 use crate::edge::store::{Failed, Store};
 use crate::limits::FILE_MAX;
 use crate::values::memory::NoMemory;
@@ -122,6 +122,11 @@ impl Store for MemStore {
         }
         self.faults = self.faults.saturating_add(1);
         Err(Failed)
+    }
+
+    /// The number of its bytes.
+    fn size_hint(&self, name: &str) -> u64 {
+        size_of(&self.files, name)
     }
 }
 

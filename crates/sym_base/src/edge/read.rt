@@ -50,6 +50,10 @@ pub fn read_all<F: Store>(
     ensures later { (other : List ℕ) → F.faults store.old other ≤ F.faults store.new other }
 {
     let mut bytes = Vec::new(alloc);
+    let about = store.size_hint(name);
+    if about <= max {
+        bytes.reserve(about as usize + READ_PIECE)?;
+    }
     'pieces: loop {
         let start = bytes.len();
         bytes.resize(start + READ_PIECE, 0)?;

@@ -34,4 +34,8 @@ pub trait Store {
         ensures later { (other : List ℕ) → faults self.old other ≤ faults self.new other }
         ensures failed { OnErr result
             (Rose (faults self.old name.now) (faults self.new name.now)) };
+
+    /// About how many bytes the file of this name has, so that a reader can take their memory at
+    /// once; 0 where that isn't known. It is a guess: who reads the file has to get by with any.
+    fn size_hint(&self, name: &str) -> u64;
 }

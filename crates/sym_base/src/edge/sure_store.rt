@@ -4,7 +4,7 @@ ghost use Rattle.sym_base.specs.Counts.{Rose};
 ghost use Rattle.sym_base.specs.Transfers.{ReadsAt};
 ghost use Rattle.sym_base.specs.InMemory.{bytes_of, visible_bytes};
 
-use crate::edge::files::{Files, copy_from, find, put};
+use crate::edge::files::{Files, copy_from, find, put, size_of};
 use crate::edge::store::{Failed, Store};
 use crate::limits::FILE_MAX;
 use crate::values::memory::NoMemory;
@@ -75,5 +75,10 @@ impl Store for SureStore {
             Some(bytes) => Ok(copy_from(bytes, at, into, room)),
             None => Ok(copy_from(&[], at, into, room)),
         }
+    }
+
+    /// The number of its bytes.
+    fn size_hint(&self, name: &str) -> u64 {
+        size_of(&self.files, name)
     }
 }
