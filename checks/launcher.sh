@@ -407,8 +407,10 @@ name, command, slow = sys.argv[1], sys.argv[2:], sys.argv[-1]
 number = getattr(signal, "SIG" + name)
 is_asked = os.environ["SYMPLE_EXPLAIN"] == "1"
 nothing = subprocess.DEVNULL
-# A check in the background of a shell has INT ignored, and whom it starts inherits that.
+# A check in the background of a shell has INT ignored, one under nohup HUP, and whom it starts
+# inherits that.
 signal.signal(signal.SIGINT, signal.SIG_DFL)
+signal.signal(signal.SIGHUP, signal.SIG_DFL)
 launcher = subprocess.Popen(command, stdin=nothing, stdout=subprocess.PIPE, stderr=nothing)
 writer = os.open(slow, os.O_WRONLY)
 time.sleep(0.1)
