@@ -1,7 +1,8 @@
 #!/usr/bin/env python3
 """Compares docs/CALLS.md with the sources: each public call of the crates has its row, or is in a
-list below the rows, and each name there is a call; each clause in a row is a clause of that call;
-and nothing that a call could change is said to be the same.
+list below the rows, and each name there is a call; each clause in a row is a clause of that call,
+or, as CLAUSE.FIELD, a field of a record that a clause names; and nothing that a call could change
+is said to be the same.
 
     calls.py [--list]
 
@@ -108,10 +109,28 @@ def reached(modules):
     return names
 
 
+def records():
+    """The fields of each record of the specs."""
+    found = {}
+    for path, _, files in os.walk(os.path.join(ROOT, "crates")):
+        if "specs" not in path.split(os.sep):
+            continue
+        for name in files:
+            with open(os.path.join(path, name), encoding="utf-8") as file:
+                text = file.read()
+            for record, body in re.findall(r"^pub record (\w+)(.*\n(?: .*\n)*)", text, re.M):
+                found.setdefault(record, set()).update(re.findall(r"^  pub (\w+) :", body, re.M))
+    return found
+
+
+RECORDS = records()
+
+
 def header_of(lines, at):
-    """The text of a function's declaration from line `at` on, up to its body, and its clauses."""
+    """The text of a function's declaration from line `at` on, up to its body, and its clauses. After
+    each clause come the fields of the records that it names."""
     indent = re.match(r"^ *", lines[at]).group()
-    text, clauses = [], []
+    text, clauses, clause = [], [], None
     for number in range(at, len(lines)):
         line = lines[number]
         if number > at and line in (indent + "{", indent + "{}"):
@@ -119,7 +138,13 @@ def header_of(lines, at):
         text.append(line.strip())
         match = CLAUSE.match(line)
         if match:
-            clauses.append(match.group(1))
+            clause = match.group(1)
+            clauses.append(clause)
+        elif re.match(r"^\s*(unsafe )?requires\b", line):
+            clause = None
+        if clause:
+            for record in re.findall(r"\w+", line):
+                clauses += [f"{clause}.{field}" for field in RECORDS.get(record, ())]
         if line.endswith(";") or line.endswith("{}"):
             break
         if line.endswith("{") and line.startswith(indent) and not re.match(
@@ -244,7 +269,7 @@ class Row:
     def clauses(self):
         found = set()
         for cell in self.cells:
-            found |= set(re.findall(r"`([a-z_0-9]+)`", cell))
+            found |= set(re.findall(r"`([a-z_0-9.]+)`", cell))
             if "its clause" in cell:
                 found.add("")
         return found
@@ -303,7 +328,8 @@ def main():
     if "--list" in sys.argv[1:]:
         for crate, found in calls.items():
             for call in found:
-                print(crate, call.name, "->", call.returns(), ":", " ".join(call.clauses) or "-")
+                named = [clause for clause in call.clauses if "." not in clause]
+                print(crate, call.name, "->", call.returns(), ":", " ".join(named) or "-")
         return 0
     found, missing = 0, []
     said = {}

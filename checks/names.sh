@@ -5,7 +5,7 @@
 #   docs/DEFINITIONS.md is;
 # - each file and name in the table of questions of docs/ARCHITECTURE.md;
 # - in the rows of docs/PROOFS.md on a crate, each call and its clauses, between `fn CALL` and its
-#   body: (`CALL`: `CLAUSE`, `CLAUSE`);
+#   body: (`CALL`: `CLAUSE`, `CLAUSE`); or a field of a record that a clause names, `CLAUSE.FIELD`;
 # - in a crate's README, docs/ARCHITECTURE.md, docs/DECISIONS.md and CONTRIBUTING.md, each single
 #   name in backticks, in the sources of some crate;
 # - in docs/CALLS.md each public call with its clauses, by calls.py beside this file;
@@ -109,14 +109,34 @@ check_glossary() {
     done <"$work/entries"
 }
 
+# The records of the specs with their fields, one field a line.
+find crates/*/specs -name '*.antt' -exec awk '
+    /^pub record / { record = $3; next }
+    /^[^ ]/ { record = "" }
+    record != "" && /^  pub [a-z_]+ :/ { print record, $2 }
+' '{}' + | sort -u >"$work/fields"
+
 # The clauses of the calls of a name in a crate: those between `fn NAME` and a line that begins the
-# body or ends the declaration.
+# body or ends the declaration. After each clause, as CLAUSE.FIELD, the fields of the records that
+# it names.
 clauses_of() {
     find "crates/$1/src" -name '*.rt' -exec awk -v call="$2" '
-        $0 ~ "fn " call "($|[^A-Za-z0-9_])" { inside = 1 }
-        inside && match($0, /ensures [a-z_]+ [{]/) { print substr($0, RSTART + 8, RLENGTH - 10) }
+        FNR == NR { fields[$1] = fields[$1] " " $2; next }
+        $0 ~ "fn " call "($|[^A-Za-z0-9_])" { inside = 1; clause = "" }
         /^ *[{]}?$/ || /;$/ || (/[{]$/ && !/(ensures|requires) /) { inside = 0 }
-    ' '{}' +
+        inside && /requires / { clause = "" }
+        inside && match($0, /ensures [a-z_]+ [{]/) {
+            clause = substr($0, RSTART + 8, RLENGTH - 10)
+            print clause
+        }
+        inside && clause != "" {
+            count = split($0, words, /[^A-Za-z]+/)
+            for (word = 1; word <= count; word++) {
+                named = split(fields[words[word]], names, " ")
+                for (name = 1; name <= named; name++) print clause "." names[name]
+            }
+        }
+    ' "$work/fields" '{}' +
 }
 
 # A row begins with the crate: - **`CRATE`**, or a link of it.
@@ -127,7 +147,7 @@ check_clauses() {
     while read -r entry; do
         crate=$(printf "%s\n" "$entry" | sed 's/^[^`]*`\([a-z_]*\)`.*/\1/')
         printf "%s\n" "$entry" |
-            grep -oE '\(`[A-Za-z_:]+`(: `[a-z_]+`(, `[a-z_]+`)*)?\)' >"$work/groups"
+            grep -oE '\(`[A-Za-z_:]+`(: `[a-z_.]+`(, `[a-z_.]+`)*)?\)' >"$work/groups"
         while read -r group; do
             call=$(printf "%s\n" "$group" | sed 's/^(`\([A-Za-z_:]*\)`.*/\1/')
             grep -rqE "fn ${call##*:}(\$|[^A-Za-z0-9_])" "crates/$crate/src"
@@ -138,7 +158,7 @@ check_clauses() {
             esac
             clauses_of "$crate" "${call##*:}" >"$work/clauses"
             for clause in $clauses; do
-                grep -qx "$clause" "$work/clauses"
+                grep -qxF "$clause" "$work/clauses"
                 note $? "$1: $call of $crate has no clause $clause"
             done
         done <"$work/groups"

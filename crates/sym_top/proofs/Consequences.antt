@@ -20,13 +20,13 @@ use Rattle.sym_top.specs.declared.refusal.Refusal.{Refusal}
 use Rattle.sym_top.specs.declared.refusal.Refusal.TheVariants as refusal
 use Rattle.sym_top.specs.declared.status.Status.{Status}
 use Rattle.sym_top.specs.declared.status.Status.TheVariants as status
-use Rattle.sym_top.specs.Commands.{Command, ReadsNoRuns, Runs, Traces, Checks, Makes, Maps, Reduces, Joins, FileNames, name_at, names_of}
+use Rattle.sym_top.specs.Commands.{Command, command_of, ReadsNoRuns, Runs, Traces, Checks, Makes, Maps, Reduces, Joins, FileNames, name_at, names_of}
 use Rattle.sym_top.specs.Ends.{End, whole_end, Refused, Reported, Said, Summed, Mapped, Joined, Held, IsEnd, usage, no_program, problem, finished, run_problem, reduced, join_problem, runs_joined, IsWhole, script_of, status_of}
 use Rattle.sym_top.specs.EndReading.{command_end}
-use Rattle.sym_top.specs.Loading.{Ready, Stops, failure_line}
+use Rattle.sym_top.specs.Loading.{ComesTo, Ready, Says, Stops, failure_line}
 use Rattle.sym_top.specs.Messages.{line_of}
 use Rattle.sym_top.specs.Programs.{Program, IsNoProgram, too_large, unparsed, broken}
-use Rattle.sym_top.specs.Promises.{Call, Says, Leaves, IsUsage, call_line, call_names, MayScript, MayHold, TellsScript, Told, ReadFailed, IsStop, at_end, script_unread, file_unread, run_unread, join_unread, no_memory, IsUntouched, WriteFails, failed, short, IsCause, stopped, cut, Refuses, Wrote, line_told, text_written, Answers, Unless, IsReported, IsRefused, IsUnwritten, MustReport}
+use Rattle.sym_top.specs.Promises.{Call, IsUsage, call_line, call_names, MayScript, MayHold, TellsScript, Told, ReadFailed, IsStop, at_end, script_unread, file_unread, run_unread, join_unread, no_memory, IsUntouched, WriteFails, failed, short, IsCause, stopped, cut, Refuses, Wrote, line_told, text_written, Answers, Unless, IsReported, IsRefused, IsUnwritten, MustReport}
 use Rattle.sym_top.specs.Refusals.{status_of_refusal, parse_refusal, check_refusal, pass_refusal, reduce_refusal}
 use Rattle.sym_top.specs.Telling.{Sunk, Has, Short, Tells}
 use Rattle.sym_top.proofs.EndsFound.{found, one_end}
@@ -168,30 +168,30 @@ pub made-match : (made : Result Status Failure) (call : Call) (text gathered : L
 made-match (Ok status) call text gathered same ready stops = subst (Ready call status) (sym same) ready
 made-match (Err failure) call text gathered same ready stops = stops
 
--- A call that stopped before it wrote leaves all that it has to leave.
-pub stop-leaves : {F O E : Type 0} (call : Call) (sunk_out : Sunk) (files : F) (out : O) (err err_after : E) (why : Refusal) (result : Status) →
-    result ≡ status_of_refusal why → Leaves call sunk_out files files out out err err_after result
-stop-leaves call sunk_out files out err err_after why result status_is = record {
+-- A command that stopped before it wrote leaves all that it has to leave.
+pub stop-comes : {F O E : Type 0} (call : Call) (sunk_out sunk_err : Sunk) (files : F) (out : O) (err err_after : E) (failure : Failure) (result : Status) →
+    Stops call failure → result ≡ status_of_refusal failure.why → IsUntouched sunk_out → Tells sunk_err (failure_line failure) →
+    ComesTo call sunk_out sunk_err files files out out err err_after result
+stop-comes call sunk_out sunk_err files out err err_after failure result stops status_is untouched told = record {
+  says = stop-says call sunk_out sunk_err failure result stops status_is untouched told;
   unread = λ none. refl;
   unwritten = λ stopped_early. refl;
   memory = λ full. inl refl;
-  quiet = λ done. absurd (refusal-refused why (subst IsReported status_is done));
+  quiet = λ done. absurd (refusal-refused failure.why (subst IsReported status_is done));
 }
 
--- What a command leaves that isn't one of none.
-pub some-leaves : {F O E : Type 0} (call : Call) (sunk_out : Sunk) (files files_after : F) (out out_after : O) (err err_after : E) (result : Status) →
-    (IsUsage call → ⊥) → (IsUnwritten result → out_after ≡ out) → (result ≡ status.NoMemory → (out_after ≡ out) ⊎ Short sunk_out) →
-    (IsReported result → err_after ≡ err) → Leaves call sunk_out files files_after out out_after err err_after result
-some-leaves call sunk_out files files_after out out_after err err_after result some unwritten memory quiet = record {
-  unread = λ none. absurd (some none);
+-- What a command comes to that isn't one of none.
+pub some-comes : {F O E : Type 0} (call : Call) (sunk_out sunk_err : Sunk) (files files_after : F) (out out_after : O) (err err_after : E) (result : Status)
+    (command : Command) → command_of call.asked ≡ Some command → Says call sunk_out sunk_err result → (IsUnwritten result → out_after ≡ out) →
+    (result ≡ status.NoMemory → (out_after ≡ out) ⊎ Short sunk_out) → (IsReported result → err_after ≡ err) →
+    ComesTo call sunk_out sunk_err files files_after out out_after err err_after result
+some-comes call sunk_out sunk_err files files_after out out_after err err_after result command some says unwritten memory quiet = record {
+  says = says;
+  unread = λ none. let e : Some command ≡ None = sym some ∙ none in cc;
   unwritten = unwritten;
   memory = memory;
   quiet = quiet;
 }
-
--- A call that asks for a command isn't one that asks for none.
-pub asked-some : (o : Option Command) (command : Command) → o ≡ Some command → o ≡ None → ⊥
-asked-some o command some none = let e : Some command ≡ None = sym some ∙ none in cc
 
 -- ---- the bytes that a store tells are those that the files may hold
 

@@ -79,5 +79,7 @@ chosen-all called P name (first ∷ rest) form all named =
     here-or-later P first form (form_named called name rest) (bytes_eq (called first) name) (All-head P first rest all)
     (chosen-all called P name rest form (All-tail P first rest all)) named
 
-pub none-asked : (words : List (List ℕ)) (forms : List Form) (shown : Row → Row) → command_in words ≡ None → command_of (asks words forms shown) ≡ None
-none-asked words forms shown none = ap (handed forms) none
+-- What is asked, by the command of the arguments.
+pub read-asked : (words : List (List ℕ)) (forms : List Form) (shown : Row → Row) (command : Option Command) → command_in words ≡ command →
+    command_of (asks words forms shown) ≡ handed forms command
+read-asked words forms shown command is = ap (handed forms) is

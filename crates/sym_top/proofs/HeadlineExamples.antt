@@ -61,8 +61,9 @@ use Rattle.sym_top.specs.Ends.{End, Summed, Mapped, Joined, Held, IsEnd, finishe
 use Rattle.sym_top.specs.Headline.{FineRun, IsOnePass, pass_text}
 use Rattle.sym_top.specs.Messages.{line_of}
 use Rattle.sym_top.specs.Numbers.{number_of}
+use Rattle.sym_top.specs.Loading.{Says}
 use Rattle.sym_top.specs.Programs.{Program, IsProgram, headers_in}
-use Rattle.sym_top.specs.Promises.{Call, Says, TellsScript, Told, Unless, call_line, call_script}
+use Rattle.sym_top.specs.Promises.{Call, TellsScript, Told, Unless, call_line, call_script}
 use Rattle.sym_top.specs.Telling.{Sunk}
 use Rattle.sym_top.specs.Working.{DifferInWork, run_otherwise, worked}
 use Rattle.sym_top.proofs.CausesFound.{causes-by}

@@ -8,7 +8,8 @@ use Rattle.sym_top.specs.declared.status.Status.TheVariants as status
 use Rattle.sym_top.specs.Commands.{Command, Runs, names_of, texts_of}
 use Rattle.sym_top.specs.Ends.{End, Reported, Held, IsEnd, finished, IsTextOf, nothing, report_in, said, summed, mapped, joined, report_of}
 use Rattle.sym_top.specs.Headline.{FineRun, IsOnePass}
-use Rattle.sym_top.specs.Promises.{Call, Says, Answers, LeavesSinks, line_told, text_written, Told, TellsScript, IsUntouched, Unless}
+use Rattle.sym_top.specs.Loading.{Says}
+use Rattle.sym_top.specs.Promises.{Call, Answers, LeavesSinks, line_told, text_written, Told, TellsScript, IsUntouched, Unless}
 use Rattle.sym_top.specs.Telling.{Sunk, Has}
 use Rattle.sym_top.proofs.Consequences.{expected-by}
 

@@ -18,5 +18,6 @@ pub mod SavedFiles
 pub mod Statuses
 pub mod Summaries
 pub mod Telling
+pub mod TopCall
 pub mod Words
 pub mod Working

@@ -1,4 +1,4 @@
--- What the steps before the writing of a report come to.
+-- What the steps of a call come to.
 use Rattle.std.specs.Prelude.{◌≡◌, ℕ, ◌⊎◌, List, [], ◌∷◌, Option, None, Some, Result, Ok, Err}
 use Rattle.std.specs.Option.{option_map}
 use Rattle.sym_base.specs.Counts.{Rose}
@@ -29,9 +29,10 @@ use Rattle.sym_top.specs.Commands.{FileNames, shown_names}
 use Rattle.sym_top.specs.Ends.{End, Held, IsTextOf, groups_end, status_of}
 use Rattle.sym_top.specs.Messages.{headers_of, line_of}
 use Rattle.sym_top.specs.Programs.{Program, IsProgram, IsNoProgram}
-use Rattle.sym_top.specs.Promises.{Call, MayHold, IsStop, HasReport, call_line}
+use Rattle.sym_top.specs.Promises.{Call, MayHold, IsStop, IsUntouched, HasReport, Wrote, Refuses, IsUsage, IsReported, IsRefused, IsUnwritten, call_line}
 use Rattle.sym_top.specs.Refusals.{pass_refusal, reduce_refusal, status_of_refusal}
 use Rattle.sym_top.specs.SavedFiles.{IsJoined, IsMapped}
+use Rattle.sym_top.specs.Telling.{Sunk, Short}
 use Rattle.sym_top.specs.Words.{command_seen}
 
 -- A text that isn't too large is refused for its own sake, or memory ran out.
@@ -166,3 +167,18 @@ pub record Stops (call : Call) (failure : Failure) : Type 0 where
   pub may : MayHold call held
   pub stop : IsStop call held failure.why
   pub line : failure_line failure ≡ call_line call held failure.why
+
+-- What is said of each status: with a text written, and without.
+pub record Says (call : Call) (out err : Sunk) (result : Status) : Type 0 where
+  pub reported : IsReported result → Wrote call out result
+  pub refused : IsRefused result → Refuses call out err result
+  pub quiet : IsReported result → IsUntouched err
+
+-- What a command comes to: what is said of its status, and what it leaves as it was.
+pub record ComesTo {F O E : Type 0} (call : Call) (sunk_out sunk_err : Sunk) (files files_after : F)
+    (out out_after : O) (err err_after : E) (result : Status) : Type 0 where
+  pub says : Says call sunk_out sunk_err result
+  pub unread : IsUsage call → files_after ≡ files
+  pub unwritten : IsUnwritten result → out_after ≡ out
+  pub memory : result ≡ status.NoMemory → (out_after ≡ out) ⊎ Short sunk_out
+  pub quiet : IsReported result → err_after ≡ err

@@ -5,9 +5,12 @@ use Rattle.sym_base.specs.Counts.{Rose}
 use Rattle.sym_base.specs.Trees.{ScriptTree}
 use Rattle.sym_base.specs.declared.limits.TheConstants as limit
 use Rattle.sym_engine.specs.declared.error.PassErr.{PassErr}
+use Rattle.sym_engine.specs.FileRecords.{rules_of}
 use Rattle.sym_engine.specs.Partials.{ToldAll, ToldUntil, WatchedFiles, watched_files}
-use Rattle.sym_engine.specs.Passing.{Counts, May, StopsPass}
+use Rattle.sym_engine.specs.Passing.{Counts, Holds, May, StopsPass}
+use Rattle.sym_table.specs.Reading.{Row as FileRow}
 use Rattle.sym_watch.specs.Logs.{Log}
+use Rattle.sym_top.specs.declared.commands.Run.{Run as RunRead}
 use Rattle.sym_top.specs.declared.load.Failure.{Failure}
 use Rattle.sym_top.specs.declared.refusal.Refusal.{Refusal}
 use Rattle.sym_top.specs.declared.status.Status.{Status}
@@ -17,6 +20,7 @@ use Rattle.sym_top.specs.Loading.{Loads, Unloads}
 use Rattle.sym_top.specs.Programs.{Program}
 use Rattle.sym_top.specs.Promises.{Call}
 use Rattle.sym_top.specs.Refusals.{pass_refusal, status_of_refusal}
+use Rattle.sym_top.specs.Words.{run_seen}
 
 -- The logs of a call's observers, in order, before it and after it.
 pub record Logs : Type 0 where
@@ -51,6 +55,12 @@ abbrev pub run_files : Call → Run → Program → WatchedFiles
 run_files call run program =
     let rules = file_rules call.asked (Runs run) in
     watched_files program.plan rules run.options.chunk call.holds run.files 1
+
+-- The same of a run as it was read, over a store that tells so, with a gate that shows rows so.
+abbrev pub watched_by : (FileRow → FileRow) → Holds → RunRead → Program → WatchedFiles
+watched_by shown holds run program =
+    let rules = rules_of run.options.max_bytes shown in
+    watched_files program.plan rules run.options.chunk holds (run_seen run).files 1
 
 -- All files were taken, and the observers were told of the partials of all rounds.
 pub record AreToldAll (call : Call) (run : Run) (logs : Logs) : Type 0 where

@@ -1,4 +1,4 @@
--- What the top call promises of each status, over any store and sinks. A store may tell what a file
+-- What a report and a refusal of a call are, over any store and sinks. A store may tell what a file
 -- holds or not: there are bytes that the files may hold, and the answer is what follows from them.
 use Rattle.std.specs.Prelude.{◌≡◌, ◌⊎◌, ℕ, List, [], take, map, Option, None, Some}
 use Rattle.sym_base.specs.Counts.{Rose}
@@ -9,13 +9,15 @@ use Rattle.sym_reduce.specs.Joining.{AreRunFiles}
 use Rattle.sym_reduce.specs.Reducing.{AreReduced, Pairs}
 use Rattle.sym_run.specs.declared.saved.Saved.{Saved}
 use Rattle.sym_engine.specs.Passing.{Holds, Counts, May, MayAll}
+use Rattle.sym_report.specs.Forms.{FormTexts}
+use Rattle.sym_table.specs.Reading.{Row as FileRow}
 use Rattle.sym_top.specs.declared.refusal.Place.{Place}
 use Rattle.sym_top.specs.declared.refusal.Place.TheVariants as place
 use Rattle.sym_top.specs.declared.refusal.Refusal.{Refusal}
 use Rattle.sym_top.specs.declared.refusal.Refusal.TheVariants as refusal
 use Rattle.sym_top.specs.declared.status.Status.{Status}
 use Rattle.sym_top.specs.declared.status.Status.TheVariants as status
-use Rattle.sym_top.specs.Commands.{Asked, Command, FileNames, ReadsRecords, Join, Joins, Reduce, Reduces, command_of, file_rules, first_no, name_at, names_of, shown_names}
+use Rattle.sym_top.specs.Commands.{Asked, Command, FileNames, ReadsRecords, Join, Joins, Reduce, Reduces, asks, command_of, file_rules, first_no, forms_of, name_at, names_of, shown_names}
 use Rattle.sym_top.specs.Ends.{End, Refused, Held, IsEnd, IsTextOf, IsWhole, script_of, status_of}
 use Rattle.sym_top.specs.Messages.{line_of}
 use Rattle.sym_top.specs.Programs.{Program, IsProgram, headers_in}
@@ -38,6 +40,13 @@ call_of holds faults asked before after = record {
   before = faults before;
   after = faults after;
 }
+
+-- The call of these arguments, which is handed these forms and a gate that shows rows so: by what
+-- the types of the forms and of the store say of their values.
+abbrev pub call_with : {F S : Type 0} → List (List ℕ) → (F → List ℕ) → (F → FormTexts) → List F
+    → (FileRow → FileRow) → (S → Holds) → (S → Counts) → S → S → Call
+call_with words called texts forms shown holds faults before after =
+    call_of holds faults (asks words (forms_of called texts forms) shown) before after
 
 -- The arguments are those of no command.
 abbrev pub IsUsage : Call → Type 0
@@ -243,18 +252,3 @@ pub record MustReport (call : Call) (out : Sunk) : Type 0 where
   pub whole : IsWhole end
   pub read : NoneFailed call
   pub written : Failed out → ⊥
-
--- What is said of each status: with a text written, and without.
-pub record Says (call : Call) (out err : Sunk) (result : Status) : Type 0 where
-  pub reported : IsReported result → Wrote call out result
-  pub refused : IsRefused result → Refuses call out err result
-  pub quiet : IsReported result → IsUntouched err
-
--- What a call leaves as it was, whatever is visible of it: the store if there is no command, the
--- output if nothing is written, and the sink for errors if nothing is told.
-pub record Leaves {F O E : Type 0} (call : Call) (sunk_out : Sunk) (files files_after : F)
-    (out out_after : O) (err err_after : E) (result : Status) : Type 0 where
-  pub unread : IsUsage call → files_after ≡ files
-  pub unwritten : IsUnwritten result → out_after ≡ out
-  pub memory : result ≡ status.NoMemory → (out_after ≡ out) ⊎ Short sunk_out
-  pub quiet : IsReported result → err_after ≡ err

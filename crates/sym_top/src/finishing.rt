@@ -1,8 +1,8 @@
 //! The end of a command: its text is written, or a line tells why there is none.
 ghost use Rattle.std.specs.Prelude.{◌≡◌, ◌⊎◌, MatchResult, IfOk, OnOk, IfErr};
-ghost use Rattle.sym_top.specs.Loading.{MayEnd, Ready, Stops, failure_line, known_headers};
+ghost use Rattle.sym_top.specs.Loading.{MayEnd, Ready, Says, Stops, failure_line, known_headers};
 ghost use Rattle.sym_top.specs.Messages.{headers_of};
-ghost use Rattle.sym_top.specs.Promises.{Call, Says, WriteFails, IsReported, IsUnwritten};
+ghost use Rattle.sym_top.specs.Promises.{Call, WriteFails, IsReported, IsUnwritten};
 ghost use Rattle.sym_top.specs.Refusals.{status_of_refusal};
 ghost use Rattle.sym_top.specs.Telling.{Has, Later, Short, Tells, sunk};
 

@@ -2,11 +2,11 @@
 ghost use Rattle.std.specs.Prelude.{◌≡◌, ◌≤◌, ℕ, true, false, List, [], map, IfOk, IfErr, OnOk, if◌then◌else◌};
 ghost use Rattle.std.specs.String.{string_bytes};
 ghost use Rattle.sym_engine.specs.FileRecords.{rules_of};
-ghost use Rattle.sym_engine.specs.Partials.{ToldAll, ToldUntil, watched_files};
+ghost use Rattle.sym_engine.specs.Partials.{ToldAll, ToldUntil};
 ghost use Rattle.sym_engine.specs.Passing.{PassedAll, StopsPass};
 ghost use Rattle.sym_top.specs.Ends.{report_of};
 ghost use Rattle.sym_top.specs.Loading.{Reports, StopsFiles};
-ghost use Rattle.sym_top.specs.Observers.{StopsTold, logs_of};
+ghost use Rattle.sym_top.specs.Observers.{StopsTold, logs_of, watched_by};
 ghost use Rattle.sym_top.specs.Programs.{checked_program};
 ghost use Rattle.sym_top.specs.Promises.{IsReported};
 ghost use Rattle.sym_top.specs.Words.{IsRun};
@@ -65,19 +65,13 @@ fn pass_run<T: Threads + Wait + Sync, F: Store, G: Gate + Sync>(
         let after = F.faults files.new in
         IfErr result (StopsPass program.plan rules (F.holds files.old) names before after) }
     ensures told { run.now.watch ≡ true →
-        let names = map string_bytes run.now.files.items in
         let program = checked_program checked.now in
-        let rules = rules_of run.now.options.max_bytes (G.shown gate.now) in
-        let chunk = run.now.options.chunk in
-        let watched = watched_files program.plan rules chunk (F.holds files.old) names 1 in
+        let watched = watched_by (G.shown gate.now) (F.holds files.old) run.now program in
         let logs = logs_of (λ o. log o) observers.old.items observers.new.items in
         OnOk result (ToldAll program.tree watched logs.before logs.after) }
     ensures told_until { run.now.watch ≡ true →
-        let names = map string_bytes run.now.files.items in
         let program = checked_program checked.now in
-        let rules = rules_of run.now.options.max_bytes (G.shown gate.now) in
-        let chunk = run.now.options.chunk in
-        let watched = watched_files program.plan rules chunk (F.holds files.old) names 1 in
+        let watched = watched_by (G.shown gate.now) (F.holds files.old) run.now program in
         let logs = logs_of (λ o. log o) observers.old.items observers.new.items in
         IfErr result (ToldUntil program.tree watched logs.before logs.after) }
     ensures unwatched { run.now.watch ≡ false → observers.new ≡ observers.old }
@@ -121,19 +115,13 @@ pub fn report_run<T: Threads + Wait + Sync, F: Store, G: Gate + Sync>(
         let after = F.faults files.new in
         IfErr result (StopsFiles 1 program rules (F.holds files.old) names before after) }
     ensures told { run.now.watch ≡ true →
-        let names = map string_bytes run.now.files.items in
         let program = checked_program checked.now in
-        let rules = rules_of run.now.options.max_bytes (G.shown gate.now) in
-        let chunk = run.now.options.chunk in
-        let watched = watched_files program.plan rules chunk (F.holds files.old) names 1 in
+        let watched = watched_by (G.shown gate.now) (F.holds files.old) run.now program in
         let logs = logs_of (λ o. log o) observers.old.items observers.new.items in
         OnOk result (ToldAll program.tree watched logs.before logs.after) }
     ensures told_until { run.now.watch ≡ true →
-        let names = map string_bytes run.now.files.items in
         let program = checked_program checked.now in
-        let rules = rules_of run.now.options.max_bytes (G.shown gate.now) in
-        let chunk = run.now.options.chunk in
-        let watched = watched_files program.plan rules chunk (F.holds files.old) names 1 in
+        let watched = watched_by (G.shown gate.now) (F.holds files.old) run.now program in
         let logs = logs_of (λ o. log o) observers.old.items observers.new.items in
         let before = F.faults files.old in
         let after = F.faults files.new in

@@ -4,13 +4,13 @@ ghost use Rattle.std.specs.List.{All};
 ghost use Rattle.std.specs.String.{string_bytes};
 ghost use Rattle.sym_engine.specs.Options.{InRange};
 ghost use Rattle.sym_table.specs.Reading.{Row as OneRow};
-ghost use Rattle.sym_top.specs.Causes.{RefusalsHaveCauses};
-ghost use Rattle.sym_top.specs.Commands.{Asked, Runs, Checks, Makes, Maps, Reduces, asks, command_in, command_of, forms_of, texts_of, Joins};
-ghost use Rattle.sym_top.specs.Ends.{End, Held, IsEnd};
+ghost use Rattle.sym_top.specs.Commands.{Asked, Runs, Checks, Makes, Maps, Reduces, Joins, command_in, command_of, texts_of};
 ghost use Rattle.sym_top.specs.Headline.{FineRun, IsOnePass};
+ghost use Rattle.sym_top.specs.Loading.{ComesTo, Says};
 ghost use Rattle.sym_top.specs.Observers.{AreTold, IsUnwatched, logs_of};
-ghost use Rattle.sym_top.specs.Promises.{Call, call_of, IsUsage, Told, Answers, MustReport, Refuses, Says, Leaves, Unless, Wrote, IsRefused, IsReported, IsUnwritten};
+ghost use Rattle.sym_top.specs.Promises.{Call, call_of, call_with, IsReported, IsUnwritten, Unless};
 ghost use Rattle.sym_top.specs.Telling.{Later, Short, sunk};
+ghost use Rattle.sym_top.specs.TopCall.{IsCarriedOut, Leaves};
 ghost use Rattle.sym_top.specs.Words.{run_seen, check_seen, make_seen, map_seen, reduce_seen, join_seen, IsRun, IsMap, IsReduce, IsJoin};
 
 use crate::commands::{Check, Command, Join, Make, Map, Reduce, Run};
@@ -48,30 +48,21 @@ fn run_files<T: Threads + Wait + Sync, F: Store, O: Sink, E: Sink, G: Gate + Syn
 ) -> Status
     requires run { IsRun run }
     requires empty { All (λ f. gathered f ≡ []) forms.items }
-    ensures says { (words : List (List ℕ)) → command_in words ≡ Some (Runs (run_seen run.entry)) →
-        let forms = forms_of (λ f. called f) (λ f. texts f) forms.items in
-        let asked = asks words forms (G.shown gate.now) in
-        let call = call_of F.holds F.faults asked files.old files.new in
-        let out = sunk O.written O.faults O.short out.old out.new in
-        let err = sunk E.written E.faults E.short err.old err.new in
-        Says call out err result }
-    ensures leaves { (words : List (List ℕ)) → command_in words ≡ Some (Runs (run_seen run.entry)) →
-        let forms = forms_of (λ f. called f) (λ f. texts f) forms.items in
-        let asked = asks words forms (G.shown gate.now) in
-        let call = call_of F.holds F.faults asked files.old files.new in
+    ensures comes_to { (words : List (List ℕ)) →
+        command_in words ≡ Some (Runs (run_seen run.entry)) →
+        let call = call_with words (λ f. called f) (λ f. texts f) forms.items (G.shown gate.now)
+        F.holds F.faults files.old files.new in
         let sunk_out = sunk O.written O.faults O.short out.old out.new in
-        Leaves call sunk_out files.old files.new out.old out.new err.old err.new result }
+        let sunk_err = sunk E.written E.faults E.short err.old err.new in
+        ComesTo call sunk_out sunk_err files.old files.new out.old out.new err.old err.new result }
     ensures logs { (words : List (List ℕ)) → command_in words ≡ Some (Runs (run_seen run.entry)) →
-        let forms = forms_of (λ f. called f) (λ f. texts f) forms.items in
-        let asked = asks words forms (G.shown gate.now) in
-        let call = call_of F.holds F.faults asked files.old files.new in
-        let logs = logs_of (λ o. log o) observers.old.items observers.new.items in
-        AreTold call logs result }
+        let call = call_with words (λ f. called f) (λ f. texts f) forms.items (G.shown gate.now)
+        F.holds F.faults files.old files.new in
+        AreTold call (logs_of (λ o. log o) observers.old.items observers.new.items) result }
     ensures unwatched { (words : List (List ℕ)) →
         command_in words ≡ Some (Runs (run_seen run.entry)) →
-        let forms = forms_of (λ f. called f) (λ f. texts f) forms.items in
-        let asked = asks words forms (G.shown gate.now) in
-        let call = call_of F.holds F.faults asked files.old files.new in
+        let call = call_with words (λ f. called f) (λ f. texts f) forms.items (G.shown gate.now)
+        F.holds F.faults files.old files.new in
         IsUnwatched call → observers.new ≡ observers.old }
     ensures files { F.holds files.new ≡ F.holds files.old }
     ensures later { (name : List ℕ) → F.faults files.old name ≤ F.faults files.new name }
@@ -94,15 +85,12 @@ fn run_check<F: Store, O: Sink, E: Sink>(
     out: &mut O,
     err: &mut E,
 ) -> Status
-    ensures says { (asked : Asked) → command_of asked ≡ Some (Checks (check_seen check.entry)) →
-        let call = call_of F.holds F.faults asked files.old files.new in
-        let out = sunk O.written O.faults O.short out.old out.new in
-        let err = sunk E.written E.faults E.short err.old err.new in
-        Says call out err result }
-    ensures leaves { (asked : Asked) → command_of asked ≡ Some (Checks (check_seen check.entry)) →
+    ensures comes_to { (asked : Asked) →
+        command_of asked ≡ Some (Checks (check_seen check.entry)) →
         let call = call_of F.holds F.faults asked files.old files.new in
         let sunk_out = sunk O.written O.faults O.short out.old out.new in
-        Leaves call sunk_out files.old files.new out.old out.new err.old err.new result }
+        let sunk_err = sunk E.written E.faults E.short err.old err.new in
+        ComesTo call sunk_out sunk_err files.old files.new out.old out.new err.old err.new result }
     ensures files { F.holds files.new ≡ F.holds files.old }
     ensures later { (name : List ℕ) → F.faults files.old name ≤ F.faults files.new name }
     ensures later_out { Later (sunk O.written O.faults O.short out.old out.new) }
@@ -153,16 +141,13 @@ fn run_map<T: Threads + Wait + Sync, F: Store, O: Sink, E: Sink, G: Gate + Sync>
     gate: &G,
 ) -> Status
     requires { IsMap part }
-    ensures says { (asked : Asked) → command_of asked ≡ Some (Maps (map_seen part.entry)) →
+    ensures comes_to { (asked : Asked) →
+        command_of asked ≡ Some (Maps (map_seen part.entry)) →
         asked.shown ≡ G.shown gate.now →
         let call = call_of F.holds F.faults asked files.old files.new in
-        let out = sunk O.written O.faults O.short out.old out.new in
-        let err = sunk E.written E.faults E.short err.old err.new in
-        Says call out err result }
-    ensures leaves { (asked : Asked) → command_of asked ≡ Some (Maps (map_seen part.entry)) →
-        let call = call_of F.holds F.faults asked files.old files.new in
         let sunk_out = sunk O.written O.faults O.short out.old out.new in
-        Leaves call sunk_out files.old files.new out.old out.new err.old err.new result }
+        let sunk_err = sunk E.written E.faults E.short err.old err.new in
+        ComesTo call sunk_out sunk_err files.old files.new out.old out.new err.old err.new result }
     ensures files { F.holds files.new ≡ F.holds files.old }
     ensures later { (name : List ℕ) → F.faults files.old name ≤ F.faults files.new name }
     ensures later_out { Later (sunk O.written O.faults O.short out.old out.new) }
@@ -185,21 +170,13 @@ fn run_reduce<F: Store, O: Sink, E: Sink>(
 ) -> Status
     requires reduce { IsReduce reduce }
     requires empty { All (λ f. gathered f ≡ []) forms.items }
-    ensures says { (words : List (List ℕ)) (shown : OneRow → OneRow) →
+    ensures comes_to { (words : List (List ℕ)) (shown : OneRow → OneRow) →
         command_in words ≡ Some (Reduces (reduce_seen reduce.entry)) →
-        let forms = forms_of (λ f. called f) (λ f. texts f) forms.items in
-        let asked = asks words forms shown in
-        let call = call_of F.holds F.faults asked files.old files.new in
-        let out = sunk O.written O.faults O.short out.old out.new in
-        let err = sunk E.written E.faults E.short err.old err.new in
-        Says call out err result }
-    ensures leaves { (words : List (List ℕ)) (shown : OneRow → OneRow) →
-        command_in words ≡ Some (Reduces (reduce_seen reduce.entry)) →
-        let forms = forms_of (λ f. called f) (λ f. texts f) forms.items in
-        let asked = asks words forms shown in
-        let call = call_of F.holds F.faults asked files.old files.new in
+        let call = call_with words (λ f. called f) (λ f. texts f) forms.items shown
+        F.holds F.faults files.old files.new in
         let sunk_out = sunk O.written O.faults O.short out.old out.new in
-        Leaves call sunk_out files.old files.new out.old out.new err.old err.new result }
+        let sunk_err = sunk E.written E.faults E.short err.old err.new in
+        ComesTo call sunk_out sunk_err files.old files.new out.old out.new err.old err.new result }
     ensures files { F.holds files.new ≡ F.holds files.old }
     ensures later { (name : List ℕ) → F.faults files.old name ≤ F.faults files.new name }
     ensures later_out { Later (sunk O.written O.faults O.short out.old out.new) }
@@ -222,15 +199,12 @@ fn run_join<F: Store, O: Sink, E: Sink>(
     err: &mut E,
 ) -> Status
     requires { IsJoin join }
-    ensures says { (asked : Asked) → command_of asked ≡ Some (Joins (join_seen join.entry)) →
-        let call = call_of F.holds F.faults asked files.old files.new in
-        let out = sunk O.written O.faults O.short out.old out.new in
-        let err = sunk E.written E.faults E.short err.old err.new in
-        Says call out err result }
-    ensures leaves { (asked : Asked) → command_of asked ≡ Some (Joins (join_seen join.entry)) →
+    ensures comes_to { (asked : Asked) →
+        command_of asked ≡ Some (Joins (join_seen join.entry)) →
         let call = call_of F.holds F.faults asked files.old files.new in
         let sunk_out = sunk O.written O.faults O.short out.old out.new in
-        Leaves call sunk_out files.old files.new out.old out.new err.old err.new result }
+        let sunk_err = sunk E.written E.faults E.short err.old err.new in
+        ComesTo call sunk_out sunk_err files.old files.new out.old out.new err.old err.new result }
     ensures files { F.holds files.new ≡ F.holds files.old }
     ensures later { (name : List ℕ) → F.faults files.old name ≤ F.faults files.new name }
     ensures later_out { Later (sunk O.written O.faults O.short out.old out.new) }
@@ -255,29 +229,16 @@ fn run<T: Threads + Wait + Sync, F: Store, O: Sink, E: Sink, G: Gate + Sync>(
     gate: &G,
 ) -> Status
     requires { All (λ f. gathered f ≡ []) forms.items }
-    ensures says { let words = map string_bytes words.now.items in
-        let forms = forms_of (λ f. called f) (λ f. texts f) forms.items in
-        let asked = asks words forms (G.shown gate.now) in
-        let call = call_of F.holds F.faults asked files.old files.new in
-        let out = sunk O.written O.faults O.short out.old out.new in
-        let err = sunk E.written E.faults E.short err.old err.new in
-        Says call out err result }
-    ensures leaves { let words = map string_bytes words.now.items in
-        let forms = forms_of (λ f. called f) (λ f. texts f) forms.items in
-        let asked = asks words forms (G.shown gate.now) in
-        let call = call_of F.holds F.faults asked files.old files.new in
+    ensures comes_to { let call = call_with (map string_bytes words.now.items) (λ f. called f)
+        (λ f. texts f) forms.items (G.shown gate.now) F.holds F.faults files.old files.new in
         let sunk_out = sunk O.written O.faults O.short out.old out.new in
-        Leaves call sunk_out files.old files.new out.old out.new err.old err.new result }
-    ensures logs { let words = map string_bytes words.now.items in
-        let forms = forms_of (λ f. called f) (λ f. texts f) forms.items in
-        let asked = asks words forms (G.shown gate.now) in
-        let call = call_of F.holds F.faults asked files.old files.new in
-        let logs = logs_of (λ o. log o) observers.old.items observers.new.items in
-        AreTold call logs result }
-    ensures unwatched { let words = map string_bytes words.now.items in
-        let forms = forms_of (λ f. called f) (λ f. texts f) forms.items in
-        let asked = asks words forms (G.shown gate.now) in
-        let call = call_of F.holds F.faults asked files.old files.new in
+        let sunk_err = sunk E.written E.faults E.short err.old err.new in
+        ComesTo call sunk_out sunk_err files.old files.new out.old out.new err.old err.new result }
+    ensures logs { let call = call_with (map string_bytes words.now.items) (λ f. called f)
+        (λ f. texts f) forms.items (G.shown gate.now) F.holds F.faults files.old files.new in
+        AreTold call (logs_of (λ o. log o) observers.old.items observers.new.items) result }
+    ensures unwatched { let call = call_with (map string_bytes words.now.items) (λ f. called f)
+        (λ f. texts f) forms.items (G.shown gate.now) F.holds F.faults files.old files.new in
         IsUnwatched call → observers.new ≡ observers.old }
     ensures files { F.holds files.new ≡ F.holds files.old }
     ensures later { (name : List ℕ) → F.faults files.old name ≤ F.faults files.new name }
@@ -349,78 +310,25 @@ pub fn symple<T: Threads + Wait + Sync, F: Store, O: Sink, E: Sink, G: Gate + Sy
     gate: &G,
 ) -> Status
     requires { All (λ f. gathered f ≡ []) forms.items }
-    ensures headline { let words = map string_bytes words.now.items in
-        let forms = forms_of (λ f. called f) (λ f. texts f) forms.items in
-        let asked = asks words forms (G.shown gate.now) in
-        let call = call_of F.holds F.faults asked files.old files.new in
+    ensures headline { let call = call_with (map string_bytes words.now.items) (λ f. called f)
+        (λ f. texts f) forms.items (G.shown gate.now) F.holds F.faults files.old files.new in
         let out = sunk O.written O.faults O.short out.old out.new in
         let err = sunk E.written E.faults E.short err.old err.new in
-        (fine : FineRun call) → let form = texts_of forms fine.run.form in
+        (fine : FineRun call) → let form = texts_of call.asked.forms fine.run.form in
         Unless result (IsOnePass form fine.program fine.records out err result) }
-    ensures reported { let words = map string_bytes words.now.items in
-        let forms = forms_of (λ f. called f) (λ f. texts f) forms.items in
-        let asked = asks words forms (G.shown gate.now) in
-        let call = call_of F.holds F.faults asked files.old files.new in
-        let out = sunk O.written O.faults O.short out.old out.new in
-        IsReported result → Wrote call out result }
-    ensures refused { let words = map string_bytes words.now.items in
-        let forms = forms_of (λ f. called f) (λ f. texts f) forms.items in
-        let asked = asks words forms (G.shown gate.now) in
-        let call = call_of F.holds F.faults asked files.old files.new in
+    ensures carried { let call = call_with (map string_bytes words.now.items) (λ f. called f)
+        (λ f. texts f) forms.items (G.shown gate.now) F.holds F.faults files.old files.new in
         let out = sunk O.written O.faults O.short out.old out.new in
         let err = sunk E.written E.faults E.short err.old err.new in
-        IsRefused result → Refuses call out err result }
-    ensures expected { let words = map string_bytes words.now.items in
-        let forms = forms_of (λ f. called f) (λ f. texts f) forms.items in
-        let asked = asks words forms (G.shown gate.now) in
-        let call = call_of F.holds F.faults asked files.old files.new in
-        let out = sunk O.written O.faults O.short out.old out.new in
-        let err = sunk E.written E.faults E.short err.old err.new in
-        (held : Held) (end : End) → Told call held → IsEnd call.asked held end →
-        Unless result (Answers call held end out err result) }
-    ensures complete { let words = map string_bytes words.now.items in
-        let forms = forms_of (λ f. called f) (λ f. texts f) forms.items in
-        let asked = asks words forms (G.shown gate.now) in
-        let call = call_of F.holds F.faults asked files.old files.new in
-        let out = sunk O.written O.faults O.short out.old out.new in
-        MustReport call out → IsRefused result → result ≡ Status.NoMemory }
-    ensures causes { let words = map string_bytes words.now.items in
-        let forms = forms_of (λ f. called f) (λ f. texts f) forms.items in
-        let asked = asks words forms (G.shown gate.now) in
-        let call = call_of F.holds F.faults asked files.old files.new in
-        let out = sunk O.written O.faults O.short out.old out.new in
-        let err = sunk E.written E.faults E.short err.old err.new in
-        RefusalsHaveCauses call out err result }
-    ensures usage { let words = map string_bytes words.now.items in
-        let forms = forms_of (λ f. called f) (λ f. texts f) forms.items in
-        let asked = asks words forms (G.shown gate.now) in
-        let call = call_of F.holds F.faults asked files.old files.new in
-        result ≡ Status.Usage → IsUsage call }
-    ensures no_command { let words = map string_bytes words.now.items in
-        let forms = forms_of (λ f. called f) (λ f. texts f) forms.items in
-        let asked = asks words forms (G.shown gate.now) in
-        let call = call_of F.holds F.faults asked files.old files.new in
-        IsUsage call → (result ≡ Status.Usage) ⊎ (result ≡ Status.NoMemory) }
-    ensures unread { let words = map string_bytes words.now.items in
-        let forms = forms_of (λ f. called f) (λ f. texts f) forms.items in
-        let asked = asks words forms (G.shown gate.now) in
-        let call = call_of F.holds F.faults asked files.old files.new in
-        IsUsage call → files.new ≡ files.old }
-    ensures unwritten { IsUnwritten result → out.new ≡ out.old }
-    ensures memory { result ≡ Status.NoMemory →
-        (out.new ≡ out.old) ⊎ Short (sunk O.written O.faults O.short out.old out.new) }
-    ensures quiet { IsReported result → err.new ≡ err.old }
-    ensures logs { let words = map string_bytes words.now.items in
-        let forms = forms_of (λ f. called f) (λ f. texts f) forms.items in
-        let asked = asks words forms (G.shown gate.now) in
-        let call = call_of F.holds F.faults asked files.old files.new in
-        let logs = logs_of (λ o. log o) observers.old.items observers.new.items in
-        AreTold call logs result }
-    ensures unwatched { let words = map string_bytes words.now.items in
-        let forms = forms_of (λ f. called f) (λ f. texts f) forms.items in
-        let asked = asks words forms (G.shown gate.now) in
-        let call = call_of F.holds F.faults asked files.old files.new in
-        IsUnwatched call → observers.new ≡ observers.old }
+        IsCarriedOut call out err result }
+    ensures leaves { let call = call_with (map string_bytes words.now.items) (λ f. called f)
+        (λ f. texts f) forms.items (G.shown gate.now) F.holds F.faults files.old files.new in
+        let sunk_out = sunk O.written O.faults O.short out.old out.new in
+        Leaves call sunk_out files.old files.new out.old out.new err.old err.new
+        observers.old observers.new result }
+    ensures logs { let call = call_with (map string_bytes words.now.items) (λ f. called f)
+        (λ f. texts f) forms.items (G.shown gate.now) F.holds F.faults files.old files.new in
+        AreTold call (logs_of (λ o. log o) observers.old.items observers.new.items) result }
     ensures files { F.holds files.new ≡ F.holds files.old }
     ensures later { (name : List ℕ) → F.faults files.old name ≤ F.faults files.new name }
     ensures later_out { Later (sunk O.written O.faults O.short out.old out.new) }

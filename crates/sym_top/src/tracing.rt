@@ -2,9 +2,9 @@
 ghost use Rattle.std.specs.Prelude.{◌≡◌, ◌≤◌, ℕ, List, [], Some, IfOk, IfErr};
 ghost use Rattle.std.specs.List.{All};
 ghost use Rattle.sym_table.specs.Reading.{Row as FileRow};
-ghost use Rattle.sym_top.specs.Commands.{Asked, Traces, asks, command_in, command_of, forms_of, texts_of};
-ghost use Rattle.sym_top.specs.Loading.{Ready, Stops};
-ghost use Rattle.sym_top.specs.Promises.{call_of, IsReported, Leaves, Says};
+ghost use Rattle.sym_top.specs.Commands.{Asked, Traces, command_in, command_of, texts_of};
+ghost use Rattle.sym_top.specs.Loading.{ComesTo, Ready, Stops};
+ghost use Rattle.sym_top.specs.Promises.{call_of, call_with, IsReported};
 ghost use Rattle.sym_top.specs.Telling.{Later, sunk};
 ghost use Rattle.sym_top.specs.Words.{trace_seen, IsTrace};
 
@@ -93,19 +93,13 @@ pub fn run_trace<T: Threads + Wait + Sync, F: Store, O: Sink, E: Sink>(
 ) -> Status
     requires trace { IsTrace trace }
     requires empty { All (λ f. gathered f ≡ []) forms.items }
-    ensures says { (words : List (List ℕ)) (shown : FileRow → FileRow) →
+    ensures comes_to { (words : List (List ℕ)) (shown : FileRow → FileRow) →
         command_in words ≡ Some (Traces (trace_seen trace.entry)) →
-        let forms = forms_of (λ f. called f) (λ f. texts f) forms.items in
-        let call = call_of F.holds F.faults (asks words forms shown) files.old files.new in
-        let out = sunk O.written O.faults O.short out.old out.new in
-        let err = sunk E.written E.faults E.short err.old err.new in
-        Says call out err result }
-    ensures leaves { (words : List (List ℕ)) (shown : FileRow → FileRow) →
-        command_in words ≡ Some (Traces (trace_seen trace.entry)) →
-        let forms = forms_of (λ f. called f) (λ f. texts f) forms.items in
-        let call = call_of F.holds F.faults (asks words forms shown) files.old files.new in
+        let call = call_with words (λ f. called f) (λ f. texts f) forms.items shown
+        F.holds F.faults files.old files.new in
         let sunk_out = sunk O.written O.faults O.short out.old out.new in
-        Leaves call sunk_out files.old files.new out.old out.new err.old err.new result }
+        let sunk_err = sunk E.written E.faults E.short err.old err.new in
+        ComesTo call sunk_out sunk_err files.old files.new out.old out.new err.old err.new result }
     ensures files { F.holds files.new ≡ F.holds files.old }
     ensures later { (name : List ℕ) → F.faults files.old name ≤ F.faults files.new name }
     ensures later_out { Later (sunk O.written O.faults O.short out.old out.new) }

@@ -1,6 +1,6 @@
 -- What the program hands to the top call: its arguments, three forms, a gate that shows each row as
 -- it is, the disk and two streams. Of the disk and the streams a contract sees counts alone.
-use Rattle.std.specs.Prelude.{◌≡◌, ◌⊎◌, ℕ, List, [], ◌∷◌, None, codes, map}
+use Rattle.std.specs.Prelude.{◌≡◌, ℕ, List, [], ◌∷◌, None, codes, map}
 use Rattle.std.specs.String.{string_bytes}
 use Rattle.std.specs.declared.string.String.{String}
 use Rattle.sym_report.specs.Csvs.{csv_form}
@@ -10,9 +10,8 @@ use Rattle.sym_top.specs.declared.refusal.StartErr.{StartErr}
 use Rattle.sym_top.specs.declared.status.Status.{Status}
 use Rattle.sym_top.specs.declared.status.Status.TheVariants as status
 use Rattle.sym_top.specs.Commands.{Form, asks, shown_names}
-use Rattle.sym_top.specs.Ends.{End, Held, IsEnd}
 use Rattle.sym_top.specs.Messages.{line_of}
-use Rattle.sym_top.specs.Promises.{Answers, Call, IsRefused, IsReported, IsUsage, MustReport, Refuses, Told, Unless, Wrote, call_of}
+use Rattle.sym_top.specs.Promises.{Call, IsReported, IsUnwritten, IsUsage, Refuses, Wrote, call_of}
 use Rattle.sym_top.specs.Refusals.{start_refusal, status_of_refusal}
 use Rattle.sym_top.specs.Telling.{Sunk, Tells, sunk}
 use Rattle.symple.specs.Counting.{Disk, Stream}
@@ -39,19 +38,13 @@ called_with words before after = disk_call (map string_bytes words) before after
 abbrev pub streamed : Stream → Stream → Sunk
 streamed before after = sunk (λ stream. None) (λ stream. stream.faults) (λ stream. 0) before after
 
--- What is said of a call that comes to this status, over the disk before and after it: what the top
--- call says of any. The files aren't visible, so the fields on visible ones bind calls that read no
--- file.
-pub record IsCarriedOut (call : Call) (before after : Disk) (out err : Sunk)
+-- What a call leaves as it was, over the disk and the streams before and after it.
+pub record LeavesAll (call : Call) (before after : Disk) (out out_after err err_after : Stream)
     (result : Status) : Type 0 where
-  pub reported : IsReported result → Wrote call out result
-  pub refused : IsRefused result → Refuses call out err result
-  pub expected : (held : Held) (end : End) → Told call held → IsEnd call.asked held end
-      → Unless result (Answers call held end out err result)
-  pub complete : MustReport call out → IsRefused result → result ≡ status.NoMemory
-  pub usage : result ≡ status.Usage → IsUsage call
-  pub no_command : IsUsage call → (result ≡ status.Usage) ⊎ (result ≡ status.NoMemory)
   pub unread : IsUsage call → after ≡ before
+  pub unwritten : IsUnwritten result → out_after ≡ out
+  pub memory : result ≡ status.NoMemory → out_after ≡ out
+  pub quiet : IsReported result → err_after ≡ err
 
 -- There are arguments by which the text of the call's end was written.
 pub record WroteSome (before after : Disk) (out : Sunk) (status : Status) : Type 0 where

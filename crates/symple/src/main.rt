@@ -7,7 +7,8 @@ ghost use Rattle.std.specs.Process.{exit_status};
 ghost use Rattle.sym_top.specs.Observers.{IsUnwatched};
 ghost use Rattle.sym_top.specs.Promises.{IsRefused, IsReported, IsUnwritten};
 ghost use Rattle.sym_top.specs.Statuses.{exit_number};
-ghost use Rattle.symple.specs.Program.{IsCarriedOut, NotBegun, RefusesSome, WroteSome, called_with, program_forms, streamed};
+ghost use Rattle.sym_top.specs.TopCall.{IsCarriedOut};
+ghost use Rattle.symple.specs.Program.{LeavesAll, NotBegun, RefusesSome, WroteSome, called_with, program_forms, streamed};
 
 mod disk;
 mod interrupts;
@@ -112,10 +113,9 @@ where
     ensures carried { let call = called_with words.now.items files.old files.new in
         let out = streamed out.old out.new in
         let err = streamed err.old err.new in
-        IfOk result (IsCarriedOut call files.old files.new out err) }
-    ensures unwritten { IfOk result (λ status. IsUnwritten status → out.new ≡ out.old) }
-    ensures memory { IfOk result (λ status. status ≡ Status.NoMemory → out.new ≡ out.old) }
-    ensures quiet { IfOk result (λ status. IsReported status → err.new ≡ err.old) }
+        IfOk result (IsCarriedOut call out err) }
+    ensures leaves { let call = called_with words.now.items files.old files.new in
+        IfOk result (LeavesAll call files.old files.new out.old out.new err.old err.new) }
     ensures unread_err { OnErr result (files.new ≡ files.old) }
     ensures unwritten_err { OnErr result (out.new ≡ out.old) }
     ensures quiet_err { OnErr result (err.new ≡ err.old) }
@@ -152,10 +152,9 @@ where
     ensures carried { let call = called_with words.now.items files.old files.new in
         let out = streamed out.old out.new in
         let err = streamed err.old err.new in
-        IsCarriedOut call files.old files.new out err result }
-    ensures unwritten { IsUnwritten result → out.new ≡ out.old }
-    ensures memory { result ≡ Status.NoMemory → out.new ≡ out.old }
-    ensures quiet { IsReported result → err.new ≡ err.old }
+        IsCarriedOut call out err result }
+    ensures leaves { let call = called_with words.now.items files.old files.new in
+        LeavesAll call files.old files.new out.old out.new err.old err.new result }
     ensures unwatched { let call = called_with words.now.items files.old files.new in
         IsUnwatched call → observers.new ≡ observers.old }
 {
