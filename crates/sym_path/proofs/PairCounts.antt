@@ -1,15 +1,19 @@
 -- Numbers of pairs: there is one, it is that of both parts where a list is cut, and it isn't large.
 use Rattle.std.proofs.Common.{◌≡◌, ◌≤◌, ◌+◌, ◌*◌, ◌↔◌, ℕ, suc, Bool, true, false, cond, List, [], ◌∷◌, ◌++◌, map, length, refl, sym, ap, ◌∙◌, subst, arith}
 use Rattle.std.proofs.lemmas.Grind.{flat_map-append}
+use Rattle.std.proofs.Math.Nat.{add-mul}
+use Rattle.std.proofs.lemmas.List.Elements.{All-cons, All-head, All-nil, All-tail}
 use Rattle.std.proofs.lemmas.List.Sums.{count_by-le-length, sum_by-append, sum_by-cons}
-use Rattle.std.specs.List.{AllZip, count_by}
-use Rattle.std.specs.Prelude.{IsTrue, Some, slice_get, take}
+use Rattle.std.specs.List.{All, AllZip, count_by}
+use Rattle.std.specs.Prelude.{IsTrue, Some, not, slice_get, take}
 use Rattle.sym_base.specs.Tests.{Truth}
+use Rattle.sym_base.specs.declared.values.state.Fault.{Fault}
+use Rattle.sym_path.specs.declared.form.Form.{Form}
 use Rattle.sym_path.specs.declared.path.PathEnd.{PathEnd}
 use Rattle.sym_path.specs.declared.path.PathEnd.TheVariants.{Next, Ended}
 use Rattle.sym_path.specs.declared.path.Path.{Path}
 use Rattle.sym_path.specs.Changing.{GoesOn}
-use Rattle.sym_path.specs.Pairs.{AreFollowers, ArePairs, IsAnswer, each_with, has_ended, is_ended}
+use Rattle.sym_path.specs.Pairs.{AreAllPossible, AreFollowers, ArePairs, IsAnswer, each_with, has_ended, has_next, is_ended, most_pairs}
 use Rattle.sym_path.specs.Possible.{IsPossiblePair}
 use Rattle.sym_path.proofs.Lists.{take_get, zip_length}
 
@@ -71,7 +75,7 @@ pub pairs_same : (truth : Truth) (left right : List Path) (m n : ℕ) → ArePai
 pairs_same truth left right m n a b =
     a.sum ∙ ap (λ (answers : List Bool). count_by has_ended left + yes answers) (same_answers truth (each_with left right) a.answers b.answers a.decided b.decided) ∙ sym b.sum
 
--- ---- few
+-- ---- lengths
 
 length_map : {A B : Type 0} (f : A → B) (xs : List A) → length (map f xs) ≡ length xs
 length_map f [] = refl
@@ -80,22 +84,6 @@ length_map f (x ∷ xs) = ap suc (length_map f xs)
 pub length_both : {A : Type 0} (xs ys : List A) → length (xs ++ ys) ≡ length xs + length ys
 length_both [] ys = omega arith
 length_both (x ∷ xs) ys = let rest = length_both xs ys in omega (arith, rest)
-
-each_with-length : (left right : List Path) → length (each_with left right) ≡ length left * length right
-each_with-length [] right = omega arith
-each_with-length (p ∷ left) right =
-    let rest = each_with-length left right in
-    let here = length_map {B = Path × Path} (λ (q : Path). (p, q)) right in
-    let both = length_both (map (λ (q : Path). (p, q)) right) (each_with left right) in
-    omega (arith, rest, here, both)
-
-pub pairs_few : (truth : Truth) (left right : List Path) (n : ℕ) → ArePairs truth left right n → n ≤ length left + length left * length right
-pairs_few truth left right n a =
-    let ended = count_by-le-length has_ended left in
-    let possible = count_by-le-length (λ (answer : Bool). answer) a.answers in
-    let lengths : length left * length right ≡ length a.answers = sym (each_with-length left right) ∙ zip_length (IsAnswer truth) (each_with left right) a.answers a.decided in
-    let sum = a.sum in
-    omega (arith, ended, possible, lengths)
 
 -- ---- one path
 
@@ -223,6 +211,140 @@ pairs_most truth left right n most few once a =
     let all = most_answers truth left right a.answers most few once a.decided in
     let sum = a.sum in
     omega (arith, all, sum)
+
+-- ---- as many as there can be
+
+module _ (truth : Truth) (path : Path) where
+  abbrev Answered : List Path → List Bool → Type 0
+  Answered right answers = AllZip (IsAnswer truth) (map (λ (q : Path). (path, q)) right) answers
+
+  abbrev Follows : Path → Type 0
+  Follows q = IsPossiblePair truth path q
+
+  few_yes : (right : List Path) (answers : List Bool) → Answered right answers → yes answers ≤ length right
+  few_yes right answers h =
+      let long : length (map {B = Path × Path} (λ (q : Path). (path, q)) right) ≡ length answers = zip_length (IsAnswer truth) (map (λ (q : Path). (path, q)) right) answers h in
+      let same = length_map {B = Path × Path} (λ (q : Path). (path, q)) right in
+      let possible = count_by-le-length (λ (answer : Bool). answer) answers in
+      omega (arith, long, same, possible)
+
+  -- Each of the others can come after the path where there are as many answers that say so.
+  full_yes : (right : List Path) (answers : List Bool) → Answered right answers → All Follows right → yes answers ≡ length right
+  full_yes [] [] h all = refl
+  full_yes [] (b ∷ answers) h all = absurd h
+  full_yes (q ∷ right) [] h all = absurd h
+  full_yes (q ∷ right) (true ∷ answers) h all =
+      let first = count_first (λ (answer : Bool). answer) true answers in
+      let rest = full_yes right answers h.1 (All-tail Follows q right all) in
+      omega (arith, first, rest)
+  full_yes (q ∷ right) (false ∷ answers) h all = let e : false ≡ true = h.0.1 (All-head Follows q right all) in absurd (cc)
+
+  all_yes : (right : List Path) (answers : List Bool) → Answered right answers → yes answers ≡ length right → All Follows right
+  all_yes [] answers h same = All-nil Follows
+  all_yes (q ∷ right) [] h same = absurd h
+  all_yes (q ∷ right) (true ∷ answers) h same =
+      let first = count_first (λ (answer : Bool). answer) true answers in
+      All-cons Follows q right (h.0.0 refl) (all_yes right answers h.1 (omega (arith, first, same)))
+  all_yes (q ∷ right) (false ∷ answers) h same =
+      let first = count_first (λ (answer : Bool). answer) false answers in
+      let few = few_yes right answers h.1 in
+      absurd (omega (arith, first, same, few))
+
+  abbrev room : List Path → ℕ
+  room right = one_if (has_next path) * length right
+
+  room_on : (right : List Path) → has_next path ≡ true → room right ≡ length right
+  room_on right e = let product : room right ≡ 1 * length right = ap (λ (b : Bool). one_if b * length right) e in omega (arith, product)
+
+  no_room : (right : List Path) → has_next path ≡ false → room right ≡ 0
+  no_room right e = let product : room right ≡ 0 * length right = ap (λ (b : Bool). one_if b * length right) e in omega (arith, product)
+
+  goes : (forms : List Form) → path.end ≡ Next forms → has_next path ≡ true
+  goes forms e = ap (λ (end : PathEnd). not (is_ended end)) e
+
+  over : (fault : Fault) → path.end ≡ Ended fault → has_next path ≡ false
+  over fault e = ap (λ (end : PathEnd). not (is_ended end)) e
+
+  first_most : (right : List Path) (answers : List Bool) → Answered right answers → yes answers ≤ room right
+  first_most right answers h = of path.end refl
+    where
+      of : (end : PathEnd) → path.end ≡ end → yes answers ≤ room right
+      of (Next forms) e = omega (arith, room_on right (goes forms e), few_yes right answers h)
+      of (Ended fault) e =
+          let none : yes answers ≡ 0 = ended_answers truth path right answers (none_follow truth path (λ g. subst GoesOn e g)) h in
+          omega (arith, none)
+
+  first_full : (right : List Path) (answers : List Bool) → Answered right answers → (GoesOn path.end → All Follows right) → yes answers ≡ room right
+  first_full right answers h all = of path.end refl
+    where
+      of : (end : PathEnd) → path.end ≡ end → yes answers ≡ room right
+      of (Next forms) e = full_yes right answers h (all (subst GoesOn (sym e) tt)) ∙ sym (room_on right (goes forms e))
+      of (Ended fault) e =
+          let none : yes answers ≡ 0 = ended_answers truth path right answers (none_follow truth path (λ g. subst GoesOn e g)) h in
+          none ∙ sym (no_room right (over fault e))
+
+  first_only : (right : List Path) (answers : List Bool) → Answered right answers → yes answers ≡ room right → GoesOn path.end → All Follows right
+  first_only right answers h same g = of path.end refl
+    where
+      of : (end : PathEnd) → path.end ≡ end → All Follows right
+      of (Next forms) e = all_yes right answers h (same ∙ room_on right (goes forms e))
+      of (Ended fault) e = absurd (subst GoesOn e g)
+
+module _ (truth : Truth) (right : List Path) where
+  abbrev rooms : List Path → ℕ
+  rooms left = count_by has_next left * length right
+
+  abbrev AllFollow : Path → Type 0
+  AllFollow p = GoesOn p.end → All (λ (q : Path). IsPossiblePair truth p q) right
+
+  rooms_first : (path : Path) (left : List Path) → rooms (path ∷ left) ≡ room truth path right + rooms left
+  rooms_first path left = ap (λ (k : ℕ). k * length right) (count_first has_next path left) ∙ add-mul (one_if (has_next path)) (count_by has_next left) (length right)
+
+  yes_most : (left : List Path) (answers : List Bool) → AllZip (IsAnswer truth) (each_with left right) answers → yes answers ≤ rooms left
+  yes_most [] [] h = omega arith
+  yes_most [] (b ∷ answers) h = absurd h
+  yes_most (path ∷ left) answers h =
+      let cut = zip_cut (IsAnswer truth) (map (λ (q : Path). (path, q)) right) (each_with left right) answers h in
+      let sum : yes answers ≡ yes cut.0 + yes cut.1 = ap yes cut.2 ∙ count_both (λ (answer : Bool). answer) cut.0 cut.1 in
+      let here = first_most truth path right cut.0 cut.3 in
+      let rest = yes_most left cut.1 cut.4 in
+      let split = rooms_first path left in
+      omega (arith, sum, here, rest, split)
+
+  yes_full : (left : List Path) (answers : List Bool) → AllZip (IsAnswer truth) (each_with left right) answers → All AllFollow left → yes answers ≡ rooms left
+  yes_full [] [] h all = omega arith
+  yes_full [] (b ∷ answers) h all = absurd h
+  yes_full (path ∷ left) answers h all =
+      let cut = zip_cut (IsAnswer truth) (map (λ (q : Path). (path, q)) right) (each_with left right) answers h in
+      let sum : yes answers ≡ yes cut.0 + yes cut.1 = ap yes cut.2 ∙ count_both (λ (answer : Bool). answer) cut.0 cut.1 in
+      let here = first_full truth path right cut.0 cut.3 (All-head AllFollow path left all) in
+      let rest = yes_full left cut.1 cut.4 (All-tail AllFollow path left all) in
+      let split = rooms_first path left in
+      omega (arith, sum, here, rest, split)
+
+  yes_only : (left : List Path) (answers : List Bool) → AllZip (IsAnswer truth) (each_with left right) answers → yes answers ≡ rooms left → All AllFollow left
+  yes_only [] answers h same = All-nil AllFollow
+  yes_only (path ∷ left) answers h same =
+      let cut = zip_cut (IsAnswer truth) (map (λ (q : Path). (path, q)) right) (each_with left right) answers h in
+      let sum : yes answers ≡ yes cut.0 + yes cut.1 = ap yes cut.2 ∙ count_both (λ (answer : Bool). answer) cut.0 cut.1 in
+      let here = first_most truth path right cut.0 cut.3 in
+      let rest = yes_most left cut.1 cut.4 in
+      let split = rooms_first path left in
+      All-cons AllFollow path left
+      (first_only truth path right cut.0 cut.3 (omega (arith, sum, here, rest, split, same)))
+      (yes_only left cut.1 cut.4 (omega (arith, sum, here, rest, split, same)))
+
+pub pairs_few : (truth : Truth) (left right : List Path) (n : ℕ) → ArePairs truth left right n → n ≤ most_pairs left right
+pairs_few truth left right n a =
+    let possible = yes_most truth right left a.answers a.decided in
+    let sum = a.sum in
+    omega (arith, possible)
+
+pub pairs_full : (truth : Truth) (left right : List Path) (n : ℕ) → ArePairs truth left right n → (n ≡ most_pairs left right) ↔ AreAllPossible truth left right
+pairs_full truth left right n a = (
+  λ same. let sum = a.sum in yes_only truth right left a.answers a.decided (omega (arith, same)),
+  λ all. let sum = a.sum in let full = yes_full truth right left a.answers a.decided all in omega (arith, full),
+)
 
 -- ---- as they are counted
 

@@ -1,5 +1,5 @@
 -- Numbers of pairs that are counted no further than to a limit.
-use Rattle.std.proofs.Common.{◌≡◌, ◌≤◌, ◌+◌, ◌-◌, ◌↔◌, ℕ, Bool, true, false, cond, List, [], ◌∷◌, ◌++◌, map, drop, take, refl, sym, subst, arith}
+use Rattle.std.proofs.Common.{◌≡◌, ◌≤◌, ◌<◌, ◌+◌, ◌-◌, ◌↔◌, ℕ, Bool, true, false, cond, List, [], ◌∷◌, ◌++◌, map, drop, take, refl, sym, subst, arith}
 use Rattle.std.proofs.lemmas.Grind.{flat_map-append}
 use Rattle.std.specs.List.{AllZip, count_by}
 use Rattle.std.specs.Prelude.{IsTrue, MatchOption, Option, Some, None, slice_get}
@@ -7,9 +7,13 @@ use Rattle.sym_base.specs.Tests.{Truth}
 use Rattle.sym_path.specs.declared.path.Path.{Path}
 use Rattle.sym_path.specs.Pairs.{AreFollowers, ArePairs, IsAnswer, each_with, has_ended, is_ended}
 use Rattle.sym_path.specs.Possible.{IsPossiblePair}
-use Rattle.sym_path.specs.Within.{HasFollowers, HavePairs}
+use Rattle.sym_check.specs.Meaning.Conditions.{test_truth}
+use Rattle.sym_check.specs.Plan.ScriptPlans.{ScriptPlan}
+use Rattle.sym_path.specs.declared.within.Composition.{Composition}
+use Rattle.sym_path.specs.declared.within.Composition.TheVariants.{One, Apart}
+use Rattle.sym_path.specs.Within.{HasFollowers, HaveFewPairs, HaveMorePairs, HavePairs, IsComposedWithin}
 use Rattle.sym_path.proofs.Lists.{take_and_drop, take_get, zip_weak}
-use Rattle.sym_path.proofs.PairCounts.{count_both, count_first, going_pairs, none_found, none_of, zip_join}
+use Rattle.sym_path.proofs.PairCounts.{count_both, count_first, going_pairs, none_found, none_of, pairs_same, zip_join}
 
 abbrev yes : List Bool → ℕ
 yes marks = count_by (λ (mark : Bool). mark) marks
@@ -118,10 +122,51 @@ fewer_marks P (x ∷ xs) (a ∷ marks) (b ∷ answers) h k =
     less true false h = let e : false ≡ true = h refl in absurd (cc)
     less false b h = omega arith
 
--- The number of pairs is at least what was found.
+-- The number of pairs is at least what was found,
 pub found_at_most : (truth : Truth) (left right : List Path) (least n : ℕ) → HavePairs truth left right least → ArePairs truth left right n → least ≤ n
 found_at_most truth left right least n a b =
     let marks = fewer_marks (λ (pair : Path × Path). IsPossiblePair truth pair.0 pair.1) (each_with left right) a.found b.answers a.possible b.decided in
     let many = a.many in
     let sum = b.sum in
     omega (arith, marks)
+
+-- and whatever it is at least can be found.
+pub at_most_found : (truth : Truth) (left right : List Path) (least n : ℕ) → ArePairs truth left right n → HavePairs truth left right least ↔ (least ≤ n)
+at_most_found truth left right least n a = (
+  λ h. found_at_most truth left right least n h a,
+  λ below. let all = are_found truth left right n a in record {
+    found = all.found;
+    possible = all.possible;
+    many = let many = all.many in omega arith;
+  },
+)
+
+-- ---- few or more
+
+pub few_number : (truth : Truth) (left right : List Path) (limit n : ℕ) → ArePairs truth left right n → HaveFewPairs truth left right limit ↔ (n ≤ limit)
+few_number truth left right limit n a = (
+  λ h. let same = pairs_same truth left right n h.pairs a h.are in let few = h.few in omega arith,
+  λ few. record { pairs = n; are = a; few = few },
+)
+
+pub more_number : (truth : Truth) (left right : List Path) (limit n : ℕ) → ArePairs truth left right n → HaveMorePairs truth left right limit ↔ (limit < n)
+more_number truth left right limit n a = (
+  λ h. let least = found_at_most truth left right (limit + 1) n h a in omega arith,
+  λ above. (at_most_found truth left right (limit + 1) n a).1 (omega arith),
+)
+
+pub never_both : (truth : Truth) (left right : List Path) (limit : ℕ) → HaveFewPairs truth left right limit → HaveMorePairs truth left right limit → ⊥
+never_both truth left right limit h k =
+    let least = found_at_most truth left right (limit + 1) h.pairs k h.are in
+    let few = h.few in
+    omega arith
+
+pub composed_number : (p : ScriptPlan) (left right : List Path) (limit n : ℕ) (made : Composition) → ArePairs (test_truth p.tests) left right n → IsComposedWithin p left right limit made → ((segment : List Path) × (made ≡ One segment)) ↔ (n ≤ limit)
+composed_number p left right limit n (One segment) a h = (
+  λ is. (few_number (test_truth p.tests) left right limit n a).0 h.1,
+  λ few. (segment, refl),
+)
+composed_number p left right limit n (Apart first second) a h = (
+  λ (segment, is). absurd (cc),
+  λ few. let more = (more_number (test_truth p.tests) left right limit n a).0 h.2 in absurd (omega arith),
+)

@@ -1,11 +1,12 @@
 -- How many pairs two segments have: paths of the first one that have ended, and paths of the second
 -- one after paths of the first.
-use Rattle.std.specs.Prelude.{◌≡◌, ℕ, ◌+◌, ◌≤◌, ◌↔◌, Bool, true, false, IsTrue, List, map, length}
-use Rattle.std.specs.List.{AllZip, count_by, flat_map}
+use Rattle.std.specs.Prelude.{◌≡◌, ℕ, ◌+◌, ◌*◌, ◌≤◌, ◌↔◌, Bool, true, false, not, IsTrue, List, map, length}
+use Rattle.std.specs.List.{All, AllZip, count_by, flat_map}
 use Rattle.sym_base.specs.Tests.{Truth}
 use Rattle.sym_path.specs.declared.path.PathEnd.{PathEnd}
 use Rattle.sym_path.specs.declared.path.PathEnd.TheVariants.{Next, Ended}
 use Rattle.sym_path.specs.declared.path.Path.{Path}
+use Rattle.sym_path.specs.Changing.{GoesOn}
 use Rattle.sym_path.specs.Possible.{IsPossiblePair}
 
 -- Each path of the one list with each of the other, in order.
@@ -20,6 +21,20 @@ is_ended (Ended fault) = true
 -- Whether the path ends in a fault.
 abbrev pub has_ended : Path → Bool
 has_ended path = is_ended path.end
+
+-- Whether a path goes on.
+abbrev pub has_next : Path → Bool
+has_next path = not (has_ended path)
+
+-- How many pairs two segments can have at most: the paths of the first list that have ended, and
+-- each path of the second one after each path of the first that goes on.
+abbrev pub most_pairs : List Path → List Path → ℕ
+most_pairs left right = count_by has_ended left + count_by has_next left * length right
+
+-- Each path of the second list can come after each path of the first that goes on.
+abbrev pub AreAllPossible : Truth → List Path → List Path → Type 0
+AreAllPossible truth left right =
+    All (λ (p : Path). GoesOn p.end → All (λ (q : Path). IsPossiblePair truth p q) right) left
 
 -- The answer says whether the second path can come after the first. After a fault no path can.
 abbrev pub IsAnswer : Truth → (Path × Path) → Bool → Type 0
