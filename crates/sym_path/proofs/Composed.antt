@@ -31,6 +31,7 @@ use Rattle.sym_path.specs.Pairs.{AreFollowers, ArePairs}
 use Rattle.sym_path.specs.Possible.{IsPossiblePair}
 use Rattle.sym_path.specs.Settling.{IsSettling}
 use Rattle.sym_path.specs.Standing.{EndsAmong, StandsFor}
+use Rattle.sym_path.proofs.AmongOutcomes.{same_outcomes}
 use Rattle.sym_path.proofs.Decided.{admits_decided}
 use Rattle.sym_path.proofs.Fitted.{end_valid}
 use Rattle.sym_path.proofs.Lists.{all_at, all_from, drop_get}
@@ -276,6 +277,11 @@ composition p left right paths segment l r h w = record {
   fits = w.reduced.fits p (composed_fit p left right paths l r h);
   few = record { pairs = length paths; are = composed_pairs p left right paths h; few = w.reduced.few };
   stands = λ first rest a b. settled_stand p (first ++ rest) paths segment (composed_stand p first rest left right paths h a b) w;
+  agrees = λ s o.
+      let truth : Truth = test_truth p.tests in
+      let kept = w.reduced.agree truth s o in
+      let same = same_outcomes truth paths s o (given_by_both truth left right s) (composed_give p left right paths s h) in
+      (λ g. same.0 (kept.0 g), λ g. kept.1 (same.1 g));
   gives = λ s few.
       let truth : Truth = test_truth p.tests in
       let same : outcomes truth paths s ≡ given_by_both truth left right s = composed_give p left right paths s h in

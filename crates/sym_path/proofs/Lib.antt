@@ -1,5 +1,7 @@
 pub mod AddedLiterals
 mod Admits
+pub mod Agreeing
+pub mod AmongOutcomes
 pub mod Changed
 pub mod Checks
 pub mod Composed

@@ -3,11 +3,11 @@ use Rattle.std.proofs.Common.{get_or, ◌≡◌, ◌<◌, ◌≤◌, ◌+◌, �
 use Rattle.std.proofs.lemmas.Bool.{cases_lt}
 use Rattle.std.proofs.lemmas.List.Edits.{length-insert, length-remove, remove-append_left}
 use Rattle.std.proofs.lemmas.List.{take_all}
-use Rattle.std.proofs.lemmas.List.Elements.{All-append, All-take}
+use Rattle.std.proofs.lemmas.List.Elements.{All-append, All-take, Contains-append_cases, Contains-append_left, Contains-append_right}
 use Rattle.std.proofs.lemmas.List.Quantifiers.{all_pairs_push, all_pairs_remove}
 use Rattle.std.proofs.lemmas.Option.{slice_get-get_or, get_or_from_slice_get}
 use Rattle.std.specs.Prelude.{slice_get, if◌then◌else◌}
-use Rattle.std.specs.List.{All, Any, insert, remove}
+use Rattle.std.specs.List.{All, Any, Contains, insert, remove}
 use Rattle.sym_base.specs.declared.values.state.State.{State}
 use Rattle.sym_base.specs.declared.values.state.Outcome.{Outcome}
 use Rattle.sym_base.specs.Tests.{Truth}
@@ -17,11 +17,12 @@ use Rattle.sym_path.specs.declared.path.PathEnd.{PathEnd}
 use Rattle.sym_path.specs.declared.path.PathEnd.TheVariants.{Next, Ended}
 use Rattle.sym_path.specs.Admitting.{admits}
 use Rattle.sym_path.specs.Fitting.{PathFits}
-use Rattle.sym_path.specs.Giving.{end_at, given, outcomes}
+use Rattle.sym_path.specs.Giving.{AgreeAt, end_at, given, outcomes}
 use Rattle.sym_path.specs.Joining.{Joinable, IsSettled}
 use Rattle.sym_path.specs.Joins.{IsJoin}
 use Rattle.sym_path.specs.Changing.{GoesOn}
 use Rattle.sym_path.specs.Settling.{AreEndedInTurn, CannotJoin, EndsBefore, IsPairJoined, GivesSame, IsReduced, IsSettling}
+use Rattle.sym_path.proofs.AmongOutcomes.{By, among_gives, by_given, given_by, gives_among}
 use Rattle.sym_path.proofs.Decided.{admits_decided}
 use Rattle.sym_path.proofs.Lists.{all_from, all_at, take_get, get_within}
 
@@ -153,6 +154,70 @@ module _ (truth : Truth) (s : State) where
       (λ e. h.second truth s ((admits_decided truth q.when s).0 e))
       few
 
+-- An outcome that is among those given.
+module _ (truth : Truth) (s : State) (o : Outcome) where
+  abbrev Among : List Path → Type 0
+  Among paths = Contains (outcomes truth paths s) o
+
+  among_cut : (xs ys : List Path) → Among (xs ++ ys) → Among xs ⊎ Among ys
+  among_cut xs ys h = Contains-append_cases (outcomes truth xs s) (outcomes truth ys s) o (subst (λ (os : List Outcome). Contains os o) (gives_append truth s xs ys) h)
+
+  among_first : (xs ys : List Path) → Among xs → Among (xs ++ ys)
+  among_first xs ys h = subst (λ (os : List Outcome). Contains os o) (sym (gives_append truth s xs ys)) (Contains-append_left (outcomes truth xs s) (outcomes truth ys s) o h)
+
+  among_rest : (xs ys : List Path) → Among ys → Among (xs ++ ys)
+  among_rest xs ys h = subst (λ (os : List Outcome). Contains os o) (sym (gives_append truth s xs ys)) (Contains-append_right (outcomes truth xs s) (outcomes truth ys s) o h)
+
+  among_one : (p : Path) (ps : List Path) → Among (p ∷ ps) → By truth s o p ⊎ Among ps
+  among_one p ps h = elim (Contains-append_cases (given truth p s) (outcomes truth ps s) o h) [ inl a ↦ inl (given_by truth s o p a) | inr b ↦ inr b ]
+
+  among_cons : (p : Path) (ps : List Path) → By truth s o p ⊎ Among ps → Among (p ∷ ps)
+  among_cons p ps (inl a) = Contains-append_left (given truth p s) (outcomes truth ps s) o (by_given truth s o p a)
+  among_cons p ps (inr b) = Contains-append_right (given truth p s) (outcomes truth ps s) o b
+
+  -- A path about which a list is cut is one of its paths.
+  cut_about : (xs ys : List Path) (p : Path) → Among (xs ++ p ∷ ys) → By truth s o p ⊎ Among (xs ++ ys)
+  cut_about xs ys p h = elim (among_cut xs (p ∷ ys) h) [
+    | inl a ↦ inr (among_first xs ys a)
+    | inr b ↦ elim (among_one p ys b) [ inl c ↦ inl c | inr d ↦ inr (among_rest xs ys d) ]
+  ]
+
+  put_about : (xs ys : List Path) (p : Path) → By truth s o p ⊎ Among (xs ++ ys) → Among (xs ++ p ∷ ys)
+  put_about xs ys p (inl a) = among_rest xs (p ∷ ys) (among_cons p ys (inl a))
+  put_about xs ys p (inr b) = elim (among_cut xs ys b) [
+    | inl c ↦ among_first xs (p ∷ ys) c
+    | inr d ↦ among_rest xs (p ∷ ys) (among_cons p ys (inr d))
+  ]
+
+  among_out : (xs : List Path) (i : ℕ) (p : Path) → slice_get xs i ≡ Some p → Among xs → By truth s o p ⊎ Among (remove xs i)
+  among_out xs i p e h = cut_about (take i xs) (drop (suc i) xs) p (subst Among (around xs i p e) h)
+
+  among_back : (xs : List Path) (i : ℕ) (p : Path) → slice_get xs i ≡ Some p → By truth s o p ⊎ Among (remove xs i) → Among xs
+  among_back xs i p e h = subst Among (sym (around xs i p e)) (put_about (take i xs) (drop (suc i) xs) p h)
+
+  among_in : (xs : List Path) (i : ℕ) (p : Path) → By truth s o p ⊎ Among xs → Among (insert xs i p)
+  among_in xs i p (inl a) = put_about (take i xs) (drop i xs) p (inl a)
+  among_in xs i p (inr b) = put_about (take i xs) (drop i xs) p (inr (subst Among (parted xs i) b))
+
+  among_inserted : (xs : List Path) (i : ℕ) (p : Path) → Among (insert xs i p) → By truth s o p ⊎ Among xs
+  among_inserted xs i p h = elim (cut_about (take i xs) (drop i xs) p h) [
+    | inl a ↦ inl a
+    | inr b ↦ inr (subst Among (sym (parted xs i)) b)
+  ]
+
+  -- A joined path gives what one of the two gives.
+  by_joined : (p q j : Path) → IsJoin p q j → By truth s o j → By truth s o p ⊎ By truth s o q
+  by_joined p q j h b = elim ((h.admits truth s).0 b.0) [
+    | inl a ↦ inl (a, sym (h.first truth s a) ∙ b.1)
+    | inr a ↦ inr (a, sym (h.second truth s a) ∙ b.1)
+  ]
+
+  joined_first : (p q j : Path) → IsJoin p q j → By truth s o p → By truth s o j
+  joined_first p q j h b = ((h.admits truth s).1 (inl b.0), h.first truth s b.0 ∙ b.1)
+
+  joined_second : (p q j : Path) → IsJoin p q j → By truth s o q → By truth s o j
+  joined_second p q j h b = ((h.admits truth s).1 (inr b.0), h.second truth s b.0 ∙ b.1)
+
 module _ (old new : List Path) (f n : ℕ) (earlier : f < n) (within : n < length old) (j : IsPairJoined old f n new) where
   abbrev without_one : List Path
   without_one = remove old n
@@ -180,6 +245,31 @@ module _ (old new : List Path) (f n : ℕ) (earlier : f < n) (within : n < lengt
       let whole : given truth j.joined s ++ left ≡ outcomes truth old s = ap (λ o. o ++ left) same ∙ all in
       ap (λ ps. outcomes truth ps s) new_is ∙ put_in truth s without_both (n - 1) j.joined (omega (arith, ap length whole)) ∙ whole
 
+  module _ (truth : Truth) (s : State) (o : Outcome) where
+    pair_kept : Among truth s o old → Among truth s o new
+    pair_kept h = subst (Among truth s o) (sym new_is) (among_in truth s o without_both (n - 1) j.joined (elim (among_out truth s o old n j.q j.at_second h) [
+      | inl b ↦ inl (joined_second truth s o j.p j.q j.joined j.join b)
+      | inr k ↦ elim (among_out truth s o without_one f j.p first_there k) [ inl b ↦ inl (joined_first truth s o j.p j.q j.joined j.join b) | inr rest ↦ inr rest ]
+    ]))
+
+    back_to_one : By truth s o j.p ⊎ Among truth s o without_both → Among truth s o without_one
+    back_to_one h = among_back truth s o without_one f j.p first_there h
+
+    pair_old : Among truth s o new → Among truth s o old
+    pair_old h = elim (among_inserted truth s o without_both (n - 1) j.joined (subst (Among truth s o) new_is h)) [
+      | inl b ↦ elim (by_joined truth s o j.p j.q j.joined j.join b) [
+        | inl first ↦ among_back truth s o old n j.q j.at_second (inr (back_to_one (inl first)))
+        | inr second ↦ among_back truth s o old n j.q j.at_second (inl second)
+      ]
+      | inr rest ↦ among_back truth s o old n j.q j.at_second (inr (back_to_one (inr rest)))
+    ]
+
+  pub pair_agrees : (truth : Truth) (s : State) → AgreeAt truth new old s
+  pair_agrees truth s = λ o. (
+    λ h. among_gives truth s o old (pair_old truth s o (gives_among truth s o new h)),
+    λ h. among_gives truth s o new (pair_kept truth s o (gives_among truth s o old h)),
+  )
+
   -- What holds of all paths before, and of what two of them become, holds of all after.
   all_after : (P : Path → Type 0) → ((p q joined : Path) → IsJoin p q joined → P p → P q → P joined) → All P old → All P new
   all_after P step all =
@@ -201,6 +291,7 @@ module _ (old new : List Path) (f n : ℕ) (earlier : f < n) (within : n < lengt
 
   pub pair_reduced : (start : List Path) → IsReduced start old → IsReduced start new
   pair_reduced start h = record {
+    agree = λ truth s o. (λ g. (h.agree truth s o).0 ((pair_agrees truth s o).0 g), λ g. (pair_agrees truth s o).1 ((h.agree truth s o).1 g));
     same = λ truth s few.
         let before : outcomes truth old s ≡ outcomes truth start s = h.same truth s few in
         pair_gives truth s (omega (arith, ap length before)) ∙ before;
@@ -329,6 +420,7 @@ one_more_settled paths items n same within apart h =
 
 pub reduced_self : (paths : List Path) → IsReduced paths paths
 reduced_self paths = record {
+  agree = λ truth s o. (λ g. g, λ g. g);
   same = λ truth s few. refl;
   fits = λ plan a. a;
   ends = λ k d l. (k, get_or paths k d, l, get_or_from_slice_get paths k (get_or paths k d) (get_or paths k d) (slice_get-get_or paths k d l), refl);

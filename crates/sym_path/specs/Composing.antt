@@ -1,6 +1,6 @@
 -- Two segments in one: the paths of the first and then of the second.
-use Rattle.std.specs.Prelude.{◌≡◌, ◌≤◌, ◌⊎◌, ℕ, List, Some, [], ◌∷◌, ◌++◌, length, slice_get}
-use Rattle.std.specs.List.{All, flat_map}
+use Rattle.std.specs.Prelude.{◌≡◌, ◌≤◌, ◌⊎◌, ◌↔◌, ℕ, List, Some, [], ◌∷◌, ◌++◌, length, slice_get}
+use Rattle.std.specs.List.{All, Contains, flat_map}
 use Rattle.sym_base.specs.declared.values.record.Record.{Record}
 use Rattle.sym_base.specs.declared.values.state.State.{State}
 use Rattle.sym_base.specs.declared.values.state.Outcome.{Outcome}
@@ -14,7 +14,7 @@ use Rattle.sym_path.specs.declared.path.PathEnd.TheVariants.{Next, Ended}
 use Rattle.sym_path.specs.declared.path.Path.{Path}
 use Rattle.sym_path.specs.Fitting.{SegmentFits}
 use Rattle.sym_path.specs.Following.{IsFollowed}
-use Rattle.sym_path.specs.Giving.{outcomes}
+use Rattle.sym_path.specs.Giving.{Gives, outcomes}
 use Rattle.sym_path.specs.Joining.{IsSettled}
 use Rattle.sym_path.specs.Pairs.{HasAtMostPairs}
 use Rattle.sym_path.specs.Possible.{IsPossiblePair}
@@ -29,24 +29,42 @@ given_after truth paths (outcome.Ended fault) = outcome.Ended fault ∷ []
 abbrev pub given_by_both : Truth → List Path → List Path → State → List Outcome
 given_by_both truth left right s = flat_map (given_after truth right) (outcomes truth left s)
 
+-- The same of three segments.
+abbrev pub given_by_three : Truth → List Path → List Path → List Path → State → List Outcome
+given_by_three truth first second third s =
+    flat_map (given_after truth third) (given_by_both truth first second s)
+
 -- The faults of the paths came at some of the records.
 abbrev pub HaveFaultsAmong : List Record → List Path → Type 0
 HaveFaultsAmong records paths = All (λ (path : Path). EndsAmong records path.end) paths
 
 -- The segment is the composition of two: it is settled, fits the script, has at most as many paths
 -- as the two have pairs, and stands for the records of the first one and then those of the second,
--- whatever these are. At a state of which the two in turn give at most one outcome, it gives that.
--- Its faults came at records at which those of the two came.
+-- whatever these are. At each state it gives the outcomes that the two in turn give, and where they
+-- give at most one, one path at most gives it. Its faults came at records at which those of the two
+-- came.
 pub record IsComposition (p : ScriptPlan) (left right segment : List Path) : Type 0 where
   pub settled : IsSettled segment
   pub fits : SegmentFits p segment
   pub few : HasAtMostPairs (test_truth p.tests) left right segment
   pub stands : (first rest : List Record) → StandsFor p first left → StandsFor p rest right →
       StandsFor p (first ++ rest) segment
+  pub agrees : (s : State) (o : Outcome) → Gives (test_truth p.tests) segment s o ↔
+      Contains (given_by_both (test_truth p.tests) left right s) o
   pub gives : (s : State) → length (given_by_both (test_truth p.tests) left right s) ≤ 1 →
       outcomes (test_truth p.tests) segment s ≡ given_by_both (test_truth p.tests) left right s
   pub faults : (records : List Record) → HaveFaultsAmong records left →
       HaveFaultsAmong records right → HaveFaultsAmong records segment
+
+-- Three segments are composed to one from the left, and to another one from the right.
+pub record AreComposedBothWays (p : ScriptPlan) (first second third : List Path)
+    (from_left from_right : List Path) : Type 0 where
+  pub left : List Path
+  pub right : List Path
+  pub first_two : IsComposition p first second left
+  pub then_third : IsComposition p left third from_left
+  pub last_two : IsComposition p second third right
+  pub after_first : IsComposition p first right from_right
 
 -- The paths of one path and then each of others that can come after it, in order.
 abbrev pub AreFollowed : ScriptPlan → Path → List Path → List Path → Type 0

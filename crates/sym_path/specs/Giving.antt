@@ -1,7 +1,7 @@
 -- What paths make of the states that they admit. Paths with a constraint and a transfer are those
 -- of the SYMPLE paper (SOSP 2015).
-use Rattle.std.specs.Prelude.{◌≡◌, ℕ, ℤ, List, [], ◌∷◌, ◌++◌, map, if◌then◌else◌, Some, slice_get}
-use Rattle.std.specs.List.{All}
+use Rattle.std.specs.Prelude.{◌≡◌, ◌↔◌, ℕ, ℤ, List, [], ◌∷◌, ◌++◌, map, if◌then◌else◌, Some, slice_get}
+use Rattle.std.specs.List.{All, Any}
 use Rattle.sym_base.specs.Limits.{IsNumber}
 use Rattle.sym_base.specs.declared.values.state.Cell.{Cell}
 use Rattle.sym_base.specs.declared.values.state.Cell.TheVariants as cell
@@ -70,6 +70,15 @@ given truth p s = if admits truth p.when s.cells then end_at p.end s ∷ [] else
 abbrev pub outcomes : Truth → List Path → State → List Outcome
 outcomes truth [] s = []
 outcomes truth (p ∷ paths) s = given truth p s ++ outcomes truth paths s
+
+-- One of the paths admits the state and gives this outcome. Others may admit it too.
+abbrev pub Gives : Truth → List Path → State → Outcome → Type 0
+Gives truth paths s o =
+    Any (λ (path : Path). Admits truth path.when s × (end_at path.end s ≡ o)) paths
+
+-- Two lists of paths give the same outcomes at the state, and so one admits it where the other does.
+abbrev pub AgreeAt : Truth → List Path → List Path → State → Type 0
+AgreeAt truth paths others s = (o : Outcome) → Gives truth paths s o ↔ Gives truth others s o
 
 -- One of the paths admits the state and gives this outcome, and no other admits it.
 pub record IsOnlyOutcome (truth : Truth) (paths : List Path) (s : State)

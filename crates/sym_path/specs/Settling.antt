@@ -15,7 +15,7 @@ use Rattle.sym_path.specs.declared.path.PathEnd.TheVariants.{Next, Ended}
 use Rattle.sym_path.specs.Changing.{GoesOn}
 use Rattle.sym_path.specs.Fitting.{SegmentFits}
 use Rattle.sym_path.specs.Admitting.{Admits}
-use Rattle.sym_path.specs.Giving.{end_at, outcomes}
+use Rattle.sym_path.specs.Giving.{AgreeAt, end_at, outcomes}
 use Rattle.sym_path.specs.Joining.{IsSettled, Joinable}
 use Rattle.sym_path.specs.Joins.{IsJoin}
 use Rattle.sym_path.specs.Standing.{EndsAmong}
@@ -65,9 +65,11 @@ GivesSame old new = (truth : Truth) (s : State) →
 abbrev pub EndsAsOne : List Path → List Path → Type 0
 EndsAsOne old new = All (λ (path : Path). Any (λ (q : Path). q.end ≡ path.end) old) new
 
--- The second paths admit and give what the first ones do wherever no two of the first ones admit
--- the state, fit where those do, have no fault that none of those has, and are no more.
+-- The second paths give the same outcomes as the first ones at each state, and the same list of
+-- them wherever no two of the first ones admit it. They fit where those do, have no fault that none
+-- of those has, and are no more.
 pub record IsReduced (old new : List Path) : Type 0 where
+  pub agree : (truth : Truth) (s : State) → AgreeAt truth new old s
   pub same : GivesSame old new
   pub fits : (plan : ScriptPlan) → SegmentFits plan old → SegmentFits plan new
   pub ends : EndsAsOne old new

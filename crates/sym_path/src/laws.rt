@@ -1,5 +1,6 @@
 //! Laws of the definitions that contracts cite.
 ghost use Rattle.std.specs.Prelude.{◌≡◌, ◌↔◌, ◌∷◌, [], All, List, IsTrue};
+ghost use Rattle.std.specs.List.{Any};
 ghost use Rattle.sym_base.specs.declared.values.record.Record.{Record as OneRecord};
 ghost use Rattle.sym_base.specs.declared.values.state.State.{State as OneState};
 ghost use Rattle.sym_base.specs.declared.values.state.Outcome.{Outcome as OneOutcome};
@@ -9,10 +10,11 @@ ghost use Rattle.sym_path.specs.declared.part.Part.{Part as OnePart};
 ghost use Rattle.sym_path.specs.declared.path.Path.{Path as OnePath};
 ghost use Rattle.sym_path.specs.Admitting.{Admits, admits};
 ghost use Rattle.sym_path.specs.Fitting.{SegmentFits};
-ghost use Rattle.sym_path.specs.Giving.{IsOnlyOutcome, outcomes};
+ghost use Rattle.sym_path.specs.Giving.{AgreeAt, IsOnlyOutcome, outcomes};
 ghost use Rattle.sym_path.specs.Standing.{EndsAmong, StandsFor, GivesExactly};
 
 pub mod changing;
+pub mod composing;
 pub mod following;
 pub mod giving;
 pub mod pairs;
@@ -30,6 +32,15 @@ pub fn admitting_is_decided()
 pub fn only_outcomes_are_equations()
     ensures { (truth : Truth) (paths : List OnePath) (s : OneState) (o : OneOutcome) →
         (outcomes truth paths s ≡ o ∷ []) ↔ IsOnlyOutcome truth paths s o }
+{}
+
+/// Lists of paths that agree at a state admit it alike: a path of one admits it exactly where a path
+/// of the other does.
+pub fn agreeing_paths_admit_alike()
+    ensures { (truth : Truth) (paths others : List OnePath) (s : OneState) →
+        AgreeAt truth paths others s →
+        Any (λ (path : OnePath). Admits truth path.when s) paths
+        ↔ Any (λ (path : OnePath). Admits truth path.when s) others }
 {}
 
 /// A segment stands for records exactly where it fits the script, its faults came at them, and what
