@@ -27,6 +27,7 @@ pub mod JoiningGives
 pub mod JoiningJoined
 pub mod JoiningTaken
 pub mod JoiningUnited
+pub mod Lawful
 pub mod Led
 pub mod Lists
 pub mod ListsOut

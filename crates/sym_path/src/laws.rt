@@ -19,6 +19,7 @@ pub mod following;
 pub mod giving;
 pub mod pairs;
 pub mod settling;
+pub mod standing;
 
 /// The test that computes says whether a constraint admits a state.
 #[tactic(auto, using(crate::proofs::Decided::admits_decided))]
