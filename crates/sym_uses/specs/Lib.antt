@@ -1,3 +1,4 @@
 pub mod Checking
 pub mod ListForms
 pub mod Rounds
+pub mod Segments

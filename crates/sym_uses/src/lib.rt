@@ -5,3 +5,4 @@ pub mod checking;
 pub mod hold_facts;
 pub mod list_forms;
 pub mod rounds;
+pub mod segments;
