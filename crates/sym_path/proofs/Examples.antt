@@ -1,12 +1,14 @@
 -- The definitions tried on a counter whose cell 0 is a number from 0 to 10 and whose cell 1 has the
 -- labels 0 and 1: one is added where the label is 0, and past 10 the group ends.
 use Rattle.std.specs.Prelude.{◌≡◌, ◌≤◌, refl, ℕ, ℤ, pos, unsigned_abs, false, [], ◌∷◌}
-use Rattle.std.proofs.Common.{arith, lit≤, lit<}
+use Rattle.std.proofs.Common.{◌↔◌, zero, suc, arith, lit≤, lit<}
 use Rattle.std.proofs.lemmas.Int.{ints}
+use Rattle.std.specs.List.{Contains}
 use Rattle.sym_base.specs.declared.values.state.Cell.TheVariants as cell
 use Rattle.sym_base.specs.declared.values.state.Fault.{Fault}
 use Rattle.sym_base.specs.declared.values.state.FaultKind.TheVariants.{Over}
 use Rattle.sym_base.specs.declared.values.state.State.{State}
+use Rattle.sym_base.specs.declared.values.state.Outcome.{Outcome}
 use Rattle.sym_base.specs.declared.values.state.Outcome.TheVariants.{Going}
 use Rattle.sym_base.specs.declared.values.state.Outcome.TheVariants as outcome
 use Rattle.sym_enum.specs.Labels.{has_label}
@@ -22,7 +24,10 @@ use Rattle.sym_path.specs.declared.part.Part.TheVariants as part
 use Rattle.sym_path.specs.declared.form.Form.TheVariants as form
 use Rattle.sym_path.specs.declared.path.PathEnd.TheVariants.{Next, Ended}
 use Rattle.sym_path.specs.declared.path.Path.{Path}
-use Rattle.sym_path.specs.Giving.{given, outcomes}
+use Rattle.sym_path.specs.Composing.{given_by_both, given_by_three}
+use Rattle.sym_path.specs.Giving.{AgreeAt, Gives, given, outcomes}
+use Rattle.sym_path.specs.Pairs.{most_pairs}
+use Rattle.sym_path.proofs.AmongOutcomes.{gives_is, no_item, one_item, only_item, same_outcomes}
 
 abbrev nothing : Truth
 nothing test args parts = false
@@ -76,3 +81,54 @@ from_outside = refl
 from_both : outcomes nothing (adds ∷ adds ∷ []) (counting (pos 9) 0) ≡ Going (counting (pos 10) 0) ∷ Going (counting (pos 10) 0) ∷ []
 unfolding has_label joined
 from_both = refl
+
+-- They give no other outcome, and agree with one of them alone.
+from_either : (o : Outcome) → Gives nothing (adds ∷ adds ∷ []) (counting (pos 9) 0) o → Going (counting (pos 10) 0) ≡ o
+from_either o h = twice ((same_outcomes nothing (adds ∷ adds ∷ []) (counting (pos 9) 0) o (Going (counting (pos 10) 0) ∷ Going (counting (pos 10) 0) ∷ []) from_both).0 h)
+  where
+    twice : Contains (Going (counting (pos 10) 0) ∷ Going (counting (pos 10) 0) ∷ []) o → Going (counting (pos 10) 0) ≡ o
+    twice (zero, within, is) = is
+    twice (suc zero, within, is) = is
+    twice (suc (suc k), within, is) = absurd (omega arith)
+
+from_nine : outcomes nothing (adds ∷ []) (counting (pos 9) 0) ≡ Going (counting (pos 10) 0) ∷ []
+unfolding has_label joined
+from_nine = refl
+
+twice_is_once : AgreeAt nothing (adds ∷ adds ∷ []) (adds ∷ []) (counting (pos 9) 0)
+twice_is_once o = (
+  λ h. (one o).1 (one_item (Going (counting (pos 10) 0)) o (from_either o h)),
+  λ h. (two o).1 (0, omega arith, only_item (Going (counting (pos 10) 0)) o ((one o).0 h)),
+)
+  where
+    one : (o : Outcome) → Gives nothing (adds ∷ []) (counting (pos 9) 0) o ↔ Contains (Going (counting (pos 10) 0) ∷ []) o
+    one o = same_outcomes nothing (adds ∷ []) (counting (pos 9) 0) o (Going (counting (pos 10) 0) ∷ []) from_nine
+
+    two : (o : Outcome) → Gives nothing (adds ∷ adds ∷ []) (counting (pos 9) 0) o ↔ Contains (Going (counting (pos 10) 0) ∷ Going (counting (pos 10) 0) ∷ []) o
+    two o = same_outcomes nothing (adds ∷ adds ∷ []) (counting (pos 9) 0) o (Going (counting (pos 10) 0) ∷ Going (counting (pos 10) 0) ∷ []) from_both
+
+-- They don't agree with a path that doesn't admit the state.
+another_differs : AgreeAt nothing (adds ∷ []) (ends ∷ []) (counting (pos 9) 0) → ⊥
+unfolding has_label joined
+another_differs h =
+    let given : Gives nothing (ends ∷ []) (counting (pos 9) 0) (Going (counting (pos 10) 0)) =
+    (h (Going (counting (pos 10) 0))).0 ((same_outcomes nothing (adds ∷ []) (counting (pos 9) 0) (Going (counting (pos 10) 0)) (Going (counting (pos 10) 0) ∷ []) from_nine).1
+    (one_item (Going (counting (pos 10) 0)) (Going (counting (pos 10) 0)) refl)) in
+    no_item (Going (counting (pos 10) 0)) ((gives_is nothing (ends ∷ []) (counting (pos 9) 0) (Going (counting (pos 10) 0))).0 given)
+
+-- Two records in turn, and three: from 8 the third one ends the group, and from 10 the first one.
+two_in_turn : given_by_both nothing (adds ∷ ends ∷ []) (adds ∷ ends ∷ []) (counting (pos 8) 0) ≡ Going (counting (pos 10) 0) ∷ []
+unfolding has_label joined
+two_in_turn = refl
+
+three_in_turn : given_by_three nothing (adds ∷ ends ∷ []) (adds ∷ ends ∷ []) (adds ∷ ends ∷ []) (counting (pos 8) 0) ≡ outcome.Ended past ∷ []
+unfolding has_label joined
+three_in_turn = refl
+
+three_from_ten : given_by_three nothing (adds ∷ ends ∷ []) (adds ∷ ends ∷ []) (adds ∷ ends ∷ []) (counting (pos 10) 0) ≡ outcome.Ended past ∷ []
+unfolding has_label
+three_from_ten = refl
+
+-- One path of the left has ended, and each of the two on the right may come after the other one.
+three_pairs : most_pairs (adds ∷ ends ∷ []) (adds ∷ ends ∷ []) ≡ 3
+three_pairs = refl
