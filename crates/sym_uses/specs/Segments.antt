@@ -18,7 +18,7 @@ IsAlsoFromLeft p first second third whole =
     AgreeAt (test_truth p.tests) other whole s
 
 -- The segment stands for the records of all of the segments in order, whatever these are.
-abbrev pub StandsForAll : ScriptPlan → List (List Path) → List Path → Type 0
-StandsForAll p segments whole =
+abbrev pub StandsInOrder : ScriptPlan → List (List Path) → List Path → Type 0
+StandsInOrder p segments whole =
     (records : List (List Record)) → AllZip (StandsFor p) records segments →
     StandsFor p (flat_map (λ (part : List Record). part) records) whole

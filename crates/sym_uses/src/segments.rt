@@ -2,7 +2,7 @@
 ghost use Rattle.std.specs.Prelude.{All, IfOk, IfSome};
 ghost use Rattle.sym_check.specs.Checking.CheckedScripts.{checked_plan};
 ghost use Rattle.sym_path.specs.Fitting.{SegmentFits};
-ghost use Rattle.sym_uses.specs.Segments.{IsAlsoFromLeft, StandsForAll};
+ghost use Rattle.sym_uses.specs.Segments.{IsAlsoFromLeft, StandsInOrder};
 
 use std::alloc::Global;
 use sym_base::NoMemory;
@@ -39,7 +39,7 @@ pub fn all_in_one(
 ) -> Result<Segment, NoMemory>
     requires { All (SegmentFits (checked_plan checked.now)) segments.now }
     ensures fits { IfOk result (SegmentFits (checked_plan checked.now)) }
-    ensures stands { IfOk result (StandsForAll (checked_plan checked.now) segments.now) }
+    ensures stands { IfOk result (StandsInOrder (checked_plan checked.now) segments.now) }
 {
     path_of_all_is_neutral();
     let mut paths = Vec::with_capacity(alloc, 1)?;

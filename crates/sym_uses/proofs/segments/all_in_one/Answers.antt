@@ -12,7 +12,7 @@ use Rattle.sym_path.specs.Composing.{IsComposition}
 use Rattle.sym_path.specs.Fitting.{PathFits, SegmentFits}
 use Rattle.sym_path.specs.Standing.{StandsFor}
 use Rattle.sym_path.proofs.Lists.{take_get, take_past}
-use Rattle.sym_uses.specs.Segments.{StandsForAll}
+use Rattle.sym_uses.specs.Segments.{StandsInOrder}
 use Rattle.sym_uses.proofs.segments.all_in_one.Goals as goal
 
 zip_none : {A B : Type 0} (R : A → B → Type 0) (xs : List A) → AllZip R xs [] → xs ≡ []
@@ -31,10 +31,10 @@ abbrev all_of : List (List Record) → List Record
 all_of parts = flat_map (λ (part : List Record). part) parts
 
 module _ (p : ScriptPlan) where
-  no_parts : (whole : List Path) → StandsFor p [] whole → StandsForAll p [] whole
+  no_parts : (whole : List Path) → StandsFor p [] whole → StandsInOrder p [] whole
   no_parts whole h records zip = subst (λ (parts : List (List Record)). StandsFor p (all_of parts) whole) (sym (zip_none (StandsFor p) records zip)) h
 
-  one_part_more : (segments : List (List Path)) (whole next new : List Path) → StandsForAll p segments whole → IsComposition p whole next new → StandsForAll p (segments ++ next ∷ []) new
+  one_part_more : (segments : List (List Path)) (whole next new : List Path) → StandsInOrder p segments whole → IsComposition p whole next new → StandsInOrder p (segments ++ next ∷ []) new
   one_part_more segments whole next new h made records zip =
       let (first, last, is, before, here) = zip_last (StandsFor p) records segments next zip in
       let all : all_of records ≡ all_of first ++ last =
@@ -54,7 +54,7 @@ segments-init c =
     let all = c.in_ok-all.ensures in
     record {
       fits = subst (λ (ps : List Path). SegmentFits p ps) alone (alone_fits p path all.fits);
-      stands = subst (λ (ps : List Path). StandsForAll p [] ps) alone (no_parts p (path ∷ []) (c.path_of_all_is_neutral.ensures.stands p path all.fits all.admits all.leaves all.whole));
+      stands = subst (λ (ps : List Path). StandsInOrder p [] ps) alone (no_parts p (path ∷ []) (c.path_of_all_is_neutral.ensures.stands p path all.fits all.admits all.leaves all.whole));
     }
 
 pub segments-preserved : goal.segments-preserved
@@ -67,11 +67,11 @@ segments-preserved c =
     let at : slice_get segments i ≡ Some next = slice_get_read segments (length segments) i next refl within c.next-item.is in
     record {
       fits = c.in_ok-whole.ensures.fits;
-      stands = subst (λ (parts : List (List Path)). StandsForAll p parts c.in_ok-whole.whole) (sym (take_get segments i next at))
+      stands = subst (λ (parts : List (List Path)). StandsInOrder p parts c.in_ok-whole.whole) (sym (take_get segments i next at))
           (one_part_more p (take i segments) c.segments.whole next c.in_ok-whole.whole c.segments.invariant.stands c.in_ok-whole.ensures);
     }
 
 pub returns-clause-stands : goal.returns-clause-stands
 returns-clause-stands c =
     let p : ScriptPlan = checked_plan c.args.checked.now in
-    subst (λ (parts : List (List Path)). StandsForAll p parts c.segments.whole) (take_past c.args.segments.now c.segments.next-index (omega arith)) c.segments.invariant.stands
+    subst (λ (parts : List (List Path)). StandsInOrder p parts c.segments.whole) (take_past c.args.segments.now c.segments.next-index (omega arith)) c.segments.invariant.stands
