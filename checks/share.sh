@@ -209,7 +209,7 @@ number_of() {
     sed -n "/^pub const $1: NumberOption/,/default/s/^ *default: \([0-9_]*\),\$/\1/p" \
         crates/sym_top/src/arguments.rt
     sed -n "s/^pub const $1: [a-z0-9]* = \([0-9_]*\);\$/\1/p" crates/sym_base/src/limits.rt \
-        crates/sym_engine/src/*.rt | tr -d _
+        crates/sym_files/src/*.rt | tr -d _
 }
 
 # The range of a number, as the manual page has it, is just what the program takes, and the default

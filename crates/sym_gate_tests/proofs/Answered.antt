@@ -16,11 +16,13 @@ use Rattle.sym_run.specs.declared.runs.Run.{Run}
 use Rattle.sym_run.specs.Applying.{AreValid, IfDone, bad_of}
 use Rattle.sym_run.specs.Runs.{AreTight, GroupsFit, GroupsStandFor}
 use Rattle.sym_run.proofs.FoundRecords.{run_tight}
-use Rattle.sym_engine.specs.declared.rounds.Work.{Work}
-use Rattle.sym_engine.specs.Rounds.{StandsForAll, round_records}
-use Rattle.sym_engine.proofs.Folds.{plain_chunks}
-use Rattle.sym_engine.proofs.RoundRuns.{IsApplied, round_bad, round_fine}
-use Rattle.sym_engine.specs.Pieces.{StandsFrom}
+use Rattle.sym_files.specs.declared.rounds.Work.{Work}
+use Rattle.sym_workers.specs.RoundRuns.{StandsForAll}
+use Rattle.sym_files.specs.Rounds.{round_records}
+use Rattle.sym_files.proofs.PlainRows.{plain_chunks}
+use Rattle.sym_passes.proofs.AppliedRuns.{IsApplied}
+use Rattle.sym_workers.proofs.RoundRuns.{round_bad, round_fine}
+use Rattle.sym_workers.specs.Pieces.{StandsFrom}
 use Rattle.sym_gate_tests.specs.Comparing.{ComesTo}
 
 came_to : (p : ScriptPlan) (limit : ℕ) (cuts : List Chunk) (run : Run) (given : List (Key × Outcome)) (found : Applied)

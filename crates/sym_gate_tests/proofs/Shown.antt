@@ -8,7 +8,7 @@ use Rattle.sym_table.specs.declared.header.Header.{Header}
 use Rattle.sym_table.specs.ChunkRecords.{RunOn}
 use Rattle.sym_table.specs.Reading.{Row}
 use Rattle.sym_table.specs.Rows.{FitsChunk}
-use Rattle.sym_engine.specs.Rounds.{IsRound, shown_chunk, shown_chunks}
+use Rattle.sym_files.specs.Rounds.{IsRound, shown_chunk, shown_chunks}
 use Rattle.sym_gate_tests.specs.Showing.{row_b, shows_b}
 
 -- One row more.

@@ -2,8 +2,9 @@
 //! tests of workers have to tell from it.
 ghost use Rattle.std.specs.Prelude.{◌≡◌, ◌≤◌, ◌<◌, IfOk, IsTrue, length};
 ghost use Rattle.sym_check.specs.Checking.CheckedScripts.{checked_plan};
-ghost use Rattle.sym_engine.specs.Rounds.{AreWorkers, IsLimit, IsRound, StandsForAll};
-ghost use Rattle.sym_engine.specs.Pieces.{StandsFrom};
+ghost use Rattle.sym_files.specs.Rounds.{AreWorkers, IsLimit, IsRound};
+ghost use Rattle.sym_workers.specs.RoundRuns.{StandsForAll};
+ghost use Rattle.sym_workers.specs.Pieces.{StandsFrom};
 
 use crate::holds::Holder;
 use std::alloc::Global;
@@ -32,7 +33,7 @@ pub(crate) enum Body {
 
 // A value that lends the work of a round, so that two workers share it by its bound.
 trait LendsWork {
-    ghost use Rattle.sym_engine.specs.declared.rounds.Work.{Work as OneWork};
+    ghost use Rattle.sym_files.specs.declared.rounds.Work.{Work as OneWork};
 
     ghost lent: { Self → OneWork };
 

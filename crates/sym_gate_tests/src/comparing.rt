@@ -1,7 +1,8 @@
 //! A round that several workers work, beside the same round on one thread.
 ghost use Rattle.std.specs.Prelude.{IfOk};
 ghost use Rattle.sym_check.specs.Checking.CheckedScripts.{checked_plan};
-ghost use Rattle.sym_engine.specs.Rounds.{AreWorkers, IsLimit, IsRound, StandsForAll, round_records};
+ghost use Rattle.sym_files.specs.Rounds.{AreWorkers, IsLimit, IsRound, round_records};
+ghost use Rattle.sym_workers.specs.RoundRuns.{StandsForAll};
 ghost use Rattle.sym_run.specs.Applying.{AreValid, IfDone};
 ghost use Rattle.sym_gate_tests.specs.Comparing.{ComesTo};
 
@@ -217,6 +218,9 @@ impl<'a> Rounds for Compared<'a> {
 
     // It stands for any records.
     ghost stands = { λ compared _ _ _. AreWorkers compared.worked.workers };
+
+    // It tells no one of rounds.
+    ghost told = { λ _ _ _ _ _. Unit {0} };
 
     fn take<T: Threads + Wait + Sync>(
         &mut self,

@@ -1,6 +1,6 @@
 //! Passes with several workers and other gates, beside sequential passes.
 ghost use Rattle.std.specs.Prelude.{◌≤◌};
-ghost use Rattle.sym_engine.specs.Options.{InRange};
+ghost use Rattle.sym_files.specs.Options.{InRange};
 
 use crate::comparing::{accepted, names, same_groups, store};
 use crate::showing::{Joins, ShowsB};

@@ -1,7 +1,7 @@
 //! Gates that have the run of each round made and then applied: one that shows every row as the one
 //! field `b`, and one that shows each row as it is.
 ghost use Rattle.std.specs.Prelude.{◌≡◌, IfOk, replicate};
-ghost use Rattle.sym_engine.specs.Rounds.{shown_chunk, shown_chunks};
+ghost use Rattle.sym_files.specs.Rounds.{shown_chunk, shown_chunks};
 ghost use Rattle.sym_gate_tests.specs.Showing.{row_b, shows_b};
 
 use std::alloc::Global;

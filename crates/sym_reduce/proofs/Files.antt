@@ -7,7 +7,7 @@ use Rattle.std.proofs.lemmas.List.Elements.{length_all_zip}
 use Rattle.std.proofs.Math.Seq.{take-append_seam}
 use Rattle.sym_base.specs.Counts.{Rose}
 use Rattle.sym_check.specs.Plan.ScriptPlans.{ScriptPlan}
-use Rattle.sym_engine.specs.Passing.{Counts, Holds, May, MayAll}
+use Rattle.sym_files.specs.Passing.{Counts, Holds, May, MayAll}
 use Rattle.sym_run.specs.declared.saved.Saved.{Saved}
 use Rattle.sym_reduce.specs.declared.error.ReduceErr.{ReduceErr}
 use Rattle.sym_reduce.specs.declared.error.ReduceErr.TheVariants as reduce_err

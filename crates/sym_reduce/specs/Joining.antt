@@ -5,7 +5,7 @@ use Rattle.std.specs.List.{All, AllZip, flat_map}
 use Rattle.sym_base.specs.Counts.{Rose}
 use Rattle.sym_base.specs.declared.values.record.Record.{Record}
 use Rattle.sym_check.specs.Plan.ScriptPlans.{ScriptPlan}
-use Rattle.sym_engine.specs.Passing.{Counts, Holds, MayAll}
+use Rattle.sym_files.specs.Passing.{Counts, Holds, MayAll}
 use Rattle.sym_run.specs.ClosedJoins.{IsJoinable, IsSavedJoin}
 use Rattle.sym_run.specs.Runs.{AreTight}
 use Rattle.sym_run.specs.SavedRuns.{IsLawfulSaved, SavedStandsFor}

@@ -5,7 +5,7 @@ use Rattle.sym_base.specs.Counts.{Rose}
 use Rattle.sym_base.specs.declared.values.value.Key.{Key}
 use Rattle.sym_base.specs.declared.values.state.Outcome.{Outcome}
 use Rattle.sym_check.specs.Plan.ScriptPlans.{ScriptPlan}
-use Rattle.sym_engine.specs.Passing.{Counts, Holds, MayAll}
+use Rattle.sym_files.specs.Passing.{Counts, Holds, MayAll}
 use Rattle.sym_run.specs.declared.saved.Saved.{Saved}
 use Rattle.sym_file.specs.SavedTexts.{IsMalformed, IsOfOtherScript, IsSaved}
 use Rattle.sym_file.specs.Stored.{IsStored}

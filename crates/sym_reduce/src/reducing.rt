@@ -5,7 +5,7 @@ ghost use Rattle.std.specs.String.{string_bytes};
 ghost use Rattle.sym_base.specs.declared.limits.TheConstants as limit;
 ghost use Rattle.sym_check.specs.Checking.CheckedScripts.{checked_plan};
 ghost use Rattle.sym_check.specs.Meaning.Validity.{IsKey};
-ghost use Rattle.sym_engine.specs.Passing.{May};
+ghost use Rattle.sym_files.specs.Passing.{May};
 ghost use Rattle.sym_file.specs.SavedTexts.{printed};
 ghost use Rattle.sym_reduce.specs.Reducing.{IsUnread, ReducedAll, StopsReduce};
 

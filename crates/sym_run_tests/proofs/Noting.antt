@@ -16,10 +16,10 @@ use Rattle.sym_table.specs.Decoding.{numbered}
 use Rattle.sym_table.specs.Reading.{Row}
 use Rattle.sym_table.specs.RowRecords.{record_or_bad, records_or_bad, in_turn}
 use Rattle.sym_table.specs.Rows.{read_row}
-use Rattle.sym_engine.specs.declared.rounds.Took.{Took}
-use Rattle.sym_engine.specs.declared.rounds.Took.TheVariants as took
-use Rattle.sym_engine.specs.Rounds.{Takes, round_records, shown_chunk}
-use Rattle.sym_engine.proofs.Walks.{IsWalk, alone, none_first, walk_on, walk_stops, drop_next, row_next, record_is}
+use Rattle.sym_files.specs.declared.rounds.Took.{Took}
+use Rattle.sym_files.specs.declared.rounds.Took.TheVariants as took
+use Rattle.sym_files.specs.Rounds.{Takes, round_records, shown_chunk}
+use Rattle.sym_files.proofs.Walks.{IsWalk, alone, none_first, walk_on, walk_stops, drop_next, row_next, record_is}
 use Rattle.sym_run_tests.specs.Rounds.{Reads}
 
 -- A walk of which no value stands for the records.

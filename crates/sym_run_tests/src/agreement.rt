@@ -1,6 +1,6 @@
 //! Passes over one file by runs, in chunks and with limits of many sizes, and the sequential pass.
 ghost use Rattle.std.specs.Prelude.{◌≤◌};
-ghost use Rattle.sym_engine.specs.Options.{InRange};
+ghost use Rattle.sym_files.specs.Options.{InRange};
 
 use std::alloc::Global;
 use std::sync::Wait;

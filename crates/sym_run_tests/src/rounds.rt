@@ -5,7 +5,7 @@ ghost use Rattle.std.specs.Option.{unwrap_or};
 ghost use Rattle.sym_check.specs.Checking.CheckedScripts.{checked_plan};
 ghost use Rattle.sym_table.specs.ChunkRecords.{chunk_records};
 ghost use Rattle.sym_table.specs.Rows.{FitsChunk};
-ghost use Rattle.sym_engine.specs.Rounds.{round_records, shown_chunk};
+ghost use Rattle.sym_files.specs.Rounds.{round_records, shown_chunk};
 ghost use Rattle.sym_run_tests.specs.Rounds.{Reads};
 
 use crate::scripts::{Row as Case, Scripted, check_rows, check_scripted};
@@ -90,6 +90,9 @@ impl Rounds for Noted {
 
     // It stands for any records.
     ghost stands = { λ _ _ _ _. Unit {0} };
+
+    // It tells no one of rounds.
+    ghost told = { λ _ _ _ _ _. Unit {0} };
 
     fn take<T: Threads + Wait + Sync>(
         &mut self,

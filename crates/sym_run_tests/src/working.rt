@@ -64,6 +64,9 @@ impl Rounds for Made {
     // It stands for any records.
     ghost stands = { λ _ _ _ _. Unit {0} };
 
+    // It tells no one of rounds.
+    ghost told = { λ _ _ _ _ _. Unit {0} };
+
     fn take<T: Threads + Wait + Sync>(
         &mut self,
         rt: &T,

@@ -14,12 +14,12 @@ use Rattle.sym_check.specs.Plan.ScriptPlans.{ScriptPlan}
 use Rattle.sym_check.specs.Rules.Scripts.{BreaksScript}
 use Rattle.sym_check.specs.declared.elaborate.error.CheckErr.{CheckErr}
 use Rattle.sym_check.specs.declared.elaborate.error.CheckErr.TheVariants as check_error
-use Rattle.sym_engine.specs.declared.error.PassErr.{PassErr}
-use Rattle.sym_engine.specs.declared.error.PassErr.TheVariants as pass_error
-use Rattle.sym_engine.specs.FileRecords.{FileRules, HasProblem}
-use Rattle.sym_engine.specs.FileRecords as of_file
-use Rattle.sym_engine.specs.FirstProblems.{FirstProblem}
-use Rattle.sym_engine.specs.FirstProblems as of_files
+use Rattle.sym_files.specs.declared.error.PassErr.{PassErr}
+use Rattle.sym_files.specs.declared.error.PassErr.TheVariants as pass_error
+use Rattle.sym_files.specs.FileRecords.{FileRules, HasProblem}
+use Rattle.sym_files.specs.FileRecords as of_file
+use Rattle.sym_files.specs.FirstProblems.{FirstProblem}
+use Rattle.sym_files.specs.FirstProblems as of_files
 use Rattle.sym_reduce.specs.declared.error.ReduceErr.{ReduceErr}
 use Rattle.sym_reduce.specs.declared.error.ReduceErr.TheVariants as reduce_error
 use Rattle.sym_reduce.specs.Joining.{FirstFileProblem, FirstJoinProblem, HasRunFault}

@@ -3,9 +3,9 @@ use Rattle.std.proofs.Common.{◌≡◌, ◌⊎◌, inl, inr, ℕ, Bool, true, f
 use Rattle.sym_base.specs.declared.values.record.Record.{Record}
 use Rattle.sym_check.specs.declared.elaborate.error.CheckErr.TheVariants as check_error
 use Rattle.sym_check.specs.declared.elaborate.error.CheckErr.{CheckErr}
-use Rattle.sym_engine.specs.declared.error.PassErr.{PassErr}
-use Rattle.sym_engine.specs.declared.error.PassErr.TheVariants as pass_error
-use Rattle.sym_engine.specs.Passing.{Holds, May, MayAll}
+use Rattle.sym_files.specs.declared.error.PassErr.{PassErr}
+use Rattle.sym_files.specs.declared.error.PassErr.TheVariants as pass_error
+use Rattle.sym_files.specs.Passing.{Holds, May, MayAll}
 use Rattle.sym_reduce.specs.declared.error.ReduceErr.{ReduceErr}
 use Rattle.sym_reduce.specs.declared.error.ReduceErr.TheVariants as reduce_error
 use Rattle.sym_lex.specs.declared.error.LexFault.{LexFault}

@@ -1,9 +1,9 @@
 -- Each call has one end, and that of a call whose files have records is the one that is found.
 use Rattle.std.proofs.Common.{◌≡◌, ◌↔◌, List, Option, None, Some, Result, Ok, Err, refl, sym, ap, subst, ◌∙◌}
 use Rattle.sym_base.specs.declared.values.record.Record.{Record}
-use Rattle.sym_engine.specs.declared.error.PassErr.{PassErr}
-use Rattle.sym_engine.specs.FirstProblems.{records_in}
-use Rattle.sym_engine.proofs.FilesAgree.{files_records, files_problem}
+use Rattle.sym_files.specs.declared.error.PassErr.{PassErr}
+use Rattle.sym_files.specs.FirstProblems.{records_in}
+use Rattle.sym_files.proofs.FilesAgree.{files_records, files_problem}
 use Rattle.sym_top.specs.declared.refusal.Refusal.{Refusal}
 use Rattle.sym_top.specs.Commands.{Asked, Command, ReadsNoRuns, ReadsRecords, Runs, Traces, Checks, Makes, Maps, Reduces, Joins, command_of, file_rules, first_no}
 use Rattle.sym_top.specs.Ends.{End, Held, IsEnd, usage, no_program, problem, finished, run_problem, reduced, join_problem, runs_joined, script_of, files_of}

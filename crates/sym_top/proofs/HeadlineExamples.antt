@@ -36,10 +36,10 @@ use Rattle.sym_check.specs.Rules.Scripts.{plan_of}
 use Rattle.sym_check.proofs.ScriptsAgree.{planned_accepted}
 use Rattle.sym_table.specs.declared.bad.BadCause.TheVariants as cause
 use Rattle.sym_table.specs.declared.header.HeadFault.TheVariants as head
-use Rattle.sym_engine.specs.declared.error.PassErr.TheVariants as pass_error
-use Rattle.sym_engine.specs.FileRecords.{FileRules}
-use Rattle.sym_engine.specs.FirstProblems.{records_in}
-use Rattle.sym_engine.proofs.FilesAgree.{files_records, files_problem}
+use Rattle.sym_files.specs.declared.error.PassErr.TheVariants as pass_error
+use Rattle.sym_files.specs.FileRecords.{FileRules}
+use Rattle.sym_files.specs.FirstProblems.{records_in}
+use Rattle.sym_files.proofs.FilesAgree.{files_records, files_problem}
 use Rattle.sym_run.specs.SavedRuns.{IsLawfulSaved}
 use Rattle.sym_run.specs.declared.saved.Saved.{Saved}
 use Rattle.sym_file.specs.Stored.{IsStored}

@@ -1,6 +1,6 @@
 -- What is written of saved runs that were joined.
 use Rattle.std.proofs.Common.{◌≡◌, ℕ, List}
-use Rattle.sym_engine.specs.Passing.{Holds}
+use Rattle.sym_files.specs.Passing.{Holds}
 use Rattle.sym_file.specs.Stored.{IsStored}
 use Rattle.sym_file.specs.Texts.{saved_text}
 use Rattle.sym_parse.specs.Printed.{script_text}

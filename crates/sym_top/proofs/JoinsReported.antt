@@ -10,8 +10,8 @@ use Rattle.sym_check.specs.Plan.ScriptPlans.{ScriptPlan}
 use Rattle.sym_check.specs.Plan.WellFormed.{IsWellFormed}
 use Rattle.sym_check.proofs.GroupLaws.{pass_outcomes}
 use Rattle.sym_check.proofs.ValidSteps.{initial_valid}
-use Rattle.sym_engine.specs.FileRecords.{rules_of}
-use Rattle.sym_engine.specs.FirstProblems.{AllFine}
+use Rattle.sym_files.specs.FileRecords.{rules_of}
+use Rattle.sym_files.specs.FirstProblems.{AllFine}
 use Rattle.sym_file.proofs.Taking.{lawful_closed, taken_records}
 use Rattle.sym_file.specs.declared.totals.Taken.TheVariants as taking
 use Rattle.sym_file.specs.Texts.{saved_text}

@@ -1,8 +1,8 @@
 -- What is written of a saved run.
 use Rattle.std.proofs.Common.{◌≡◌, ℕ, List}
-use Rattle.sym_engine.specs.FileRecords.{FileRules}
-use Rattle.sym_engine.specs.Passing.{Holds}
-use Rattle.sym_engine.specs.Saving.{SavedAll}
+use Rattle.sym_files.specs.FileRecords.{FileRules}
+use Rattle.sym_files.specs.Passing.{Holds}
+use Rattle.sym_passes.specs.Saving.{SavedAll}
 use Rattle.sym_file.specs.Stored.{IsStored}
 use Rattle.sym_file.specs.Texts.{saved_text}
 use Rattle.sym_parse.specs.Printed.{script_text}

@@ -6,12 +6,12 @@ use Rattle.sym_base.specs.declared.values.record.Record.{Record}
 use Rattle.sym_check.specs.Plan.ScriptPlans.{ScriptPlan}
 use Rattle.sym_check.specs.declared.elaborate.error.CheckErr.{CheckErr}
 use Rattle.sym_check.specs.declared.elaborate.error.CheckErr.TheVariants as check_error
-use Rattle.sym_engine.specs.declared.error.PassErr.{PassErr}
-use Rattle.sym_engine.specs.declared.error.PassErr.TheVariants as pass_error
-use Rattle.sym_engine.specs.FileRecords.{FileRules}
-use Rattle.sym_engine.specs.Partials.{AllGrew, ToldAll, ToldUntil, WatchedFiles, partials_of, watched_files}
-use Rattle.sym_engine.specs.Passing.{Counts, Holds, May, StopsPass}
-use Rattle.sym_engine.proofs.Logs.{part_whole}
+use Rattle.sym_files.specs.declared.error.PassErr.{PassErr}
+use Rattle.sym_files.specs.declared.error.PassErr.TheVariants as pass_error
+use Rattle.sym_files.specs.FileRecords.{FileRules}
+use Rattle.sym_watched.specs.Partials.{AllGrew, ToldAll, ToldUntil, WatchedFiles, partials_of, watched_files}
+use Rattle.sym_files.specs.Passing.{Counts, Holds, May, StopsPass}
+use Rattle.sym_watched.proofs.Logs.{part_whole}
 use Rattle.sym_lex.specs.declared.error.LexFault.{LexFault}
 use Rattle.sym_lex.specs.declared.error.LexFault.TheVariants as lex_fault
 use Rattle.sym_parse.specs.declared.error.ParseErr.{ParseErr}

@@ -2,8 +2,8 @@
 use Rattle.std.proofs.Common.{◌≡◌, ◌↔◌, ℕ, List, Some, None, refl, sym, ap, subst, ◌∙◌}
 use Rattle.sym_base.specs.declared.limits.TheConstants as limit
 use Rattle.sym_base.specs.declared.values.record.Record.{Record}
-use Rattle.sym_engine.specs.FileRecords.{FileRules, rules_of}
-use Rattle.sym_engine.specs.FirstProblems.{AllFine, FirstProblem}
+use Rattle.sym_files.specs.FileRecords.{FileRules, rules_of}
+use Rattle.sym_files.specs.FirstProblems.{AllFine, FirstProblem}
 use Rattle.sym_table.specs.Reading.{Row}
 use Rattle.sym_top.specs.Commands.{Asked, Command, Form, Join, Joins, Reduce, Reduces, ReadsRecords, command_of, file_rules, first_no, texts_of}
 use Rattle.sym_top.specs.Ends.{End, Held, IsEnd, usage, no_program, problem, finished, run_problem, reduced, join_problem, runs_joined, script_of, files_of, whole_end, report_of, trace_report_of, groups_end}

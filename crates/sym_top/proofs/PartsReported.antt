@@ -8,11 +8,11 @@ use Rattle.sym_check.specs.Plan.ScriptPlans.{ScriptPlan}
 use Rattle.sym_check.specs.Plan.WellFormed.{IsWellFormed}
 use Rattle.sym_check.proofs.GroupLaws.{pass_outcomes}
 use Rattle.sym_check.proofs.ValidSteps.{initial_valid}
-use Rattle.sym_engine.specs.FileRecords.{FileRules, IsFine, rules_of}
-use Rattle.sym_engine.specs.FileRecords as fine
-use Rattle.sym_engine.specs.FirstProblems.{AllFine}
-use Rattle.sym_engine.specs.FirstProblems as all_fine
-use Rattle.sym_engine.proofs.FilesAgree.{files_records}
+use Rattle.sym_files.specs.FileRecords.{FileRules, IsFine, rules_of}
+use Rattle.sym_files.specs.FileRecords as fine
+use Rattle.sym_files.specs.FirstProblems.{AllFine}
+use Rattle.sym_files.specs.FirstProblems as all_fine
+use Rattle.sym_files.proofs.FilesAgree.{files_records}
 use Rattle.sym_file.proofs.Taking.{lawful_closed, taken_records}
 use Rattle.sym_file.specs.declared.totals.Taken.TheVariants as taking
 use Rattle.sym_parse.specs.Printed.{script_text}

@@ -11,8 +11,8 @@ use Rattle.sym_check.specs.Plan.ScriptPlans.{ScriptPlan}
 use Rattle.sym_check.specs.Plan.WellFormed.{IsWellFormed}
 use Rattle.sym_check.proofs.GroupLaws.{pass_keys}
 use Rattle.sym_table.proofs.RecordsAgree.{records_are}
-use Rattle.sym_engine.specs.FileRecords.{FileRules, IsFine, empty, filled}
-use Rattle.sym_engine.specs.FirstProblems.{AllFine, no_file, one_more}
+use Rattle.sym_files.specs.FileRecords.{FileRules, IsFine, empty, filled}
+use Rattle.sym_files.specs.FirstProblems.{AllFine, no_file, one_more}
 
 file-records : (p : ScriptPlan) (rules : FileRules) (first_no : ℕ) (bytes : List ℕ) (records : List Record) → IsWellFormed p →
     IsFine p rules first_no bytes records → All (IsRecord p) records

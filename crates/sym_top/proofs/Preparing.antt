@@ -18,11 +18,12 @@ use Rattle.sym_check.specs.Rules.Scripts.{BreaksScript}
 use Rattle.sym_check.specs.declared.checking.accepted.Checked.{Checked}
 use Rattle.sym_check.specs.declared.elaborate.error.CheckErr.{CheckErr}
 use Rattle.sym_check.specs.declared.elaborate.error.CheckErr.TheVariants as check_error
-use Rattle.sym_engine.specs.declared.error.PassErr.{PassErr}
-use Rattle.sym_engine.specs.declared.error.PassErr.TheVariants as pass_error
-use Rattle.sym_engine.specs.FileRecords.{FileRules, rules_of}
-use Rattle.sym_engine.specs.FirstProblems.{AllFine, FirstProblem, no_file}
-use Rattle.sym_engine.specs.Passing.{AllRead, Holds, Counts, May, MayAll, PassedAll, HasFirstProblem, StopsFrom, StopsPass}
+use Rattle.sym_files.specs.declared.error.PassErr.{PassErr}
+use Rattle.sym_files.specs.declared.error.PassErr.TheVariants as pass_error
+use Rattle.sym_files.specs.FileRecords.{FileRules, rules_of}
+use Rattle.sym_files.specs.FirstProblems.{AllFine, FirstProblem, no_file}
+use Rattle.sym_files.specs.Passing.{AllRead, Holds, Counts, May, MayAll, HasFirstProblem, StopsFrom, StopsPass}
+use Rattle.sym_passes.specs.Passed.{PassedAll}
 use Rattle.sym_parse.specs.Printed.{script_text}
 use Rattle.sym_reduce.specs.declared.error.ReduceErr.{ReduceErr}
 use Rattle.sym_reduce.specs.declared.error.ReduceErr.TheVariants as reduce_error

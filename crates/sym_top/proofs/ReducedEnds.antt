@@ -3,10 +3,10 @@ use Rattle.std.proofs.Common.{◌≡◌, ◌∙◌, ◌⊎◌, inl, inr, refl, s
 use Rattle.sym_check.specs.Plan.ScriptPlans.{ScriptPlan}
 use Rattle.sym_check.specs.Plan.WellFormed.{IsWellFormed}
 use Rattle.sym_check.proofs.AcceptedPlans.{accepted_well}
-use Rattle.sym_engine.specs.declared.error.PassErr.{PassErr}
-use Rattle.sym_engine.specs.FileRecords.{FileRules}
-use Rattle.sym_engine.specs.FirstProblems.{FirstProblem}
-use Rattle.sym_engine.specs.FirstProblems as first
+use Rattle.sym_files.specs.declared.error.PassErr.{PassErr}
+use Rattle.sym_files.specs.FileRecords.{FileRules}
+use Rattle.sym_files.specs.FirstProblems.{FirstProblem}
+use Rattle.sym_files.specs.FirstProblems as first
 use Rattle.sym_parse.specs.Printed.{script_text}
 use Rattle.sym_parse.proofs.Answering.{text-lawful}
 use Rattle.sym_reduce.specs.declared.error.ReduceErr.{ReduceErr}

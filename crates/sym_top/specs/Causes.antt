@@ -14,9 +14,9 @@ use Rattle.sym_check.specs.declared.elaborate.error.CheckErr.{CheckErr}
 use Rattle.sym_check.specs.declared.elaborate.error.CheckErr.TheVariants as check_error
 use Rattle.sym_table.specs.declared.bad.Bad.{Bad}
 use Rattle.sym_table.specs.declared.header.HeadFault.{HeadFault}
-use Rattle.sym_engine.specs.declared.error.PassErr.{PassErr}
-use Rattle.sym_engine.specs.declared.error.PassErr.TheVariants as pass_error
-use Rattle.sym_engine.specs.FirstProblems.{FirstProblem}
+use Rattle.sym_files.specs.declared.error.PassErr.{PassErr}
+use Rattle.sym_files.specs.declared.error.PassErr.TheVariants as pass_error
+use Rattle.sym_files.specs.FirstProblems.{FirstProblem}
 use Rattle.sym_reduce.specs.declared.error.ReduceErr.{ReduceErr}
 use Rattle.sym_reduce.specs.declared.error.ReduceErr.TheVariants as reduce_error
 use Rattle.sym_reduce.specs.Joining.{FirstJoinProblem}

@@ -6,8 +6,8 @@ use Rattle.std.specs.Str.{bytes_eq}
 use Rattle.clap.specs.Words.{Row, first_of, all_of}
 use Rattle.sym_base.specs.declared.limits.TheConstants as limit
 use Rattle.sym_table.specs.Reading.{Row as FileRow}
-use Rattle.sym_engine.specs.FileRecords.{FileRules, plain_rules, rules_of}
-use Rattle.sym_engine.specs.declared.options.Options.{Options}
+use Rattle.sym_files.specs.FileRecords.{FileRules, plain_rules, rules_of}
+use Rattle.sym_files.specs.declared.options.Options.{Options}
 use Rattle.sym_top.specs.declared.refusal.Place.{Place}
 use Rattle.sym_top.specs.declared.refusal.Place.TheVariants as place
 use Rattle.sym_report.specs.Forms.{FormTexts, form_named}

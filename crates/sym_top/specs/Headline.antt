@@ -2,8 +2,8 @@
 -- records of all files. The pass is that of the SYMPLE paper (SOSP 2015).
 use Rattle.std.specs.Prelude.{◌≡◌, ℕ, List, map, Some}
 use Rattle.sym_base.specs.declared.values.record.Record.{Record}
-use Rattle.sym_engine.specs.FileRecords.{rules_of}
-use Rattle.sym_engine.specs.FirstProblems.{AllFine}
+use Rattle.sym_files.specs.FileRecords.{rules_of}
+use Rattle.sym_files.specs.FirstProblems.{AllFine}
 use Rattle.sym_report.specs.Forms.{FormTexts, report_text}
 use Rattle.sym_report.specs.ReportRows.{heads_of}
 use Rattle.sym_top.specs.declared.status.Status.{Status}

@@ -8,10 +8,10 @@ use Rattle.sym_base.specs.declared.values.value.Key.{Key}
 use Rattle.sym_check.specs.Meaning.Groups.{pass}
 use Rattle.sym_check.specs.Checking.CheckedScripts.{checked_plan}
 use Rattle.sym_check.specs.declared.checking.accepted.Checked.{Checked}
-use Rattle.sym_engine.specs.declared.error.PassErr.{PassErr}
-use Rattle.sym_engine.specs.FileRecords.{FileRules}
-use Rattle.sym_engine.specs.FirstProblems.{AllFine, FirstProblem}
-use Rattle.sym_engine.specs.Passing.{AllRead, Holds, Counts, May, MayAll, StopsFrom}
+use Rattle.sym_files.specs.declared.error.PassErr.{PassErr}
+use Rattle.sym_files.specs.FileRecords.{FileRules}
+use Rattle.sym_files.specs.FirstProblems.{AllFine, FirstProblem}
+use Rattle.sym_files.specs.Passing.{AllRead, Holds, Counts, May, MayAll, StopsFrom}
 use Rattle.sym_parse.specs.Printed.{script_text}
 use Rattle.sym_reduce.specs.declared.error.ReduceErr.{ReduceErr}
 use Rattle.sym_reduce.specs.Joining.{AreRunFiles, StopsJoin}

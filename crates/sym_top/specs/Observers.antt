@@ -4,10 +4,10 @@ use Rattle.std.specs.Prelude.{◌≡◌, ◌<◌, ◌⊎◌, ℕ, if◌then◌el
 use Rattle.sym_base.specs.Counts.{Rose}
 use Rattle.sym_base.specs.Trees.{ScriptTree}
 use Rattle.sym_base.specs.declared.limits.TheConstants as limit
-use Rattle.sym_engine.specs.declared.error.PassErr.{PassErr}
-use Rattle.sym_engine.specs.FileRecords.{rules_of}
-use Rattle.sym_engine.specs.Partials.{ToldAll, ToldUntil, WatchedFiles, watched_files}
-use Rattle.sym_engine.specs.Passing.{Counts, Holds, May, StopsPass}
+use Rattle.sym_files.specs.declared.error.PassErr.{PassErr}
+use Rattle.sym_files.specs.FileRecords.{rules_of}
+use Rattle.sym_watched.specs.Partials.{ToldAll, ToldUntil, WatchedFiles, watched_files}
+use Rattle.sym_files.specs.Passing.{Counts, Holds, May, StopsPass}
 use Rattle.sym_table.specs.Reading.{Row as FileRow}
 use Rattle.sym_watch.specs.Logs.{Log}
 use Rattle.sym_top.specs.declared.commands.Run.{Run as RunRead}

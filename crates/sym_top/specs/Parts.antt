@@ -3,7 +3,7 @@ use Rattle.std.specs.Prelude.{◌≡◌, ℕ, ◌+◌, ◌≤◌, List, [], ◌�
 use Rattle.std.specs.List.{All, AllZip}
 use Rattle.sym_base.specs.declared.values.record.Record.{Record}
 use Rattle.sym_check.specs.Meaning.Validity.{IsRecord}
-use Rattle.sym_engine.specs.FirstProblems.{AllFine}
+use Rattle.sym_files.specs.FirstProblems.{AllFine}
 use Rattle.sym_parse.specs.Printed.{script_text}
 use Rattle.sym_reduce.specs.Reducing.{IsRunFile}
 use Rattle.sym_run.specs.SavedRuns.{SavedStandsFor}

@@ -3,12 +3,12 @@
 use Rattle.std.specs.Prelude.{◌≡◌, ◌⊎◌, ℕ, List, [], take, map, Option, None, Some}
 use Rattle.sym_base.specs.Counts.{Rose}
 use Rattle.sym_base.specs.declared.values.record.Record.{Record}
-use Rattle.sym_engine.specs.FirstProblems.{AllFine}
+use Rattle.sym_files.specs.FirstProblems.{AllFine}
 use Rattle.sym_parse.specs.Printed.{script_text}
 use Rattle.sym_reduce.specs.Joining.{AreRunFiles}
 use Rattle.sym_reduce.specs.Reducing.{AreReduced, Pairs}
 use Rattle.sym_run.specs.declared.saved.Saved.{Saved}
-use Rattle.sym_engine.specs.Passing.{Holds, Counts, May, MayAll}
+use Rattle.sym_files.specs.Passing.{Holds, Counts, May, MayAll}
 use Rattle.sym_report.specs.Forms.{FormTexts}
 use Rattle.sym_table.specs.Reading.{Row as FileRow}
 use Rattle.sym_top.specs.declared.refusal.Place.{Place}

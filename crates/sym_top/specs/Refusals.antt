@@ -10,8 +10,8 @@ use Rattle.sym_parse.specs.declared.error.ParseErr.{ParseErr}
 use Rattle.sym_parse.specs.declared.error.ParseErr.TheVariants as parse_error
 use Rattle.sym_check.specs.declared.elaborate.error.CheckErr.{CheckErr}
 use Rattle.sym_check.specs.declared.elaborate.error.CheckErr.TheVariants as check_error
-use Rattle.sym_engine.specs.declared.error.PassErr.{PassErr}
-use Rattle.sym_engine.specs.declared.error.PassErr.TheVariants as pass_error
+use Rattle.sym_files.specs.declared.error.PassErr.{PassErr}
+use Rattle.sym_files.specs.declared.error.PassErr.TheVariants as pass_error
 use Rattle.sym_reduce.specs.declared.error.ReduceErr.{ReduceErr}
 use Rattle.sym_reduce.specs.declared.error.ReduceErr.TheVariants as reduce_error
 use Rattle.sym_top.specs.declared.refusal.Place.{Place}

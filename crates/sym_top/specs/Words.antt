@@ -3,7 +3,7 @@ use Rattle.std.specs.Prelude.{◌≤◌, List, [], ◌∷◌, ℕ, map, length}
 use Rattle.std.specs.Option.{option_map}
 use Rattle.std.specs.String.{string_bytes}
 use Rattle.sym_base.specs.declared.limits.TheConstants as limit
-use Rattle.sym_engine.specs.Options.{InRange}
+use Rattle.sym_files.specs.Options.{InRange}
 use Rattle.sym_top.specs.declared.arguments.TheConstants as own
 use Rattle.sym_top.specs.declared.commands.Run.{Run as RunRead}
 use Rattle.sym_top.specs.declared.commands.Trace.{Trace as TraceRead}

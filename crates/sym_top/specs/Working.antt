@@ -1,7 +1,7 @@
 -- Options that say how records are worked on. No end depends on them, but for the limits of `map`
 -- and `join`.
 use Rattle.std.specs.Prelude.{◌≡◌, ℕ, Bool, Some}
-use Rattle.sym_engine.specs.declared.options.Options.{Options}
+use Rattle.sym_files.specs.declared.options.Options.{Options}
 use Rattle.sym_top.specs.Commands.{Asked, Command, Run, Runs, Trace, Traces, Check, Checks, Make, Makes, Map, Maps, Reduce, Reduces, Join, Joins, command_of}
 
 -- Options with this chunk, limit and number of workers. The most bytes of a file stay as they were.

@@ -2,8 +2,8 @@
 ghost use Rattle.std.specs.Prelude.{◌≡◌, [], ◌∷◌, Some, map, IfOk, IfErr};
 ghost use Rattle.std.specs.String.{string_bytes};
 ghost use Rattle.sym_base.specs.InMemory.{visible_bytes};
-ghost use Rattle.sym_engine.specs.FileRecords.{rules_of};
-ghost use Rattle.sym_engine.specs.Options.{InRange};
+ghost use Rattle.sym_files.specs.FileRecords.{rules_of};
+ghost use Rattle.sym_files.specs.Options.{InRange};
 ghost use Rattle.sym_top.specs.Commands.{Makes, command_of};
 ghost use Rattle.sym_top.specs.Loading.{Passed, StopsRecords, Ready, Stops};
 ghost use Rattle.sym_top.specs.Making.{made_file as made_file_of};

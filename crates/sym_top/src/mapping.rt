@@ -2,8 +2,8 @@
 ghost use Rattle.std.specs.Prelude.{◌≡◌, ◌≤◌, ℕ, List, Some, map, IfOk, IfErr, length};
 ghost use Rattle.std.specs.String.{string_bytes};
 ghost use Rattle.sym_base.specs.declared.limits.TheConstants as limit;
-ghost use Rattle.sym_engine.specs.FileRecords.{rules_of};
-ghost use Rattle.sym_engine.specs.Options.{InRange};
+ghost use Rattle.sym_files.specs.FileRecords.{rules_of};
+ghost use Rattle.sym_files.specs.Options.{InRange};
 ghost use Rattle.sym_top.specs.Commands.{Asked, Maps, command_of};
 ghost use Rattle.sym_top.specs.Loading.{MapsFiles, Ready, Stops, StopsFiles};
 ghost use Rattle.sym_top.specs.Programs.{checked_program};

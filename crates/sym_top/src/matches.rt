@@ -4,7 +4,7 @@ ghost use Rattle.std.specs.Option.{option_map};
 ghost use Rattle.std.specs.String.{string_bytes};
 ghost use Rattle.clap.specs.Words.{found_of, rows_of, first_of, all_of};
 ghost use Rattle.sym_base.specs.declared.limits.TheConstants as limit;
-ghost use Rattle.sym_engine.specs.Options.{InRange};
+ghost use Rattle.sym_files.specs.Options.{InRange};
 ghost use Rattle.sym_top.specs.Commands.{number_found, word_number, flag_found, options_found, run_options as run_options_of, form_found, files_found, run_found, trace_found, check_found, make_found, map_found, reduce_found, join_found};
 ghost use Rattle.sym_top.specs.Words.{run_seen, trace_seen, check_seen, make_seen, map_seen, reduce_seen, join_seen, IsRun, IsTrace, IsMap, IsReduce, IsJoin};
 

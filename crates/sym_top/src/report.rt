@@ -1,9 +1,10 @@
 //! What is written of the groups of a pass.
 ghost use Rattle.std.specs.Prelude.{◌≡◌, ◌≤◌, ℕ, true, false, List, [], map, IfOk, IfErr, OnOk, if◌then◌else◌};
 ghost use Rattle.std.specs.String.{string_bytes};
-ghost use Rattle.sym_engine.specs.FileRecords.{rules_of};
-ghost use Rattle.sym_engine.specs.Partials.{ToldAll, ToldUntil};
-ghost use Rattle.sym_engine.specs.Passing.{PassedAll, StopsPass};
+ghost use Rattle.sym_files.specs.FileRecords.{rules_of};
+ghost use Rattle.sym_watched.specs.Partials.{ToldAll, ToldUntil};
+ghost use Rattle.sym_passes.specs.Passed.{PassedAll};
+ghost use Rattle.sym_files.specs.Passing.{StopsPass};
 ghost use Rattle.sym_top.specs.Ends.{report_of};
 ghost use Rattle.sym_top.specs.Loading.{Reports, StopsFiles};
 ghost use Rattle.sym_top.specs.Observers.{StopsTold, logs_of, watched_by};

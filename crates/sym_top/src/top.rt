@@ -2,7 +2,7 @@
 ghost use Rattle.std.specs.Prelude.{◌≡◌, ◌≤◌, ◌⊎◌, ℕ, List, [], Some, map};
 ghost use Rattle.std.specs.List.{All};
 ghost use Rattle.std.specs.String.{string_bytes};
-ghost use Rattle.sym_engine.specs.Options.{InRange};
+ghost use Rattle.sym_files.specs.Options.{InRange};
 ghost use Rattle.sym_table.specs.Reading.{Row as OneRow};
 ghost use Rattle.sym_top.specs.Commands.{Asked, Runs, Checks, Makes, Maps, Reduces, Joins, command_in, command_of, texts_of};
 ghost use Rattle.sym_top.specs.Headline.{FineRun, IsOnePass};

@@ -4,7 +4,7 @@ ghost use Rattle.std.specs.Option.{option_map};
 ghost use Rattle.std.specs.String.{string_bytes};
 ghost use Rattle.clap.specs.Words.{app_of, found_of, rows_of};
 ghost use Rattle.clap.specs.Faults.{is_simple_and_free};
-ghost use Rattle.sym_engine.specs.Options.{InRange};
+ghost use Rattle.sym_files.specs.Options.{InRange};
 ghost use Rattle.sym_top.specs.CommandLines.{matched};
 ghost use Rattle.sym_top.specs.Commands.{run_of, trace_of, check_of, make_of, map_of, reduce_of, join_of, command_by, command_in};
 ghost use Rattle.sym_top.specs.Words.{run_seen, trace_seen, check_seen, make_seen, map_seen, reduce_seen, join_seen, command_seen, IsRun, IsTrace, IsMap, IsReduce, IsJoin, IsInRange};

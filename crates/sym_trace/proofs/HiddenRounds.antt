@@ -27,7 +27,7 @@ use Rattle.sym_run.specs.Applying.{applied_to}
 use Rattle.sym_run.specs.declared.runs.Applied.{Applied}
 use Rattle.sym_run.specs.declared.runs.Applied.TheVariants as applied
 use Rattle.sym_run.proofs.FoundRecords.{all_records-append}
-use Rattle.sym_engine.specs.Rounds.{IsRound}
+use Rattle.sym_files.specs.Rounds.{IsRound}
 use Rattle.sym_scan.specs.declared.rows.TraceRow.{TraceRow}
 use Rattle.sym_scan.specs.declared.scanning.Scanned.{Scanned}
 use Rattle.sym_scan.specs.declared.scanning.Scanned.TheVariants.{Done, Bad}

@@ -22,8 +22,8 @@ use Rattle.sym_report.specs.declared.rows.Row.{Row}
 use Rattle.sym_report.specs.Forms.{FormTexts, rows_text}
 use Rattle.sym_report.specs.ReportRows.{is_faulty, some_faulty}
 use Rattle.sym_run.specs.Applying.{AreValid}
-use Rattle.sym_engine.specs.Rounds.{AreWorkers, round_records}
-use Rattle.sym_engine.proofs.Folds.{plain_chunks}
+use Rattle.sym_files.specs.Rounds.{AreWorkers, round_records}
+use Rattle.sym_files.proofs.PlainRows.{plain_chunks}
 use Rattle.sym_scan.specs.declared.rows.TraceRow.{TraceRow}
 use Rattle.sym_scan.specs.declared.scanning.Scanned.{Scanned}
 use Rattle.sym_scan.specs.declared.scanning.Scanned.TheVariants.{Done, Bad}

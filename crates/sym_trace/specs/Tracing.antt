@@ -10,7 +10,7 @@ use Rattle.sym_report.specs.declared.rows.Heads.{Heads}
 use Rattle.sym_report.specs.Forms.{FormTexts, report_text, rows_text}
 use Rattle.sym_report.specs.ReportRows.{some_faulty}
 use Rattle.sym_run.specs.Applying.{AreValid}
-use Rattle.sym_engine.specs.Rounds.{AreWorkers}
+use Rattle.sym_files.specs.Rounds.{AreWorkers}
 use Rattle.sym_trace.specs.TraceReports.{trace_heads, trace_rows}
 
 -- The report of the trace of these records, in a form with these texts, was appended to what the

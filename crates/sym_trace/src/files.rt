@@ -3,9 +3,9 @@ ghost use Rattle.std.specs.Prelude.{◌≡◌, ◌≤◌, ℕ, List, IfOk, IfErr
 ghost use Rattle.std.specs.String.{string_bytes};
 ghost use Rattle.sym_base.specs.declared.limits.TheConstants as limit;
 ghost use Rattle.sym_check.specs.Checking.CheckedScripts.{checked_plan, checked_tree};
-ghost use Rattle.sym_engine.specs.FileRecords.{plain_rules};
-ghost use Rattle.sym_engine.specs.Options.{InRange};
-ghost use Rattle.sym_engine.specs.Passing.{AllRead, StopsPass};
+ghost use Rattle.sym_files.specs.FileRecords.{plain_rules};
+ghost use Rattle.sym_files.specs.Options.{InRange};
+ghost use Rattle.sym_files.specs.Passing.{AllRead, StopsPass};
 ghost use Rattle.sym_trace.specs.TraceReports.{trace_heads};
 ghost use Rattle.sym_trace.specs.Tracing.{AreTraceRows, IsTraceReport};
 
@@ -18,7 +18,7 @@ use std::sync::Wait;
 use std::thread::Threads;
 use sym_base::Store;
 use sym_check::Checked;
-use sym_engine::{Options, PassErr, each_round};
+use sym_files::{Options, PassErr, each_round};
 use sym_plain::Groups;
 use sym_report::{Heads, ReportForm};
 
@@ -94,7 +94,7 @@ fn trace_rounds<S: Traces, T: Threads + Wait + Sync, F: Store>(
 ///
 /// # Errors
 ///
-/// Those of `pass` of `sym_engine`, in the same order. The form is dropped.
+/// Those of `each_round` of `sym_files`, in the same order. The form is dropped.
 pub fn trace_files<T: Threads + Wait + Sync, F: Store>(
     rt: &T,
     alloc: Global,

@@ -2,7 +2,7 @@
 ghost use Rattle.std.specs.Prelude.{◌≡◌, ◌≤◌, IfOk, drop, length, slice_range};
 ghost use Rattle.std.specs.List.{All};
 ghost use Rattle.sym_check.specs.Checking.CheckedScripts.{checked_plan};
-ghost use Rattle.sym_engine.specs.Rounds.{AreWorkers, IsLimit, IsRound};
+ghost use Rattle.sym_files.specs.Rounds.{AreWorkers, IsLimit, IsRound};
 ghost use Rattle.sym_run.specs.Applying.{AreValid, IfDone as IfLed, applied_to};
 ghost use Rattle.sym_scan.specs.Scans.{IfDone, scanned_to};
 ghost use Rattle.sym_table.specs.ChunkRecords.{all_records};
@@ -12,10 +12,11 @@ use crate::showing::{ShownPart, shown_part};
 use std::alloc::Global;
 use std::thread::Threads;
 use sym_base::NoMemory;
-use sym_engine::{Free, Work, led};
+use sym_files::Work;
 use sym_plain::Groups;
 use sym_run::Applied;
 use sym_scan::{Scanned, TraceRows, scan_round};
+use sym_workers::{Free, led};
 
 // What the records of the chunks from `first` up to but without `end` make of groups.
 fn lead_part<T: Threads + Sync>(

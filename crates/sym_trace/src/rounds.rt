@@ -11,7 +11,7 @@ use std::sync::Wait;
 use std::thread::Threads;
 use sym_base::NoMemory;
 use sym_check::Checked;
-use sym_engine::{Rounds, Took, Work};
+use sym_files::{Rounds, Took, Work};
 use sym_plain::Groups;
 use sym_report::{Heads, ReportForm};
 use sym_scan::Scanned;
@@ -57,6 +57,9 @@ impl<'a, S: Traces> Rounds for TraceRounds<'a, S> {
           faulty = rounds.faulty;
         } in
         IsTracing S.by p seen records };
+
+    // It tells no one of rounds.
+    ghost told = { λ _ _ _ _ _. Unit {0} };
 
     fn take<T: Threads + Wait + Sync>(
         &mut self,

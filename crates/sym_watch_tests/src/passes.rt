@@ -1,6 +1,6 @@
 //! Passes that are watched: what observers were told of.
 ghost use Rattle.std.specs.Prelude.{◌≤◌};
-ghost use Rattle.sym_engine.specs.Options.{InRange};
+ghost use Rattle.sym_files.specs.Options.{InRange};
 
 use crate::noter::noter_into;
 use std::alloc::{AllocError, Global};

@@ -1,10 +1,10 @@
 use Rattle.std.proofs.Common.{IfOk, List, subst}
 use Rattle.sym_check.specs.Checking.CheckedScripts.{checked_plan}
 use Rattle.sym_table.specs.declared.chunk.Chunk.{Chunk}
-use Rattle.sym_engine.specs.contracts.rounds.Work.{the_type as work}
-use Rattle.sym_engine.specs.Rounds.{StandsForAll}
-use Rattle.sym_engine.proofs.WorkShared.{work_fields}
-use Rattle.sym_engine.proofs.Folds.{plain_chunks}
+use Rattle.sym_files.specs.contracts.rounds.Work.{the_type as work}
+use Rattle.sym_workers.specs.RoundRuns.{StandsForAll}
+use Rattle.sym_files.proofs.WorkShared.{work_fields}
+use Rattle.sym_files.proofs.PlainRows.{plain_chunks}
 use Rattle.sym_gate_tests.proofs.bodies.made.Goals as goal
 
 pub two_parts-requires-sync-W : goal.two_parts-requires-sync-W

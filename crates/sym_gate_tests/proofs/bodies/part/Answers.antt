@@ -1,7 +1,7 @@
 use Rattle.std.proofs.Common.{◌≡◌, ◌∙◌, ◌<◌, ℕ, ◌+◌, Some, ap, arith, length, slice_get}
 use Rattle.sym_check.specs.Checking.CheckedScripts.{checked_plan}
 use Rattle.sym_run.proofs.FoundRecords.{run_tight}
-use Rattle.sym_engine.proofs.RoundRuns.{chunk_at}
+use Rattle.sym_workers.proofs.RoundRuns.{chunk_at}
 use Rattle.sym_gate_tests.proofs.bodies.part.Goals as goal
 
 pub extend-requires-clause-tight : goal.extend-requires-clause-tight

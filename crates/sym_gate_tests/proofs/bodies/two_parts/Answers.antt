@@ -1,6 +1,6 @@
 use Rattle.std.proofs.Common.{subst, sym}
 use Rattle.sym_check.specs.Checking.CheckedScripts.{checked_plan}
-use Rattle.sym_engine.specs.declared.rounds.Work.{Work}
+use Rattle.sym_files.specs.declared.rounds.Work.{Work}
 use Rattle.sym_run.specs.Runs.{AreTight, GroupsFit}
 use Rattle.sym_gate_tests.proofs.Answered.{part_fits, part_tight}
 use Rattle.sym_gate_tests.proofs.bodies.two_parts.Goals as goal

@@ -4,7 +4,7 @@ use Rattle.std.specs.String.{string_bytes}
 use Rattle.std.proofs.lemmas.List.{length-map}
 use Rattle.std.proofs.lemmas.List.Elements.{All-nil}
 use Rattle.sym_check.specs.Checking.CheckedScripts.{checked_plan}
-use Rattle.sym_engine.proofs.FileByFile.{may_as, name_at}
+use Rattle.sym_files.proofs.FileByFile.{may_as, name_at}
 use Rattle.sym_file.specs.SavedTexts.{printed}
 use Rattle.sym_run.specs.Applying.{AreValid}
 use Rattle.sym_reduce.specs.declared.error.ReduceErr.{ReduceErr}

@@ -4,7 +4,7 @@ use Rattle.sym_check.specs.Checking.CheckedScripts.{checked_plan}
 use Rattle.sym_table.specs.ChunkRecords.{chunk_records}
 use Rattle.sym_table.specs.Reading.{Row}
 use Rattle.sym_table.proofs.Stepping.{no_end, one_chunk, row_read as row_is_read}
-use Rattle.sym_engine.specs.Rounds.{shown_chunk}
+use Rattle.sym_files.specs.Rounds.{shown_chunk}
 use Rattle.sym_run_tests.proofs.Noting.{read_begins, row_is_bad, row_read}
 use Rattle.sym_run_tests.proofs.rounds.read_chunk.Goals as goal
 

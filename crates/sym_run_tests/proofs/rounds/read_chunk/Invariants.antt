@@ -5,7 +5,7 @@ use Rattle.sym_check.specs.Checking.CheckedScripts.{checked_plan}
 use Rattle.sym_table.specs.ChunkRecords.{chunk_records}
 use Rattle.sym_table.specs.Reading.{Row}
 use Rattle.sym_table.specs.RowRecords.{records_or_bad}
-use Rattle.sym_engine.specs.Rounds.{shown_chunk}
+use Rattle.sym_files.specs.Rounds.{shown_chunk}
 use Rattle.sym_run_tests.proofs.Noting.{IsRead}
 use Rattle.sym_run_tests.proofs.rounds.read_chunk.Given as goal
 

@@ -1,6 +1,6 @@
 use Rattle.std.specs.Option.{unwrap_or}
 use Rattle.sym_check.specs.Checking.CheckedScripts.{checked_plan}
-use Rattle.sym_engine.specs.Rounds.{round_records}
+use Rattle.sym_files.specs.Rounds.{round_records}
 use Rattle.sym_run_tests.proofs.Noting.{chunk_read, read_begins}
 use Rattle.sym_run_tests.proofs.rounds.read_chunks.Goals as goal
 

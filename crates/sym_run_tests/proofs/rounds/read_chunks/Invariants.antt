@@ -2,7 +2,7 @@
 use Rattle.std.proofs.Common.{drop}
 use Rattle.std.specs.Option.{unwrap_or}
 use Rattle.sym_check.specs.Checking.CheckedScripts.{checked_plan}
-use Rattle.sym_engine.specs.Rounds.{round_records}
+use Rattle.sym_files.specs.Rounds.{round_records}
 use Rattle.sym_run_tests.proofs.Noting.{IsRead}
 use Rattle.sym_run_tests.proofs.rounds.read_chunks.Given as goal
 

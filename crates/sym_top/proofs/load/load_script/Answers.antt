@@ -1,5 +1,5 @@
 use Rattle.std.proofs.Common.{Err, sym, ap, subst}
-use Rattle.sym_engine.specs.Passing.{May}
+use Rattle.sym_files.specs.Passing.{May}
 use Rattle.sym_top.specs.Loading.{Unloads}
 use Rattle.sym_top.proofs.Preparing.{unread-unloads, read-may, loads-by, unloads-by}
 use Rattle.sym_top.proofs.load.load_script.Goals as goal

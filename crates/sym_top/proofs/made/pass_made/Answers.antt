@@ -2,9 +2,9 @@ use Rattle.std.proofs.Common.{◌≡◌, ◌∙◌, List, [], ◌∷◌, ℕ, So
 use Rattle.std.specs.String.{string_bytes}
 use Rattle.sym_base.specs.InMemory.{visible_bytes}
 use Rattle.sym_check.specs.Checking.CheckedScripts.{checked_plan}
-use Rattle.sym_engine.specs.FileRecords.{rules_of}
-use Rattle.sym_engine.specs.FirstProblems.{AllFine}
-use Rattle.sym_engine.specs.Passing.{Holds, MayAll}
+use Rattle.sym_files.specs.FileRecords.{rules_of}
+use Rattle.sym_files.specs.FirstProblems.{AllFine}
+use Rattle.sym_files.specs.Passing.{Holds, MayAll}
 use Rattle.sym_top.specs.Loading.{StopsRecords, no_more}
 use Rattle.sym_top.specs.Making.{made_file}
 use Rattle.sym_top.specs.Programs.{checked_program}

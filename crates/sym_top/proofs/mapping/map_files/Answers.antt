@@ -1,5 +1,5 @@
 use Rattle.std.proofs.Common.{sym, subst}
-use Rattle.sym_engine.specs.declared.error.PassErr.TheVariants as pass_error
+use Rattle.sym_files.specs.declared.error.PassErr.TheVariants as pass_error
 use Rattle.sym_top.specs.Loading.{StopsFiles, stops}
 use Rattle.sym_top.specs.Programs.{checked_program}
 use Rattle.sym_top.proofs.MappedTexts.{maps-by}

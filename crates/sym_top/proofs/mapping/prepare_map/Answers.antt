@@ -1,6 +1,6 @@
 use Rattle.std.proofs.Common.{ap, sym, subst, map}
 use Rattle.std.specs.String.{string_bytes}
-use Rattle.sym_engine.specs.FileRecords.{rules_of}
+use Rattle.sym_files.specs.FileRecords.{rules_of}
 use Rattle.sym_top.specs.Loading.{StopsFiles}
 use Rattle.sym_top.specs.Programs.{checked_program}
 use Rattle.sym_top.proofs.Preparing.{map-files-stop, map-load-stops, map-ready, maps-along}

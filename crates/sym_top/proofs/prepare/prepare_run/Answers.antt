@@ -1,6 +1,6 @@
 use Rattle.std.proofs.Common.{ap, sym, subst, map, refl}
 use Rattle.std.specs.String.{string_bytes}
-use Rattle.sym_engine.specs.FileRecords.{rules_of}
+use Rattle.sym_files.specs.FileRecords.{rules_of}
 use Rattle.sym_top.specs.Ends.{report_of}
 use Rattle.sym_top.specs.Loading.{StopsFiles}
 use Rattle.sym_top.specs.Observers.{at_script}

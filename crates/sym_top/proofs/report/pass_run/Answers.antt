@@ -1,8 +1,8 @@
 use Rattle.std.proofs.Common.{map, subst}
 use Rattle.std.specs.Result.{IfErr, OnOk}
 use Rattle.std.specs.String.{string_bytes}
-use Rattle.sym_engine.specs.FileRecords.{rules_of}
-use Rattle.sym_engine.specs.Partials.{ToldAll, ToldUntil, watched_files}
+use Rattle.sym_files.specs.FileRecords.{rules_of}
+use Rattle.sym_watched.specs.Partials.{ToldAll, ToldUntil, watched_files}
 use Rattle.sym_top.specs.Observers.{logs_of}
 use Rattle.sym_top.specs.Programs.{checked_program}
 use Rattle.sym_top.proofs.report.pass_run.Goals as goal

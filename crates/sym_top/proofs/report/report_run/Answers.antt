@@ -2,9 +2,9 @@ use Rattle.std.proofs.Common.{sym, subst, map}
 use Rattle.std.specs.String.{string_bytes}
 use Rattle.sym_check.specs.Checking.CheckedScripts.{checked_plan}
 use Rattle.sym_check.specs.Plan.WellFormed.{IsWellFormed}
-use Rattle.sym_engine.specs.declared.error.PassErr.TheVariants as pass_error
-use Rattle.sym_engine.specs.FileRecords.{rules_of}
-use Rattle.sym_engine.specs.Partials.{watched_files}
+use Rattle.sym_files.specs.declared.error.PassErr.TheVariants as pass_error
+use Rattle.sym_files.specs.FileRecords.{rules_of}
+use Rattle.sym_watched.specs.Partials.{watched_files}
 use Rattle.sym_top.specs.Loading.{StopsFiles, stops}
 use Rattle.sym_top.specs.Observers.{StopsTold, stops_told}
 use Rattle.sym_top.specs.Programs.{checked_program}

@@ -1,7 +1,7 @@
 use Rattle.std.proofs.Common.{ap, sym, subst, map, refl}
 use Rattle.std.specs.String.{string_bytes}
-use Rattle.sym_engine.specs.FileRecords.{plain_rules}
-use Rattle.sym_engine.specs.Passing.{StopsPass}
+use Rattle.sym_files.specs.FileRecords.{plain_rules}
+use Rattle.sym_files.specs.Passing.{StopsPass}
 use Rattle.sym_top.specs.Ends.{trace_report_of}
 use Rattle.sym_top.specs.Programs.{checked_program}
 use Rattle.sym_top.specs.Promises.{IsReported}

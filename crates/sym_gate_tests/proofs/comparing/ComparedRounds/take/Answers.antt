@@ -1,6 +1,6 @@
 use Rattle.sym_check.specs.Checking.CheckedScripts.{checked_plan}
 use Rattle.sym_run.specs.declared.runs.Applied.TheVariants as applied
-use Rattle.sym_engine.specs.Rounds.{round_records}
+use Rattle.sym_files.specs.Rounds.{round_records}
 use Rattle.sym_gate_tests.proofs.Answered.{came}
 use Rattle.sym_gate_tests.proofs.comparing.ComparedRounds.take.Goals as goal
 

@@ -1,7 +1,7 @@
 use Rattle.std.proofs.Common.{◌∙◌, List, ap, subst, sym}
 use Rattle.sym_check.specs.Plan.ScriptPlans.{ScriptPlan}
 use Rattle.sym_table.specs.declared.chunk.Chunk.{Chunk}
-use Rattle.sym_engine.specs.Rounds.{IsRound, shown_chunks}
+use Rattle.sym_files.specs.Rounds.{IsRound, shown_chunks}
 use Rattle.sym_gate_tests.specs.Showing.{shows_b}
 use Rattle.sym_gate_tests.proofs.Shown.{round_shown}
 use Rattle.sym_gate_tests.proofs.showing.ShowsBGate.work_round.Goals as goal

@@ -1,6 +1,0 @@
-use Rattle.std.proofs.Common.{◌∙◌, sym}
-use Rattle.sym_engine.proofs.Logs.{grew_untold}
-use Rattle.sym_engine.proofs.watching.news.News.tell_rest.Goals as goal
-
-pub returns-in-None-clause-ok : goal.returns-in-None-clause-ok
-returns-in-None-clause-ok g c = grew_untold _ _ (sym c.take.ensures.value ∙ c.in-None.is)

@@ -1,0 +1,11 @@
+pub mod RowsAgree
+pub mod FilesAgree
+pub mod Opened
+pub mod Walks
+pub mod FileByFile
+pub mod PlainRows
+pub mod WorkShared
+pub mod RowsFull
+pub mod RoundLists
+pub mod ToldRows
+pub mod ToldFiles

@@ -1,0 +1,3 @@
+pub mod AppliedRuns
+pub mod Folds
+pub mod Summed

@@ -1,0 +1,4 @@
+pub mod Logs
+pub mod PartialLists
+pub mod WatchedRounds
+pub mod WatchedFiles

@@ -1,0 +1,3 @@
+pub mod RoundRuns
+pub mod Pieces
+pub mod Leading
