@@ -1,5 +1,5 @@
 -- Lists of rounds, and their records.
-use Rattle.std.proofs.Common.{◌≡◌, ◌∙◌, refl, ap, ℕ, ◌≤◌, ◌⊎◌, inl, inr, arith, append-nil, length-append, List, [], ◌∷◌, ◌++◌, length}
+use Rattle.std.proofs.Common.{◌≡◌, ◌∙◌, refl, ap, ℕ, ◌≤◌, inl, inr, arith, append-nil, length-append, List, [], ◌∷◌, ◌++◌, length}
 use Rattle.std.proofs.lemmas.Grind.{flat_map-append}
 use Rattle.std.proofs.lemmas.List.Elements.{All-head, All-push, All-tail}
 use Rattle.sym_base.specs.declared.values.record.Record.{Record}
