@@ -1,3 +1,4 @@
 pub mod AppliedRuns
 pub mod Folds
+pub mod LawfulRuns
 pub mod Summed

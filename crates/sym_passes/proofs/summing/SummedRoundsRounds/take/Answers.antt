@@ -4,7 +4,8 @@ use Rattle.sym_check.specs.Checking.CheckedScripts.{checked_plan}
 use Rattle.sym_run.specs.Runs.{AreClosed, AreTight, GroupsFit, GroupsStandFor}
 use Rattle.sym_run.proofs.FoundRecords.{run_tight}
 use Rattle.sym_files.specs.Rounds.{shown_chunks}
-use Rattle.sym_passes.proofs.Summed.{Chains, none_unless, round_summed, round_is_bad}
+use Rattle.sym_workers.proofs.RoundRuns.{round_bad}
+use Rattle.sym_passes.proofs.Summed.{Chains, none_unless, round_summed}
 use Rattle.sym_passes.proofs.summing.SummedRoundsRounds.take.Goals as goal
 
 pub join_and_close-requires-clause-left : goal.join_and_close-requires-clause-left
@@ -32,7 +33,7 @@ join_and_close-requires-clause-closed_left g c κs within = subst AreClosed (sym
 pub returns-in-Some-clause-takes : goal.returns-in-Some-clause-takes
 returns-in-Some-clause-takes g c =
     let cuts = shown_chunks (g.G.Gate.shown c.args.self.now.gate.now) c.args.work.now.chunks in
-    round_is_bad (checked_plan c.args.work.now.checked) c.args.work.now.limit cuts c.in_ok-run.run' c.in-Some.bad c.in_ok-run.ensures c.in-Some.is
+    round_bad (checked_plan c.args.work.now.checked) c.args.work.now.limit cuts c.in_ok-run.run' c.in-Some.bad c.in_ok-run.ensures c.in-Some.is
 
 pub returns-clause-takes : goal.returns-clause-takes
 returns-clause-takes g c =
