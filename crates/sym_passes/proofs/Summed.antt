@@ -1,5 +1,5 @@
 -- Joined runs of rounds, and why groups that stand for records of files are a lawful saved run.
-use Rattle.std.proofs.Common.{◌≡◌, ◌∙◌, refl, sym, ap, subst, ℕ, suc, ◌+◌, ◌≤◌, arith, length-append, List, [], ◌∷◌, ◌++◌, All, length, Option, None, Some, Ok}
+use Rattle.std.proofs.Common.{◌≡◌, refl, sym, subst, ℕ, suc, ◌+◌, ◌≤◌, arith, length-append, List, [], ◌∷◌, ◌++◌, All, length, Option, None, Some, Ok}
 use Rattle.std.specs.List.{IsDistinct}
 use Rattle.std.proofs.lemmas.List.Elements.{All-nil, All-append}
 use Rattle.sym_base.specs.declared.values.record.Record.{Record}

@@ -1,4 +1,4 @@
-use Rattle.std.proofs.Common.{◌+◌, ◌≤◌, ap, arith, drop, length, subst}
+use Rattle.std.proofs.Common.{◌+◌, ◌≤◌, ap, arith, drop, length}
 use Rattle.std.proofs.lemmas.List.{drop_all}
 use Rattle.sym_check.specs.Checking.CheckedScripts.{checked_plan}
 use Rattle.sym_table.specs.ChunkRecords.{all_records, all_rows}

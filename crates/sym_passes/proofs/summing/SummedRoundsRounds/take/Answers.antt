@@ -1,5 +1,4 @@
-use Rattle.std.proofs.Common.{List, subst, sym}
-use Rattle.sym_base.specs.declared.values.record.Record.{Record}
+use Rattle.std.proofs.Common.{subst, sym}
 use Rattle.sym_check.specs.Checking.CheckedScripts.{checked_plan}
 use Rattle.sym_run.specs.Runs.{AreClosed, AreTight, GroupsFit, GroupsStandFor}
 use Rattle.sym_run.proofs.FoundRecords.{run_tight}
