@@ -28,7 +28,7 @@ use Rattle.sym_files.specs.Rounds.{round_records}
 use Rattle.sym_passes.specs.Passed.{AreLedBy}
 use Rattle.sym_files.specs.Taking.{rows_of}
 use Rattle.sym_passes.proofs.AppliedRuns.{Led}
-use Rattle.sym_watched.specs.Watching.{AreTold, IsAbove, IsWatched, Start, ToldAt, Watching, watching}
+use Rattle.sym_watched.specs.Watching.{IsAbove, IsWatched, Start, ToldAt, Watching, watching}
 use Rattle.sym_files.specs.Telling.{HasTold, Tells, TellsRound}
 use Rattle.sym_files.specs.Telling as point
 use Rattle.sym_watched.proofs.Logs.{part_longer, part_whole, told_part, told_rest}
