@@ -131,7 +131,7 @@ pub(crate) fn take_files<F: Store, R, W: Way<R>>(
 /// - `Bad` where a row is no record: the first one.
 ///
 /// `NoMemory` where an allocation failed. After an error nothing is known of what `rounds` stands
-/// for. What it has told of rounds is known, and by which rounds were done.
+/// for, only what it has told of the rounds that were done.
 pub fn each_round<T: Threads + Wait + Sync, F: Store, R: Rounds>(
     rt: &T,
     alloc: Global,
@@ -183,9 +183,13 @@ pub fn each_round<T: Threads + Wait + Sync, F: Store, R: Rounds>(
     take_files(&way, alloc, checked, files, names, options, first, rounds)
 }
 
-/// What `each_round` does, on one thread, for what takes rounds so: each row is read as it is, and
-/// the workers and the path limit change nothing. Its clauses are those of `each_round`, and so are
-/// its errors.
+/// Takes the records of the files of these names as `each_round` does, on one thread, for a value that
+/// takes rounds without a runtime. Each row is read as it is, and the workers and the path limit
+/// change nothing.
+///
+/// # Errors
+///
+/// Those of `each_round`, in the same order. After an error nothing is known of `rounds`.
 pub fn each_round_in_turn<F: Store, R: SequentialRounds>(
     alloc: Global,
     checked: &Checked,
@@ -198,7 +202,8 @@ pub fn each_round_in_turn<F: Store, R: SequentialRounds>(
     requires options { InRange options.now }
     requires few { length names.now ≤ limit.FILES_MAX }
     requires first { first ≤ 2 ^ 61 }
-    requires stands { (records : List OneRecord) × R.stands rounds.old (checked_plan checked.now) records }
+    requires stands { (records : List OneRecord) ×
+        R.stands rounds.old (checked_plan checked.now) records }
     ensures taken { let p = checked_plan checked.now in
         let names = map string_bytes names.now in
         let rules = plain_rules options.now.max_bytes in

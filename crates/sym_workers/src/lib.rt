@@ -1,4 +1,4 @@
-//! The workers of a round, who make its run or lead groups on by it, and the gate that has them do it.
+//! The workers of a round, who make its run or lead groups on, and the gate that has them do so.
 #![tactic(auto)]
 
 mod gates;
