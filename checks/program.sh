@@ -751,6 +751,22 @@ if [ -e a.run ] && takes join changed.symple a.run; then
         join changed.symple a.run cut.run
     row "a first run file that is cut off" 4 'cut.run: not a run file' \
         join changed.symple cut.run b.run
+    # What is wrong shows after groups were joined, or it doesn't follow either.
+    one='key\nchain 1\nsegment 1\nwhen i0..3\nnext x0,1,0\n'
+    # shellcheck disable=SC2059 # the escapes are meant
+    printf "${kept}first 3\nnext 6\ngroups 2\n$one${one}end\n" >twice.run
+    # shellcheck disable=SC2059 # the escapes are meant
+    printf "${kept}first 6\nnext 9\ngroups 2\n$one${one}end\n" >fresh.run
+    sed 's/^end$/ends/' b.run >ends.run
+    sed 's/^end$/ends/' later.run >later.ends.run
+    row "a key that a run file names twice" 4 'twice.run: not a run file' \
+        join changed.symple a.run twice.run
+    row "a new key that a run file names twice" 4 'fresh.run: not a run file' \
+        join changed.symple none.run fresh.run
+    row "a run file joined with another last line" 4 'ends.run: not a run file' \
+        join changed.symple a.run ends.run
+    row "a run file that doesn't follow, with another last line" 4 \
+        'later.ends.run: not a run file' join changed.symple a.run later.ends.run
     row "a run of another script joined" 4 'other.run: run of another script' \
         join changed.symple a.run other.run
     row "a first run of another script" 4 'other.run: run of another script' \

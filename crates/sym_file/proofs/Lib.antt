@@ -3,6 +3,7 @@ pub mod Codecs
 pub mod FormTexts
 pub mod Fronts
 pub mod Groups
+pub mod JoinedTexts
 pub mod Lawful
 pub mod Loops
 pub mod Made

@@ -11,9 +11,13 @@ use Rattle.sym_base.specs.declared.values.value.Key.{Key}
 use Rattle.sym_base.specs.declared.values.state.Outcome.{Outcome}
 use Rattle.sym_check.specs.Meaning.Groups.{is_among, is_key}
 use Rattle.sym_check.proofs.Keys.{equal_keys, keys_equiv, same_key}
-use Rattle.sym_plain.specs.Pairs.{HaveDistinctKeys}
+use Rattle.sym_check.specs.Plan.ScriptPlans.{ScriptPlan}
+use Rattle.sym_plain.specs.Pairs.{HaveDistinctKeys, put}
 use Rattle.sym_plain.proofs.Pairs.{at-index}
+use Rattle.sym_run.specs.Chained.{Chained}
+use Rattle.sym_run.specs.ClosedJoins.{GrowsByClosed}
 use Rattle.sym_run.proofs.GroupPuts.{absent_key, keys-put}
+use Rattle.sym_file.specs.JoinedTexts.{Chains, IsJoinedOnce}
 use Rattle.sym_file.specs.Marks.{AreMarks, IsTakenOnce}
 use Rattle.sym_file.specs.Totals.{IsTaken}
 
@@ -76,24 +80,24 @@ at_map test (k ∷ keys) zero key at = let same : k ≡ key = cc in ap (λ (j : 
 at_map test (k ∷ keys) (suc index) key at = at_map test keys index key at
 
 -- No keys are named at first.
-unmarked : (groups : List (Key × Outcome)) (n : ℕ) → n ≡ length groups → replicate n false ≡ map (λ key. is_among key []) (keys_of groups)
+unmarked : {V : Type 0} (groups : List (Key × V)) (n : ℕ) → n ≡ length groups → replicate n false ≡ map (λ key. is_among key []) (keys_of groups)
 unmarked [] zero e = refl
 unmarked [] (suc n) e = absurd cc
 unmarked (g ∷ groups) zero e = absurd cc
 unmarked (g ∷ groups) (suc n) e = let same : n ≡ length groups = omega (arith, e) in ap (λ (ms : List Bool). false ∷ ms) (unmarked groups n same)
 
-pub no_marks : (groups : List (Key × Outcome)) (marks : List Bool) (n : ℕ) → marks ≡ replicate n false → n ≡ length groups → AreMarks [] groups marks
+pub no_marks : {V : Type 0} (groups : List (Key × V)) (marks : List Bool) (n : ℕ) → marks ≡ replicate n false → n ≡ length groups → AreMarks [] groups marks
 no_marks groups marks n is many = record {
   each = is ∙ unmarked groups n many;
   there = λ key h. absurd (true≢false (sym h));
   count = ap set_in is ∙ none_set n;
 }
 
-module _ (seen : List Key) (groups : List (Key × Outcome)) (marks : List Bool) (is : AreMarks seen groups marks) where
+module _ {V : Type 0} (seen : List Key) (groups : List (Key × V)) (marks : List Bool) (is : AreMarks seen groups marks) where
   pub marks_many : length marks ≡ length groups
   marks_many = ap length is.each ∙ many groups
     where
-      many : (pairs : List (Key × Outcome)) → length (map (λ key. is_among key seen) (keys_of pairs)) ≡ length pairs
+      many : (pairs : List (Key × V)) → length (map (λ key. is_among key seen) (keys_of pairs)) ≡ length pairs
       many [] = refl
       many (p ∷ pairs) = ap suc (many pairs)
 
@@ -131,7 +135,7 @@ module _ (seen : List Key) (groups : List (Key × Outcome)) (marks : List Bool) 
         ∙ ap (λ (b : Bool). b ∷ map (λ k. is_among k more) keys) (sym (among_other k other))
 
     -- The keys that are named all have groups, where this one has.
-    all_there : (new : List (Key × Outcome)) → ((k : Key) → is_among k (keys_of groups) ≡ true → is_among k (keys_of new) ≡ true) → is_among key (keys_of new) ≡ true
+    all_there : (new : List (Key × V)) → ((k : Key) → is_among k (keys_of groups) ≡ true → is_among k (keys_of new) ≡ true) → is_among key (keys_of new) ≡ true
         → (k : Key) → is_among k more ≡ true → is_among k (keys_of new) ≡ true
     all_there new kept last k h = of (is_key k key) refl
       where
@@ -147,7 +151,7 @@ module _ (seen : List Key) (groups : List (Key × Outcome)) (marks : List Bool) 
       pub seen_is : (mark : Bool) → mark ≡ get_or marks index mark → is_among key seen ≡ mark
       seen_is mark e = sym (get_or_from_slice_get marks index (is_among key seen) mark mark_is) ∙ sym e
 
-      marked : (new : List (Key × Outcome)) → HaveDistinctKeys groups → is_among key seen ≡ false → keys_of new ≡ keys_of groups → AreMarks more new (set marks index true)
+      marked : (new : List (Key × V)) → HaveDistinctKeys groups → is_among key seen ≡ false → keys_of new ≡ keys_of groups → AreMarks more new (set marks index true)
       marked new apart fresh same =
           let kept : (k : Key) → is_among k (keys_of groups) ≡ true → is_among k (keys_of new) ≡ true = λ k h. ap (is_among k) same ∙ h in
           record {
@@ -168,7 +172,7 @@ module _ (seen : List Key) (groups : List (Key × Outcome)) (marks : List Bool) 
           of true h = absurd (true≢false (sym (is.there key h) ∙ absent))
           of false h = refl
 
-      marked_last : (new : List (Key × Outcome)) → keys_of new ≡ keys_of groups ++ key ∷ [] → AreMarks more new (marks ++ true ∷ [])
+      marked_last : (new : List (Key × V)) → keys_of new ≡ keys_of groups ++ key ∷ [] → AreMarks more new (marks ++ true ∷ [])
       marked_last new same =
           let kept : (k : Key) → is_among k (keys_of groups) ≡ true → is_among k (keys_of new) ≡ true = λ k h.
           ap (is_among k) same ∙ list_any-append (is_key k) (keys_of groups) (key ∷ []) ∙ ap (λ (b : Bool). b || is_among k (key ∷ [])) h in
@@ -187,22 +191,43 @@ module _ (seen : List Key) (groups : List (Key × Outcome)) (marks : List Bool) 
             count = one_more marks ∙ ap suc is.count ∙ sym (length_push seen key ∙ omega arith);
           }
 
+    keys_put : (there : Bool) → is_among key (keys_of groups) ≡ there → (value : V) (new : List (Key × V)) → new ≡ put groups key value → keys_of new ≡ (if there then keys_of groups else keys_of groups ++ key ∷ [])
+    keys_put there e value new h = ap keys_of h ∙ keys-put key value groups ∙ ap (λ (t : Bool). if t then keys_of groups else keys_of groups ++ key ∷ []) e
+
     -- ---- one group more
-    module _ (led : Option Outcome) (b : Bool) (new : List (Key × Outcome)) (taken : IsTaken key groups led b new) where
-      keys_taken : (there : Bool) → is_among key (keys_of groups) ≡ there → IsTaken key groups led true new → keys_of new ≡ (if there then keys_of groups else keys_of groups ++ key ∷ [])
-      keys_taken there e h =
-          ap keys_of h.2 ∙ keys-put key h.0 groups ∙ ap (λ (t : Bool). if t then keys_of groups else keys_of groups ++ key ∷ []) e
+    module _ (value : V) (new : List (Key × V)) (is_put : new ≡ put groups key value) where
+      pub marked_there : (index : ℕ) → slice_get (keys_of groups) index ≡ Some key → HaveDistinctKeys groups → is_among key seen ≡ false → AreMarks more new (set marks index true)
+      marked_there index at apart fresh = marked index at new apart fresh (keys_put true (among_at (keys_of groups) index key at) value new is_put)
 
-      pub once_there : (index : ℕ) → slice_get (keys_of groups) index ≡ Some key → HaveDistinctKeys groups → is_among key seen ≡ false → IsTakenOnce seen key groups led (Some b) new (set marks index true)
-      once_there index at apart fresh = of b taken
-        where
-          of : (c : Bool) → IsTaken key groups led c new → IsTakenOnce seen key groups led (Some c) new (set marks index true)
-          of true h = (fresh, h, marked index at new apart fresh (keys_taken true (among_at (keys_of groups) index key at) h))
-          of false h = h
+      pub marked_new : (now : List Bool) → lookup (is_key key) groups ≡ None → now ≡ marks ++ true ∷ [] → (is_among key seen ≡ false) × AreMarks more new now
+      marked_new now none longer =
+          let absent : is_among key (keys_of groups) ≡ false = absent_key key groups none in
+          (not_seen absent, subst (AreMarks more new) (sym longer) (marked_last absent new (keys_put false absent value new is_put)))
 
-      pub once_new : (now : List Bool) → lookup (is_key key) groups ≡ None → now ≡ marks ++ true ∷ [] → IsTakenOnce seen key groups led (Some b) new now
-      once_new now none longer = subst (λ (ms : List Bool). IsTakenOnce seen key groups led (Some b) new ms) (sym longer) (of b taken)
-        where
-          of : (c : Bool) → IsTaken key groups led c new → IsTakenOnce seen key groups led (Some c) new (marks ++ true ∷ [])
-          of true h = (not_seen (absent_key key groups none), h, marked_last (absent_key key groups none) new (keys_taken false (absent_key key groups none) h))
-          of false h = h
+-- ---- one group more that is taken
+module _ (seen : List Key) (groups : List (Key × Outcome)) (marks : List Bool) (is : AreMarks seen groups marks) (key : Key) (led : Option Outcome) (b : Bool) (new : List (Key × Outcome)) (taken : IsTaken key groups led b new) where
+  pub once_there : (index : ℕ) → slice_get (keys_of groups) index ≡ Some key → HaveDistinctKeys groups → is_among key seen ≡ false → IsTakenOnce seen key groups led (Some b) new (set marks index true)
+  once_there index at apart fresh = of b taken
+    where
+      of : (c : Bool) → IsTaken key groups led c new → IsTakenOnce seen key groups led (Some c) new (set marks index true)
+      of true h = (fresh, h, marked_there seen groups marks is key h.0 new h.2 index at apart fresh)
+      of false h = h
+
+  pub once_new : (now : List Bool) → lookup (is_key key) groups ≡ None → now ≡ marks ++ true ∷ [] → IsTakenOnce seen key groups led (Some b) new now
+  once_new now none longer = of b taken
+    where
+      of : (c : Bool) → IsTaken key groups led c new → IsTakenOnce seen key groups led (Some c) new now
+      of true h =
+          let last = marked_new seen groups marks is key h.0 new h.2 now none longer in
+          (last.0, h, last.1)
+      of false h = h
+
+-- ---- one group more that is joined
+module _ (p : ScriptPlan) (limit : ℕ) (seen : List Key) (groups : Chains) (marks : List Bool) (is : AreMarks seen groups marks) (key : Key) (chain : Chained) (new : Chains) (grows : GrowsByClosed p limit key chain groups new) where
+  pub joined_there : (index : ℕ) → slice_get (keys_of groups) index ≡ Some key → HaveDistinctKeys groups → is_among key seen ≡ false → IsJoinedOnce p limit seen key chain groups true new (set marks index true)
+  joined_there index at apart fresh = (fresh, grows, marked_there seen groups marks is key grows.chain new grows.is index at apart fresh)
+
+  pub joined_new : (now : List Bool) → lookup (is_key key) groups ≡ None → now ≡ marks ++ true ∷ [] → IsJoinedOnce p limit seen key chain groups true new now
+  joined_new now none longer =
+      let last = marked_new seen groups marks is key grows.chain new grows.is now none longer in
+      (last.0, grows, last.1)

@@ -38,11 +38,11 @@ on_done : (i : ℕ) (led : Option Outcome) (next other : Outcome → Taken) (now
 on_done i None next other now result later e = absurd cc
 on_done i (Some o) next other now result later e = later o e
 
-keys_last : (groups : List Group) (key : Key) (chain : Chained) → keys_of (groups ++ (key, chain) ∷ []) ≡ keys_of groups ++ key ∷ []
+pub keys_last : (groups : List Group) (key : Key) (chain : Chained) → keys_of (groups ++ (key, chain) ∷ []) ≡ keys_of groups ++ key ∷ []
 keys_last [] key chain = refl
 keys_last (g ∷ groups) key chain = ap (λ (ks : List Key). g.0 ∷ ks) (keys_last groups key chain)
 
-no_keys : IsDistinct is_key []
+pub no_keys : IsDistinct is_key []
 unfolding IsDistinct
 no_keys = tt
 
@@ -88,7 +88,7 @@ module _ (p : ScriptPlan) where
       let others = groups_front n b.0 a.0.1 all rest b.2 in
       (a.0.0 ∷ others.0, others.1 ∙ ap (λ (gs : List Group). gs ++ others.0) now ∙ append_assoc start (a.0.0 ∷ []) others.0)
 
-  next_of : (count i : ℕ) (groups : List Group) (bytes rest : List ℕ) (key : Key) (chain : Chained) (after : List ℕ) (all : List Group) (end : List ℕ) → i < count → group_at p rest ≡ Some ((key, chain), after)
+  pub next_of : (count i : ℕ) (groups : List Group) (bytes rest : List ℕ) (key : Key) (chain : Chained) (after : List ℕ) (all : List Group) (end : List ℕ) → i < count → group_at p rest ≡ Some ((key, chain), after)
       → groups_at p (count - i) groups rest ≡ groups_at p count [] bytes → groups_at p count [] bytes ≡ Some (all, end) → (more : List Group) × (all ≡ groups ++ (key, chain) ∷ more)
   unfolding groups_at
   next_of count i groups bytes rest key chain after all end lt h reads read =
@@ -135,7 +135,7 @@ module _ (p : ScriptPlan) where
     abbrev pub NoLawful : Type 0
     NoLawful = (groups : List Group) (end : List ℕ) → groups_at p count [] bytes ≡ Some (groups, end) → All (IsLawfulGroup p first next) groups → ⊥
 
-    not_read : groups_at p count [] bytes ≡ None → NoLawful
+    pub not_read : groups_at p count [] bytes ≡ None → NoLawful
     not_read none groups end read each = absurd (cc (none, read))
 
     module _ (i : ℕ) (rest : List ℕ) (now : Pairs) (marks : List Bool) (is : IsLeading i rest now marks) where
@@ -200,7 +200,7 @@ module _ (p : ScriptPlan) where
   unfolding body_at
   body_is bytes = refl
 
-  at_last : (saved : Saved) → (after (codes "end\n") (codes "end\n") >>= λ r. at_end saved r) ≡ Some saved
+  pub at_last : (saved : Saved) → (after (codes "end\n") (codes "end\n") >>= λ r. at_end saved r) ≡ Some saved
   unfolding after
   at_last saved = refl
 
@@ -213,18 +213,18 @@ module _ (p : ScriptPlan) where
     no_head error.NoMemory wanted f = tt
 
     module _ (first next count : ℕ) (rest : List ℕ) (head : head_at bytes ≡ Some ((first, next, count), rest)) where
-      body_of : body_at p bytes ≡ rest_of p ((first, next, count), rest)
+      pub body_of : body_at p bytes ≡ rest_of p ((first, next, count), rest)
       body_of = body_is bytes ∙ ap (λ (h : Option ((ℕ × ℕ × ℕ) × List ℕ)). h >>= rest_of p) head
 
       -- What a saved run has that is read.
-      record IsBody (saved : Saved) : Type 0 where
+      pub record IsBody (saved : Saved) : Type 0 where
         pub first_is : saved.first ≡ first
         pub next_is : saved.next ≡ next
         pub end : List ℕ
         pub groups : groups_at p count [] rest ≡ Some (saved.groups, end)
         pub last : end ≡ codes "end\n"
 
-      body_has : (saved : Saved) → body_at p bytes ≡ Some saved → IsBody saved
+      pub body_has : (saved : Saved) → body_at p bytes ≡ Some saved → IsBody saved
       body_has saved read =
           let g = bound (groups_at p count [] rest) (λ gs. after (codes "end\n") gs.1 >>= λ r. at_end (record { first = first; next = next; groups = gs.0 }) r) saved (sym body_of ∙ read) in
           let q = bound (after (codes "end\n") g.0.1) (λ r. at_end (record { first = first; next = next; groups = g.0.0 }) r) saved g.2 in
@@ -244,7 +244,7 @@ module _ (p : ScriptPlan) where
           let order : first ≤ next = subst (λ (n : ℕ). first ≤ n) h.next_is (subst (λ (n : ℕ). n ≤ saved.next) h.first_is lawful.order) in
           absurd (wrong (sym h.first_is ∙ e, from, order))
 
-      lawful_each : (saved : Saved) → IsBody saved → IsLawfulSaved p saved → All (IsLawfulGroup p first next) saved.groups
+      pub lawful_each : (saved : Saved) → IsBody saved → IsLawfulSaved p saved → All (IsLawfulGroup p first next) saved.groups
       lawful_each saved h lawful =
           subst (λ (n : ℕ). All (IsLawfulGroup p first n) saved.groups) h.next_is
           (subst (λ (n : ℕ). All (IsLawfulGroup p n saved.next) saved.groups) h.first_is lawful.each)

@@ -201,12 +201,12 @@ module _ (p : ScriptPlan) (key : Key) (chain : Chained) (old : List (Key × Outc
       IfOk-weaker r (λ b. IsTaken copy old (led_through (test_truth p.tests) chain (standing p None)) b new) (λ b. IsTaken key old (led_through (test_truth p.tests) chain (standing p (lookup (is_key key) old))) b new)
       (λ b t. new_taken b new none (subst (λ (k : Key). IsTaken k old (led_through (test_truth p.tests) chain (standing p None)) b new) same t)) h
 
-pub not_found : (found : Option Outcome) → false ≡ is_some found → found ≡ None
+pub not_found : {V : Type 0} (found : Option V) → false ≡ is_some found → found ≡ None
 not_found None e = refl
 not_found (Some o) e = absurd cc
 
 -- ---- a group by its index
-pub nothing_there : (key : Key) (groups : List (Key × Outcome)) (index : ℕ) → slice_get (keys_of groups) index ≡ Some key → None ≡ slice_get (values_of groups) index → ⊥
+pub nothing_there : {V : Type 0} (key : Key) (groups : List (Key × V)) (index : ℕ) → slice_get (keys_of groups) index ≡ Some key → None ≡ slice_get (values_of groups) index → ⊥
 nothing_there key [] index at none = absurd cc
 nothing_there key (g ∷ groups) zero at none = absurd cc
 nothing_there key (g ∷ groups) (suc index) at none = nothing_there key groups index at none

@@ -1,4 +1,5 @@
 pub mod Deciding
+pub mod JoinedTexts
 pub mod Making
 pub mod Marks
 pub mod Reading

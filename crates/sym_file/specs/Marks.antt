@@ -9,7 +9,7 @@ use Rattle.sym_file.specs.Totals.{IsTaken}
 
 -- The groups whose keys are among these are marked. Each of these keys has a group, and as many
 -- groups are marked as there are keys.
-pub record AreMarks (seen : List Key) (groups : List (Key × Outcome))
+pub record AreMarks {V : Type 0} (seen : List Key) (groups : List (Key × V))
     (marks : List Bool) : Type 0 where
   pub each : marks ≡ map (λ key. is_among key seen) (keys_of groups)
   pub there : (key : Key) → is_among key seen ≡ true → is_among key (keys_of groups) ≡ true

@@ -102,7 +102,7 @@ fn lead_groups<'a>(
 }
 
 /// Whether records are numbered from this number on.
-fn begins(wanted: u64, first: u64, next: u64) -> bool
+pub(crate) fn begins(wanted: u64, first: u64, next: u64) -> bool
     ensures { IsTrue result ↔ (first ≡ wanted) × (1 ≤ first) × (first ≤ next) }
 {
     first == wanted && 1 <= first && first <= next

@@ -1,5 +1,5 @@
 -- The saved runs so far in one, and what comes of the next file.
-use Rattle.std.proofs.Common.{◌≡◌, ◌∙◌, refl, sym, ap, subst, ℕ, ◌+◌, ◌≤◌, ◌<◌, ◌^◌, arith, inl, inr, List, [], ◌∷◌, ◌++◌, length, take, drop, append-nil, not, Option, Some, None, Err, slice_get}
+use Rattle.std.proofs.Common.{◌≡◌, ◌∙◌, refl, sym, ap, subst, ℕ, ◌+◌, ◌≤◌, ◌<◌, ◌^◌, ◌⊎◌, arith, inl, inr, List, [], ◌∷◌, ◌++◌, length, take, drop, append-nil, not, Option, Some, None, slice_get}
 use Rattle.std.proofs.lemmas.Grind.{flat_map-append}
 use Rattle.std.proofs.lemmas.List.{take_all}
 use Rattle.std.proofs.lemmas.List.Elements.{All-append, All-cons, All-filter, All-head, All-nil, All-tail}
@@ -27,7 +27,7 @@ use Rattle.sym_run.specs.declared.saved.Saved.{Saved}
 use Rattle.sym_run.proofs.TightChains.{all_front, all_last}
 use Rattle.sym_reduce.specs.declared.error.ReduceErr.{ReduceErr}
 use Rattle.sym_reduce.specs.declared.error.ReduceErr.TheVariants as reduce_err
-use Rattle.sym_reduce.specs.Joining.{AreFollowing, AreRunFiles, Begins, FirstFileProblem, FirstJoinProblem, Follows, HasFaultAfter, HasJoinProblem, HasRunFault, IsJoinOf, IsNextOf, IsOnlyOf, JoinFailsAt, JoinedAll, JoinsNext, ReadsRun, StandForParts, StopsJoin, next_of}
+use Rattle.sym_reduce.specs.Joining.{AreFollowing, AreRunFiles, Begins, FirstFileProblem, FirstJoinProblem, Follows, HasFaultAfter, HasJoinProblem, HasRunFault, IsJoinOf, IsNextOf, IsOnlyOf, JoinFailsAt, JoinedAll, JoinsNext, StandForParts, StopsJoin, next_of}
 use Rattle.sym_reduce.specs.Joining as joins
 use Rattle.sym_reduce.specs.Reducing.{IsRunFile, IsUnread}
 use Rattle.sym_reduce.proofs.Files.{drop_at, larger, may_both, may_some, may_whole, rose_later, some_files, take_at, told_count}
@@ -46,12 +46,6 @@ lawful_joinable p saved h = record {
       };
   closed = lawful_closed p saved.first saved.next saved.groups h.each;
 }
-
--- A saved run that doesn't follow is apart.
-pub apart_after : (script : List ℕ) (p : ScriptPlan) (next : Option ℕ) (file : ℕ) (bytes : List ℕ) (saved : Saved) → IsRunFile script p bytes saved → (Follows next saved.first → ⊥)
-    → HasFaultAfter script p next file bytes (reduce_err.Apart file)
-apart_after script p None file bytes saved own not = absurd (not tt)
-apart_after script p (Some next) file bytes saved own not = joins.apart saved own not
 
 -- A fault that doesn't depend on where the file has to begin.
 pub faulty_after : (script : List ℕ) (p : ScriptPlan) (next : Option ℕ) (file : ℕ) (bytes : List ℕ) (why : ReduceErr) → ((n : ℕ) → HasRunFault script p n file bytes why) → HasFaultAfter script p next file bytes why
@@ -374,7 +368,7 @@ module _ (script : List ℕ) (p : ScriptPlan) (max_bytes limit : ℕ) where
 
   pub unjoined_stops : (formed : IsWellFormed p) → (bound : max_bytes < 2 ^ 64) → (holds : Holds) (names : List (List ℕ)) (before after : Counts) (k : ℕ) (joined : Option Saved) (name bytes : List ℕ) (why : ReduceErr)
       → IsJoining holds names k joined → slice_get names k ≡ Some name → May (holds name) bytes → length bytes ≤ max_bytes
-      → ReadsRun script p (next_of joined) k bytes (Err why) → StopsJoin script p max_bytes holds names before after why
+      → (why ≡ reduce_err.NoMemory) ⊎ HasFaultAfter script p (next_of joined) k bytes why → StopsJoin script p max_bytes holds names before after why
   unjoined_stops formed bound holds names before after k joined name bytes why is at may size (inl none) =
       let P : ReduceErr → Type 0 = λ w. StopsJoin script p max_bytes holds names before after w in subst P (sym none) tt
   unjoined_stops formed bound holds names before after k joined name bytes why is at may size (inr h) =

@@ -175,14 +175,6 @@ abbrev pub HasFaultAfter : List ℕ → ScriptPlan → Option ℕ → ℕ → Li
 HasFaultAfter script p None file bytes why = (next : ℕ) → HasRunFault script p next file bytes why
 HasFaultAfter script p (Some next) file bytes why = HasRunFault script p next file bytes why
 
--- What reading the saved run of a file comes to: a lawful one that begins where it has to, or what
--- is wrong with the file, unless memory ran out.
-abbrev pub ReadsRun : List ℕ → ScriptPlan → Option ℕ → ℕ → List ℕ → Result Saved ReduceErr → Type 0
-ReadsRun script p next file bytes (Ok saved) =
-    IsRunFile script p bytes saved × Follows next saved.first
-ReadsRun script p next file bytes (Err why) =
-    (why ≡ reduce_err.NoMemory) ⊎ HasFaultAfter script p next file bytes why
-
 -- The number after the last record of the saved run of those before, where there is one.
 abbrev pub next_of : Option Saved → Option ℕ
 next_of None = None
@@ -197,3 +189,19 @@ CanGoOn p (Some saved) = IsJoinable p saved
 abbrev pub JoinsNext : ScriptPlan → ℕ → Option Saved → Saved → Saved → Type 0
 JoinsNext p limit None saved joined = joined ≡ saved
 JoinsNext p limit (Some before) saved joined = IsSavedJoin p limit before saved joined
+
+-- The saved run of those before, where there is one, and of a file that begins where it has to.
+pub record IsFileJoined (script : List ℕ) (p : ScriptPlan) (limit : ℕ) (before : Option Saved)
+    (bytes : List ℕ) (joined : Saved) : Type 0 where
+  pub saved : Saved
+  pub is : IsRunFile script p bytes saved
+  pub follows : Follows (next_of before) saved.first
+  pub joins : JoinsNext p limit before saved joined
+
+-- What joining a file comes to, or what is wrong with it, unless memory ran out.
+abbrev pub JoinsFile : List ℕ → ScriptPlan → ℕ → Option Saved → ℕ → List ℕ
+    → Result Saved ReduceErr → Type 0
+JoinsFile script p limit before file bytes (Ok joined) =
+    IsFileJoined script p limit before bytes joined
+JoinsFile script p limit before file bytes (Err why) =
+    (why ≡ reduce_err.NoMemory) ⊎ HasFaultAfter script p (next_of before) file bytes why

@@ -2,8 +2,9 @@
 //! the first problem.
 use crate::calls::{Call, File, check_calls};
 use crate::scripts::{
-    ALL_USERS, COUNTER, CUT_OFF, ENDS, FIVE, FROM_ONE, KEPT, KEPT_OTHERWISE, LATER_FROM_ONE,
-    MORE_USERS, NO_SCRIPT, NONE, NOT_FIVE, SET, SIXTH, THREE, TURNED, TWO, USERS,
+    A_TWICE, ALL_USERS, COUNTER, CUT_OFF, D_TWICE, ENDS, FIVE, FROM_ONE, KEPT, KEPT_OTHERWISE,
+    LATER_FROM_ONE, MORE_CUT_OFF, MORE_USERS, NO_SCRIPT, NONE, NOT_FIVE, SET, SIXTH, THREE, TURNED,
+    TWO, USERS,
 };
 use std::test::Fail;
 use sym_top::Status;
@@ -13,6 +14,8 @@ const ONE_FILE: &[&str] = &["reduce", "s", "a"];
 const TWO_FILES: &[&str] = &["reduce", "s", "a", "b"];
 
 const THREE_FILES: &[&str] = &["reduce", "s", "a", "b", "c"];
+
+const JOINED: &[&str] = &["join", "s", "a", "b", "c"];
 
 const REDUCED: Call = Call {
     words: ONE_FILE,
@@ -157,7 +160,7 @@ const AT_SECOND: Call = Call {
 const BROKEN: File = ("b", "");
 
 /// Run files that aren't taken, by what is wrong with each.
-const FAULTS: [Call; 14] = [
+const FAULTS: [Call; 18] = [
     Call {
         files: &[("a", THREE), BROKEN],
         err: "symple: a: records do not follow\n",
@@ -197,9 +200,37 @@ const FAULTS: [Call; 14] = [
     },
     // A file is missing, stands twice, or comes too late.
     Call {
-        words: &["join", "s", "a", "b", "c"],
+        words: JOINED,
         files: &[("a", TWO), ("b", SIXTH), ("c", "")],
         err: "symple: b: records do not follow\n",
+        ..AT_SECOND
+    },
+    // Where it shows only after groups were joined.
+    Call {
+        words: JOINED,
+        script: SET,
+        files: &[("a", USERS), ("b", A_TWICE), ("c", "")],
+        err: "symple: b: not a run file\n",
+        ..AT_SECOND
+    },
+    Call {
+        words: JOINED,
+        script: SET,
+        files: &[("a", USERS), ("b", D_TWICE), ("c", "")],
+        err: "symple: b: not a run file\n",
+        ..AT_SECOND
+    },
+    Call {
+        words: JOINED,
+        script: SET,
+        files: &[("a", USERS), ("b", MORE_CUT_OFF), ("c", "")],
+        err: "symple: b: not a run file\n",
+        ..AT_SECOND
+    },
+    Call {
+        words: JOINED,
+        files: &[("a", TWO), ("b", USERS), ("c", "")],
+        err: "symple: b: run of another script\n",
         ..AT_SECOND
     },
     Call {

@@ -132,6 +132,25 @@ pub(crate) const ALL_USERS: &str = set!(
     key w1:d\nchain 1\nsegment 1\nwhen i0..9\nnext n5\nend\n"
 );
 
+/// Two more, whose user a stands twice.
+pub(crate) const A_TWICE: &str = set!(
+    "first 5\nnext 7\ngroups 3\nkey w1:d\nchain 1\nsegment 1\nwhen i0..9\nnext n5\n\
+    key w1:a\nchain 1\nsegment 1\nwhen i0..9\nnext n6\n\
+    key w1:a\nchain 1\nsegment 1\nwhen i0..9\nnext n6\nend\n"
+);
+
+/// Two more, whose user d stands twice.
+pub(crate) const D_TWICE: &str = set!(
+    "first 5\nnext 7\ngroups 2\nkey w1:d\nchain 1\nsegment 1\nwhen i0..9\nnext n5\n\
+    key w1:d\nchain 1\nsegment 1\nwhen i0..9\nnext n6\nend\n"
+);
+
+/// The same as the two more, without the last byte.
+pub(crate) const MORE_CUT_OFF: &str = set!(
+    "first 5\nnext 7\ngroups 2\nkey w1:d\nchain 1\nsegment 1\nwhen i0..9\nnext n5\n\
+    key w1:a\nchain 1\nsegment 1\nwhen i0..9\nnext n6\nend"
+);
+
 /// The same as the two more, where the second group has no path for 5.
 pub(crate) const NOT_FIVE: &str = set!(
     "first 5\nnext 7\ngroups 2\nkey w1:d\nchain 1\nsegment 1\nwhen i0..9\nnext n5\n\

@@ -20,8 +20,8 @@ use Rattle.sym_path.specs.declared.within.Composition.TheVariants.{One, Apart}
 use Rattle.sym_plain.specs.Pairs.{put}
 use Rattle.sym_run.specs.Chained.{Chained}
 use Rattle.sym_run.specs.Chains.{ChainFits, ChainStandsFor, IsClosed, IsTight}
-use Rattle.sym_run.specs.Growing.{AreBoth, FoundStandsFor, IsAbsent}
-use Rattle.sym_run.specs.Runs.{AreClosed, AreTight, GroupsFit}
+use Rattle.sym_run.specs.Growing.{AreBoth, FoundStandsFor}
+use Rattle.sym_run.specs.Runs.{AreClosed, AreTight, GroupsFit, GroupsStandFor}
 use Rattle.sym_run.specs.SavedRuns.{SavedStandsFor}
 use Rattle.sym_run.specs.declared.saved.Saved.{Saved}
 
@@ -77,12 +77,19 @@ pub record GrowsByClosed (p : ScriptPlan) (limit : ℕ) (key : Key) (right : Cha
       ChainStandsFor p rest right → FoundIsTight p limit (lookup (is_key key) old) →
       IsTight p limit right → IsTight p limit chain
 
--- The same where the key is there; where it isn't, the groups stay and the right chain is given
--- back.
-abbrev pub GrowsByClosedIf : ScriptPlan → ℕ → Key → Chained
-    → List (Key × Chained) → Option Chained → List (Key × Chained) → Type 0
-GrowsByClosedIf p limit key right old None new = GrowsByClosed p limit key right old new
-GrowsByClosedIf p limit key right old (Some chain) new = IsAbsent key old new × (chain ≡ right)
+-- Groups that keep no records, and others, in one: the left ones' keys and then the right ones' new
+-- ones. They fit and keep no records. Where each stand for records, whatever these are, they stand
+-- for the records of the two, in order, and then they are tight for a limit if the two are.
+pub record AreClosedJoin (p : ScriptPlan) (limit : ℕ)
+    (left right groups : List (Key × Chained)) : Type 0 where
+  pub fits : GroupsFit p groups
+  pub closed : AreClosed groups
+  pub both : AreBoth p left right groups
+  pub stands : (first rest : List Record) → GroupsStandFor p first left →
+      GroupsStandFor p rest right → GroupsStandFor p (first ++ rest) groups
+  pub tight : (first rest : List Record) → GroupsStandFor p first left →
+      GroupsStandFor p rest right → AreTight p limit left → AreTight p limit right →
+      AreTight p limit groups
 
 -- The chains of a saved run fit the script and keep no records, so that it can be joined.
 pub record IsJoinable (p : ScriptPlan) (saved : Saved) : Type 0 where

@@ -1,16 +1,17 @@
-//! The groups of two runs in one, where no chain keeps records. Unlike those of `join_groups`, the
-//! chains needn't be tight, and they may stand for no records.
-ghost use Rattle.std.specs.Prelude.{◌≡◌, ◌≤◌, ◌++◌, false, List, IfOk, OnOk, length};
+//! A chain joined to that of its group, where neither keeps records. Unlike those of `join_groups`,
+//! the chains needn't be tight, and they may stand for no records.
+ghost use Rattle.std.specs.Prelude.{◌≡◌, ◌≤◌, ◌++◌, false, List, IfOk, OnOk, Some, length, slice_get};
+ghost use Rattle.std.specs.Map.{keys_of};
 ghost use Rattle.sym_base.specs.declared.values.record.Record.{Record as OneRecord};
+ghost use Rattle.sym_base.specs.declared.values.value.Key.{Key as OneKey};
 ghost use Rattle.sym_check.specs.Checking.CheckedScripts.{checked_plan};
 ghost use Rattle.sym_check.specs.Meaning.Conditions.{test_truth};
 ghost use Rattle.sym_path.specs.Fitting.{PathFits, SegmentFits};
 ghost use Rattle.sym_path.specs.Standing.{StandsFor};
 ghost use Rattle.sym_plain.specs.Pairs.{HaveDistinctKeys};
 ghost use Rattle.sym_run.specs.Chains.{ChainFits, HasFewPaths, IsClosed, SegmentsAreTight, SegmentsFit, SegmentsStandFor};
-ghost use Rattle.sym_run.specs.ClosedJoins.{GrowsByClosed, GrowsByClosedIf, HasNoFollower, HaveNoPairs, IsChainJoin, IsComposedUnlessApart};
-ghost use Rattle.sym_run.specs.Growing.{AreBoth};
-ghost use Rattle.sym_run.specs.Runs.{AreClosed, AreTight, GroupsFit, GroupsStandFor};
+ghost use Rattle.sym_run.specs.ClosedJoins.{GrowsByClosed, HasNoFollower, HaveNoPairs, IsChainJoin, IsComposedUnlessApart};
+ghost use Rattle.sym_run.specs.Runs.{AreClosed, GroupsFit};
 
 use crate::chains::Chain;
 use crate::run_groups::RunGroups;
@@ -260,38 +261,12 @@ fn join_chain(
     Ok(())
 }
 
-/// Joins the right chain to that of the key, or gives it back if there is none.
-fn join_there(
+/// Joins the right chain to that of the group at an index.
+fn join_at(
     alloc: Global,
     checked: &Checked,
     map: &mut IndexMap<Key, Chain>,
-    key: &Key,
-    right: Chain,
-    limit: u32,
-) -> Result<Option<Chain>, NoMemory>
-    requires left { GroupsFit (checked_plan checked.now) map.old.entries }
-    requires right { ChainFits (checked_plan checked.now) right }
-    requires closed_left { AreClosed map.old.entries }
-    requires closed_right { IsClosed right }
-    ensures joins { IfOk result (λ back. GrowsByClosedIf (checked_plan checked.now) limit key.now
-        right map.old.entries back map.new.entries) }
-    ensures distinct { HaveDistinctKeys map.new.entries }
-{
-    match map.get_mut(key) {
-        Some(chain) => {
-            join_chain(alloc, checked, chain, right, limit)?;
-            Ok(None)
-        }
-        None => Ok(Some(right)),
-    }
-}
-
-/// Joins the right chain to that of the key, or puts it last as a new group.
-fn join_group(
-    alloc: Global,
-    checked: &Checked,
-    map: &mut IndexMap<Key, Chain>,
-    key: Key,
+    index: usize,
     right: Chain,
     limit: u32,
 ) -> Result<(), NoMemory>
@@ -299,47 +274,38 @@ fn join_group(
     requires right { ChainFits (checked_plan checked.now) right }
     requires closed_left { AreClosed map.old.entries }
     requires closed_right { IsClosed right }
-    ensures joins { let p = checked_plan checked.now in
-        OnOk result (GrowsByClosed p limit key right map.old.entries map.new.entries) }
+    ensures joins { (key : OneKey) → slice_get (keys_of map.old.entries) index ≡ Some key →
+        OnOk result (GrowsByClosed (checked_plan checked.now) limit key right map.old.entries
+        map.new.entries) }
     ensures distinct { HaveDistinctKeys map.new.entries }
 {
-    if let Some(right) = join_there(alloc, checked, map, &key, right, limit)? {
-        map.insert(key, right)?;
+    match map.get_index_mut(index) {
+        Some(chain) => join_chain(alloc, checked, chain, right, limit),
+        None => Ok(()),
     }
-    Ok(())
 }
 
-/// The groups of the left ones' records and then the right ones', whose chains keep no records: the
-/// left's keys and then the right's new ones. Keys and chains are moved. Neighbours in a chain are
-/// composed where they have pairs, and at most `limit` of them.
-pub fn join_closed(
-    alloc: Global,
-    checked: &Checked,
-    left: RunGroups,
-    right: RunGroups,
-    limit: u32,
-) -> Result<RunGroups, NoMemory>
-    requires left { GroupsFit (checked_plan checked.now) left }
-    requires right { GroupsFit (checked_plan checked.now) right }
-    requires closed_left { AreClosed left }
-    requires closed_right { AreClosed right }
-    ensures fits { IfOk result (GroupsFit (checked_plan checked.now)) }
-    ensures closed { IfOk result AreClosed }
-    ensures both { IfOk result (AreBoth (checked_plan checked.now) left right) }
-    ensures stands { (first rest : List OneRecord) →
-        GroupsStandFor (checked_plan checked.now) first left →
-        GroupsStandFor (checked_plan checked.now) rest right →
-        IfOk result (GroupsStandFor (checked_plan checked.now) (first ++ rest)) }
-    ensures tight { (first rest : List OneRecord) →
-        GroupsStandFor (checked_plan checked.now) first left →
-        GroupsStandFor (checked_plan checked.now) rest right →
-        AreTight (checked_plan checked.now) limit left →
-        AreTight (checked_plan checked.now) limit right →
-        IfOk result (AreTight (checked_plan checked.now) limit) }
-{
-    let mut map = left.into_map();
-    'groups: for (key, chain) in right.into_map() {
-        join_group(alloc, checked, &mut map, key, chain, limit)?;
+impl RunGroups {
+    /// Puts the right chain's records after those of the group at `index`, where no chain keeps
+    /// records. Unlike those of `join_groups`, the chains needn't be tight, and they may stand for
+    /// no records. Neighbours in the chain are composed where they have pairs, and at most `limit`
+    /// of them. After an `Err` the groups are unspecified.
+    pub fn join_at(
+        &mut self,
+        alloc: Global,
+        checked: &Checked,
+        index: usize,
+        right: Chain,
+        limit: u32,
+    ) -> Result<(), NoMemory>
+        requires left { GroupsFit (checked_plan checked.now) self.old }
+        requires right { ChainFits (checked_plan checked.now) right }
+        requires closed_left { AreClosed self.old }
+        requires closed_right { IsClosed right }
+        ensures { (key : OneKey) → slice_get (keys_of self.old) index ≡ Some key →
+            OnOk result (GrowsByClosed (checked_plan checked.now) limit key right self.old
+            self.new) }
+    {
+        join_at(alloc, checked, &mut self.map, index, right, limit)
     }
-    Ok(RunGroups::of_map(map))
 }

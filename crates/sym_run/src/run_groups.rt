@@ -1,11 +1,13 @@
 //! The chains of a run, by group.
-ghost use Rattle.std.specs.Prelude.{◌≡◌, [], List, IfOk, length, slice_get};
+ghost use Rattle.std.specs.Prelude.{◌≡◌, ◌++◌, ◌∷◌, [], List, IfOk, IfSome, None, OnErr, OnOk, Some, is_some, length, slice_get};
 ghost use Rattle.std.specs.List.{AllZip};
+ghost use Rattle.std.specs.Map.{keys_of, lookup};
 ghost use Rattle.std.specs.Map.Iter.{deref_pair};
 ghost use Rattle.std.specs.Option.{option_map};
 ghost use Rattle.sym_plain.specs.Pairs.{HaveDistinctKeys};
 ghost use Rattle.sym_base.specs.declared.values.record.Record.{Record as OneRecord};
 ghost use Rattle.sym_check.specs.Checking.CheckedScripts.{checked_plan};
+ghost use Rattle.sym_check.specs.Meaning.Groups.{is_key};
 ghost use Rattle.sym_run.specs.Runs.{added, AreClosed, AreTight, GroupsFit, GroupsStandFor, IsClosing};
 
 use crate::chains::Chain;
@@ -96,6 +98,27 @@ impl RunGroups {
         ensures { option_map deref_pair result ≡ slice_get self.now index }
     {
         self.map.get_index(index)
+    }
+
+    /// The index of the group with this key, counted from 0; `None` exactly where there is no such
+    /// group. It stays the index of that group, since groups keep their order.
+    pub fn index_of(&self, key: &Key) -> Option<usize>
+        ensures index { IfSome result (λ i. slice_get (keys_of self.now) i ≡ Some key.now) }
+        ensures found { is_some result ≡ is_some (lookup (is_key key.now) self.now) }
+        ensures distinct { HaveDistinctKeys self.now }
+    {
+        self.map.get_index_of(key)
+    }
+
+    /// A group more, which goes last. `index_of` tells whether its key is new. After an `Err` the
+    /// groups are as before, and the key and the chain are dropped.
+    pub fn begin(&mut self, _alloc: Global, key: Key, chain: Chain) -> Result<(), NoMemory>
+        requires new { lookup (is_key key) self.old ≡ None }
+        ensures ok { OnOk result (self.new ≡ self.old ++ (key, chain) ∷ []) }
+        ensures err { OnErr result (self.new ≡ self.old) }
+    {
+        self.map.insert(key, chain)?;
+        Ok(())
     }
 
     /// The groups and one more, which goes last; `None` exactly where its key is there. Then, and

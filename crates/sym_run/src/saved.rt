@@ -1,10 +1,8 @@
 //! Runs that are kept: what records of consecutive numbers do to each group.
 ghost use Rattle.std.specs.Prelude.{◌≡◌, ◌↔◌, IfOk, IsTrue};
 ghost use Rattle.sym_check.specs.Checking.CheckedScripts.{checked_plan};
-ghost use Rattle.sym_run.specs.ClosedJoins.{IsJoinable, IsSavedJoin};
 ghost use Rattle.sym_run.specs.SavedRuns.{IsLawfulSaved};
 
-use crate::closed_joins::join_closed;
 use crate::lawful::are_lawful;
 use crate::run_groups::RunGroups;
 use std::alloc::Global;
@@ -56,7 +54,7 @@ impl Saved {
     }
 
     /// The chains by group. It takes no memory.
-    fn into_groups(self) -> RunGroups
+    pub fn into_groups(self) -> RunGroups
         ensures { result ≡ self.groups }
     {
         let Saved {
@@ -65,30 +63,5 @@ impl Saved {
             groups,
         } = self;
         groups
-    }
-
-    /// The saved run of this one's records and then the right one's, which follow. Where a segment
-    /// and the next one have pairs, and at most `limit` of them, they are composed. Keys and chains
-    /// are moved.
-    pub fn join(
-        self,
-        alloc: Global,
-        checked: &Checked,
-        right: Saved,
-        limit: u32,
-    ) -> Result<Saved, NoMemory>
-        requires left { IsJoinable (checked_plan checked.now) self }
-        requires right { IsJoinable (checked_plan checked.now) right }
-        requires follows { right.first ≡ self.next }
-        ensures joinable { IfOk result (IsJoinable (checked_plan checked.now)) }
-        ensures joined { IfOk result (IsSavedJoin (checked_plan checked.now) limit self right) }
-    {
-        let (first, next) = (self.first, right.next);
-        let (left, right) = (self.into_groups(), right.into_groups());
-        Ok(Saved {
-            first,
-            next,
-            groups: join_closed(alloc, checked, left, right, limit)?,
-        })
     }
 }

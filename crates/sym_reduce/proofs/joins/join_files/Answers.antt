@@ -1,4 +1,4 @@
-use Rattle.std.proofs.Common.{◌∙◌, ◌≤◌, ◌<◌, ◌^◌, ℕ, refl, subst, sym, arith, map, length, Option, Result, Err}
+use Rattle.std.proofs.Common.{◌∙◌, ◌≤◌, ◌<◌, ◌^◌, ℕ, refl, subst, sym, arith, map, length, Result}
 use Rattle.std.specs.Result.{IfErr}
 use Rattle.std.specs.String.{string_bytes}
 use Rattle.std.proofs.lemmas.List.{length-map}
@@ -8,7 +8,7 @@ use Rattle.sym_files.proofs.FileByFile.{may_as, name_at}
 use Rattle.sym_file.specs.SavedTexts.{printed}
 use Rattle.sym_run.specs.declared.saved.Saved.{Saved}
 use Rattle.sym_reduce.specs.declared.error.ReduceErr.{ReduceErr}
-use Rattle.sym_reduce.specs.Joining.{Follows, ReadsRun, StopsJoin}
+use Rattle.sym_reduce.specs.Joining.{StopsJoin}
 use Rattle.sym_reduce.proofs.Files.{fails_as, unread_as}
 use Rattle.sym_reduce.proofs.JoiningFiles.{all_joined, joining_on, none_at_end, none_joined, unjoined_stops, unread_stops}
 use Rattle.sym_reduce.proofs.joins.join_files.Goals as goal
@@ -21,10 +21,6 @@ files-init g c =
       same = refl;
       later = λ other. omega arith;
     }
-
-pub join_next-requires-clause-follows : goal.join_next-requires-clause-follows
-join_next-requires-clause-follows g c =
-    subst (λ (next : Option ℕ). Follows next c.in_ok-saved.saved.first) c.next_after-next.ensures c.in_ok-saved.ensures.reads.1
 
 pub files-preserved : goal.files-preserved
 files-preserved g c =
@@ -39,11 +35,10 @@ files-preserved g c =
     let at = name_at string_bytes c.args.names.now k c.index-names-file.result name c.files-test.true c.index-names-file.is c.as_str.ensures.value in
     let may = may_as (g.F.Store.holds c.files.files) holds name c.in_ok-bytes.bytes.items bytes is.same c.as_slice.ensures.value c.in_ok-bytes.ensures.read in
     let size : length bytes ≤ c.args.max_bytes = rw c.as_slice.ensures.value c.in_ok-bytes.ensures.fits in
-    let reads = c.in_ok-saved.ensures.reads in
-    let follows = subst (λ (next : Option ℕ). Follows next c.in_ok-saved.saved.first) c.next_after-next.ensures reads.1 in
+    let file = c.in_ok-more.ensures.joins in
     record {
-      joining = joining_on (printed c.args.checked.now) p c.args.max_bytes c.args.limit formed holds names k c.files.joined name bytes c.in_ok-saved.saved c.in_ok-more.more is.joining at may size reads.0 follows
-          c.in_ok-more.ensures.joinable c.in_ok-more.ensures.joins;
+      joining = joining_on (printed c.args.checked.now) p c.args.max_bytes c.args.limit formed holds names k c.files.joined name bytes file.saved c.in_ok-more.more is.joining at may size file.is file.follows
+          c.in_ok-more.ensures.joinable file.joins;
       able = c.in_ok-more.ensures.joinable;
       same = c.in_ok-bytes.ensures.same ∙ is.same;
       later = λ other. omega (arith, c.in_ok-bytes.ensures.later other, is.later other);
@@ -69,8 +64,8 @@ returns-in_err-bytes-clause-stopped g c =
     fails_as c.from_residual.result why P c.from_residual.ensures.1
     (unread_stops script p c.args.max_bytes c.args.limit formed bound holds names before during after k c.files.joined name why c.files.invariant.joining at (c.files.invariant.later name) unread)
 
-pub returns-in_err-saved-clause-stopped : goal.returns-in_err-saved-clause-stopped
-returns-in_err-saved-clause-stopped g c =
+pub returns-in_err-more-clause-stopped : goal.returns-in_err-more-clause-stopped
+returns-in_err-more-clause-stopped g c =
     let p = checked_plan c.args.checked.now in
     let formed : IsWellFormed p = subst IsWellFormed c.plan-plan.ensures.same c.plan-plan.ensures.well_formed in
     let script = printed c.args.checked.now in
@@ -82,16 +77,14 @@ returns-in_err-saved-clause-stopped g c =
     let name = c.as_str.result.now in
     let bytes = c.as_slice.result.now in
     let is = c.files.invariant in
-    let why = c.in_err-saved.field-0.0 in
+    let why = c.in_err-more.field-0.0 in
     let at = name_at string_bytes c.args.names.now k c.index-names-file.result name c.files-test.true c.index-names-file.is c.as_str.ensures.value in
     let may = may_as (g.F.Store.holds c.files.files) holds name c.in_ok-bytes.bytes.items bytes is.same c.as_slice.ensures.value c.in_ok-bytes.ensures.read in
     let size : length bytes ≤ c.args.max_bytes = rw c.as_slice.ensures.value c.in_ok-bytes.ensures.fits in
     let bound : c.args.max_bytes < 2 ^ 64 = let size = c.requires.size in omega (arith, size) in
     let P : Result Saved ReduceErr → Type 0 = λ r. IfErr r (StopsJoin script p c.args.max_bytes holds names before after) in
-    let Q : Option ℕ → Type 0 = λ next. ReadsRun script p next k bytes (Err why) in
-    let reads = subst Q c.next_after-next.ensures c.in_err-saved.ensures.reads in
-    fails_as c.from_residual-in_err-saved.result why P c.from_residual-in_err-saved.ensures.1
-    (unjoined_stops script p c.args.max_bytes c.args.limit formed bound holds names before after k c.files.joined name bytes why is.joining at may size reads)
+    fails_as c.from_residual-in_err-more.result why P c.from_residual-in_err-more.ensures.1
+    (unjoined_stops script p c.args.max_bytes c.args.limit formed bound holds names before after k c.files.joined name bytes why is.joining at may size c.in_err-more.ensures.joins)
 
 pub returns-in-Some-clause-joined : goal.returns-in-Some-clause-joined
 returns-in-Some-clause-joined g c =
@@ -105,16 +98,3 @@ returns-in-None-clause-joined g c =
     let few : length (map string_bytes c.args.names.now) ≤ c.files.file = simp length-map (omega arith) in
     none_at_end (printed c.args.checked.now) p c.args.max_bytes c.args.limit (g.F.Store.holds c.args.files.now) (map string_bytes c.args.names.now) c.files.file _ (rw c.in-None.is at c.files.invariant.joining) few
     refl refl c.new.ensures
-
-pub returns-in_err-more-clause-stopped : goal.returns-in_err-more-clause-stopped
-returns-in_err-more-clause-stopped g c =
-    let p = checked_plan c.args.checked.now in
-    let script = printed c.args.checked.now in
-    let holds = g.F.Store.holds c.args.files.now in
-    let names = map string_bytes c.args.names.now in
-    let before = g.F.Store.faults c.args.files.now in
-    let after = g.F.Store.faults c.read_file.new.files in
-    let why = c.in_err-more.field-0.0 in
-    let P : Result Saved ReduceErr → Type 0 = λ r. IfErr r (StopsJoin script p c.args.max_bytes holds names before after) in
-    fails_as c.from_residual-in_err-more.result why P c.from_residual-in_err-more.ensures.1
-    (subst (StopsJoin script p c.args.max_bytes holds names before after) (sym c.in_err-more.ensures.stopped) tt)
