@@ -16,12 +16,7 @@ use sym_file::{JoinedText, SavedErr, join_text, read_saved};
 use sym_run::{RunGroups, Saved};
 
 /// The saved run of the first file, whose number is `file`.
-fn first_run(
-    alloc: Global,
-    checked: &Checked,
-    bytes: &[u8],
-    file: u64,
-) -> Result<Saved, ReduceErr>
+fn first_run(alloc: Global, checked: &Checked, bytes: &[u8], file: u64) -> Result<Saved, ReduceErr>
     requires size { length bytes.now ≤ limits.FILE_MAX }
     ensures joins { let p = checked_plan checked.now in
         (limit : ℕ) → JoinsFile (printed checked.now) p limit None file bytes.now result }
