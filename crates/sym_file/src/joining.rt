@@ -155,6 +155,37 @@ fn join_own(
     join_body(alloc, checked, wanted, rest, groups, limit)
 }
 
+/// `join_text`, where this is the script in its printed form.
+fn join_by(
+    alloc: Global,
+    checked: &Checked,
+    own: &[u8],
+    before: Saved,
+    bytes: &[u8],
+    limit: u32,
+) -> Result<JoinedText, SavedErr>
+    requires size { length bytes.now ≤ limits.FILE_MAX }
+    requires before { IsJoinable (checked_plan checked.now) before }
+    ensures joined { JoinsText own.now (checked_plan checked.now) bytes.now limit before result }
+    ensures joinable { IfOk result (λ answer.
+        IfJoined answer (IsJoinable (checked_plan checked.now))) }
+{
+    let (first, next) = (before.first, before.next);
+    let mut groups = before.into_groups();
+    match join_own(alloc, checked, own, bytes, next, &mut groups, limit) {
+        Ok(next) => Ok(JoinedText::Done(Saved {
+            first,
+            next,
+            groups,
+        })),
+        Err(SavedErr::NoMemory) => Err(SavedErr::NoMemory),
+        Err(_) => {
+            let _saved = read_own(alloc, checked, own, bytes)?;
+            Ok(JoinedText::Apart)
+        }
+    }
+}
+
 /// The saved run of the records of `before` and then of those of the saved run that has this text,
 /// which follow: each group is joined as it is read, and no saved run is made of the text. Where a
 /// segment and the next one have pairs, and at most `limit` of them, they are composed. Keys and
@@ -175,18 +206,5 @@ pub fn join_text(
         IfJoined answer (IsJoinable (checked_plan checked.now))) }
 {
     let own = print(alloc, checked.script())?;
-    let (first, next) = (before.first, before.next);
-    let mut groups = before.into_groups();
-    match join_own(alloc, checked, &own, bytes, next, &mut groups, limit) {
-        Ok(next) => Ok(JoinedText::Done(Saved {
-            first,
-            next,
-            groups,
-        })),
-        Err(SavedErr::NoMemory) => Err(SavedErr::NoMemory),
-        Err(_) => {
-            let _saved = read_own(alloc, checked, &own, bytes)?;
-            Ok(JoinedText::Apart)
-        }
-    }
+    join_by(alloc, checked, &own, before, bytes, limit)
 }
