@@ -10,6 +10,3 @@ returns-in-Ok-clause-joined c =
     let same : c.into_groups-groups.result ≡ c.args.before.groups = c.into_groups-groups.ensures in
     text_joined c.args.own.now p c.args.bytes.now c.args.limit c.args.before c.join_own.new.groups c.in-Ok.next
     (subst (λ (groups : Chains). IsOwnJoined c.args.own.now p c.args.bytes.now c.args.before.next c.args.limit groups c.join_own.new.groups c.in-Ok.next) same c.in-Ok.ensures)
-
-pub returns-in-Ok-clause-joinable : goal.returns-in-Ok-clause-joinable
-returns-in-Ok-clause-joinable c = record { fits = c.in-Ok.ensures.joins.fits; closed = c.in-Ok.ensures.joins.closed }
