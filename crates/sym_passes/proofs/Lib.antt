@@ -1,4 +1,3 @@
 pub mod AppliedRuns
 pub mod Folds
-pub mod LawfulRuns
 pub mod Summed

@@ -30,7 +30,7 @@ use Rattle.sym_files.specs.Rounds.{AreWorkers}
 use Rattle.sym_workers.specs.RoundRuns.{StandsForAll}
 use Rattle.sym_workers.proofs.RoundRuns.{round_fine}
 use Rattle.sym_passes.specs.Saving.{AreSummed}
-use Rattle.sym_passes.proofs.LawfulRuns.{keyed_groups_lawful, numbered_order, unmapped}
+use Rattle.sym_run.proofs.LawfulRuns.{keyed_groups_lawful, numbered_order, unmapped}
 
 abbrev pub Chains : Type 0
 Chains = List (Key × Chained)

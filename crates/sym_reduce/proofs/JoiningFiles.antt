@@ -14,7 +14,7 @@ use Rattle.sym_check.specs.Plan.WellFormed.{IsWellFormed}
 use Rattle.sym_check.proofs.GroupLaws.{keys_apart}
 use Rattle.sym_check.specs.Meaning.Groups.{is_among, not_among}
 use Rattle.sym_check.specs.Meaning.Validity.{IsKey, IsRecord}
-use Rattle.sym_passes.proofs.LawfulRuns.{keyed_saved_lawful}
+use Rattle.sym_run.proofs.LawfulRuns.{keyed_saved_lawful}
 use Rattle.sym_files.specs.Passing.{Counts, Holds, May, MayAll}
 use Rattle.sym_file.proofs.Taking.{lawful_closed}
 use Rattle.sym_run.specs.Chained.{Chained}

@@ -13,6 +13,7 @@ pub mod GroupPuts
 pub mod JoinedGroups
 pub mod KeptRecords
 pub mod LawfulGroups
+pub mod LawfulRuns
 pub mod LedGroups
 pub mod OpenGroups
 pub mod OpenedChains
