@@ -65,6 +65,22 @@ fn a_file_is_read_whole_by_pieces(rt: HostRuntime) -> Result<(), Fail> {
 }
 
 #[test]
+fn the_size_of_a_file_is_told_before_it_is_read(rt: HostRuntime) -> Result<(), Fail> {
+    for count in [0, 1, 300] {
+        let bytes = sample(rt.alloc(), count)?;
+        let mut store = MemStore::new(rt.alloc());
+        store.add(rt.alloc(), "records", bytes.as_slice())?;
+        assert_eq!(rt; store.size_hint("records"), count);
+        assert_eq!(rt; store.size_hint("others"), 0);
+        let mut sure = SureStore::new(rt.alloc());
+        sure.add(rt.alloc(), "records", bytes.as_slice())?;
+        assert_eq!(rt; sure.size_hint("records"), count);
+        assert_eq!(rt; sure.size_hint("others"), 0);
+    }
+    Ok(())
+}
+
+#[test]
 fn a_file_that_is_absent_cannot_be_read_and_one_that_is_set_again_is_replaced(
     rt: HostRuntime,
 ) -> Result<(), Fail> {

@@ -1,6 +1,6 @@
 //! Files that a store in memory keeps.
 ghost use Rattle.std.specs.Prelude.{◌≡◌, ◌≢◌, ◌-◌, ◌≤◌, List, ℕ, Some, length, min, OnOk, OnErr, option_map};
-ghost use Rattle.sym_base.specs.InMemory.{file_at, files_of};
+ghost use Rattle.sym_base.specs.InMemory.{bytes_of, file_at, files_of};
 ghost use Rattle.sym_base.specs.Transfers.{ReadsAt};
 
 use crate::limits::FILE_MAX;
@@ -40,7 +40,9 @@ pub(crate) fn find<'a>(files: &'a Files, name: &str) -> Option<&'a [u8]>
 }
 
 // The number of a file's bytes; 0 where there is no file.
-pub(crate) fn size_of(files: &Files, name: &str) -> u64 {
+pub(crate) fn size_of(files: &Files, name: &str) -> u64
+    ensures { result ≡ length (bytes_of (files_of files.now.entries) name.now) }
+{
     match find(files, name) {
         Some(bytes) => bytes.len() as u64,
         None => 0,

@@ -2,7 +2,7 @@
 ghost use Rattle.std.specs.Prelude.{◌≡◌, ◌≢◌, ℕ, ◌-◌, ◌≤◌, ◌↔◌, List, [], ◌∷◌, ◌++◌, None, Some, length, drop, min, IfOk, IfSome, OnOk, OnErr, IsErr, IsTrue, Contains};
 ghost use Rattle.sym_base.specs.Counts.{Rose};
 ghost use Rattle.sym_base.specs.Transfers.{ReadsAt};
-ghost use Rattle.sym_base.specs.InMemory.{file_at, FailsNext, after_read, after_fault, at_most};
+ghost use Rattle.sym_base.specs.InMemory.{bytes_of, file_at, FailsNext, after_read, after_fault, at_most};
 
 use crate::edge::files::{Files, copy_from, find, put, size_of};
 use crate::edge::store::{Failed, Store};
@@ -125,7 +125,9 @@ impl Store for MemStore {
     }
 
     /// The number of its bytes.
-    fn size_hint(&self, name: &str) -> u64 {
+    fn size_hint(&self, name: &str) -> u64
+        ensures { result ≡ length (bytes_of self.now.files name.now) }
+    {
         size_of(&self.files, name)
     }
 }

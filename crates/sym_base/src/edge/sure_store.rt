@@ -78,7 +78,9 @@ impl Store for SureStore {
     }
 
     /// The number of its bytes.
-    fn size_hint(&self, name: &str) -> u64 {
+    fn size_hint(&self, name: &str) -> u64
+        ensures { result ≡ length (bytes_of self.now name.now) }
+    {
         size_of(&self.files, name)
     }
 }
