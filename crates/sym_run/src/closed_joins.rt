@@ -239,8 +239,10 @@ fn push_all(
     }
 }
 
-/// Puts the right chain's records after the left one's.
-fn join_chain(
+/// Puts the right chain's records after the left one's, where neither keeps records. They needn't be
+/// tight, and may stand for no records. Neighbours are composed where they have pairs, and at most
+/// `limit` of them. After an `Err` the left chain is unspecified.
+pub fn join_chain(
     alloc: Global,
     checked: &Checked,
     left: &mut Chain,

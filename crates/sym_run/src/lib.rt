@@ -31,6 +31,7 @@ mod unread;
 pub use bracketing::{JoinTree, apply_joined, join_all};
 pub use chains::Chain;
 pub use chunks::{of_chunk, of_chunks};
+pub use closed_joins::join_chain;
 pub use closing::join_and_close;
 pub use joining::{join_groups, push};
 pub use lawful::is_lawful_group;
