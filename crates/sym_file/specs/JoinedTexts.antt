@@ -1,5 +1,5 @@
 -- What the saved run of a text makes of another one, where its groups are joined while they are read.
-use Rattle.std.specs.Prelude.{◌≡◌, ◌≢◌, ℕ, Bool, true, false, List, [], ◌∷◌, ◌++◌, Some, Result, Ok, Err}
+use Rattle.std.specs.Prelude.{◌≡◌, ◌≢◌, ℕ, Bool, true, false, List, [], ◌∷◌, ◌++◌, Option, None, Some, Result, Ok, Err}
 use Rattle.std.specs.List.{All}
 use Rattle.sym_base.specs.declared.values.value.Key.{Key}
 use Rattle.sym_check.specs.Meaning.Groups.{is_among}
@@ -101,3 +101,11 @@ JoinsOwn script p bytes first limit old new (Ok next) =
     IsOwnJoined script p bytes first limit old new next
 JoinsOwn script p bytes first limit old new (Err e) =
     Stops e ((saved : Saved) → IsTextOf script p bytes saved → saved.first ≢ first)
+
+-- The same, where it is said why nothing is joined.
+abbrev pub JoinsUnlessApart : List ℕ → ScriptPlan → List ℕ → ℕ → ℕ → Chains → Chains
+    → Result (Option ℕ) SavedErr → Type 0
+JoinsUnlessApart script p bytes first limit old new (Ok (Some next)) =
+    IsOwnJoined script p bytes first limit old new next
+JoinsUnlessApart script p bytes first limit old new (Ok None) = IsTextApart script p bytes first
+JoinsUnlessApart script p bytes first limit old new (Err why) = IsReadTo script p bytes (Err why)

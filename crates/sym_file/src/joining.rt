@@ -4,7 +4,7 @@ ghost use Rattle.std.specs.Prelude.{◌≡◌, ◌≤◌, List, IfOk, length};
 ghost use Rattle.sym_base.specs.declared.limits.TheConstants as limits;
 ghost use Rattle.sym_base.specs.declared.values.value.Key.{Key as OneKey};
 ghost use Rattle.sym_check.specs.Checking.CheckedScripts.{checked_plan};
-ghost use Rattle.sym_file.specs.JoinedTexts.{IfJoined, IsJoinedOnce, JoinsBody, JoinsGroups, JoinsOwn, JoinsText};
+ghost use Rattle.sym_file.specs.JoinedTexts.{IfJoined, IsJoinedOnce, JoinsBody, JoinsGroups, JoinsOwn, JoinsText, JoinsUnlessApart};
 ghost use Rattle.sym_file.specs.Marks.{AreMarks};
 ghost use Rattle.sym_file.specs.SavedTexts.{printed};
 ghost use Rattle.sym_run.specs.Chains.{ChainFits, IsClosed};
@@ -155,6 +155,33 @@ fn join_own(
     join_body(alloc, checked, wanted, rest, groups, limit)
 }
 
+/// `join_own`, where `read_saved` says why no saved run is joined; `None` where the text has one
+/// whose first record has another number.
+fn join_unless_apart(
+    alloc: Global,
+    checked: &Checked,
+    own: &[u8],
+    bytes: &[u8],
+    wanted: u64,
+    groups: &mut RunGroups,
+    limit: u32,
+) -> Result<Option<u64>, SavedErr>
+    requires size { length bytes.now ≤ limits.FILE_MAX }
+    requires fits { GroupsFit (checked_plan checked.now) groups.old }
+    requires closed { AreClosed groups.old }
+    ensures { JoinsUnlessApart own.now (checked_plan checked.now) bytes.now wanted limit
+        groups.old groups.new result }
+{
+    match join_own(alloc, checked, own, bytes, wanted, groups, limit) {
+        Ok(next) => Ok(Some(next)),
+        Err(SavedErr::NoMemory) => Err(SavedErr::NoMemory),
+        Err(_) => {
+            let _saved = read_own(alloc, checked, own, bytes)?;
+            Ok(None)
+        }
+    }
+}
+
 /// `join_text`, where this is the script in its printed form.
 fn join_by(
     alloc: Global,
@@ -172,17 +199,14 @@ fn join_by(
 {
     let (first, next) = (before.first, before.next);
     let mut groups = before.into_groups();
-    match join_own(alloc, checked, own, bytes, next, &mut groups, limit) {
-        Ok(next) => Ok(JoinedText::Done(Saved {
+    match join_unless_apart(alloc, checked, own, bytes, next, &mut groups, limit) {
+        Ok(Some(next)) => Ok(JoinedText::Done(Saved {
             first,
             next,
             groups,
         })),
-        Err(SavedErr::NoMemory) => Err(SavedErr::NoMemory),
-        Err(_) => {
-            let _saved = read_own(alloc, checked, own, bytes)?;
-            Ok(JoinedText::Apart)
-        }
+        Ok(None) => Ok(JoinedText::Apart),
+        Err(why) => Err(why),
     }
 }
 

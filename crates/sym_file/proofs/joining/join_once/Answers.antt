@@ -17,8 +17,8 @@ returns-in_ok-join_at-in-Some c = λ seen is.
     joined_there p c.args.limit seen groups marks is c.args.key c.args.chain c.join_at.new.self (c.in_ok-join_at-in-Some.ensures c.args.key at) c.in-Some.index at c.in-Some.ensures.distinct
     (seen_is seen groups marks is c.args.key c.in-Some.index at c.index.result.now c.index.ensures ∙ c.if-index.false)
 
-pub begin-requires-clause-new : goal.begin-requires-clause-new
-begin-requires-clause-new c = not_found (lookup (is_key c.args.key) c.args.groups.now) c.in-None.ensures.found
+pub begin-requires : goal.begin-requires
+begin-requires c = record { new = not_found (lookup (is_key c.args.key) c.args.groups.now) c.in-None.ensures.found }
 
 pub returns-in_ok-begin-in-None : goal.returns-in_ok-begin-in-None
 returns-in_ok-begin-in-None c = λ seen is.
