@@ -4,6 +4,7 @@ pub mod FormTexts
 pub mod Fronts
 pub mod Groups
 pub mod JoinedTexts
+pub mod KeyPlaces
 pub mod Lawful
 pub mod Loops
 pub mod Made

@@ -2,6 +2,7 @@ pub mod Deciding
 pub mod JoinedTexts
 pub mod Making
 pub mod Marks
+pub mod PlacedTexts
 pub mod Places
 pub mod Reading
 pub mod SavedTexts

@@ -5,14 +5,18 @@
 
 mod forms;
 mod joining;
+mod joins;
 pub mod laws;
 mod leading;
 mod numbers;
 mod parts;
 mod paths;
+mod places;
 mod reading;
 mod saved_err;
 mod saved_text;
+mod scanning;
+mod texts;
 mod totals;
 mod values;
 mod writing;
@@ -21,4 +25,5 @@ pub use joining::{JoinedText, join_text};
 pub use reading::read_saved;
 pub use saved_err::SavedErr;
 pub use saved_text::write_saved;
+pub use texts::join_texts;
 pub use totals::{Taken, TakenText, Totals};

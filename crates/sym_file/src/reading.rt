@@ -20,7 +20,11 @@ use sym_run::{Chain, RunGroups, Saved};
 
 /// A key.
 #[tactic(auto, unfolding(crate::specs::Reading::key_at))]
-fn key<'a>(alloc: Global, plan: &Plan, bytes: &'a [u8]) -> Result<(Key, &'a [u8]), SavedErr>
+pub(crate) fn key<'a>(
+    alloc: Global,
+    plan: &Plan,
+    bytes: &'a [u8],
+) -> Result<(Key, &'a [u8]), SavedErr>
     ensures { Gives (λ x. (x.0, x.1.now)) result (key_at (script_plan plan.now) bytes.now) }
 {
     let rest = after(b"key", bytes)?;
