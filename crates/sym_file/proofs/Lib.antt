@@ -3,6 +3,7 @@ pub mod Codecs
 pub mod FormTexts
 pub mod Fronts
 pub mod Groups
+pub mod JoinedPlaces
 pub mod JoinedTexts
 pub mod KeyPlaces
 pub mod Lawful
@@ -14,6 +15,7 @@ pub mod OneItem
 pub mod PartTexts
 pub mod PathTexts
 pub mod Read
+pub mod Scanned
 pub mod SetBits
 pub mod TakenTexts
 pub mod Taking

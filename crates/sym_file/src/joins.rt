@@ -46,15 +46,13 @@ pub(crate) fn join_places(
     ensures { IfOk result (λ chain. IsJoinOfPlaces (checked_plan checked.now) limit spans.now
         (key.now, places.now) (key.now, chain)) }
 {
-    match places.items.as_slice() {
-        [] => Err(SavedErr::Malformed),
-        [first, others @ ..] => {
-            let mut joined = chain_there(alloc, checked, spans, key, first)?;
-            'places: for place in others {
-                let chain = chain_there(alloc, checked, spans, key, place)?;
-                join_chain(alloc, checked, &mut joined, chain, limit)?;
-            }
-            Ok(joined)
-        }
+    if places.items.is_empty() {
+        return Err(SavedErr::Malformed);
     }
+    let mut joined = chain_there(alloc, checked, spans, key, &places.items[0])?;
+    'places: for at in 1..places.items.len() {
+        let chain = chain_there(alloc, checked, spans, key, &places.items[at])?;
+        join_chain(alloc, checked, &mut joined, chain, limit)?;
+    }
+    Ok(joined)
 }
