@@ -19,4 +19,5 @@ pub mod Scanned
 pub mod SetBits
 pub mod TakenTexts
 pub mod Taking
+pub mod TextsInTurn
 pub mod ValueTexts
