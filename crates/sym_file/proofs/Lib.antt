@@ -19,5 +19,6 @@ pub mod Scanned
 pub mod SetBits
 pub mod TakenTexts
 pub mod Taking
+pub mod TextsByKey
 pub mod TextsInTurn
 pub mod ValueTexts

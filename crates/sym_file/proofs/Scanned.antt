@@ -168,10 +168,9 @@ module _ (spans : List Span) (i : ℕ) (span : Span) (are : AreInOrder (take i s
 
   in_order_on : ((k : ℕ) (before : Span) → i ≡ suc k → slice_get spans k ≡ Some before → span.first ≡ before.next) → AreInOrder (take (i + 1) spans) × (i + 1 ≤ length spans)
   in_order_on after =
-      let many : length (take i spans) ≡ i = let w = within_spans in length-take-le i spans (omega (arith, w)) in
-      (
+      let many : length (take i spans) ≡ i = let w = within_spans in length-take-le i spans (omega (arith, w)) in (
         subst AreInOrder (sym (take_get spans i span at))
-        (order_last (take i spans) span are from order (λ k before count there. after k before (sym many ∙ count) (get_taken spans i k before there))),
+            (order_last (take i spans) span are from order (λ k before count there. after k before (sym many ∙ count) (get_taken spans i k before there))),
         (let w = within_spans in omega (arith, w)),
       )
 

@@ -148,8 +148,7 @@ fn join_groups<R: Threads + Sync>(
     put_chains(alloc, groups, made)
 }
 
-// `join_texts`, where `own` is the script in its printed form, with what is wrong where nothing is
-// made.
+// `join_texts`, where `own` is the script in its printed form.
 fn join_own<R: Threads + Sync>(
     rt: &R,
     alloc: Global,
@@ -178,6 +177,25 @@ fn join_own<R: Threads + Sync>(
     })
 }
 
+// `join_texts`, with a cause where nothing is made.
+fn join_printed<R: Threads + Sync>(
+    rt: &R,
+    alloc: Global,
+    checked: &Checked,
+    texts: &[Vec<u8>],
+    limit: u32,
+    threads: usize,
+) -> Result<Saved, SavedErr>
+    requires size { All (λ text. length text.items ≤ limits.FILE_MAX) texts.now }
+    ensures joined { IfOk result (AreTextsJoined (printed checked.now) (checked_plan checked.now)
+        limit (map (λ text. text.items) texts.now)) }
+    ensures joinable { IfOk result (IsJoinable (checked_plan checked.now)) }
+{
+    let _plan = checked.plan();
+    let own = print(alloc, checked.script())?;
+    join_own(rt, alloc, checked, &own, texts, limit, threads)
+}
+
 /// The saved run of the records of several saved runs, of which these are the texts, in order: each
 /// is that of the script, and its records follow those of the one before it. One thread scans where
 /// the chains of each key stand, and so many threads, at most, read those of a key each, and join
@@ -196,6 +214,5 @@ pub fn join_texts<R: Threads + Sync>(
         limit (map (λ text. text.items) texts.now)) }
     ensures joinable { IfSome result (IsJoinable (checked_plan checked.now)) }
 {
-    let own = print(alloc, checked.script()).ok()?;
-    join_own(rt, alloc, checked, &own, texts, limit, threads).ok()
+    join_printed(rt, alloc, checked, texts, limit, threads).ok()
 }

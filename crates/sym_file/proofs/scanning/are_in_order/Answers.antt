@@ -15,12 +15,13 @@ spans-preserved c =
     let b = c.if-span.false in
     let from : 1 ≤ span.first = subst (λ (s : Span). 1 ≤ s.first) c.span.view_is (omega (arith, a)) in
     let order : span.first ≤ span.next = subst (λ (s : Span). s.first ≤ s.next) c.span.view_is (omega (arith, b)) in
-    elim c.if-at-gt0.branch
-    [ then-at-gt0+else-before-span w ↦
-        (let before : Span = w.index-spans-at-then-at-gt0.result in
-        let t = w.if-at-gt0.true in
-        let near : i - 1 < length spans = (let u = c.spans-test.true in omega (arith, u)) in
-        let there : slice_get spans (i - 1) ≡ Some before = slice_get_read spans (length spans) (i - 1) before refl near w.index-spans-at-then-at-gt0.is in
-        let same : before.next ≡ span.first = ap (λ (s : Span). s.next) (sym w.before-then-at-gt0.view_is) ∙ w.if-before-span.false ∙ ap (λ (s : Span). s.first) c.span.view_is in
-        in_order_next spans i span c.spans.invariant.0 at from order (i - 1) before (omega (arith, t)) there same)
-    | else-at-gt0 w ↦ in_order_first spans i span c.spans.invariant.0 at from order (let f = w.if-at-gt0.false in omega (arith, f)) ]
+    elim c.if-at-gt0.branch [
+      | then-at-gt0+else-before-span w ↦
+          (let before : Span = w.index-spans-at-then-at-gt0.result in
+          let t = w.if-at-gt0.true in
+          let near : i - 1 < length spans = (let u = c.spans-test.true in omega (arith, u)) in
+          let there : slice_get spans (i - 1) ≡ Some before = slice_get_read spans (length spans) (i - 1) before refl near w.index-spans-at-then-at-gt0.is in
+          let same : before.next ≡ span.first = ap (λ (s : Span). s.next) (sym w.before-then-at-gt0.view_is) ∙ w.if-before-span.false ∙ ap (λ (s : Span). s.first) c.span.view_is in
+          in_order_next spans i span c.spans.invariant.0 at from order (i - 1) before (omega (arith, t)) there same)
+      | else-at-gt0 w ↦ in_order_first spans i span c.spans.invariant.0 at from order (let f = w.if-at-gt0.false in omega (arith, f))
+    ]

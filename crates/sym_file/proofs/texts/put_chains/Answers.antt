@@ -1,4 +1,5 @@
 use Rattle.std.proofs.Common.{◌≡◌, ◌∙◌, [], List, Result, subst, sym}
+use Rattle.std.proofs.lemmas.List.{nil_from_length}
 use Rattle.std.specs.Vec.Iter.{into_iter_items}
 use Rattle.sym_run.specs.Chained.{Chained}
 use Rattle.sym_file.specs.declared.saved_err.SavedErr.{SavedErr}
@@ -15,6 +16,7 @@ pub returns : goal.returns
 returns c = λ p limit spans are.
     let groups = c.args.groups in
     let made = c.args.made.items in
+    let none : into_iter_items c.chains.chain-iterator ≡ [] = nil_from_length _ (sym c.chains.chain-iterator.rest.ok.0 ∙ c.in-None.ensures.steps.0) in
     put_all groups made c.chains.yielded c.chains.keys c.chains.joined
-    (subst (λ (left : List (Result Chained SavedErr)). ArePut groups made c.chains.yielded left c.chains.keys c.chains.joined) c.in-None.ensures.steps.0 c.chains.invariant)
+    (subst (λ (left : List (Result Chained SavedErr)). ArePut groups made c.chains.yielded left c.chains.keys c.chains.joined) none c.chains.invariant)
     (sym c.args.made.ok.0 ∙ c.requires) p limit spans are
