@@ -12,4 +12,6 @@ mod taking;
 #[cfg(test)]
 mod texts;
 #[cfg(test)]
+mod together;
+#[cfg(test)]
 mod trips;

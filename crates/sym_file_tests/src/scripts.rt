@@ -12,6 +12,10 @@ pub(crate) const KEPT_OTHERWISE: &str = "# The number stays.\nfield x :num ;\n\n
 pub(crate) const COUNT: &str =
     "field x: num; state n: int [0..3] = 0; update { n = n + 1; } report { n = n; }";
 
+/// A number of each user that rises by one.
+pub(crate) const RISING: &str = "field user: word; group user; state n: int [0..12] = 0; \
+    update { n = n + 1; } report { n = n; }";
+
 /// Sessions of each user: a gap of more than 30 ends one.
 pub(crate) const SESSIONS: &str = "field ts: num; field user: word; group user; \
     state last: hold(num = 0); state n: int [0..12] = 0; state done: nums [0..12]; \
