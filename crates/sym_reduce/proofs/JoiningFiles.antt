@@ -1,5 +1,5 @@
 -- The saved runs so far in one, and what comes of the next file.
-use Rattle.std.proofs.Common.{◌≡◌, ◌∙◌, refl, sym, ap, subst, ℕ, ◌+◌, ◌≤◌, ◌<◌, ◌^◌, ◌⊎◌, arith, inl, inr, List, [], ◌∷◌, ◌++◌, length, take, drop, append-nil, not, Option, Some, None, slice_get}
+use Rattle.std.proofs.Common.{◌≡◌, ◌∙◌, refl, sym, ap, subst, ℕ, zero, suc, ◌+◌, ◌≤◌, ◌<◌, ◌^◌, ◌⊎◌, arith, inl, inr, List, [], ◌∷◌, ◌++◌, length, take, drop, append-nil, not, Option, Some, None, slice_get}
 use Rattle.std.proofs.lemmas.Grind.{flat_map-append}
 use Rattle.std.proofs.lemmas.List.{take_all}
 use Rattle.std.proofs.lemmas.List.Elements.{All-append, All-cons, All-filter, All-head, All-nil, All-tail}
@@ -17,6 +17,9 @@ use Rattle.sym_check.specs.Meaning.Validity.{IsKey, IsRecord}
 use Rattle.sym_run.proofs.LawfulRuns.{keyed_saved_lawful}
 use Rattle.sym_files.specs.Passing.{Counts, Holds, May, MayAll}
 use Rattle.sym_file.proofs.Taking.{lawful_closed}
+use Rattle.sym_file.specs.Places.{AreTextsJoined}
+use Rattle.sym_file.specs.Places as places
+use Rattle.sym_file.specs.TakenTexts.{IsTextOf}
 use Rattle.sym_run.specs.Chained.{Chained}
 use Rattle.sym_run.specs.ClosedJoins.{IsJoinable, IsSavedJoin}
 use Rattle.sym_run.specs.Growing.{AreBoth}
@@ -27,7 +30,7 @@ use Rattle.sym_run.specs.declared.saved.Saved.{Saved}
 use Rattle.sym_run.proofs.TightChains.{all_front, all_last}
 use Rattle.sym_reduce.specs.declared.error.ReduceErr.{ReduceErr}
 use Rattle.sym_reduce.specs.declared.error.ReduceErr.TheVariants as reduce_err
-use Rattle.sym_reduce.specs.Joining.{AreFollowing, AreRunFiles, Begins, FirstFileProblem, FirstJoinProblem, Follows, HasFaultAfter, HasJoinProblem, HasRunFault, IsJoinOf, IsNextOf, IsOnlyOf, JoinFailsAt, JoinedAll, JoinsNext, StandForParts, StopsJoin, next_of}
+use Rattle.sym_reduce.specs.Joining.{AreFilesJoined, AreFollowing, AreRunFiles, Begins, FirstFileProblem, FirstJoinProblem, Follows, HasFaultAfter, HasJoinProblem, HasRunFault, IsFaultyAt, IsFileJoined, IsJoinOf, IsJoining, IsNextOf, IsOnlyOf, IsUnreadAt, JoinFailsAt, JoinedAll, JoinsNext, SoFar, StandForParts, StopsFiles, StopsJoin, next_of}
 use Rattle.sym_reduce.specs.Joining as joins
 use Rattle.sym_reduce.specs.Reducing.{IsRunFile, IsUnread}
 use Rattle.sym_reduce.proofs.Files.{drop_at, larger, may_both, may_some, may_whole, rose_later, some_files, take_at, told_count}
@@ -179,29 +182,15 @@ module _ (script : List ℕ) (p : ScriptPlan) (max_bytes limit : ℕ) where
       ap (λ (s : Saved). s.first) (same script p formed bytes (omega (arith, size)) other saved h own) ∙ first
 
   -- ---- how far files are joined
-  -- The saved run of those before, where there are some.
-  abbrev SoFar : List (List ℕ) → List Saved → Option Saved → Type 0
-  SoFar told runs None = (told ≡ []) × (runs ≡ [])
-  SoFar told runs (Some joined) =
-      (bytes : List ℕ) × (files : List (List ℕ)) × (run : Saved) × (others : List Saved) × (first : ℕ)
-      × (told ≡ bytes ∷ files) × (runs ≡ run ∷ others)
-      × AreFollowing script p max_bytes first told runs joined.next × IsJoinOf p limit runs joined
-
-  pub record IsJoining (holds : Holds) (names : List (List ℕ)) (k : ℕ) (joined : Option Saved) : Type 0 where
-    pub told : List (List ℕ)
-    pub may : MayAll holds (take k names) told
-    pub runs : List Saved
-    pub far : SoFar told runs joined
-
-  pub none_joined : (holds : Holds) (names : List (List ℕ)) → IsJoining holds names 0 None
+  pub none_joined : (holds : Holds) (names : List (List ℕ)) → IsJoining script p max_bytes limit holds names 0 None
   none_joined holds names = record { told = []; may = tt; runs = []; far = (refl, refl) }
 
-  one_further : (formed : IsWellFormed p) → (before : Option Saved) (told : List (List ℕ)) (runs : List Saved) (bytes : List ℕ) (saved joined : Saved) → SoFar told runs before → length bytes ≤ max_bytes
+  one_further : (formed : IsWellFormed p) → (before : Option Saved) (told : List (List ℕ)) (runs : List Saved) (bytes : List ℕ) (saved joined : Saved) → SoFar script p max_bytes limit told runs before → length bytes ≤ max_bytes
       → IsRunFile script p bytes saved → Follows (next_of before) saved.first → IsJoinable p joined → JoinsNext p limit before saved joined
-      → SoFar (told ++ bytes ∷ []) (runs ++ saved ∷ []) (Some joined)
+      → SoFar script p max_bytes limit (told ++ bytes ∷ []) (runs ++ saved ∷ []) (Some joined)
   one_further formed None told runs bytes saved joined far size own follows able j =
-      let P : List (List ℕ) → Type 0 = λ ts. SoFar (ts ++ bytes ∷ []) (runs ++ saved ∷ []) (Some joined) in
-      let Q : List Saved → Type 0 = λ rs. SoFar (bytes ∷ []) (rs ++ saved ∷ []) (Some joined) in
+      let P : List (List ℕ) → Type 0 = λ ts. SoFar script p max_bytes limit (ts ++ bytes ∷ []) (runs ++ saved ∷ []) (Some joined) in
+      let Q : List Saved → Type 0 = λ rs. SoFar script p max_bytes limit (bytes ∷ []) (rs ++ saved ∷ []) (Some joined) in
       let R : Saved → Type 0 = λ s. AreFollowing script p max_bytes saved.first (bytes ∷ []) (saved ∷ []) s.next in
       subst P (sym far.0) (subst Q (sym far.1) (
         bytes,
@@ -231,9 +220,9 @@ module _ (script : List ℕ) (p : ScriptPlan) (max_bytes limit : ℕ) where
         subst K (sym far.6) (join_more p limit far.2 far.3 before saved joined formed (subst J far.6 far.8) own.is.lawful able j),
       )
 
-  pub joining_on : (formed : IsWellFormed p) → (holds : Holds) (names : List (List ℕ)) (k : ℕ) (before : Option Saved) (name bytes : List ℕ) (saved joined : Saved) → IsJoining holds names k before
+  pub joining_on : (formed : IsWellFormed p) → (holds : Holds) (names : List (List ℕ)) (k : ℕ) (before : Option Saved) (name bytes : List ℕ) (saved joined : Saved) → IsJoining script p max_bytes limit holds names k before
       → slice_get names k ≡ Some name → May (holds name) bytes → length bytes ≤ max_bytes → IsRunFile script p bytes saved → Follows (next_of before) saved.first
-      → IsJoinable p joined → JoinsNext p limit before saved joined → IsJoining holds names (k + 1) (Some joined)
+      → IsJoinable p joined → JoinsNext p limit before saved joined → IsJoining script p max_bytes limit holds names (k + 1) (Some joined)
   joining_on formed holds names k before name bytes saved joined is at may size own follows able j =
       let P : List (List ℕ) → Type 0 = λ ns. MayAll holds ns (is.told ++ bytes ∷ []) in
       record {
@@ -244,7 +233,7 @@ module _ (script : List ℕ) (p : ScriptPlan) (max_bytes limit : ℕ) where
       }
 
   -- ---- at the end
-  pub all_joined : (holds : Holds) (names : List (List ℕ)) (k : ℕ) (joined : Saved) → IsJoining holds names k (Some joined) → length names ≤ k → JoinedAll script p max_bytes limit holds names joined
+  pub all_joined : (holds : Holds) (names : List (List ℕ)) (k : ℕ) (joined : Saved) → IsJoining script p max_bytes limit holds names k (Some joined) → length names ≤ k → JoinedAll script p max_bytes limit holds names joined
   all_joined holds names k joined is all =
       let P : List (List ℕ) → Type 0 = λ ns. MayAll holds ns is.told in
       record {
@@ -255,7 +244,7 @@ module _ (script : List ℕ) (p : ScriptPlan) (max_bytes limit : ℕ) where
         joins = is.far.8;
       }
 
-  pub none_at_end : (holds : Holds) (names : List (List ℕ)) (k : ℕ) (saved : Saved) → IsJoining holds names k None → length names ≤ k → saved.first ≡ 1 → saved.next ≡ 1 → saved.groups ≡ []
+  pub none_at_end : (holds : Holds) (names : List (List ℕ)) (k : ℕ) (saved : Saved) → IsJoining script p max_bytes limit holds names k None → length names ≤ k → saved.first ≡ 1 → saved.next ≡ 1 → saved.groups ≡ []
       → JoinedAll script p max_bytes limit holds names saved
   none_at_end holds names k saved is all first next groups =
       let P : List (List ℕ) → Type 0 = λ ns. MayAll holds ns is.told in
@@ -272,7 +261,7 @@ module _ (script : List ℕ) (p : ScriptPlan) (max_bytes limit : ℕ) where
 
   -- ---- why files aren't joined
   -- What is wrong with the next file is the first problem, wherever the first file begins.
-  problem_here : (formed : IsWellFormed p) → (bound : max_bytes < 2 ^ 64) → (told : List (List ℕ)) (runs : List Saved) (before : Option Saved) (bytes : List ℕ) (rest : List (List ℕ)) (why : ReduceErr) → SoFar told runs before
+  problem_here : (formed : IsWellFormed p) → (bound : max_bytes < 2 ^ 64) → (told : List (List ℕ)) (runs : List Saved) (before : Option Saved) (bytes : List ℕ) (rest : List (List ℕ)) (why : ReduceErr) → SoFar script p max_bytes limit told runs before
       → ((next : ℕ) → Follows (next_of before) next → FirstFileProblem script p max_bytes (length told) next (bytes ∷ rest) why)
       → FirstJoinProblem script p max_bytes (told ++ bytes ∷ rest) why
   problem_here formed bound told runs None bytes rest why far found =
@@ -291,7 +280,7 @@ module _ (script : List ℕ) (p : ScriptPlan) (max_bytes limit : ℕ) where
         problem = problem_then 0 far.4 told runs before.next (bytes ∷ rest) why far.7 (subst N count (found before.next refl));
       }
 
-  stops_at : (formed : IsWellFormed p) → (bound : max_bytes < 2 ^ 64) → (holds : Holds) (names : List (List ℕ)) (k : ℕ) (before : Option Saved) (name bytes : List ℕ) (why : ReduceErr) → IsJoining holds names k before
+  stops_at : (formed : IsWellFormed p) → (bound : max_bytes < 2 ^ 64) → (holds : Holds) (names : List (List ℕ)) (k : ℕ) (before : Option Saved) (name bytes : List ℕ) (why : ReduceErr) → IsJoining script p max_bytes limit holds names k before
       → slice_get names k ≡ Some name → May (holds name) bytes
       → ((rest : List (List ℕ)) (next : ℕ) → Follows (next_of before) next → FirstFileProblem script p max_bytes k next (bytes ∷ rest) why)
       → HasJoinProblem script p max_bytes holds names why
@@ -306,7 +295,7 @@ module _ (script : List ℕ) (p : ScriptPlan) (max_bytes limit : ℕ) where
         problem = problem_here formed bound is.told is.runs before bytes rest why is.far (subst F (sym count) (found rest));
       }
 
-  far_files : (told : List (List ℕ)) (runs : List Saved) (before : Option Saved) → SoFar told runs before → AreRunFiles script p max_bytes told runs
+  far_files : (told : List (List ℕ)) (runs : List Saved) (before : Option Saved) → SoFar script p max_bytes limit told runs before → AreRunFiles script p max_bytes told runs
   far_files told runs None far =
       let P : List (List ℕ) → Type 0 = λ ts. AreRunFiles script p max_bytes ts runs in
       let Q : List Saved → Type 0 = λ rs. AreRunFiles script p max_bytes [] rs in
@@ -314,7 +303,7 @@ module _ (script : List ℕ) (p : ScriptPlan) (max_bytes limit : ℕ) where
   far_files told runs (Some before) far = record { first = far.4; end = before.next; follow = far.7 }
 
   fails_at : (holds : Holds) (names : List (List ℕ)) (before after : Counts) (k : ℕ) (joined : Option Saved) (name : List ℕ)
-      → IsJoining holds names k joined → slice_get names k ≡ Some name → Rose (before name) (after name) → JoinFailsAt script p max_bytes holds names before after k
+      → IsJoining script p max_bytes limit holds names k joined → slice_get names k ≡ Some name → Rose (before name) (after name) → JoinFailsAt script p max_bytes holds names before after k
   fails_at holds names before after k joined name is at rose =
       let count = told_count holds names is.told k name is.may at in
       let rest = some_files holds (drop k names) in
@@ -332,7 +321,7 @@ module _ (script : List ℕ) (p : ScriptPlan) (max_bytes limit : ℕ) where
 
   -- The file wasn't read.
   pub unread_stops : (formed : IsWellFormed p) → (bound : max_bytes < 2 ^ 64) → (holds : Holds) (names : List (List ℕ)) (before during after : Counts) (k : ℕ) (joined : Option Saved) (name : List ℕ) (why : ReduceErr)
-      → IsJoining holds names k joined → slice_get names k ≡ Some name → before name ≤ during name
+      → IsJoining script p max_bytes limit holds names k joined → slice_get names k ≡ Some name → before name ≤ during name
       → IsUnread max_bytes k (holds name) (during name) (after name) why → StopsJoin script p max_bytes holds names before after why
   unread_stops formed bound holds names before during after k joined name (reduce_err.Read file) is at later unread =
       let P : ℕ → Type 0 = λ m. JoinFailsAt script p max_bytes holds names before after m in
@@ -367,10 +356,123 @@ module _ (script : List ℕ) (p : ScriptPlan) (max_bytes limit : ℕ) where
   some_follows (Some joined) = refl
 
   pub unjoined_stops : (formed : IsWellFormed p) → (bound : max_bytes < 2 ^ 64) → (holds : Holds) (names : List (List ℕ)) (before after : Counts) (k : ℕ) (joined : Option Saved) (name bytes : List ℕ) (why : ReduceErr)
-      → IsJoining holds names k joined → slice_get names k ≡ Some name → May (holds name) bytes → length bytes ≤ max_bytes
+      → IsJoining script p max_bytes limit holds names k joined → slice_get names k ≡ Some name → May (holds name) bytes → length bytes ≤ max_bytes
       → (why ≡ reduce_err.NoMemory) ⊎ HasFaultAfter script p (next_of joined) k bytes why → StopsJoin script p max_bytes holds names before after why
   unjoined_stops formed bound holds names before after k joined name bytes why is at may size (inl none) =
       let P : ReduceErr → Type 0 = λ w. StopsJoin script p max_bytes holds names before after w in subst P (sym none) tt
   unjoined_stops formed bound holds names before after k joined name bytes why is at may size (inr h) =
       fault_stops holds names before after k (some_next joined) bytes why (fault_for joined k bytes why h (some_next joined) (some_follows joined))
       (stops_at formed bound holds names k joined name bytes why is at may (λ rest next follows. joins.faulty k next bytes rest why size (fault_for joined k bytes why h next follows)))
+
+  -- ---- the first files
+  fits_all : List (List ℕ) → Type 0
+  fits_all files = All (λ (bytes : List ℕ). length bytes ≤ max_bytes) files
+
+  pub no_files : AreFilesJoined script p max_bytes limit [] None
+  no_files = record { runs = []; far = (refl, refl) }
+
+  -- One file more.
+  pub files_on : (formed : IsWellFormed p) → (files : List (List ℕ)) (k : ℕ) (before : Option Saved) (bytes : List ℕ) (joined : Saved) → AreFilesJoined script p max_bytes limit (take k files) before
+      → slice_get files k ≡ Some bytes → length bytes ≤ max_bytes → IsFileJoined script p limit before bytes joined → IsJoinable p joined
+      → AreFilesJoined script p max_bytes limit (take (k + 1) files) (Some joined)
+  files_on formed files k before bytes joined is at size file able =
+      let P : List (List ℕ) → Type 0 = λ fs. SoFar script p max_bytes limit fs (is.runs ++ file.saved ∷ []) (Some joined) in
+      record {
+        runs = is.runs ++ file.saved ∷ [];
+        far = subst P (sym (take_at files k bytes at)) (one_further formed before (take k files) is.runs bytes file.saved joined is.far size file.is file.follows able file.joins);
+      }
+
+  -- Texts that are joined by key are joined as files.
+  pub texts_far : (formed : IsWellFormed p) → (texts : List (List ℕ)) (joined : Saved) → AreTextsJoined script p limit texts joined → fits_all texts
+      → AreFilesJoined script p max_bytes limit texts (Some joined)
+  texts_far formed _ _ (places.first_text bytes saved text able) sizes =
+      let size = All-head (λ (bytes : List ℕ). length bytes ≤ max_bytes) bytes [] sizes in
+      record {
+        runs = saved ∷ [];
+        far = one_further formed None [] [] bytes saved saved (refl, refl) size (record { is = text.is; stored = text.stored }) tt able refl;
+      }
+  texts_far formed _ _ (places.next_text texts bytes before joined early one able) sizes =
+      let rest = texts_far formed texts before early (all_front (λ (bytes : List ℕ). length bytes ≤ max_bytes) texts bytes sizes) in
+      let size = all_last (λ (bytes : List ℕ). length bytes ≤ max_bytes) texts bytes sizes in
+      record {
+        runs = rest.runs ++ one.saved ∷ [];
+        far = one_further formed (Some before) texts rest.runs bytes one.saved joined rest.far size (record { is = one.text.is; stored = one.text.stored }) one.follows able one.joins;
+      }
+
+  pub joined_far : (holds : Holds) (names files : List (List ℕ)) (k : ℕ) (joined : Option Saved) → MayAll holds (take k names) files → AreFilesJoined script p max_bytes limit files joined
+      → IsJoining script p max_bytes limit holds names k joined
+  joined_far holds names files k joined may is = record { told = files; may = may; runs = is.runs; far = is.far }
+
+  -- The name of a file, and those before it.
+  may_at : (holds : Holds) (names files : List (List ℕ)) (n k : ℕ) (bytes : List ℕ) → MayAll holds (take n names) files → slice_get files k ≡ Some bytes
+      → (name : List ℕ) × (slice_get names k ≡ Some name) × May (holds name) bytes × MayAll holds (take k names) (take k files)
+  may_at holds names [] n k bytes may at = absurd (cc)
+  may_at holds [] (file ∷ files) zero k bytes may at = absurd may
+  may_at holds [] (file ∷ files) (suc n) k bytes may at = absurd may
+  may_at holds (name ∷ names) (file ∷ files) zero k bytes may at = absurd may
+  may_at holds (name ∷ names) (file ∷ files) (suc n) zero bytes may at =
+      let same : file ≡ bytes = cc in
+      (name, refl, subst (λ (bs : List ℕ). May (holds name) bs) same may.0, tt)
+  may_at holds (name ∷ names) (file ∷ files) (suc n) (suc k) bytes may at =
+      let more = may_at holds names files n k bytes may.1 at in
+      (more.0, more.1, more.2, (may.0, more.3))
+
+  size_at : (files : List (List ℕ)) (k : ℕ) (bytes : List ℕ) → fits_all files → slice_get files k ≡ Some bytes → length bytes ≤ max_bytes
+  size_at [] k bytes sizes at = absurd (cc)
+  size_at (file ∷ files) zero bytes sizes at =
+      let same : file ≡ bytes = cc in
+      subst (λ (bs : List ℕ). length bs ≤ max_bytes) same (All-head (λ (bytes : List ℕ). length bytes ≤ max_bytes) file files sizes)
+  size_at (file ∷ files) (suc k) bytes sizes at = size_at files k bytes (All-tail (λ (bytes : List ℕ). length bytes ≤ max_bytes) file files sizes) at
+
+  -- One of the first files has a fault.
+  pub files_stop : (formed : IsWellFormed p) → (bound : max_bytes < 2 ^ 64) → (holds : Holds) (names : List (List ℕ)) (before after : Counts) (n : ℕ) (files : List (List ℕ)) (why : ReduceErr)
+      → MayAll holds (take n names) files → fits_all files → StopsFiles script p max_bytes limit files why → StopsJoin script p max_bytes holds names before after why
+  files_stop formed bound holds names before after n files why may sizes (inl none) =
+      let P : ReduceErr → Type 0 = λ w. StopsJoin script p max_bytes holds names before after w in subst P (sym none) tt
+  files_stop formed bound holds names before after n files why may sizes (inr found) =
+      let k = found.0 in
+      let is = found.1 in
+      let there = may_at holds names files n k is.bytes may is.here in
+      unjoined_stops formed bound holds names before after k is.joined there.0 is.bytes why (joined_far holds names (take k files) k is.joined there.3 is.before) there.1 there.2
+      (size_at files k is.bytes sizes is.here) (inr is.fault)
+
+  -- The next file wasn't read.
+  pub next_stops : (formed : IsWellFormed p) → (bound : max_bytes < 2 ^ 64) → (holds : Holds) (names : List (List ℕ)) (before after : Counts) (k : ℕ) (joined : Option Saved) (why : ReduceErr)
+      → IsJoining script p max_bytes limit holds names k joined → IsUnreadAt max_bytes holds names before after k why → StopsJoin script p max_bytes holds names before after why
+  next_stops formed bound holds names before after k joined why is unread =
+      let same : before unread.name ≤ before unread.name = omega arith in
+      unread_stops formed bound holds names before before after k joined unread.name why is unread.named same unread.unread
+
+  -- Faults that were counted later were counted since the beginning.
+  pub stops_later : (holds : Holds) (names : List (List ℕ)) (before during after : Counts) (why : ReduceErr) → ((name : List ℕ) → before name ≤ during name)
+      → StopsJoin script p max_bytes holds names during after why → StopsJoin script p max_bytes holds names before after why
+  stops_later holds names before during after (reduce_err.Read file) later fails =
+      record {
+        files = fails.files;
+        may = fails.may;
+        runs = fails.runs;
+        are = fails.are;
+        name = fails.name;
+        named = fails.named;
+        rose = rose_later (before fails.name) (during fails.name) (after fails.name) (later fails.name) fails.rose;
+      }
+  stops_later holds names before during after (reduce_err.TooLarge file) later found = found
+  stops_later holds names before during after (reduce_err.OtherScript file) later found = found
+  stops_later holds names before during after (reduce_err.Malformed file) later found = found
+  stops_later holds names before during after (reduce_err.Apart file) later found = found
+  stops_later holds names before during after (reduce_err.Gap file group) later found = absurd found
+  stops_later holds names before during after reduce_err.NoMemory later found = tt
+
+-- A read that failed later failed since the beginning.
+pub unread_later : (max_bytes : ℕ) (holds : Holds) (names : List (List ℕ)) (before during after : Counts) (k : ℕ) (name : List ℕ) (why : ReduceErr) → before name ≤ during name
+    → slice_get names k ≡ Some name → IsUnread max_bytes k (holds name) (during name) (after name) why → IsUnreadAt max_bytes holds names before after k why
+unread_later max_bytes holds names before during after k name why later at unread = record { name = name; named = at; unread = unread_since max_bytes k (holds name) (before name) (during name) (after name) why later unread }
+  where
+    unread_since : (max k : ℕ) (told : Option (List ℕ)) (before during after : ℕ) (why : ReduceErr) → before ≤ during → IsUnread max k told during after why → IsUnread max k told before after why
+    unread_since max k told before during after (reduce_err.Read file) later h = (h.0, rose_later before during after later h.1)
+    unread_since max k told before during after (reduce_err.TooLarge file) later h = h
+    unread_since max k told before during after (reduce_err.OtherScript file) later h = h
+    unread_since max k told before during after (reduce_err.Malformed file) later h = h
+    unread_since max k told before during after (reduce_err.Apart file) later h = h
+    unread_since max k told before during after (reduce_err.Gap file group) later h = h
+    unread_since max k told before during after reduce_err.NoMemory later h = h

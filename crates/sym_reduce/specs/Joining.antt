@@ -11,7 +11,7 @@ use Rattle.sym_run.specs.Runs.{AreTight}
 use Rattle.sym_run.specs.SavedRuns.{IsLawfulSaved, SavedStandsFor}
 use Rattle.sym_run.specs.declared.saved.Saved.{Saved}
 use Rattle.sym_file.specs.SavedTexts.{IsMalformed, IsOfOtherScript}
-use Rattle.sym_reduce.specs.Reducing.{IsRunFile}
+use Rattle.sym_reduce.specs.Reducing.{IsRunFile, IsUnread}
 use Rattle.sym_reduce.specs.declared.error.ReduceErr.{ReduceErr}
 use Rattle.sym_reduce.specs.declared.error.ReduceErr.TheVariants as reduce_err
 
@@ -205,3 +205,47 @@ JoinsFile script p limit before file bytes (Ok joined) =
     IsFileJoined script p limit before bytes joined
 JoinsFile script p limit before file bytes (Err why) =
     (why ≡ reduce_err.NoMemory) ⊎ HasFaultAfter script p (next_of before) file bytes why
+
+-- The saved run of the files so far in one, where there are some.
+abbrev pub SoFar : List ℕ → ScriptPlan → ℕ → ℕ → List (List ℕ) → List Saved → Option Saved → Type 0
+SoFar script p max_bytes limit files runs None = (files ≡ []) × (runs ≡ [])
+SoFar script p max_bytes limit files runs (Some joined) =
+    (bytes : List ℕ) × (more : List (List ℕ)) × (run : Saved) × (others : List Saved) × (first : ℕ)
+    × (files ≡ bytes ∷ more) × (runs ≡ run ∷ others)
+    × AreFollowing script p max_bytes first files runs joined.next × IsJoinOf p limit runs joined
+
+-- The saved runs of these files are joined.
+pub record AreFilesJoined (script : List ℕ) (p : ScriptPlan) (max_bytes limit : ℕ)
+    (files : List (List ℕ)) (joined : Option Saved) : Type 0 where
+  pub runs : List Saved
+  pub far : SoFar script p max_bytes limit files runs joined
+
+-- The saved runs of so many files are joined, which the names may hold.
+pub record IsJoining (script : List ℕ) (p : ScriptPlan) (max_bytes limit : ℕ) (holds : Holds)
+    (names : List (List ℕ)) (count : ℕ) (joined : Option Saved) : Type 0 where
+  pub told : List (List ℕ)
+  pub may : MayAll holds (take count names) told
+  pub runs : List Saved
+  pub far : SoFar script p max_bytes limit told runs joined
+
+-- The files before this one are joined, and it has a fault after them.
+pub record IsFaultyAt (script : List ℕ) (p : ScriptPlan) (max_bytes limit : ℕ)
+    (files : List (List ℕ)) (file : ℕ) (why : ReduceErr) : Type 0 where
+  pub joined : Option Saved
+  pub before : AreFilesJoined script p max_bytes limit (take file files) joined
+  pub bytes : List ℕ
+  pub here : slice_get files file ≡ Some bytes
+  pub fault : HasFaultAfter script p (next_of joined) file bytes why
+
+-- Why the saved runs of files aren't joined: one of them has a fault, unless memory ran out.
+abbrev pub StopsFiles : List ℕ → ScriptPlan → ℕ → ℕ → List (List ℕ) → ReduceErr → Type 0
+StopsFiles script p max_bytes limit files why =
+    (why ≡ reduce_err.NoMemory)
+    ⊎ ((file : ℕ) × IsFaultyAt script p max_bytes limit files file why)
+
+-- The file of the name with this number wasn't read. `before` and `after` count each name's faults.
+pub record IsUnreadAt (max_bytes : ℕ) (holds : Holds) (names : List (List ℕ))
+    (before after : Counts) (file : ℕ) (why : ReduceErr) : Type 0 where
+  pub name : List ℕ
+  pub named : slice_get names file ≡ Some name
+  pub unread : IsUnread max_bytes file (holds name) (before name) (after name) why

@@ -1,18 +1,22 @@
 //! The join of the saved runs of files.
 ghost use Rattle.std.specs.Prelude.{◌≡◌, ◌≤◌, ℕ, List, IfOk, IfErr, None, Some, length, map};
+ghost use Rattle.std.specs.List.{All};
 ghost use Rattle.std.specs.String.{string_bytes};
 ghost use Rattle.sym_base.specs.declared.limits.TheConstants as limits;
 ghost use Rattle.sym_check.specs.Checking.CheckedScripts.{checked_plan};
 ghost use Rattle.sym_file.specs.SavedTexts.{printed};
-ghost use Rattle.sym_reduce.specs.Joining.{CanGoOn, JoinedAll, JoinsFile, StopsJoin};
+ghost use Rattle.sym_reduce.specs.Joining.{AreFilesJoined, CanGoOn, IsJoining, JoinedAll, JoinsFile, StopsFiles, StopsJoin};
 ghost use Rattle.sym_run.specs.ClosedJoins.{IsJoinable};
 
 use crate::error::ReduceErr;
 use crate::reducing::read_file;
+use crate::window::{Window, read_first};
 use std::alloc::Global;
+use std::thread::Threads;
 use sym_base::Store;
 use sym_check::Checked;
-use sym_file::{JoinedText, SavedErr, join_text, read_saved};
+use sym_file::{JoinedText, SavedErr, join_text, join_texts, read_saved};
+use sym_files::WORKERS_DEFAULT;
 use sym_run::{RunGroups, Saved};
 
 /// The saved run of the first file, whose number is `file`.
@@ -75,10 +79,123 @@ fn join_file(
     }
 }
 
+/// The saved runs of the files of these texts, joined one after the other, in one, where there are
+/// some.
+fn join_turn(
+    alloc: Global,
+    checked: &Checked,
+    texts: &[Vec<u8>],
+    limit: u32,
+) -> Result<Option<Saved>, ReduceErr>
+    requires size { All (λ text. length text.items ≤ limits.FILE_MAX) texts.now }
+    ensures joined { let script = printed checked.now in
+        let p = checked_plan checked.now in
+        let files = map (λ text. text.items) texts.now in
+        (max : ℕ) → All (λ text. length text.items ≤ max) texts.now →
+        IfOk result (AreFilesJoined script p max limit files) }
+    ensures stopped { let script = printed checked.now in
+        let p = checked_plan checked.now in
+        let files = map (λ text. text.items) texts.now in
+        (max : ℕ) → All (λ text. length text.items ≤ max) texts.now →
+        IfErr result (StopsFiles script p max limit files) }
+    ensures joinable { IfOk result (CanGoOn (checked_plan checked.now)) }
+{
+    let _plan = checked.plan();
+    let mut joined = None;
+    'texts: for (file, text) in texts.iter().enumerate() {
+        let more = join_file(alloc, checked, joined, text.as_slice(), file as u64, limit)?;
+        joined = Some(more);
+    }
+    Ok(joined)
+}
+
+/// The saved runs of the files of these texts in one, where there are some. Threads join several of
+/// them; where one of these has a problem, they are joined in turn, which says which.
+fn join_first<R: Threads + Sync>(
+    rt: &R,
+    alloc: Global,
+    checked: &Checked,
+    texts: &[Vec<u8>],
+    limit: u32,
+) -> Result<Option<Saved>, ReduceErr>
+    requires size { All (λ text. length text.items ≤ limits.FILE_MAX) texts.now }
+    ensures joined { let script = printed checked.now in
+        let p = checked_plan checked.now in
+        let files = map (λ text. text.items) texts.now in
+        (max : ℕ) → All (λ text. length text.items ≤ max) texts.now →
+        IfOk result (AreFilesJoined script p max limit files) }
+    ensures stopped { let script = printed checked.now in
+        let p = checked_plan checked.now in
+        let files = map (λ text. text.items) texts.now in
+        (max : ℕ) → All (λ text. length text.items ≤ max) texts.now →
+        IfErr result (StopsFiles script p max limit files) }
+    ensures joinable { IfOk result (CanGoOn (checked_plan checked.now)) }
+{
+    let _plan = checked.plan();
+    if 1 < texts.len() {
+        let threads = WORKERS_DEFAULT as usize;
+        if let Some(joined) = join_texts(rt, alloc, checked, texts, limit, threads) {
+            return Ok(Some(joined));
+        }
+    }
+    join_turn(alloc, checked, texts, limit)
+}
+
+/// The saved run of the files of these names in one, where those before the file with the number
+/// `from` are joined. The others are read and joined one at a time.
+fn join_rest<F: Store>(
+    alloc: Global,
+    checked: &Checked,
+    files: &mut F,
+    names: &[String],
+    from: usize,
+    before: Option<Saved>,
+    max_bytes: u64,
+    limit: u32,
+) -> Result<Saved, ReduceErr>
+    requires size { max_bytes ≤ limits.FILE_MAX }
+    requires joining { let script = printed checked.now in
+        let p = checked_plan checked.now in
+        let names = map string_bytes names.now in
+        IsJoining script p max_bytes limit (F.holds files.old) names from before }
+    requires joinable { CanGoOn (checked_plan checked.now) before }
+    ensures joined { let script = printed checked.now in
+        let p = checked_plan checked.now in
+        let names = map string_bytes names.now in
+        IfOk result (JoinedAll script p max_bytes limit (F.holds files.old) names) }
+    ensures stopped { let script = printed checked.now in
+        let p = checked_plan checked.now in
+        let names = map string_bytes names.now in
+        let before = F.faults files.old in
+        let after = F.faults files.new in
+        IfErr result (StopsJoin script p max_bytes (F.holds files.old) names before after) }
+    ensures same { F.holds files.new ≡ F.holds files.old }
+    ensures later { (other : List ℕ) → F.faults files.old other ≤ F.faults files.new other }
+{
+    let _plan = checked.plan();
+    let mut joined = before;
+    'files: for file in from..names.len() {
+        let number = file as u64;
+        let bytes = read_file(alloc, files, names[file].as_str(), number, max_bytes)?;
+        let more = join_file(alloc, checked, joined, bytes.as_slice(), number, limit)?;
+        joined = Some(more);
+    }
+    match joined {
+        Some(saved) => Ok(saved),
+        None => Ok(Saved {
+            first: 1,
+            next: 1,
+            groups: RunGroups::new(alloc),
+        }),
+    }
+}
+
 /// The saved runs of the files of these names, in order, in one. The first record of the first one
 /// may have any number, and that of each other one follows the last of the one before it. Segments
-/// are composed by the limit, as `join_text` says. One file is in memory at a time, and a later
-/// one isn't read before the earlier one is joined to those before it.
+/// are composed by the limit, as `join_text` says. The first files, up to 256 MiB of them and the
+/// one that goes beyond, are read one after the other and joined by threads; where one of them has a
+/// problem, they are joined in turn, which says which. Files after these are read and joined one at
+/// a time. Each file is read once.
 ///
 /// # Errors
 ///
@@ -90,7 +207,8 @@ fn join_file(
 /// - `Apart` where its first record isn't the one that follows.
 ///
 /// `NoMemory` where an allocation failed. `Gap` is none of them.
-pub fn join_files<F: Store>(
+pub fn join_files<R: Threads + Sync, F: Store>(
+    rt: &R,
     alloc: Global,
     checked: &Checked,
     files: &mut F,
@@ -113,19 +231,12 @@ pub fn join_files<F: Store>(
     ensures later { (other : List ℕ) → F.faults files.old other ≤ F.faults files.new other }
 {
     let _plan = checked.plan();
-    let mut joined = None;
-    'files: for (file, name) in names.iter().enumerate() {
-        let number = file as u64;
-        let bytes = read_file(alloc, files, name.as_str(), number, max_bytes)?;
-        let more = join_file(alloc, checked, joined, bytes.as_slice(), number, limit)?;
-        joined = Some(more);
+    let Window { texts, stop } = read_first(alloc, files, names, max_bytes);
+    let joined = join_first(rt, alloc, checked, texts.as_slice(), limit)?;
+    if let Some(why) = stop {
+        return Err(why);
     }
-    match joined {
-        Some(saved) => Ok(saved),
-        None => Ok(Saved {
-            first: 1,
-            next: 1,
-            groups: RunGroups::new(alloc),
-        }),
-    }
+    let from = texts.len();
+    drop(texts);
+    join_rest(alloc, checked, files, names, from, joined, max_bytes, limit)
 }

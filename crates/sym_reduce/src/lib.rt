@@ -7,6 +7,7 @@ mod joins;
 pub mod laws;
 mod reducing;
 mod taking;
+mod window;
 
 pub use error::ReduceErr;
 pub use joins::join_files;

@@ -11,7 +11,7 @@ use Rattle.sym_reduce.specs.declared.error.ReduceErr.{ReduceErr}
 use Rattle.sym_reduce.specs.Joining.{StopsJoin}
 use Rattle.sym_reduce.proofs.Files.{fails_as, unread_as}
 use Rattle.sym_reduce.proofs.JoiningFiles.{all_joined, joining_on, none_at_end, none_joined, unjoined_stops, unread_stops}
-use Rattle.sym_reduce.proofs.joins.join_files.Goals as goal
+use Rattle.sym_reduce.proofs.joins.join_rest.Goals as goal
 
 pub files-init : goal.files-init
 files-init g c =

@@ -3,9 +3,8 @@ use Rattle.std.proofs.Common.{◌≡◌, ◌≤◌, ℕ, List, map}
 use Rattle.std.specs.String.{string_bytes}
 use Rattle.sym_check.specs.Checking.CheckedScripts.{checked_plan}
 use Rattle.sym_file.specs.SavedTexts.{printed}
-use Rattle.sym_reduce.specs.Joining.{CanGoOn}
-use Rattle.sym_reduce.proofs.JoiningFiles.{IsJoining}
-use Rattle.sym_reduce.proofs.joins.join_files.Given as goal
+use Rattle.sym_reduce.specs.Joining.{CanGoOn, IsJoining}
+use Rattle.sym_reduce.proofs.joins.join_rest.Given as goal
 
 abbrev pub invariant-files : goal.invariant-files
 invariant-files g l =
