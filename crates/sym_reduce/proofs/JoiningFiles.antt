@@ -365,7 +365,7 @@ module _ (script : List ℕ) (p : ScriptPlan) (max_bytes limit : ℕ) where
       (stops_at formed bound holds names k joined name bytes why is at may (λ rest next follows. joins.faulty k next bytes rest why size (fault_for joined k bytes why h next follows)))
 
   -- ---- the first files
-  fits_all : List (List ℕ) → Type 0
+  abbrev fits_all : List (List ℕ) → Type 0
   fits_all files = All (λ (bytes : List ℕ). length bytes ≤ max_bytes) files
 
   pub no_files : AreFilesJoined script p max_bytes limit [] None
@@ -417,7 +417,7 @@ module _ (script : List ℕ) (p : ScriptPlan) (max_bytes limit : ℕ) where
       let more = may_at holds names files n k bytes may.1 at in
       (more.0, more.1, more.2, (may.0, more.3))
 
-  size_at : (files : List (List ℕ)) (k : ℕ) (bytes : List ℕ) → fits_all files → slice_get files k ≡ Some bytes → length bytes ≤ max_bytes
+  pub size_at : (files : List (List ℕ)) (k : ℕ) (bytes : List ℕ) → fits_all files → slice_get files k ≡ Some bytes → length bytes ≤ max_bytes
   size_at [] k bytes sizes at = absurd (cc)
   size_at (file ∷ files) zero bytes sizes at =
       let same : file ≡ bytes = cc in
