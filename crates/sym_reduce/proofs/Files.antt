@@ -1,8 +1,8 @@
 -- The files so far, and what comes of the next one.
-use Rattle.std.proofs.Common.{◌≡◌, ◌∙◌, refl, sym, ap, subst, ℕ, zero, suc, ◌+◌, ◌≤◌, ◌<◌, arith, inl, inr, List, [], ◌∷◌, ◌++◌, length, take, drop, map, Option, Some, None, IfSome, Result, Ok, Err, slice_get, replicate}
+use Rattle.std.proofs.Common.{◌≡◌, ◌∙◌, Vec, Global, refl, sym, ap, subst, ℕ, zero, suc, ◌+◌, ◌≤◌, ◌<◌, arith, inl, inr, List, [], ◌∷◌, ◌++◌, length, take, drop, map, Option, Some, None, IfSome, Result, Ok, Err, slice_get, replicate}
 use Rattle.std.specs.Option.{unwrap_or}
 use Rattle.std.specs.Result.{IsErrAnd}
-use Rattle.std.proofs.lemmas.List.{take-append-drop, take_all, length-replicate}
+use Rattle.std.proofs.lemmas.List.{map-append, take-append-drop, take_all, length-replicate}
 use Rattle.std.proofs.lemmas.List.Elements.{length_all_zip}
 use Rattle.std.proofs.Math.Seq.{take-append_seam}
 use Rattle.sym_base.specs.Counts.{Rose}
@@ -52,6 +52,24 @@ take_at (n ∷ names) zero name e = let same : n ≡ name = cc in ap (λ x. x �
 take_at (n ∷ names) (suc k) name e =
     let more : suc k + 1 ≡ suc (k + 1) = omega arith in
     ap (λ m. take m (n ∷ names)) more ∙ ap (λ ns. n ∷ ns) (take_at names k name e)
+
+-- One more name, and its file.
+pub may_next : (holds : Holds) (names told : List (List ℕ)) (k : ℕ) (name bytes : List ℕ) → MayAll holds (take k names) told → slice_get names k ≡ Some name → May (holds name) bytes
+    → MayAll holds (take (k + 1) names) (told ++ bytes ∷ [])
+may_next holds names told k name bytes may at one =
+    let P : List (List ℕ) → Type 0 = λ ns. MayAll holds ns (told ++ bytes ∷ []) in
+    subst P (sym (take_at names k name at)) (may_both holds (take k names) (name ∷ []) told (bytes ∷ []) may (one, tt))
+
+-- The same of texts.
+pub texts_next : (holds : Holds) (names : List (List ℕ)) (texts more : List (Vec ℕ Global)) (text : Vec ℕ Global) (k n : ℕ) (name : List ℕ)
+    → MayAll holds (take k names) (map (λ (text : Vec ℕ Global). text.items) texts) → slice_get names k ≡ Some name → May (holds name) text.items → more ≡ texts ++ text ∷ [] → n ≡ k + 1
+    → MayAll holds (take n names) (map (λ (text : Vec ℕ Global). text.items) more)
+texts_next holds names texts more text k n name may at one is count =
+    let view : Vec ℕ Global → List ℕ = λ text. text.items in
+    let P : List (List ℕ) → Type 0 = λ fs. MayAll holds (take (k + 1) names) fs in
+    let Q : ℕ → Type 0 = λ m. MayAll holds (take m names) (map (λ (text : Vec ℕ Global). text.items) more) in
+    let e : map view more ≡ map view texts ++ text.items ∷ [] = ap (λ (ts : List (Vec ℕ Global)). map view ts) is ∙ map-append view texts (text ∷ []) in
+    subst Q (sym count) (subst P (sym e) (may_next holds names (map view texts) k name text.items may at one))
 
 within : (names : List (List ℕ)) (k : ℕ) (name : List ℕ) → slice_get names k ≡ Some name → length (take k names) ≡ k
 within [] k name e = absurd (cc)

@@ -60,8 +60,8 @@ fn names_of(alloc: Global, given: &[&'static str]) -> Result<Vec<String>, NoMemo
     Ok(names)
 }
 
-// The script of a text; `None` if the text is refused.
-fn accepted(alloc: Global, text: &str) -> Option<Checked> {
+/// The script of a text; `None` if the text is refused.
+pub(crate) fn accepted(alloc: Global, text: &str) -> Option<Checked> {
     if text.len() >= 10_000 {
         return None;
     }

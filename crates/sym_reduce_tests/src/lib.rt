@@ -1,10 +1,13 @@
-//! Tests of `map` and `reduce` over files in memory, and of `reduce_files` of `sym_reduce`.
+//! Tests of `map` and `reduce` over files in memory, and of `reduce_files` and `join_files` of
+//! `sym_reduce`.
 #![tactic(auto)]
 
 #[cfg(test)]
 mod calls;
 #[cfg(test)]
 mod files;
+#[cfg(test)]
+mod joined;
 #[cfg(test)]
 mod mapped;
 #[cfg(test)]

@@ -156,6 +156,13 @@ const AT_SECOND: Call = Call {
     ..AT_FIRST
 };
 
+/// A join of three files, all of which are read before the first one is joined.
+const AT_JOIN: Call = Call {
+    words: JOINED,
+    read: 8,
+    ..AT_FIRST
+};
+
 // A second file that has a problem of its own.
 const BROKEN: File = ("b", "");
 
@@ -194,44 +201,40 @@ const FAULTS: [Call; 18] = [
     },
     Call {
         words: &["join", "s", "a", "b"],
+        read: 6,
         files: &[("a", CUT_OFF), BROKEN],
         err: "symple: a: not a run file\n",
         ..AT_FIRST
     },
     // A file is missing, stands twice, or comes too late.
     Call {
-        words: JOINED,
         files: &[("a", TWO), ("b", SIXTH), ("c", "")],
         err: "symple: b: records do not follow\n",
-        ..AT_SECOND
+        ..AT_JOIN
     },
     // Where it shows only after groups were joined.
     Call {
-        words: JOINED,
         script: SET,
         files: &[("a", USERS), ("b", A_TWICE), ("c", "")],
         err: "symple: b: not a run file\n",
-        ..AT_SECOND
+        ..AT_JOIN
     },
     Call {
-        words: JOINED,
         script: SET,
         files: &[("a", USERS), ("b", D_TWICE), ("c", "")],
         err: "symple: b: not a run file\n",
-        ..AT_SECOND
+        ..AT_JOIN
     },
     Call {
-        words: JOINED,
         script: SET,
         files: &[("a", USERS), ("b", MORE_CUT_OFF), ("c", "")],
         err: "symple: b: not a run file\n",
-        ..AT_SECOND
+        ..AT_JOIN
     },
     Call {
-        words: JOINED,
         files: &[("a", TWO), ("b", USERS), ("c", "")],
         err: "symple: b: run of another script\n",
-        ..AT_SECOND
+        ..AT_JOIN
     },
     Call {
         files: &[("a", TWO), ("b", SIXTH), ("c", "")],

@@ -80,6 +80,11 @@ pub(crate) const FIVE: &str = kept!(
     "first 1\nnext 6\ngroups 1\nkey\nchain 1\nsegment 1\nwhen i0..3\nnext x0,1,0\nend\n"
 );
 
+/// The record after them too.
+pub(crate) const SIX: &str = kept!(
+    "first 1\nnext 7\ngroups 1\nkey\nchain 1\nsegment 1\nwhen i0..3\nnext x0,1,0\nend\n"
+);
+
 /// One record, of the number 6.
 pub(crate) const SIXTH: &str = kept!(
     "first 6\nnext 7\ngroups 1\nkey\nchain 1\nsegment 1\nwhen i0..3\nnext x0,1,0\nend\n"
@@ -155,4 +160,22 @@ pub(crate) const MORE_CUT_OFF: &str = set!(
 pub(crate) const NOT_FIVE: &str = set!(
     "first 5\nnext 7\ngroups 2\nkey w1:d\nchain 1\nsegment 1\nwhen i0..9\nnext n5\n\
     key w1:a\nchain 1\nsegment 1\nwhen i0..4\nnext n6\nend\n"
+);
+
+/// Two records of a user whose name has a line that begins as that of a key, and of the user b.
+pub(crate) const LINES: &str = set!(
+    "first 1\nnext 3\ngroups 2\nkey w10:a\nkey w1:b\nchain 1\nsegment 1\nwhen i0..9\nnext n5\n\
+    key w1:b\nchain 1\nsegment 1\nwhen i0..9\nnext n5\nend\n"
+);
+
+/// Two more of the same users, in the other order.
+pub(crate) const MORE_LINES: &str = set!(
+    "first 3\nnext 5\ngroups 2\nkey w1:b\nchain 1\nsegment 1\nwhen i0..9\nnext n6\n\
+    key w10:a\nkey w1:b\nchain 1\nsegment 1\nwhen i0..9\nnext n7\nend\n"
+);
+
+/// Both, joined.
+pub(crate) const ALL_LINES: &str = set!(
+    "first 1\nnext 5\ngroups 2\nkey w10:a\nkey w1:b\nchain 1\nsegment 1\nwhen i0..9\nnext n7\n\
+    key w1:b\nchain 1\nsegment 1\nwhen i0..9\nnext n6\nend\n"
 );

@@ -13,13 +13,15 @@ use crate::load::{Failure, load_script};
 use crate::refusal::{Refusal, reduce_refusal};
 use crate::status::Status;
 use std::alloc::Global;
+use std::thread::Threads;
 use sym_base::Store;
 use sym_check::Checked;
 use sym_file::write_saved;
 use sym_reduce::join_files;
 
 /// The text of the join, by the limit, of the saved runs of the files of these names, in order.
-fn join_texts<F: Store>(
+fn join_texts<T: Threads + Sync, F: Store>(
+    rt: &T,
     alloc: Global,
     checked: &Checked,
     files: &mut F,
@@ -40,7 +42,7 @@ fn join_texts<F: Store>(
     ensures same { F.holds files.new ≡ F.holds files.old }
     ensures later { (other : List ℕ) → F.faults files.old other ≤ F.faults files.new other }
 {
-    let joined = match join_files(alloc, checked, files, names, max_bytes, limit) {
+    let joined = match join_files(rt, alloc, checked, files, names, max_bytes, limit) {
         Ok(joined) => joined,
         Err(error) => return Err(reduce_refusal(error)),
     };
@@ -51,7 +53,8 @@ fn join_texts<F: Store>(
 }
 
 /// The text of the join that a command asks for.
-pub fn prepare_join<'a, F: Store>(
+pub fn prepare_join<'a, T: Threads + Sync, F: Store>(
+    rt: &T,
     alloc: Global,
     join: Join<'a>,
     files: &mut F,
@@ -77,6 +80,7 @@ pub fn prepare_join<'a, F: Store>(
         }
     };
     match join_texts(
+        rt,
         alloc,
         &checked,
         files,

@@ -191,7 +191,8 @@ fn run_reduce<F: Store, O: Sink, E: Sink>(
 }
 
 // Joins saved runs of files, and writes the text of the one that they come to.
-fn run_join<F: Store, O: Sink, E: Sink>(
+fn run_join<T: Threads + Sync, F: Store, O: Sink, E: Sink>(
+    rt: &T,
     alloc: Global,
     join: Join<'_>,
     files: &mut F,
@@ -210,7 +211,7 @@ fn run_join<F: Store, O: Sink, E: Sink>(
     ensures later_out { Later (sunk O.written O.faults O.short out.old out.new) }
     ensures later_err { Later (sunk E.written E.faults E.short err.old err.new) }
 {
-    match prepare_join(alloc, join, files) {
+    match prepare_join(rt, alloc, join, files) {
         Ok(text) => finish(out, err, Ok(Status::Done), text.as_slice()),
         Err(failure) => finish(out, err, Err(failure), &[]),
     }
@@ -254,7 +255,7 @@ fn run<T: Threads + Wait + Sync, F: Store, O: Sink, E: Sink, G: Gate + Sync>(
         Ok(Some(Command::Make(make))) => run_make(rt, alloc, make, out, err, gate),
         Ok(Some(Command::Map(part))) => run_map(rt, alloc, part, files, out, err, gate),
         Ok(Some(Command::Reduce(reduce))) => { run_reduce(alloc, reduce, files, out, err, forms) }
-        Ok(Some(Command::Join(join))) => run_join(alloc, join, files, out, err),
+        Ok(Some(Command::Join(join))) => run_join(rt, alloc, join, files, out, err),
         Ok(None) => refuse(err, &no_command(Refusal::Usage)),
         Err(_) => refuse(err, &no_command(Refusal::NoMemory)),
     }

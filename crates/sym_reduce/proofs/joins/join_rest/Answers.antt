@@ -10,17 +10,11 @@ use Rattle.sym_run.specs.declared.saved.Saved.{Saved}
 use Rattle.sym_reduce.specs.declared.error.ReduceErr.{ReduceErr}
 use Rattle.sym_reduce.specs.Joining.{StopsJoin}
 use Rattle.sym_reduce.proofs.Files.{fails_as, unread_as}
-use Rattle.sym_reduce.proofs.JoiningFiles.{all_joined, joining_on, none_at_end, none_joined, unjoined_stops, unread_stops}
+use Rattle.sym_reduce.proofs.JoiningFiles.{all_joined, joining_on, none_at_end, unjoined_stops, unread_stops}
 use Rattle.sym_reduce.proofs.joins.join_rest.Goals as goal
 
 pub files-init : goal.files-init
-files-init g c =
-    record {
-      joining = none_joined (printed c.args.checked.now) (checked_plan c.args.checked.now) c.args.max_bytes c.args.limit (g.F.Store.holds c.args.files.now) (map string_bytes c.args.names.now);
-      able = tt;
-      same = refl;
-      later = λ other. omega arith;
-    }
+files-init g c = record { joining = c.requires.joining; able = c.requires.joinable; same = refl; later = λ other. omega arith }
 
 pub files-preserved : goal.files-preserved
 files-preserved g c =
