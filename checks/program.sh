@@ -564,13 +564,12 @@ while [ "$seed" -le "$logs" ]; do
     seed=$((seed + 1))
 done
 
-# takes ARGUMENTS..: whether the program takes this command or form by now.
+# takes ARGUMENTS..: whether the program does what the rows that follow stand on.
 takes() {
     run "$program" "$@"
-    [ "$status" -eq 0 ] || {
-        skipped "the program doesn't take $*"
-        return 1
-    }
+    [ "$status" -eq 0 ]
+    note $? "status $status of $*"
+    [ "$status" -eq 0 ]
 }
 
 # Forms.
@@ -693,14 +692,14 @@ if takes trace counts.symple first.csv && takes map counts.symple first.csv; the
 1 | bc | a | 1\n2 | c | ab | 1\n3 | bc | b | 1\n4 | bc | a | 2
 5 | c | ab | 2\n6 | bc | ab | 1\n7 | bc | a | 3\n--\n' \
         trace --chunk 1 --workers 2 pairs.symple pairs.csv later.csv
-    "$program" map pairs.symple pairs.csv >a.run
-    "$program" map --first 5 --chunk 1 --workers 2 pairs.symple later.csv >b.run
+    "$program" map pairs.symple pairs.csv >pairs.run
+    "$program" map --first 5 --chunk 1 --workers 2 pairs.symple later.csv >later.pairs.run
     row "run files of keys of two fields" 0 \
         'place | user | n\nbc | a | 3\nc | ab | 2\nbc | b | 1\nbc | ab | 1\n--\n' \
-        reduce pairs.symple a.run b.run
+        reduce pairs.symple pairs.run later.pairs.run
     row "run files of keys of two fields as pairs" 0 \
         'place="bc" user="a" n=2\nplace="c" user="ab" n=1\nplace="bc" user="b" n=1\n' \
-        reduce --form pairs pairs.symple a.run
+        reduce --form pairs pairs.symple pairs.run
     {
         printf 'enum mode { idle, busy }\nfield user: word;\nfield day: num;\n'
         printf 'field what: mode;\ngroup what, user, day;\nstate n: int [0..9] = 0;\n'
@@ -729,7 +728,7 @@ busy,a,1,5,\nidle,a,-1,5,\nidle,a,1,5,\nbusy,,1,5,\n' \
 fi
 
 # Run files joined.
-if [ -e a.run ] && takes join changed.symple a.run; then
+if takes join changed.symple a.run; then
     "$program" map --first 6 changed.symple empty.csv >none.run
     "$program" map --first 7 changed.symple two.csv >later.run
     "$program" map --first 1000 changed.symple two.csv >last.run
