@@ -3,8 +3,9 @@
 use crate::calls::{all_hold, store_of, words_of};
 use crate::files::accepted;
 use crate::scripts::{
-    A_TWICE, ALL_LINES, ALL_USERS, CUT_OFF, FIVE, KEPT, LINES, MORE_CUT_OFF, MORE_LINES,
-    MORE_USERS, NONE, SET, SIX, SIXTH, THREE, TURNED, TWO, USERS,
+    A_TWICE, AFTER_KEY_LINE, ALL_LINES, ALL_USERS, CUT_OFF, FIVE, KEPT, KEY_LINE, LINES,
+    MORE_CUT_OFF, MORE_LINES, MORE_USERS, NONE, PUSHED, SET, SIX, SIXTH, THREE, TURNED, TWO, USERS,
+    WITH_KEY_LINE,
 };
 use std::alloc::Global;
 use std::test::Fail;
@@ -27,7 +28,7 @@ enum Want {
 struct Row(&'static str, &'static [&'static str], u64, u64, Want);
 
 /// The files and their names.
-const FILES: [(&str, &str); 13] = [
+const FILES: [(&str, &str); 15] = [
     ("two", TWO),
     ("three", THREE),
     ("sixth", SIXTH),
@@ -40,6 +41,8 @@ const FILES: [(&str, &str); 13] = [
     ("more cut off", MORE_CUT_OFF),
     ("lines", LINES),
     ("more lines", MORE_LINES),
+    ("key line", KEY_LINE),
+    ("after key line", AFTER_KEY_LINE),
     ("empty", ""),
 ];
 
@@ -111,7 +114,7 @@ fn wrong_row<T: Threads + Sync>(
     Ok(None)
 }
 
-const JOINS: [Row; 8] = [
+const JOINS: [Row; 9] = [
     // No file, of which a join has no records.
     Row(KEPT, &[], 0, 1, Want::Text(NONE)),
     Row(KEPT, &["three"], 175, 0, Want::Text(THREE)),
@@ -133,13 +136,21 @@ const JOINS: [Row; 8] = [
         0,
         Want::Text(ALL_USERS),
     ),
-    // A key's line may stand in a word.
+    // A word has a line that begins as that of a key: one of a key, and one that was pushed. Texts
+    // with the latter have no answer by key, and are joined in turn.
     Row(
         SET,
         &["lines", "more lines"],
         1_000,
         0,
         Want::Text(ALL_LINES),
+    ),
+    Row(
+        PUSHED,
+        &["key line", "after key line"],
+        1_000,
+        0,
+        Want::Text(WITH_KEY_LINE),
     ),
 ];
 
@@ -149,7 +160,7 @@ fn files_in_order_are_joined(rt: HostRuntime) -> Result<(), Fail> {
 }
 
 /// One file, and several with a fault at each place: the first one is answered.
-const STOPS: [Row; 19] = [
+const STOPS: [Row; 20] = [
     Row(
         KEPT,
         &["empty"],
@@ -254,6 +265,13 @@ const STOPS: [Row; 19] = [
         1_000,
         0,
         Want::Stops(ReduceErr::Malformed { file: 1 }),
+    ),
+    Row(
+        PUSHED,
+        &["key line", "key line"],
+        1_000,
+        0,
+        Want::Stops(ReduceErr::Apart { file: 1 }),
     ),
     // A file that isn't read, after files that are joined.
     Row(

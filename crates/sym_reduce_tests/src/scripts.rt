@@ -41,6 +41,11 @@ pub(crate) const SUMS: &str = "field user: word; field x: num else 0; group user
 pub(crate) const SHOWN: &str =
     "field user: word; group user; state n: int [0..9] = 7; update { } report { q = n / 0; n = n; }";
 
+/// The words of each user.
+pub(crate) const PUSHED: &str =
+    "field user: word; group user; state ws: words; update { push ws user; } \
+    report { c = count(ws); }";
+
 pub(crate) const NO_SCRIPT: &str = "field x num;";
 
 // A run file of `KEPT`, with the script in its printed form.
@@ -60,6 +65,17 @@ macro_rules! set {
         concat!(
             "symple run 1\nscript 95\nfield user: word;\ngroup user;\nstate n: int [0..9] = 0;\n",
             "update {\n  n = 5;\n}\nreport {\n  n = n;\n}\n",
+            $rest
+        )
+    };
+}
+
+// The same of `PUSHED`.
+macro_rules! pushed {
+    ($rest:literal) => {
+        concat!(
+            "symple run 1\nscript 102\nfield user: word;\ngroup user;\nstate ws: words;\nupdate {\n",
+            "  push ws user;\n}\nreport {\n  c = count(ws);\n}\n",
             $rest
         )
     };
@@ -178,4 +194,20 @@ pub(crate) const MORE_LINES: &str = set!(
 pub(crate) const ALL_LINES: &str = set!(
     "first 1\nnext 5\ngroups 2\nkey w10:a\nkey w1:b\nchain 1\nsegment 1\nwhen i0..9\nnext n7\n\
     key w1:b\nchain 1\nsegment 1\nwhen i0..9\nnext n6\nend\n"
+);
+
+/// A record with a word that has a line which begins as that of a key.
+pub(crate) const KEY_LINE: &str = pushed!(
+    "first 1\nnext 2\ngroups 1\nkey w1:a\nchain 1\nsegment 1\nwhen v\nnext a1 w5:x\nkey\nend\n"
+);
+
+/// One more of the same user.
+pub(crate) const AFTER_KEY_LINE: &str = pushed!(
+    "first 2\nnext 3\ngroups 1\nkey w1:a\nchain 1\nsegment 1\nwhen v\nnext a1 w1:b\nend\n"
+);
+
+/// Both, joined.
+pub(crate) const WITH_KEY_LINE: &str = pushed!(
+    "first 1\nnext 3\ngroups 1\nkey w1:a\nchain 1\nsegment 1\nwhen v\n\
+    next a2 w5:x\nkey w1:b\nend\n"
 );
