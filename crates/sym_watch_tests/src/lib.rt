@@ -5,9 +5,13 @@
 #[cfg(test)]
 mod calls;
 #[cfg(test)]
+mod comparer;
+#[cfg(test)]
 mod courses;
 #[cfg(test)]
 mod given;
+#[cfg(test)]
+mod groups;
 #[cfg(test)]
 mod meeting;
 #[cfg(test)]

@@ -1,15 +1,59 @@
 //! An observer that notes what it is told of.
 use std::alloc::{AllocError, Global};
 use std::sync::Arc;
-use std::sync::atomic::{AtomicU64, Ordering};
+use std::sync::atomic::{AtomicU64, AtomicUsize, Ordering};
 use sym_base::{Column, NoMemory};
 use sym_report::{Row, RowBody};
 use sym_watch::{Observer, Partial};
 
-/// Notes the borders that it is told of, with three digits each, and refuses those from one on.
+/// What is noted in place of the border of a partial that hasn't the rows of so many records.
+const WRONG: u64 = u64::MAX;
+
+/// The first six borders that an observer was told of, in order.
+#[derive(Drop)]
+pub(crate) struct Borders {
+    count: AtomicUsize,
+    noted: [AtomicU64; 6],
+}
+
+impl Borders {
+    /// None.
+    pub(crate) fn none() -> Borders {
+        Borders {
+            count: AtomicUsize::new(0),
+            noted: [
+                AtomicU64::new(0),
+                AtomicU64::new(0),
+                AtomicU64::new(0),
+                AtomicU64::new(0),
+                AtomicU64::new(0),
+                AtomicU64::new(0),
+            ],
+        }
+    }
+
+    /// The borders, and 0 after the last one.
+    pub(crate) fn told(&self) -> [u64; 6] {
+        let mut told = [0; 6];
+        'places: for place in 0..6 {
+            told[place] = self.noted[place].load(Ordering::SeqCst);
+        }
+        told
+    }
+
+    // One more.
+    fn note(&self, border: u64) {
+        let place = self.count.fetch_add(1, Ordering::SeqCst);
+        if place < 6 {
+            self.noted[place].store(border, Ordering::SeqCst);
+        }
+    }
+}
+
+/// Notes the borders that it is told of, and refuses those from one on.
 #[derive(Drop)]
 pub(crate) struct Noter {
-    told: Arc<AtomicU64>,
+    told: Arc<Borders>,
     last: Option<u64>,
     refused: u64,
 }
@@ -50,14 +94,11 @@ impl Observer for Noter {
         if partial.upto >= self.refused {
             return Err(NoMemory);
         }
-        let shown = if is_count(partial.rows.as_slice(), partial.upto) {
-            partial.upto
+        if is_count(partial.rows.as_slice(), partial.upto) {
+            self.told.note(partial.upto);
         } else {
-            0
-        };
-        let before = self.told.load(Ordering::SeqCst);
-        let after = before.wrapping_mul(1_000).wrapping_add(shown);
-        self.told.store(after, Ordering::SeqCst);
+            self.told.note(WRONG);
+        }
         self.last = Some(partial.upto);
         Ok(())
     }
@@ -67,8 +108,8 @@ impl Observer for Noter {
     }
 }
 
-/// An observer that notes into this number.
-pub(crate) fn noter_into(told: &Arc<AtomicU64>, refused: u64) -> Result<Noter, AllocError> {
+/// An observer that notes here.
+pub(crate) fn noter_into(told: &Arc<Borders>, refused: u64) -> Result<Noter, AllocError> {
     Ok(Noter {
         told: Arc::clone(told)?,
         last: None,

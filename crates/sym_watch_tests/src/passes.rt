@@ -2,9 +2,8 @@
 ghost use Rattle.std.specs.Prelude.{◌≤◌};
 ghost use Rattle.sym_files.specs.Options.{InRange};
 
-use crate::noter::noter_into;
+use crate::noter::{Borders, noter_into};
 use std::alloc::{AllocError, Global};
-use std::sync::atomic::{AtomicU64, Ordering};
 use std::sync::{Arc, Wait};
 use std::test::Fail;
 use std::thread::Threads;
@@ -31,7 +30,7 @@ struct Course {
 // What a course came to: the borders that each of two observers was told of, and the last ones.
 #[derive(Clone, Copy, Debug, PartialEq, Eq)]
 struct Came {
-    told: (u64, u64),
+    told: ([u64; 6], [u64; 6]),
     last: (Option<u64>, Option<u64>),
     answer: Result<usize, Stopped>,
 }
@@ -42,7 +41,16 @@ enum Stopped {
     Bad(u64),
     NoMemory,
     Other,
+    // The script is refused, or workers or names are out of their ranges.
+    NoPass,
 }
+
+// What comes of no pass.
+const NO_PASS: Came = Came {
+    told: ([0; 6], [0; 6]),
+    last: (None, None),
+    answer: Err(Stopped::NoPass),
+};
 
 // The script of a text; `None` if the text is refused.
 fn accepted(alloc: Global, text: &str) -> Option<Checked> {
@@ -102,11 +110,13 @@ fn watched<T: Threads + Wait + Sync>(
     course: &Course,
     workers: u32,
 ) -> Result<Came, NoMemory> {
-    let checked = accepted(alloc, COUNTER).ok_or(NoMemory)?;
+    let Some(checked) = accepted(alloc, COUNTER) else {
+        return Ok(NO_PASS);
+    };
     let mut files = store_of(alloc, course)?;
     let names = names_of(alloc)?;
-    let first = Arc::new(alloc, AtomicU64::new(0))?;
-    let second = Arc::new(alloc, AtomicU64::new(0))?;
+    let first = Arc::new(alloc, Borders::none())?;
+    let second = Arc::new(alloc, Borders::none())?;
     let mut observers: Vec<Box<dyn Observer + Send>> = Vec::new(alloc);
     observers.push(Box::new(alloc, noter_into(&first, 1_000_000)?)?)?;
     observers.push(Box::new(alloc, noter_into(&second, course.refused)?)?)?;
@@ -117,7 +127,7 @@ fn watched<T: Threads + Wait + Sync>(
         max_bytes: FILE_MAX_DEFAULT,
     };
     if workers < 1 || workers > 64 || names.len() > 3 {
-        return Err(NoMemory);
+        return Ok(NO_PASS);
     }
     let gate = OpenGate { hold: Free };
     let names = names.as_slice();
@@ -136,7 +146,7 @@ fn watched<T: Threads + Wait + Sync>(
         _ => (None, None),
     };
     Ok(Came {
-        told: (first.load(Ordering::SeqCst), second.load(Ordering::SeqCst)),
+        told: (first.told(), second.told()),
         last,
         answer: match answer {
             Ok(groups) => Ok(groups.len()),
@@ -155,7 +165,7 @@ const COURSES: [(Course, Came); 6] = [
             refused: 1_000_000,
         },
         Came {
-            told: (64_128_130, 64_128_130),
+            told: ([64, 128, 130, 0, 0, 0], [64, 128, 130, 0, 0, 0]),
             last: (Some(130), Some(130)),
             answer: Ok(1),
         },
@@ -168,7 +178,7 @@ const COURSES: [(Course, Came); 6] = [
             refused: 1_000_000,
         },
         Came {
-            told: (64_070_134_140, 64_070_134_140),
+            told: ([64, 70, 134, 140, 0, 0], [64, 70, 134, 140, 0, 0]),
             last: (Some(140), Some(140)),
             answer: Ok(1),
         },
@@ -181,7 +191,7 @@ const COURSES: [(Course, Came); 6] = [
             refused: 1_000_000,
         },
         Came {
-            told: (64, 64),
+            told: ([64, 0, 0, 0, 0, 0], [64, 0, 0, 0, 0, 0]),
             last: (Some(64), Some(64)),
             answer: Err(Stopped::Bad(100)),
         },
@@ -194,7 +204,7 @@ const COURSES: [(Course, Came); 6] = [
             refused: 1_000_000,
         },
         Came {
-            told: (64_128_130_194, 64_128_130_194),
+            told: ([64, 128, 130, 194, 0, 0], [64, 128, 130, 194, 0, 0]),
             last: (Some(194), Some(194)),
             answer: Err(Stopped::Bad(201)),
         },
@@ -207,7 +217,7 @@ const COURSES: [(Course, Came); 6] = [
             refused: 128,
         },
         Came {
-            told: (64_128, 64),
+            told: ([64, 128, 0, 0, 0, 0], [64, 0, 0, 0, 0, 0]),
             last: (Some(128), Some(64)),
             answer: Err(Stopped::NoMemory),
         },
@@ -220,7 +230,7 @@ const COURSES: [(Course, Came); 6] = [
             refused: 130,
         },
         Came {
-            told: (64_128_130, 64_128),
+            told: ([64, 128, 130, 0, 0, 0], [64, 128, 0, 0, 0, 0]),
             last: (Some(130), Some(128)),
             answer: Err(Stopped::NoMemory),
         },

@@ -1,8 +1,7 @@
 //! Whole runs with observers: what each comes to, and what they are told of.
 use crate::calls::{COUNTS, Ended, call, log_of, words_of};
-use crate::noter::noter_into;
+use crate::noter::{Borders, noter_into};
 use std::alloc::Global;
-use std::sync::atomic::{AtomicU64, Ordering};
 use std::sync::{Arc, Wait};
 use std::test::Fail;
 use std::thread::Threads;
@@ -36,13 +35,13 @@ struct Call {
 }
 
 /// What it comes to: its end, the borders that the observer was told of, each with the report of
-/// one group of as many records, as three digits each, and the last one.
+/// one group of as many records, and the last one.
 #[derive(Clone, Copy)]
 struct Came {
     status: Status,
     out: &'static str,
     err: &'static str,
-    told: u64,
+    told: [u64; 6],
     last: Option<u64>,
 }
 
@@ -61,7 +60,7 @@ const UNTOLD: Came = Came {
     status: Status::Done,
     out: "",
     err: "",
-    told: 0,
+    told: [0, 0, 0, 0, 0, 0],
     last: None,
 };
 
@@ -72,7 +71,7 @@ const CALLS: [(Call, Came); 20] = [
             status: Status::Done,
             out: "user | n\na | 130\n--\n",
             err: "",
-            told: 64_128_130,
+            told: [64, 128, 130, 0, 0, 0],
             last: Some(130),
         },
     ),
@@ -85,7 +84,7 @@ const CALLS: [(Call, Came); 20] = [
         Came {
             status: Status::Input,
             err: "symple: f: record 100: 2 fields\n",
-            told: 64,
+            told: [64, 0, 0, 0, 0, 0],
             last: Some(64),
             ..UNTOLD
         },
@@ -109,7 +108,7 @@ const CALLS: [(Call, Came); 20] = [
         Came {
             status: Status::Input,
             err: "symple: f: record 129: 2 fields\n",
-            told: 64_128,
+            told: [64, 128, 0, 0, 0, 0],
             last: Some(128),
             ..UNTOLD
         },
@@ -153,7 +152,7 @@ const CALLS: [(Call, Came); 20] = [
         Came {
             status: Status::NoMemory,
             err: "symple: out of memory\n",
-            told: 64,
+            told: [64, 0, 0, 0, 0, 0],
             last: Some(64),
             ..UNTOLD
         },
@@ -166,7 +165,7 @@ const CALLS: [(Call, Came); 20] = [
         Came {
             status: Status::NoMemory,
             err: "symple: out of memory\n",
-            told: 64_128,
+            told: [64, 128, 0, 0, 0, 0],
             last: Some(128),
             ..UNTOLD
         },
@@ -180,7 +179,7 @@ const CALLS: [(Call, Came); 20] = [
         },
         Came {
             out: "user | n\na | 140\n--\n",
-            told: 64_070_134_140,
+            told: [64, 70, 134, 140, 0, 0],
             last: Some(140),
             ..UNTOLD
         },
@@ -222,7 +221,7 @@ const CALLS: [(Call, Came); 20] = [
         Came {
             status: Status::ReadFault,
             err: "symple: f: read fault\n",
-            told: 64_070,
+            told: [64, 70, 0, 0, 0, 0],
             last: Some(70),
             ..UNTOLD
         },
@@ -352,7 +351,7 @@ fn holds<T: Threads + Wait + Sync>(
 ) -> Result<bool, NoMemory> {
     let words = words_of(alloc, of.words)?;
     let mut store = store_of(alloc, of)?;
-    let told = Arc::new(alloc, AtomicU64::new(0))?;
+    let told = Arc::new(alloc, Borders::none())?;
     let observer: Box<dyn Observer + Send> = Box::new(alloc, noter_into(&told, of.refused)?)?;
     let mut observers = Vec::from_array(alloc, [observer])?;
     let gate = OpenGate { hold: Free };
@@ -361,7 +360,7 @@ fn holds<T: Threads + Wait + Sync>(
         [observer] => observer.last(),
         _ => Some(NEVER),
     };
-    Ok(is_end(&ended, came) && told.load(Ordering::SeqCst) == came.told && last == came.last)
+    Ok(is_end(&ended, came) && told.told() == came.told && last == came.last)
 }
 
 // The place of the first call that comes to something else, counted from 0.
