@@ -8,10 +8,10 @@ ghost use Rattle.std.specs.Prelude.{◌≤◌, length};
 ghost use Rattle.sym_base.specs.declared.limits.TheConstants as limits;
 
 mod chain;
-mod comparing;
+mod comparison;
 mod files;
 mod log;
-mod measuring;
+mod measures;
 mod passes;
 mod paths;
 mod rounds;
@@ -20,10 +20,10 @@ mod shown;
 mod stop;
 mod workloads;
 
-use crate::comparing::compare;
+use crate::comparison::compare;
 use crate::files::bytes_of;
 use crate::log::records_of;
-use crate::measuring::{Way, measured};
+use crate::measures::{Way, measured};
 use crate::paths::{Kind, Timed, follow_in_turn, settle_in_turn};
 use crate::rounds::CHUNKS;
 use crate::scripts::{LISTS, checked_script, text_of};

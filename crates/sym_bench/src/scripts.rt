@@ -3,7 +3,7 @@ use crate::stop::Stop;
 use std::alloc::Global;
 use sym_base::SCRIPT_MAX;
 use sym_check::Checked;
-use sym_uses::checking::checked_text;
+use sym_uses::sizes::checked_text;
 
 /// Sessions of a user: of every state two paths go on, until the first session ends one more ends
 /// at each record, and then each path is that of one state.

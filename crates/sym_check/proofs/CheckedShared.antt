@@ -13,7 +13,7 @@ use Rattle.sym_check.proofs.plan.expression.Num.TheLaws.TheKnot as number
 use Rattle.sym_check.proofs.plan.show.Show.TheLaws.TheKnot as show
 use Rattle.sym_check.proofs.plan.statement.Do.TheLaws.TheKnot as command
 use Rattle.sym_check.specs.contracts.plan.script.Plan.{the_type as plan}
-use Rattle.sym_check.specs.contracts.checking.accepted.Checked.{the_type as checked}
+use Rattle.sym_check.specs.contracts.checked.accepted.Checked.{the_type as checked}
 
 script_sync : IsSync (Struct (shape script))
 script_sync = search (heap.crosses, expression.crosses, statement.crosses, sendable) depth 60 fits 20000

@@ -1,14 +1,14 @@
 //! The rules of scripts, the plan of one that keeps them, and what a plan means.
 #![tactic(auto)]
 
-mod checking;
+mod checked;
 mod elaborate;
 mod evaluate;
 pub mod laws;
 mod path_bound;
 mod plan;
 
-pub use checking::{CheckErr, Checked, check};
+pub use checked::{CheckErr, Checked, check};
 pub use evaluate::arithmetic::{Arith, product};
 pub use evaluate::calls::{fixed, number, pair, test};
 pub use evaluate::fixed_value::{FixedValue, value_of};

@@ -51,9 +51,9 @@ use Rattle.sym_explore.specs.Stepping.{after_do}
 use Rattle.sym_explore.specs.Placing.{PlaceFits, place_cell}
 use Rattle.sym_explore.specs.Storing.{after_store, store_do}
 use Rattle.sym_explore.specs.Terms.{ready_of}
-use Rattle.sym_explore.specs.declared.placing.Place.{Place}
-use Rattle.sym_explore.specs.declared.placing.Place.TheVariants as place
-use Rattle.sym_explore.specs.declared.placing.Target.{Target}
+use Rattle.sym_explore.specs.declared.places.Place.{Place}
+use Rattle.sym_explore.specs.declared.places.Place.TheVariants as place
+use Rattle.sym_explore.specs.declared.places.Target.{Target}
 use Rattle.sym_explore.specs.declared.terms.Ready.{Ready}
 use Rattle.sym_explore.proofs.AssignedKnown.{push_cell, push_term, set_cell, set_term}
 use Rattle.sym_explore.proofs.AssignedParts.{parts_fit_kept, parts_kept}

@@ -14,8 +14,8 @@ use Rattle.sym_int.specs.Fits.{IsFitted, inside_span}
 use Rattle.sym_int.specs.Lines.{form_value, wide_cell, wide_on, wide_value}
 use Rattle.sym_int.specs.Parts.{Above, Below, Within}
 use Rattle.sym_int.specs.Points.{HasPoint, IsPart}
-use Rattle.sym_int.specs.declared.fitting.Fitted.{Fitted}
-use Rattle.sym_int.specs.declared.fitting.Inside.{Inside}
+use Rattle.sym_int.specs.declared.fits.Fitted.{Fitted}
+use Rattle.sym_int.specs.declared.fits.Inside.{Inside}
 use Rattle.sym_int.specs.declared.form.IntForm.{IntForm}
 use Rattle.sym_int.specs.declared.form.IntForm.TheVariants as form
 use Rattle.sym_int.specs.declared.span.Span.{Span}
@@ -30,8 +30,8 @@ use Rattle.sym_explore.proofs.KeptNumbers.{kept_above, kept_below}
 use Rattle.sym_explore.proofs.PathRanges.{IsGivenWhere, inside_given, inside_is, inside_makes, inside_points, kept_makes, narrowed_given, nothing_added, nothing_given, outcomes_push, parts_give}
 use Rattle.sym_explore.specs.Placing.{IsConstant, IsPartStored, TargetRanges, put_at, target_stored}
 use Rattle.sym_explore.specs.Ranging.{form_stored}
-use Rattle.sym_explore.specs.declared.placing.Place.{Place}
-use Rattle.sym_explore.specs.declared.placing.Target.{Target}
+use Rattle.sym_explore.specs.declared.places.Place.{Place}
+use Rattle.sym_explore.specs.declared.places.Target.{Target}
 
 -- ---- a part that is pushed
 

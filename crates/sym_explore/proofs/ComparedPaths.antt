@@ -21,7 +21,7 @@ use Rattle.sym_explore.specs.Comparing.{CutsPath, PiecesTell, WasCompared, numbe
 use Rattle.sym_explore.specs.Terms.{IsReadyOver}
 use Rattle.sym_explore.specs.declared.terms.Ready.{Ready}
 use Rattle.sym_explore.specs.declared.branch.Branch.{Branch}
-use Rattle.sym_explore.specs.declared.comparing.Bound.{Bound}
+use Rattle.sym_explore.specs.declared.comparisons.Bound.{Bound}
 use mir.Val.{SFits}
 
 pub if_ok_both : {A E : Type 0} (r : Result A E) (P Q : A → Type 0) → ((x : A) → P x → Q x) → IfOk r P → IfOk r Q

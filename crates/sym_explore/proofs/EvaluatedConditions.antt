@@ -24,10 +24,10 @@ use Rattle.sym_explore.specs.Branches.{answered, tried, with_answer}
 use Rattle.sym_explore.specs.Counting.{term_branches}
 use Rattle.sym_explore.specs.Knowing.{CondIsKnown}
 use Rattle.sym_explore.specs.Terms.{is_fixed_ready, ready_number, ready_of}
-use Rattle.sym_explore.specs.declared.parting.Evaluated.{Evaluated}
-use Rattle.sym_explore.specs.declared.parting.Evaluated.TheVariants.{Open}
-use Rattle.sym_explore.specs.declared.parting.CellCondition.TheVariants.{Call}
-use Rattle.sym_explore.specs.declared.parting.CellCondition.TheVariants as cell_condition
+use Rattle.sym_explore.specs.declared.parted_lists.Evaluated.{Evaluated}
+use Rattle.sym_explore.specs.declared.parted_lists.Evaluated.TheVariants.{Open}
+use Rattle.sym_explore.specs.declared.parted_lists.CellCondition.TheVariants.{Call}
+use Rattle.sym_explore.specs.declared.parted_lists.CellCondition.TheVariants as cell_condition
 use Rattle.sym_explore.specs.declared.terms.Ready.{Ready}
 use Rattle.sym_explore.specs.declared.terms.Ready.TheVariants as ready
 use Rattle.sym_explore.proofs.TermForms.{ready_fits, ready_gives, ready_is_fixed}

@@ -22,8 +22,8 @@ use Rattle.sym_int.specs.Lines.{form_on, wide_cell, wide_on, wide_value}
 use Rattle.sym_int.specs.Parts.{Above, Below, Within}
 use Rattle.sym_int.specs.Points.{HasPoint, IsPart}
 use Rattle.sym_int.specs.Taken.{IsCellIn, IsTaken}
-use Rattle.sym_int.specs.declared.fitting.Fitted.{Fitted}
-use Rattle.sym_int.specs.declared.fitting.Inside.{Inside}
+use Rattle.sym_int.specs.declared.fits.Fitted.{Fitted}
+use Rattle.sym_int.specs.declared.fits.Inside.{Inside}
 use Rattle.sym_int.specs.declared.form.IntForm.{IntForm}
 use Rattle.sym_int.specs.declared.form.IntForm.TheVariants as form
 use Rattle.sym_int.specs.declared.span.Span.{Span}
@@ -46,7 +46,7 @@ use Rattle.sym_explore.specs.Faulting.{EndAmong, FaultsCameAt, HasNumber}
 use Rattle.sym_explore.specs.Parting.{those_going}
 use Rattle.sym_explore.specs.Ranging.{IsPartPushed, IsPartedAt, IsWholeOn, NumberFitsOn, form_stored, kept_stored, ranged}
 use Rattle.sym_explore.specs.Placing.{TargetRanges, put_at, target_stored}
-use Rattle.sym_explore.specs.declared.placing.Target.{Target}
+use Rattle.sym_explore.specs.declared.places.Target.{Target}
 use Rattle.sym_explore.proofs.KeptNumbers.{kept_in, kept_out}
 
 -- ---- paths, and one more

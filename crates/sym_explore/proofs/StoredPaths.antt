@@ -34,9 +34,9 @@ use Rattle.sym_explore.specs.Running.{WereRun}
 use Rattle.sym_explore.specs.Stepping.{after_do}
 use Rattle.sym_explore.specs.Storing.{IsParted, ReadyStores, StoresAll, after_store, store_do}
 use Rattle.sym_explore.specs.Terms.{ready_of}
-use Rattle.sym_explore.specs.declared.placing.Place.{Place}
-use Rattle.sym_explore.specs.declared.placing.Place.TheVariants as place
-use Rattle.sym_explore.specs.declared.placing.Target.{Target}
+use Rattle.sym_explore.specs.declared.places.Place.{Place}
+use Rattle.sym_explore.specs.declared.places.Place.TheVariants as place
+use Rattle.sym_explore.specs.declared.places.Target.{Target}
 use Rattle.sym_explore.specs.declared.terms.Ready.{Ready}
 use Rattle.sym_explore.proofs.AssignedForms.{number_pushed}
 use Rattle.sym_explore.proofs.EndedLists.{all_going as those_all, interleaved, moved_away, moved_count, moved_stay, outcomes_append, run_exact}

@@ -68,8 +68,8 @@ use Rattle.sym_explore.specs.Stepping.{Becomes, after_do, after_dos, step_by}
 use Rattle.sym_explore.specs.Storing.{IsParted, ReadyStores, after_store, store_do}
 use Rattle.sym_explore.specs.Sure.{EndsAt, HoldsAfter, IsStepped, IsSteppedOn, IsSure, IsSureEnd, IsSurePath}
 use Rattle.sym_explore.specs.Terms.{IsReadyOver, ready_number, ready_of}
-use Rattle.sym_explore.specs.declared.placing.Place.{Place}
-use Rattle.sym_explore.specs.declared.placing.Target.{Target}
+use Rattle.sym_explore.specs.declared.places.Place.{Place}
+use Rattle.sym_explore.specs.declared.places.Target.{Target}
 use Rattle.sym_explore.specs.declared.terms.Ready.{Ready}
 
 -- ---- ends

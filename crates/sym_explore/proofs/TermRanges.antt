@@ -32,7 +32,7 @@ use Rattle.sym_explore.specs.Placing.{AllAreStored, IsConstantIn, TargetFits, Ta
 use Rattle.sym_explore.specs.Ranging.{KnownRanges, NumberFitsOn, form_stored, kept_stored, ranged}
 use Rattle.sym_explore.specs.Storing.{ReadyStores, after_store}
 use Rattle.sym_explore.specs.Terms.{IsReadyOver}
-use Rattle.sym_explore.specs.declared.placing.Target.{Target}
+use Rattle.sym_explore.specs.declared.places.Target.{Target}
 use Rattle.sym_explore.specs.declared.terms.Ready.{Ready}
 
 pub if_ok_as : {A E : Type 0} (r : Result A E) (P Q : A → Type 0) → ((x : A) → P x → Q x) → IfOk r P → IfOk r Q

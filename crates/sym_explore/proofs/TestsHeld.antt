@@ -42,7 +42,7 @@ use Rattle.sym_path.proofs.Decided.{admits_decided}
 use Rattle.sym_path.proofs.FollowedStates.{cells_at_get}
 use Rattle.sym_path.proofs.Lists.{zip_get}
 use Rattle.sym_explore.specs.declared.branch.Branch.{Branch}
-use Rattle.sym_explore.specs.declared.calling.Tested.TheVariants as tested
+use Rattle.sym_explore.specs.declared.hold_tests.Tested.TheVariants as tested
 use Rattle.sym_explore.specs.Branches.{judged, answered, Splits}
 use Rattle.sym_explore.specs.Calling.{IsTested, TestSuits, WasTested, outcome_in, known_outcome, test_holds}
 use Rattle.sym_explore.specs.Knowing.{CondIsKnown}

@@ -19,8 +19,8 @@ use Rattle.sym_explore.specs.Evaluating.{cell_branches, tried_on_cell}
 use Rattle.sym_explore.specs.Parting.{AllGoOn, AreFewParts, AreParts, at_state}
 use Rattle.sym_explore.specs.Running.{CanRun}
 use Rattle.sym_explore.specs.Trying.{CondWasTried, EvaluatedWasTried, WereTried}
-use Rattle.sym_explore.specs.declared.parting.CellCondition.{CellCondition}
-use Rattle.sym_explore.specs.declared.parting.Evaluated.TheVariants.{Known, Failed, Open}
+use Rattle.sym_explore.specs.declared.parted_lists.CellCondition.{CellCondition}
+use Rattle.sym_explore.specs.declared.parted_lists.Evaluated.TheVariants.{Known, Failed, Open}
 use Rattle.sym_explore.proofs.PartedConnected.{and_parts, not_parts, or_parts}
 use Rattle.sym_explore.proofs.PartedCounts.{and_few, fewer_parts, or_few}
 use Rattle.sym_explore.proofs.PartedLists.{failed_came, failed_fit, failed_parts, known_parts, parts_alike, with_ended}

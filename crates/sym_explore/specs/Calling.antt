@@ -20,8 +20,8 @@ use Rattle.sym_path.specs.declared.path.Path.{Path}
 use Rattle.sym_path.specs.Giving.{given}
 use Rattle.sym_explore.specs.Branches.{judged, with_truth}
 use Rattle.sym_explore.specs.declared.branch.Branch.{Branch}
-use Rattle.sym_explore.specs.declared.calling.Tested.{Tested}
-use Rattle.sym_explore.specs.declared.calling.Tested.TheVariants as tested
+use Rattle.sym_explore.specs.declared.hold_tests.Tested.{Tested}
+use Rattle.sym_explore.specs.declared.hold_tests.Tested.TheVariants as tested
 
 -- The test takes the kinds of the hold cell's parts and then those of the arguments.
 pub record TestSuits (p : ScriptPlan) (c test : ℕ) (args : List Value) : Type 0 where

@@ -23,7 +23,7 @@ use Rattle.sym_path.specs.Narrowing.{GivesWhere}
 use Rattle.sym_explore.specs.Terms.{ready_number, span_in}
 use Rattle.sym_explore.specs.Branches.{judged, with_truth}
 use Rattle.sym_explore.specs.declared.branch.Branch.{Branch}
-use Rattle.sym_explore.specs.declared.comparing.Bound.{Bound}
+use Rattle.sym_explore.specs.declared.comparisons.Bound.{Bound}
 use Rattle.sym_explore.specs.declared.terms.Ready.{Ready}
 
 -- The pieces are those of the span, each before the next.

@@ -21,10 +21,10 @@ use Rattle.sym_explore.specs.Counting.{branches_of}
 use Rattle.sym_explore.specs.Parting.{at_state}
 use Rattle.sym_explore.specs.Terms.{ReadyFits, ready_number}
 use Rattle.sym_explore.specs.declared.branch.Branch.{Branch}
-use Rattle.sym_explore.specs.declared.parting.CellCondition.{CellCondition}
-use Rattle.sym_explore.specs.declared.parting.CellCondition.TheVariants.{Compare, Label, Call}
-use Rattle.sym_explore.specs.declared.parting.Evaluated.{Evaluated}
-use Rattle.sym_explore.specs.declared.parting.Evaluated.TheVariants.{Known, Failed, Open}
+use Rattle.sym_explore.specs.declared.parted_lists.CellCondition.{CellCondition}
+use Rattle.sym_explore.specs.declared.parted_lists.CellCondition.TheVariants.{Compare, Label, Call}
+use Rattle.sym_explore.specs.declared.parted_lists.Evaluated.{Evaluated}
+use Rattle.sym_explore.specs.declared.parted_lists.Evaluated.TheVariants.{Known, Failed, Open}
 
 -- Whether a condition on a cell holds at a state, where a test has these arguments.
 abbrev pub holds_at : ScriptPlan → List Value → CellCondition → State → Bool

@@ -13,8 +13,8 @@ use Rattle.sym_path.specs.Standing.{StandsFor}
 use Rattle.sym_explore.specs.Counting.{made_paths}
 use Rattle.sym_explore.specs.Faulting.{EndAmong, HasNumber}
 use Rattle.sym_explore.specs.Stepping.{step_by}
-use Rattle.sym_explore.specs.declared.extending.Grown.{Grown}
-use Rattle.sym_explore.specs.declared.extending.Grown.TheVariants.{Fits, Over}
+use Rattle.sym_explore.specs.declared.extensions.Grown.{Grown}
+use Rattle.sym_explore.specs.declared.extensions.Grown.TheVariants.{Fits, Over}
 
 -- The paths of a grown segment, within the limit or over it.
 abbrev pub grown_paths : Grown → List Path

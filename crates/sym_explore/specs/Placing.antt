@@ -22,9 +22,9 @@ use Rattle.sym_path.specs.declared.part.Part.TheVariants as part
 use Rattle.sym_path.specs.declared.path.Path.{Path}
 use Rattle.sym_explore.specs.Parting.{AllGoOn}
 use Rattle.sym_explore.specs.Ranging.{IsPartedAt, IsRangeOf, form_stored, kept_stored, ranged}
-use Rattle.sym_explore.specs.declared.placing.Place.{Place}
-use Rattle.sym_explore.specs.declared.placing.Place.TheVariants as place
-use Rattle.sym_explore.specs.declared.placing.Target.{Target}
+use Rattle.sym_explore.specs.declared.places.Place.{Place}
+use Rattle.sym_explore.specs.declared.places.Place.TheVariants as place
+use Rattle.sym_explore.specs.declared.places.Target.{Target}
 
 -- The number of the cell of a place: the cell itself, or the list cell whose end it is.
 abbrev pub place_cell : Place → ℕ

@@ -12,9 +12,9 @@ use Rattle.sym_explore.specs.Parting.{AllGoOn}
 use Rattle.sym_explore.specs.Placing.{place_cell, put_at}
 use Rattle.sym_explore.specs.Ranging.{IsPartedAt, form_stored, ready_stored}
 use Rattle.sym_explore.specs.Stepping.{going_on}
-use Rattle.sym_explore.specs.declared.placing.Place.{Place}
-use Rattle.sym_explore.specs.declared.placing.Place.TheVariants as place
-use Rattle.sym_explore.specs.declared.placing.Target.{Target}
+use Rattle.sym_explore.specs.declared.places.Place.{Place}
+use Rattle.sym_explore.specs.declared.places.Place.TheVariants as place
+use Rattle.sym_explore.specs.declared.places.Target.{Target}
 use Rattle.sym_explore.specs.declared.terms.Ready.{Ready}
 
 -- The statement that stores the number of a term there.

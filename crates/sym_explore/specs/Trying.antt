@@ -13,7 +13,7 @@ use Rattle.sym_explore.specs.Evaluating.{evaluated_branches, evaluated_truth}
 use Rattle.sym_explore.specs.Faulting.{EndAmong, HasNumber}
 use Rattle.sym_explore.specs.Parting.{AreFewParts, AreParts}
 use Rattle.sym_explore.specs.Running.{CanRun}
-use Rattle.sym_explore.specs.declared.parting.Evaluated.{Evaluated}
+use Rattle.sym_explore.specs.declared.parted_lists.Evaluated.{Evaluated}
 
 -- A condition was tried on the old paths at the record with this number: the first list has those
 -- on which it is true, those on which it is false were put into the second, and those that its

@@ -16,9 +16,9 @@ ghost use Rattle.sym_explore.specs.Running.{CanRun};
 ghost use Rattle.sym_explore.specs.Trying.{CondWasTried};
 
 use crate::branch::Branch;
-use crate::comparing::Bound;
-use crate::moving::move_all;
-use crate::parting::{CellCondition, Evaluated, part_evaluated};
+use crate::comparisons::Bound;
+use crate::moves::move_all;
+use crate::parted_lists::{CellCondition, Evaluated, part_evaluated};
 use crate::terms::{Ready, ready_of};
 use std::alloc::Global;
 use std::mem;

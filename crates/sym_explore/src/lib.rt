@@ -1,29 +1,29 @@
 //! One record's update from an unknown state: what it does to every state at once.
 #![tactic(auto)]
 
-mod assigning;
+mod assignments;
 mod branch;
-mod calling;
-mod clamping;
-mod comparing;
+mod comparisons;
 mod conditions;
-mod ending;
-mod extending;
+mod ended_paths;
+mod extensions;
 mod forms;
+mod hold_tests;
+mod known_paths;
 mod labels;
 pub mod laws;
-mod limiting;
-mod moving;
-mod parting;
-mod placing;
-mod ranging;
+mod limited;
+mod moves;
+mod nearest_ends;
+mod parted_lists;
+mod places;
+mod ranges;
 mod scratch;
 mod statements;
-mod stepping;
-mod storing;
+mod stores;
 mod sure;
 mod terms;
 
-pub use extending::{Grown, extend, fresh, fresh_with, grow, grow_with};
-pub use limiting::{Extension, extend_within};
+pub use extensions::{Grown, extend, fresh, fresh_with, grow, grow_with};
+pub use limited::{Extension, extend_within};
 pub use scratch::Scratch;

@@ -10,10 +10,10 @@ ghost use Rattle.sym_check.specs.Plan.WellFormed.{IsWellFormed};
 ghost use Rattle.sym_explore.specs.Knowing.{DoIsKnown, DosAreKnown};
 ghost use Rattle.sym_explore.specs.Running.{CanRun, DoWasRun, DosWereRun, IsNamed};
 
-use crate::assigning::assign_all;
+use crate::assignments::assign_all;
 use crate::conditions::part;
-use crate::ending::fail_all;
-use crate::moving::move_all;
+use crate::ended_paths::fail_all;
+use crate::moves::move_all;
 use crate::scratch::Scratch;
 use std::alloc::Global;
 use sym_base::{Fault, NoMemory, Record};

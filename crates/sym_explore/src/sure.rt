@@ -21,10 +21,10 @@ ghost use Rattle.sym_explore.specs.Knowing.{CondIsKnown};
 ghost use Rattle.sym_explore.specs.Sure.{HoldsAfter, IsSure, IsSureEnd, IsSurePath};
 ghost use Rattle.sym_explore.specs.Terms.{ReadyFits, ready_number};
 
-use crate::calling::{Tested, test_on};
 use crate::conditions::evaluate;
+use crate::hold_tests::{Tested, test_on};
 use crate::labels::label_form;
-use crate::parting::{CellCondition, Evaluated};
+use crate::parted_lists::{CellCondition, Evaluated};
 use crate::terms::{Ready, number_form};
 use std::alloc::Global;
 use sym_base::{FaultKind, Values};

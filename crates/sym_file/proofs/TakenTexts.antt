@@ -22,8 +22,8 @@ use Rattle.sym_file.specs.Marks.{AreMarks, IsTakenOnce}
 use Rattle.sym_file.specs.Reading.{Fails, ◌>>=◌, after, at_end, body_at, group_at, groups_at, head_at, script_at}
 use Rattle.sym_file.specs.TakenTexts.{AreGroupsLed, IsBodyLed, IsTextOf, LeadsBody, LeadsText, Pairs, Stops}
 use Rattle.sym_file.specs.Totals.{IsTaken, led_through, taken, taken_on}
-use Rattle.sym_file.specs.declared.leading.Led.{Led}
-use Rattle.sym_file.specs.declared.leading.Led.TheVariants as led
+use Rattle.sym_file.specs.declared.led_groups.Led.{Led}
+use Rattle.sym_file.specs.declared.led_groups.Led.TheVariants as led
 use Rattle.sym_file.specs.declared.saved_err.SavedErr.{SavedErr}
 use Rattle.sym_file.specs.declared.saved_err.SavedErr.TheVariants as error
 use Rattle.sym_file.specs.declared.totals.Taken.{Taken}

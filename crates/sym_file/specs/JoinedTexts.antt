@@ -13,8 +13,8 @@ use Rattle.sym_file.specs.Marks.{AreMarks}
 use Rattle.sym_file.specs.Reading.{body_at, groups_at}
 use Rattle.sym_file.specs.SavedTexts.{IsReadTo}
 use Rattle.sym_file.specs.TakenTexts.{IsTextApart, IsTextOf, Stops}
-use Rattle.sym_file.specs.declared.joining.JoinedText.{JoinedText}
-use Rattle.sym_file.specs.declared.joining.JoinedText.TheVariants as text
+use Rattle.sym_file.specs.declared.joined_groups.JoinedText.{JoinedText}
+use Rattle.sym_file.specs.declared.joined_groups.JoinedText.TheVariants as text
 use Rattle.sym_file.specs.declared.saved_err.SavedErr.{SavedErr}
 
 -- The chains of groups.

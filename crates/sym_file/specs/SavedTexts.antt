@@ -2,7 +2,7 @@
 use Rattle.std.specs.Prelude.{◌≡◌, ◌≢◌, ℕ, List, ◌++◌, Result, Ok, Err}
 use Rattle.sym_check.specs.Checking.CheckedScripts.{checked_tree}
 use Rattle.sym_check.specs.Plan.ScriptPlans.{ScriptPlan}
-use Rattle.sym_check.specs.declared.checking.accepted.Checked.{Checked}
+use Rattle.sym_check.specs.declared.checked.accepted.Checked.{Checked}
 use Rattle.sym_parse.specs.Printed.{script_text}
 use Rattle.sym_run.specs.SavedRuns.{IsLawfulSaved}
 use Rattle.sym_run.specs.declared.saved.Saved.{Saved}

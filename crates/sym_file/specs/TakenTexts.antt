@@ -17,8 +17,8 @@ use Rattle.sym_file.specs.declared.saved_err.SavedErr.TheVariants as error
 use Rattle.sym_file.specs.declared.totals.Taken.TheVariants as taking
 use Rattle.sym_file.specs.declared.totals.TakenText.{TakenText}
 use Rattle.sym_file.specs.declared.totals.TakenText.TheVariants as text
-use Rattle.sym_file.specs.declared.leading.Led.{Led}
-use Rattle.sym_file.specs.declared.leading.Led.TheVariants as led
+use Rattle.sym_file.specs.declared.led_groups.Led.{Led}
+use Rattle.sym_file.specs.declared.led_groups.Led.TheVariants as led
 
 -- How each group stands.
 abbrev pub Pairs : Type 0

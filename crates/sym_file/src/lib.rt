@@ -4,25 +4,25 @@
 #![tactic(auto)]
 
 mod forms;
-mod joining;
+mod joined_groups;
 mod joins;
 pub mod laws;
-mod leading;
+mod led_groups;
 mod numbers;
 mod parts;
 mod paths;
 mod places;
-mod reading;
+mod reader;
 mod saved_err;
 mod saved_text;
-mod scanning;
+mod scan;
 mod texts;
 mod totals;
 mod values;
-mod writing;
+mod writer;
 
-pub use joining::{JoinedText, join_text};
-pub use reading::read_saved;
+pub use joined_groups::{JoinedText, join_text};
+pub use reader::read_saved;
 pub use saved_err::SavedErr;
 pub use saved_text::write_saved;
 pub use texts::join_texts;

@@ -5,7 +5,7 @@ ghost use Rattle.sym_file.specs.SavedTexts.{printed};
 ghost use Rattle.sym_file.specs.Stored.{AreStored, IsStored, IsStoredGroup, IsStoredChain, IsStoredValue};
 ghost use Rattle.sym_file.specs.Texts.{body_text, chain_text, group_text, head_text, key_text, listed, saved_text};
 
-use crate::writing::{put, put_listed, put_number, put_spaced};
+use crate::writer::{put, put_listed, put_number, put_spaced};
 use std::alloc::Global;
 use sym_base::{Key, NoMemory};
 use sym_check::Checked;

@@ -13,7 +13,7 @@ ghost use Rattle.sym_run.specs.ClosedJoins.{IsJoinable};
 use crate::joins::join_places;
 use crate::places::{KeyPlaces, Span};
 use crate::saved_err::SavedErr;
-use crate::scanning::{are_in_order, place_texts};
+use crate::scan::{are_in_order, place_texts};
 use std::alloc::Global;
 use std::thread::Threads;
 use sym_check::Checked;

@@ -20,8 +20,8 @@ ghost use Rattle.sym_file.specs.TakenTexts.{IfTextDone, TakesText};
 ghost use Rattle.sym_file.specs.Totals.{IfDone, IsLed, IsTaken, led_by, led_through, taken, taken_to};
 ghost use Rattle.sym_file.specs.declared.totals.Taken.TheVariants.{Done};
 
-use crate::leading::{Led, lead_text};
-use crate::reading::read_own;
+use crate::led_groups::{Led, lead_text};
+use crate::reader::read_own;
 use crate::saved_err::SavedErr;
 use std::alloc::Global;
 use std::marker::Model;

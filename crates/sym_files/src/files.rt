@@ -13,9 +13,9 @@ ghost use Rattle.sym_files.specs.Taking.{IsUnread};
 ghost use Rattle.sym_files.specs.Telling.{Point, TellsAnywhere, tells_by};
 
 use crate::error::PassErr;
+use crate::one_file::{Course, take_file};
 use crate::options::Options;
 use crate::rounds::{Rounds, SequentialRounds, Work};
-use crate::taking::{Course, take_file};
 use crate::ways::{Alone, Threaded, Way};
 use std::alloc::Global;
 use std::sync::Wait;

@@ -2,13 +2,13 @@
 //! problem of the files.
 #![tactic(auto)]
 
-mod cutting;
 mod error;
 mod files;
 pub mod laws;
+mod next_round;
+mod one_file;
 mod options;
 mod rounds;
-mod taking;
 mod ways;
 
 pub use error::PassErr;

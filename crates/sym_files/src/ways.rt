@@ -13,7 +13,7 @@ ghost use Rattle.sym_files.specs.Rounds.{IsLimit, IsRound, Takes, round_records,
 ghost use Rattle.sym_files.specs.Taking.{AreCut, CutsRound, IfTaken, full_round, rows_of};
 ghost use Rattle.sym_files.specs.Telling.{Point, TellsRound, tells_by};
 
-use crate::cutting::{next_round, replace_chunks, then_cut};
+use crate::next_round::{next_round, replace_chunks, then_cut};
 use crate::rounds::{Rounds, SequentialRounds, Took, Work};
 use std::alloc::Global;
 use std::sync::Wait;

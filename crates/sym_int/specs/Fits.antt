@@ -5,8 +5,8 @@ use Rattle.sym_int.specs.Lines.{form_value, wide_on, wide_cell, wide_value}
 use Rattle.sym_int.specs.Parts.{Above, Below, Within}
 use Rattle.sym_int.specs.Points.{IsPart}
 use Rattle.sym_int.specs.Taken.{IsTaken, IsCellIn}
-use Rattle.sym_int.specs.declared.fitting.Fitted.{Fitted}
-use Rattle.sym_int.specs.declared.fitting.Inside.{Inside}
+use Rattle.sym_int.specs.declared.fits.Fitted.{Fitted}
+use Rattle.sym_int.specs.declared.fits.Inside.{Inside}
 use Rattle.sym_int.specs.declared.span.Span.{Span}
 use Rattle.sym_int.specs.declared.wide.Wide.{Wide}
 

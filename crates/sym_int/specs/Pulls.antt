@@ -1,8 +1,8 @@
 -- The numbers of a cell that a form pulls back from a span.
 use Rattle.std.specs.Prelude.{◌≡◌, ℕ, ℤ, Option, Some, None}
 use Rattle.sym_int.specs.Points.{HasPoint}
-use Rattle.sym_int.specs.declared.pulling.Pulled.{Pulled}
-use Rattle.sym_int.specs.declared.pulling.Pulled.TheVariants as pulled
+use Rattle.sym_int.specs.declared.preimages.Pulled.{Pulled}
+use Rattle.sym_int.specs.declared.preimages.Pulled.TheVariants as pulled
 
 -- The number is among those that were pulled.
 abbrev pub Pulls : Pulled → ℤ → Type 0

@@ -4,22 +4,22 @@
 //! A number is a whole number of at most `NUM_MAX`, 10^12, in size.
 #![tactic(auto)]
 
-mod cutting;
+mod cuts;
 mod element;
-mod fitting;
+mod fits;
 mod form;
 mod pieces;
-mod pulling;
+mod preimages;
 mod quotient;
 mod side;
 mod span;
 mod wide;
 
-pub use cutting::cut;
+pub use cuts::cut;
 pub use element::{FormList, IntForms, Spans};
-pub use fitting::{Fitted, Inside, fit};
+pub use fits::{Fitted, Inside, fit};
 pub use form::{IntForm, Line, Number};
 pub use pieces::{Cut, Pieces};
-pub use pulling::{Pulled, pull};
+pub use preimages::{Pulled, pull};
 pub use span::Span;
 pub use wide::{Wide, WideLine, WideNumber};

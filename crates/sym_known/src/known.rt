@@ -12,7 +12,7 @@ ghost use Rattle.sym_path.specs.Standing.{StandsFor};
 ghost use Rattle.sym_known.specs.Holding.{AllFit, KnownStandsFor, known_path, stepped};
 ghost use Rattle.sym_known.specs.Knowing.{AreKnown};
 
-use crate::closing::close_all;
+use crate::closed::close_all;
 use crate::placed::{Placed, place_all};
 use std::alloc::Global;
 use std::marker::Model;

@@ -2,11 +2,11 @@
 //! a group, and where a stretch of records ends, the states are turned back into paths.
 #![tactic(auto)]
 
-mod closing;
-mod knowing;
+mod closed;
 mod known;
+mod known_cells;
 pub mod laws;
 mod placed;
 
-pub use knowing::are_known;
 pub use known::Known;
+pub use known_cells::are_known;

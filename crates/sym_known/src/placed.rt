@@ -3,7 +3,7 @@ ghost use Rattle.std.specs.Prelude.{◌≡◌, IfOk, IfSome, IsTrue, OnOk, Some,
 ghost use Rattle.std.specs.List.{AllZip};
 ghost use Rattle.sym_known.specs.Placing.{AreKept, HoldsKnown, IsPlaced};
 
-use crate::knowing::known_state;
+use crate::known_cells::known_state;
 use std::alloc::Global;
 use sym_base::{NoMemory, Outcome};
 use sym_path::{Path, PathEnd};

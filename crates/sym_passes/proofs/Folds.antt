@@ -18,7 +18,7 @@ use Rattle.sym_table.specs.Decoding.{numbered, Fills}
 use Rattle.sym_table.specs.Reading.{Passes, Row}
 use Rattle.sym_table.specs.RowRecords.{record_or_bad, records_or_bad}
 use Rattle.sym_table.specs.Rows.{read_row}
-use Rattle.sym_passes.specs.declared.folding.Folded.{Folded}
+use Rattle.sym_passes.specs.declared.folded_rounds.Folded.{Folded}
 use Rattle.sym_files.specs.declared.rounds.Took.{Took}
 use Rattle.sym_files.specs.declared.rounds.Took.TheVariants as took
 use Rattle.sym_files.specs.Rounds.{Takes}

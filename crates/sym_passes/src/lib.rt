@@ -2,13 +2,13 @@
 //! of each round.
 #![tactic(auto)]
 
-mod applying;
-mod folding;
-mod passing;
+mod folded_rounds;
+mod joined_rounds;
+mod led_rounds;
 mod sequential;
-mod summarising;
-mod summing;
+mod summary;
+mod whole_pass;
 
-pub use passing::pass;
 pub use sequential::sequential_pass;
-pub use summarising::summarise;
+pub use summary::summarise;
+pub use whole_pass::pass;

@@ -8,7 +8,7 @@ ghost use Rattle.sym_files.specs.Options.{InRange};
 ghost use Rattle.sym_passes.specs.Passed.{PassedAll};
 ghost use Rattle.sym_files.specs.Passing.{StopsPass};
 
-use crate::folding::Folded;
+use crate::folded_rounds::Folded;
 use std::alloc::Global;
 use sym_base::Store;
 use sym_check::Checked;

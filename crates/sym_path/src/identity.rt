@@ -8,9 +8,9 @@ ghost use Rattle.sym_path.specs.Fitting.{PathFits};
 ghost use Rattle.sym_path.specs.Identity.{IsOwnLabel, IsOwnNumber, IsWholeEnum, IsWholeCell, IsWholePath, AdmitsAll, LeavesAll};
 
 use crate::form::Form;
+use crate::kinds::label_count;
 use crate::part::Part;
 use crate::path::{Path, PathEnd};
-use crate::suiting::label_count;
 use std::alloc::Global;
 use sym_base::{NoMemory, Sequence};
 use sym_check::{CellPlan, Checked, Plan};

@@ -13,13 +13,13 @@ ghost use Rattle.sym_path.specs.Fitting.{SegmentFits};
 ghost use Rattle.sym_path.specs.Giving.{AgreeAt, IsOnlyOutcome, outcomes};
 ghost use Rattle.sym_path.specs.Standing.{EndsAmong, StandsFor, GivesExactly};
 
-pub mod changing;
-pub mod composing;
-pub mod following;
-pub mod giving;
+pub mod changes;
+pub mod composition;
+pub mod outcomes;
 pub mod pairs;
-pub mod settling;
+pub mod settled;
 pub mod standing;
+pub mod succession;
 
 /// The test that computes says whether a constraint admits a state.
 #[tactic(auto, using(crate::proofs::Decided::admits_decided))]

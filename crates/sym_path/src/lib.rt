@@ -2,37 +2,37 @@
 //! before them and what they make of it; a segment is a list of paths.
 #![tactic(auto)]
 
-mod admitting;
-mod changing;
-mod composing;
-mod counting;
-mod fitting;
-mod following;
+mod admission;
+mod changes;
+mod composition;
+mod drafts;
+mod fits;
 mod form;
-mod giving;
 mod identity;
-mod joining;
+mod joins;
+mod kinds;
 pub mod laws;
-mod leading;
-mod narrowing;
+mod led_outcomes;
+mod narrowed;
+mod outcomes;
+mod pair_count;
 mod part;
 mod path;
 mod possible_pairs;
-mod pulling;
+mod preimages;
 mod segment;
-mod settling;
-mod suiting;
+mod settled;
+mod succession;
 mod within;
-mod writing;
 
-pub use composing::compose;
-pub use counting::pairs;
-pub use following::follow;
+pub use composition::compose;
 pub use form::{Form, Forms};
-pub use joining::{join_paths, joinable};
+pub use joins::{join_paths, joinable};
+pub use pair_count::pairs;
 pub use part::{Constraint, Part};
 pub use path::{Path, PathEnd};
 pub use possible_pairs::possible;
 pub use segment::Segment;
-pub use settling::settle;
+pub use settled::settle;
+pub use succession::follow;
 pub use within::{Composition, compose_within};

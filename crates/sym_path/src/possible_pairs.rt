@@ -11,7 +11,7 @@ ghost use Rattle.sym_path.specs.Possible.{IsLeft, AllLeft, Possible, IsPossibleP
 use crate::form::Form;
 use crate::part::Part;
 use crate::path::{Path, PathEnd};
-use crate::pulling::{all_agree, constants_meet, labels_left, needs_agree, numbers_left};
+use crate::preimages::{all_agree, constants_meet, labels_left, needs_agree, numbers_left};
 use sym_check::laws::plans::well_formed_tests_are_fixed;
 use sym_check::{Checked, Plan};
 

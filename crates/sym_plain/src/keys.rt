@@ -3,7 +3,7 @@ ghost use Rattle.std.specs.Prelude.{◌≡◌, ◌≤◌, ◌+◌, ◌++◌, ◌
 ghost use Rattle.sym_check.specs.Meaning.Groups.{field_at, field_value, key_of};
 ghost use Rattle.sym_check.specs.Plan.ScriptPlans.{script_plan};
 
-use crate::putting::{put_copy, put_num};
+use crate::slots::{put_copy, put_num};
 use std::alloc::Global;
 use sym_base::{Key, NoMemory, Record, Value, Values};
 use sym_check::Plan;

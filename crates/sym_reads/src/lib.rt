@@ -3,7 +3,7 @@
 
 mod blank;
 pub mod laws;
-mod reading;
+mod read_fields;
 
 pub use blank::blank_record;
-pub use reading::read_fields;
+pub use read_fields::read_fields;

@@ -13,7 +13,7 @@ use Rattle.sym_file.specs.Totals.{taken}
 use Rattle.sym_file.specs.declared.totals.Taken.TheVariants as taking
 use Rattle.sym_reduce.specs.declared.error.ReduceErr.{ReduceErr}
 use Rattle.sym_reduce.specs.declared.error.ReduceErr.TheVariants as reduce_err
-use Rattle.sym_reduce.specs.declared.taking.Step.{Step}
+use Rattle.sym_reduce.specs.declared.one_file.Step.{Step}
 
 -- How each group stands.
 abbrev pub Pairs : Type 0

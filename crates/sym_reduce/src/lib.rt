@@ -3,12 +3,12 @@
 #![tactic(auto)]
 
 mod error;
+mod files;
 mod joins;
 pub mod laws;
-mod reducing;
-mod taking;
+mod one_file;
 mod window;
 
 pub use error::ReduceErr;
+pub use files::reduce_files;
 pub use joins::join_files;
-pub use reducing::reduce_files;

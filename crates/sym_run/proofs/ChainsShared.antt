@@ -6,7 +6,7 @@ use denote.Struct.Declared.{row}
 use Rattle.std.proofs.Crossing as heap
 use Rattle.sym_base.specs.contracts.values.value.Key as key
 use Rattle.sym_base.specs.contracts.values.value.Value as value
-use Rattle.sym_check.specs.contracts.checking.accepted.Checked.{the_type as checked}
+use Rattle.sym_check.specs.contracts.checked.accepted.Checked.{the_type as checked}
 use Rattle.sym_check.proofs.CheckedShared.{checked_sync}
 use Rattle.sym_path.specs.contracts.form.Form as form
 use Rattle.sym_path.specs.contracts.part.Part as part

@@ -22,7 +22,7 @@ use Rattle.sym_run.specs.Closing.{AreJoinedTo, CanJoin, CanJoinFound, IsJoinedTo
 use Rattle.sym_run.specs.Growing.{FoundStandsFor, Grows}
 use Rattle.sym_run.specs.Leading.{AreAlikeBut}
 use Rattle.sym_run.specs.Runs.{AreClosed, AreTight, GroupsFit, chain_kind}
-use Rattle.sym_run.specs.declared.closing.Joining.{Joining}
+use Rattle.sym_run.specs.declared.closed_groups.Joining.{Joining}
 use Rattle.sym_run.proofs.GroupPuts.{all_found, new_key}
 use Rattle.sym_run.proofs.JoinedGroups.{Chains, grown_closed}
 use Rattle.sym_run.proofs.Stepping.{IsJoining, joining_none, joining_on}

@@ -25,7 +25,7 @@ use Rattle.sym_run.specs.Applying.{AreValid}
 use Rattle.sym_run.specs.Chains.{ChainStandsFor}
 use Rattle.sym_run.specs.Leading.{AreAlikeBut, AreFound, AreLedBy, ArePlaces, AreTaken, IsAt, IsFound, IsLed, IsLedBy, IsLedFrom, IsTaken, WasLed, put_each}
 use Rattle.sym_run.specs.Runs.{GroupsStandFor}
-use Rattle.sym_run.specs.declared.leading.Taken.{Taken}
+use Rattle.sym_run.specs.declared.led_groups.Taken.{Taken}
 use Rattle.sym_run.proofs.GroupPuts.{all_put, keys-put, new_key}
 
 abbrev pub Chains : Type 0

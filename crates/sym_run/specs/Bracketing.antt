@@ -1,7 +1,7 @@
 -- Orders in which the runs of chunks are joined.
 use Rattle.std.specs.Prelude.{ℕ, ◌+◌}
-use Rattle.sym_run.specs.declared.bracketing.JoinTree.{JoinTree}
-use Rattle.sym_run.specs.declared.bracketing.JoinTree.TheVariants.{Chunk, Keeping, Joined'}
+use Rattle.sym_run.specs.declared.brackets.JoinTree.{JoinTree}
+use Rattle.sym_run.specs.declared.brackets.JoinTree.TheVariants.{Chunk, Keeping, Joined'}
 
 -- The number of chunks of a tree of joins.
 abbrev pub chunk_count : JoinTree → ℕ

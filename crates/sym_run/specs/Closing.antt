@@ -9,7 +9,7 @@ use Rattle.sym_plain.specs.Pairs.{put}
 use Rattle.sym_run.specs.Chained.{Chained}
 use Rattle.sym_run.specs.Chains.{ChainFits, ChainStandsFor, IsClosed, IsTight}
 use Rattle.sym_run.specs.Growing.{FoundStandsFor}
-use Rattle.sym_run.specs.declared.closing.Joining.{Joining}
+use Rattle.sym_run.specs.declared.closed_groups.Joining.{Joining}
 
 -- A group of a run, with the chain that was found for its key before the run.
 pub record IsTakenOut (left : List (Key × Chained)) (group : Key × Chained) (one : Joining)

@@ -14,7 +14,7 @@ use Rattle.sym_check.specs.Meaning.Validity.{IsValidOutcome}
 use Rattle.sym_run.specs.Chained.{Chained}
 use Rattle.sym_plain.specs.Pairs.{put, standing}
 use Rattle.sym_run.specs.Chains.{ChainStandsFor}
-use Rattle.sym_run.specs.declared.leading.Taken.{Taken}
+use Rattle.sym_run.specs.declared.led_groups.Taken.{Taken}
 
 -- What is in the place of a group that was taken out.
 abbrev pub while_out : Outcome

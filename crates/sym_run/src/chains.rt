@@ -8,7 +8,7 @@ ghost use Rattle.sym_run.specs.Chains.{ChainFits, ChainStandsFor, IsClosed, IsTi
 ghost use Rattle.sym_run.specs.Growing.{IsKeptAfter};
 ghost use Rattle.sym_run.specs.Keeping.{AreAsWide, AreWide};
 
-use crate::covering::cover_all;
+use crate::covers::cover_all;
 use crate::kept::Kept;
 use crate::segments::Segments;
 use crate::steps::{Stepper, step_all};

@@ -10,7 +10,7 @@ ghost use Rattle.sym_run.specs.Growing.{TakesOn};
 ghost use Rattle.sym_run.specs.Opened.{OpenGroupsAreTight, OpenGroupsFit, OpenGroupsKeepNone};
 ghost use Rattle.sym_run.specs.Runs.{AreClosed, GroupsFit, IsFromTo, StandsForChunks};
 
-use crate::grouping::{Taking, take_record};
+use crate::chain_records::{Taking, take_record};
 use crate::opened::Open;
 use crate::runs::Run;
 use indexmap::IndexMap;

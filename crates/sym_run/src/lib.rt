@@ -3,22 +3,22 @@
 //! Neighbouring runs are joined, and a run is applied to groups.
 #![tactic(auto)]
 
-mod applying;
-mod bracketing;
+mod applied_groups;
+mod brackets;
+mod chain_records;
 mod chains;
 mod chunks;
+mod closed_groups;
 mod closed_joins;
-mod closing;
-mod covering;
-mod grouping;
-mod joining;
+mod covers;
+mod joined_groups;
 mod kept;
 mod lawful;
-mod leading;
+mod led_groups;
 mod open_groups;
 mod open_runs;
 mod opened;
-mod pushing;
+mod pushed;
 mod run_groups;
 mod runs;
 mod saved;
@@ -28,12 +28,12 @@ mod stored;
 mod stretches;
 mod unread;
 
-pub use bracketing::{JoinTree, apply_joined, join_all};
+pub use brackets::{JoinTree, apply_joined, join_all};
 pub use chains::Chain;
 pub use chunks::{of_chunk, of_chunks};
+pub use closed_groups::join_and_close;
 pub use closed_joins::join_chain;
-pub use closing::join_and_close;
-pub use joining::{join_groups, push};
+pub use joined_groups::{join_groups, push};
 pub use lawful::is_lawful_group;
 pub use run_groups::RunGroups;
 pub use runs::{Applied, Run};

@@ -9,7 +9,7 @@ ghost use Rattle.sym_run.specs.Chains.{ChainFits, ChainStandsFor, HasFewPaths, I
 ghost use Rattle.sym_run.specs.Opened.{EndsKnown, KeepsNone, OpenFits, OpenIsTight, OpenStandsFor};
 
 use crate::chains::Chain;
-use crate::pushing::push_segment;
+use crate::pushed::push_segment;
 use crate::segments::{Held, Segments};
 use std::alloc::Global;
 use sym_base::NoMemory;

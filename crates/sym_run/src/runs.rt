@@ -8,10 +8,10 @@ ghost use Rattle.sym_table.specs.Rows.{FitsChunk};
 ghost use Rattle.sym_run.specs.Applying.{AreValid, IfDone, bad_of};
 ghost use Rattle.sym_run.specs.Runs.{AreClosed, AreTight, GroupsFit, GroupsStandFor, IsFromTo, StandsForChunks};
 
-use crate::applying::apply_all;
+use crate::applied_groups::apply_all;
 use crate::chunks::Memory;
-use crate::joining::join_groups;
-use crate::leading::{apply_beside, threads_for};
+use crate::joined_groups::join_groups;
+use crate::led_groups::{apply_beside, threads_for};
 use crate::open_runs::OpenRun;
 use crate::run_groups::RunGroups;
 use std::alloc::Global;

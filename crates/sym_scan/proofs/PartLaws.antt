@@ -26,10 +26,10 @@ use Rattle.sym_run.proofs.AppliedRuns.{applied_all}
 use Rattle.sym_run.proofs.FoundRecords.{all_records-append}
 use Rattle.sym_scan.specs.declared.parts.Part.{Part}
 use Rattle.sym_scan.specs.declared.rows.TraceRow.{TraceRow}
-use Rattle.sym_scan.specs.declared.starting.PartRun.{PartRun}
-use Rattle.sym_scan.specs.declared.starting.PartStarts.{PartStarts}
-use Rattle.sym_scan.specs.declared.starting.Started.TheVariants as started
-use Rattle.sym_scan.specs.declared.starting.AllStarted.TheVariants as all_started
+use Rattle.sym_scan.specs.declared.part_starts.PartRun.{PartRun}
+use Rattle.sym_scan.specs.declared.part_starts.PartStarts.{PartStarts}
+use Rattle.sym_scan.specs.declared.part_starts.Started.TheVariants as started
+use Rattle.sym_scan.specs.declared.part_starts.AllStarted.TheVariants as all_started
 use Rattle.sym_scan.specs.Parts.{AreParts, AreRuns, IsPart, IsReady, IsRun, IsRunOf, StartsAll, StartsFrom, part_chunks, part_rows, replayed_rows}
 use Rattle.sym_scan.specs.Replays.{replayed_to, starts_of}
 use Rattle.sym_scan.specs.Traces.{from_groups, rows_after}

@@ -21,8 +21,8 @@ use Rattle.sym_table.specs.Decoding.{Fills, numbered}
 use Rattle.sym_table.specs.Reading.{Row}
 use Rattle.sym_table.specs.RowRecords.{in_turn, record_or_bad, records_or_bad}
 use Rattle.sym_table.specs.Rows.{read_row}
-use Rattle.sym_scan.specs.declared.replaying.Progress.{Progress}
-use Rattle.sym_scan.specs.declared.replaying.Replayed.TheVariants.{Rows, Bad}
+use Rattle.sym_scan.specs.declared.replays.Progress.{Progress}
+use Rattle.sym_scan.specs.declared.replays.Replayed.TheVariants.{Rows, Bad}
 use Rattle.sym_scan.specs.declared.rows.TraceRow.{TraceRow}
 use Rattle.sym_scan.specs.Traces.{from_groups, is_shown, row_after, rows_after}
 use Rattle.sym_scan.specs.Replays.{GoesOn, replayed_to, row_of}

@@ -15,12 +15,12 @@ use Rattle.sym_table.specs.declared.bad.Bad.{Bad as BadRow}
 use Rattle.sym_table.specs.declared.chunk.Chunk.{Chunk}
 use Rattle.sym_table.specs.ChunkRecords.{all_records}
 use Rattle.sym_table.specs.Rows.{FitsChunk}
-use Rattle.sym_scan.specs.declared.replaying.Progress.{Progress}
+use Rattle.sym_scan.specs.declared.replays.Progress.{Progress}
 use Rattle.sym_scan.specs.declared.rows.TraceRow.{TraceRow}
-use Rattle.sym_scan.specs.declared.scanning.Scanned.{Scanned}
-use Rattle.sym_scan.specs.declared.scanning.Scanned.TheVariants.{Done, Bad}
-use Rattle.sym_scan.specs.declared.starting.PartStarts.{PartStarts}
-use Rattle.sym_scan.specs.declared.starting.AllStarted.TheVariants as all_started
+use Rattle.sym_scan.specs.declared.scan.Scanned.{Scanned}
+use Rattle.sym_scan.specs.declared.scan.Scanned.TheVariants.{Done, Bad}
+use Rattle.sym_scan.specs.declared.part_starts.PartStarts.{PartStarts}
+use Rattle.sym_scan.specs.declared.part_starts.AllStarted.TheVariants as all_started
 use Rattle.sym_scan.specs.Parts.{IsReady, StartsAll, part_rows}
 use Rattle.sym_scan.specs.Replays.{GoesOn}
 use Rattle.sym_scan.specs.Scans.{scanned_to, traced_to}

@@ -12,15 +12,15 @@ use Rattle.sym_table.specs.declared.chunk.Chunk.{Chunk}
 use Rattle.sym_table.specs.ChunkRecords.{all_records}
 use Rattle.sym_run.specs.Runs.{IsFromTo, StandsForChunks}
 use Rattle.sym_scan.specs.declared.parts.Part.{Part}
-use Rattle.sym_scan.specs.declared.replaying.Replayed.{Replayed}
-use Rattle.sym_scan.specs.declared.replaying.Replayed.TheVariants.{Rows, Bad}
+use Rattle.sym_scan.specs.declared.replays.Replayed.{Replayed}
+use Rattle.sym_scan.specs.declared.replays.Replayed.TheVariants.{Rows, Bad}
 use Rattle.sym_scan.specs.declared.rows.TraceRow.{TraceRow}
-use Rattle.sym_scan.specs.declared.starting.PartRun.{PartRun}
-use Rattle.sym_scan.specs.declared.starting.PartStarts.{PartStarts}
-use Rattle.sym_scan.specs.declared.starting.Started.{Started}
-use Rattle.sym_scan.specs.declared.starting.Started.TheVariants as started
-use Rattle.sym_scan.specs.declared.starting.AllStarted.{AllStarted}
-use Rattle.sym_scan.specs.declared.starting.AllStarted.TheVariants as all_started
+use Rattle.sym_scan.specs.declared.part_starts.PartRun.{PartRun}
+use Rattle.sym_scan.specs.declared.part_starts.PartStarts.{PartStarts}
+use Rattle.sym_scan.specs.declared.part_starts.Started.{Started}
+use Rattle.sym_scan.specs.declared.part_starts.Started.TheVariants as started
+use Rattle.sym_scan.specs.declared.part_starts.AllStarted.{AllStarted}
+use Rattle.sym_scan.specs.declared.part_starts.AllStarted.TheVariants as all_started
 use Rattle.sym_scan.specs.Traces.{from_groups, rows_after}
 use Rattle.sym_scan.specs.Replays.{replayed_to, starts_of}
 

@@ -9,9 +9,9 @@ use Rattle.sym_check.specs.Meaning.Groups.{is_key}
 use Rattle.sym_check.specs.Plan.ScriptPlans.{ScriptPlan}
 use Rattle.sym_plain.specs.Pairs.{after_records}
 use Rattle.sym_table.specs.declared.bad.Bad.{Bad as BadRow}
-use Rattle.sym_scan.specs.declared.replaying.Progress.{Progress}
-use Rattle.sym_scan.specs.declared.replaying.Replayed.{Replayed}
-use Rattle.sym_scan.specs.declared.replaying.Replayed.TheVariants.{Rows, Bad}
+use Rattle.sym_scan.specs.declared.replays.Progress.{Progress}
+use Rattle.sym_scan.specs.declared.replays.Replayed.{Replayed}
+use Rattle.sym_scan.specs.declared.replays.Replayed.TheVariants.{Rows, Bad}
 use Rattle.sym_scan.specs.declared.rows.TraceRow.{TraceRow}
 use Rattle.sym_scan.specs.Traces.{from_groups, rows_after}
 

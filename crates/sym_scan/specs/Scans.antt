@@ -7,8 +7,8 @@ use Rattle.sym_check.specs.Meaning.Groups.{pass}
 use Rattle.sym_check.specs.Plan.ScriptPlans.{ScriptPlan}
 use Rattle.sym_plain.specs.Pairs.{after_records}
 use Rattle.sym_table.specs.declared.bad.Bad.{Bad as BadRow}
-use Rattle.sym_scan.specs.declared.scanning.Scanned.{Scanned}
-use Rattle.sym_scan.specs.declared.scanning.Scanned.TheVariants.{Done, Bad}
+use Rattle.sym_scan.specs.declared.scan.Scanned.{Scanned}
+use Rattle.sym_scan.specs.declared.scan.Scanned.TheVariants.{Done, Bad}
 use Rattle.sym_scan.specs.Traces.{from_groups, rows_after, trace_after}
 
 -- What the records of a round come to on groups: their rows, each group beginning as it stands, and

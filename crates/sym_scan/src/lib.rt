@@ -4,14 +4,14 @@
 #![tactic(auto)]
 
 pub mod laws;
+mod part_starts;
 mod parts;
-mod replaying;
+mod replays;
 mod rows;
-mod scanning;
-mod starting;
+mod scan;
 mod starts;
 
-pub use replaying::{Replayed, replay, replay_all};
+pub use replays::{Replayed, replay, replay_all};
 pub use rows::{TraceRow, TraceRows};
-pub use scanning::{Scanned, scan_round};
+pub use scan::{Scanned, scan_round};
 pub use starts::Starts;

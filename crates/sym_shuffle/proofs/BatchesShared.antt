@@ -2,7 +2,7 @@
 use denote.Param.Send.{IsSync, sendable}
 use denote.Struct.Declared.{row}
 use Rattle.std.proofs.Crossing as heap
-use Rattle.sym_check.specs.contracts.checking.accepted.Checked.{the_type as checked}
+use Rattle.sym_check.specs.contracts.checked.accepted.Checked.{the_type as checked}
 use Rattle.sym_check.proofs.CheckedShared.{checked_sync}
 use Rattle.sym_shuffle.specs.contracts.batch.Batch as batch
 use Rattle.sym_shuffle.specs.contracts.packed.PackedValues as packed

@@ -16,7 +16,7 @@ use Rattle.sym_check.proofs.Keys.{equal_keys}
 use Rattle.sym_shuffle.specs.Dealing.{with_new}
 use Rattle.sym_shuffle.specs.Settled.{HasDealt}
 use Rattle.sym_shuffle.specs.Shuffling.{marked}
-use Rattle.sym_shuffle.specs.declared.dealing.Dealt.{Dealt}
+use Rattle.sym_shuffle.specs.declared.dealt.Dealt.{Dealt}
 use Rattle.sym_shuffle.proofs.BegunGroups.{Groups, among_both, place_after, place_among, place_last}
 use Rattle.sym_shuffle.proofs.DealtRecords.{dealt_more, dealt_none}
 

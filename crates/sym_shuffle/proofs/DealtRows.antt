@@ -18,7 +18,7 @@ use Rattle.sym_table.specs.Reading.{Passes, Row}
 use Rattle.sym_table.specs.RowRecords.{in_turn, record_or_bad, records_or_bad}
 use Rattle.sym_table.specs.Rows.{read_row}
 use Rattle.sym_shuffle.specs.Settled.{HasDealt}
-use Rattle.sym_shuffle.specs.declared.dealing.Dealt.{Dealt}
+use Rattle.sym_shuffle.specs.declared.dealt.Dealt.{Dealt}
 use Rattle.sym_shuffle.proofs.RecordsInTurn.{left_at, read_there}
 use Rattle.sym_shuffle.proofs.SettledRounds.{turn_first, turn_later}
 

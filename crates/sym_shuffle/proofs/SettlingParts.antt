@@ -10,7 +10,7 @@ use Rattle.sym_table.specs.declared.bad.Bad.{Bad}
 use Rattle.sym_table.specs.declared.chunk.Chunk.{Chunk}
 use Rattle.sym_table.specs.ChunkRecords.{all_records}
 use Rattle.sym_shuffle.specs.declared.batch.Batch.{Batch}
-use Rattle.sym_shuffle.specs.declared.dealing.Dealt.{Dealt}
+use Rattle.sym_shuffle.specs.declared.dealt.Dealt.{Dealt}
 use Rattle.sym_shuffle.specs.Begun.{begun}
 use Rattle.sym_shuffle.specs.Parts.{AreDealt, IsPartDealt}
 use Rattle.sym_shuffle.specs.Settled.{AreSettled, HasDealt, Holds, IsDealt}

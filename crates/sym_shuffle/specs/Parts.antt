@@ -8,7 +8,7 @@ use Rattle.sym_check.specs.Plan.ScriptPlans.{ScriptPlan}
 use Rattle.sym_table.specs.declared.chunk.Chunk.{Chunk}
 use Rattle.sym_table.specs.ChunkRecords.{all_records}
 use Rattle.sym_shuffle.specs.Settled.{HasDealt}
-use Rattle.sym_shuffle.specs.declared.dealing.Dealt.{Dealt}
+use Rattle.sym_shuffle.specs.declared.dealt.Dealt.{Dealt}
 
 -- The rows of a part were read beside groups, unless an allocation failed.
 abbrev pub IsPartDealt : ScriptPlan → List Bool → List (Key × Outcome) → List Chunk

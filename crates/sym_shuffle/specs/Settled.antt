@@ -14,7 +14,7 @@ use Rattle.sym_table.specs.ChunkRecords.{all_records}
 use Rattle.sym_shuffle.specs.Begun.{begun}
 use Rattle.sym_shuffle.specs.Shuffling.{AreHeld, AreNew, led}
 use Rattle.sym_shuffle.specs.declared.batch.Batch.{Batch}
-use Rattle.sym_shuffle.specs.declared.dealing.Dealt.{Dealt}
+use Rattle.sym_shuffle.specs.declared.dealt.Dealt.{Dealt}
 
 -- A batch holds records, whose groups have places among these keys.
 abbrev pub Holds : ScriptPlan → List Bool → List Key → List Record → Batch → Type 0

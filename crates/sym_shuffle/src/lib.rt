@@ -4,15 +4,15 @@
 
 mod batch;
 mod bounds;
-mod dealing;
-mod entering;
-mod folding;
-mod leading;
+mod dealt;
+mod entry;
+mod led_batches;
 mod marks;
+mod one_thread;
 mod packed;
-mod settling;
-mod shuffling;
+mod rounds;
+mod settled;
 
-pub use entering::{Enter, Free};
-pub use folding::folded;
-pub use shuffling::shuffled;
+pub use entry::{Enter, Free};
+pub use one_thread::folded;
+pub use rounds::shuffled;

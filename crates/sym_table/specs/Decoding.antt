@@ -6,8 +6,8 @@ use Rattle.sym_table.specs.declared.bad.BadCause.{BadCause}
 use Rattle.sym_table.specs.declared.bad.Bad.{Bad}
 use Rattle.sym_table.specs.declared.bad.Decoded.{Decoded}
 use Rattle.sym_table.specs.declared.bad.Decoded.TheVariants as decoded
-use Rattle.sym_table.specs.declared.reading.stop.Stop.{Stop}
-use Rattle.sym_table.specs.declared.reading.stop.Stop.TheVariants as stop
+use Rattle.sym_table.specs.declared.field_values.stop.Stop.{Stop}
+use Rattle.sym_table.specs.declared.field_values.stop.Stop.TheVariants as stop
 
 -- The record with this number, or the rule that it breaks.
 abbrev pub numbered : ℕ → Result (List Value) BadCause → Decoded

@@ -15,7 +15,7 @@ use Rattle.sym_parse.specs.declared.error.ParseErr.{ParseErr}
 use Rattle.sym_parse.specs.declared.error.ParseErr.TheVariants as parse_error
 use Rattle.sym_parse.specs.Answers.{IsScriptOf, parsed}
 use Rattle.sym_check.specs.Rules.Scripts.{BreaksScript}
-use Rattle.sym_check.specs.declared.checking.accepted.Checked.{Checked}
+use Rattle.sym_check.specs.declared.checked.accepted.Checked.{Checked}
 use Rattle.sym_check.specs.declared.elaborate.error.CheckErr.{CheckErr}
 use Rattle.sym_check.specs.declared.elaborate.error.CheckErr.TheVariants as check_error
 use Rattle.sym_files.specs.declared.error.PassErr.{PassErr}

@@ -7,7 +7,7 @@ use Rattle.sym_base.specs.declared.values.state.Outcome.{Outcome}
 use Rattle.sym_base.specs.declared.values.value.Key.{Key}
 use Rattle.sym_check.specs.Meaning.Groups.{pass}
 use Rattle.sym_check.specs.Checking.CheckedScripts.{checked_plan}
-use Rattle.sym_check.specs.declared.checking.accepted.Checked.{Checked}
+use Rattle.sym_check.specs.declared.checked.accepted.Checked.{Checked}
 use Rattle.sym_files.specs.declared.error.PassErr.{PassErr}
 use Rattle.sym_files.specs.FileRecords.{FileRules}
 use Rattle.sym_files.specs.FirstProblems.{AllFine, FirstProblem}

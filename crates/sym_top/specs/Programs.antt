@@ -12,7 +12,7 @@ use Rattle.sym_parse.specs.Places.{IsUnexpected, IsPassed}
 use Rattle.sym_check.specs.Checking.CheckedScripts.{checked_tree, checked_plan}
 use Rattle.sym_check.specs.Plan.ScriptPlans.{ScriptPlan}
 use Rattle.sym_check.specs.Rules.Scripts.{IsAccepted, BreaksScript, plan_of}
-use Rattle.sym_check.specs.declared.checking.accepted.Checked.{Checked}
+use Rattle.sym_check.specs.declared.checked.accepted.Checked.{Checked}
 use Rattle.sym_check.specs.declared.elaborate.error.CheckErr.{CheckErr}
 use Rattle.sym_top.specs.declared.refusal.Place.TheVariants as place
 use Rattle.sym_top.specs.declared.refusal.Refusal.{Refusal}

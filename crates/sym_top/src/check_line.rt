@@ -3,7 +3,7 @@ ghost use Rattle.std.specs.Prelude.{◌≡◌, IfOk};
 ghost use Rattle.sym_check.specs.Checking.CheckedScripts.{checked_plan};
 ghost use Rattle.sym_top.specs.CheckLines.{check_line};
 
-use crate::printing::push_number;
+use crate::number_texts::push_number;
 use std::alloc::Global;
 use sym_base::NoMemory;
 use sym_check::Checked;

@@ -14,7 +14,7 @@ ghost use Rattle.sym_top.specs.Words.{make_seen};
 use crate::arguments::MADE_NAME;
 use crate::commands::{Command, Make};
 use crate::load::{Failure, accept};
-use crate::making::{made_file, made_script};
+use crate::make::{made_file, made_script};
 use crate::refusal::{Refusal, pass_refusal};
 use crate::report::Report;
 use crate::summary::summary;

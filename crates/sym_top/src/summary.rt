@@ -5,7 +5,7 @@ ghost use Rattle.sym_report.specs.ReportRows.{row_of, some_faulty};
 ghost use Rattle.sym_top.specs.Loading.{listed};
 ghost use Rattle.sym_top.specs.Summaries.{count_line, counted, faults_in, sessions_in, sessions_of, summary_text, text_of_counts};
 
-use crate::printing::push_number;
+use crate::number_texts::push_number;
 use crate::report::{Report, report_status};
 use crate::status::Status;
 use std::alloc::Global;

@@ -29,8 +29,8 @@ use Rattle.sym_run.specs.declared.runs.Applied.TheVariants as applied
 use Rattle.sym_run.proofs.FoundRecords.{all_records-append}
 use Rattle.sym_files.specs.Rounds.{IsRound}
 use Rattle.sym_scan.specs.declared.rows.TraceRow.{TraceRow}
-use Rattle.sym_scan.specs.declared.scanning.Scanned.{Scanned}
-use Rattle.sym_scan.specs.declared.scanning.Scanned.TheVariants.{Done, Bad}
+use Rattle.sym_scan.specs.declared.scan.Scanned.{Scanned}
+use Rattle.sym_scan.specs.declared.scan.Scanned.TheVariants.{Done, Bad}
 use Rattle.sym_scan.specs.Scans.{scanned_to}
 use Rattle.sym_scan.specs.Traces.{from_groups, is_shown, row_after, rows_after}
 use Rattle.sym_scan.proofs.Found.{Found}

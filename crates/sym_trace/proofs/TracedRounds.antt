@@ -25,8 +25,8 @@ use Rattle.sym_run.specs.Applying.{AreValid}
 use Rattle.sym_files.specs.Rounds.{AreWorkers, round_records}
 use Rattle.sym_files.proofs.PlainRows.{plain_chunks}
 use Rattle.sym_scan.specs.declared.rows.TraceRow.{TraceRow}
-use Rattle.sym_scan.specs.declared.scanning.Scanned.{Scanned}
-use Rattle.sym_scan.specs.declared.scanning.Scanned.TheVariants.{Done, Bad}
+use Rattle.sym_scan.specs.declared.scan.Scanned.{Scanned}
+use Rattle.sym_scan.specs.declared.scan.Scanned.TheVariants.{Done, Bad}
 use Rattle.sym_scan.specs.Scans.{IfDone, scanned_to, traced_to}
 use Rattle.sym_scan.specs.Traces.{from_groups, rows_after, trace, trace_after}
 use Rattle.sym_scan.proofs.RoundRecords.{round_are}

@@ -2,7 +2,7 @@
 use Rattle.std.specs.Prelude.{◌≡◌, ◌≤◌, ◌<◌, ℕ, ◌+◌, ◌-◌, ◌%◌, List, Some, drop, length, slice_get, take}
 use Rattle.std.specs.List.{All}
 use Rattle.sym_table.specs.declared.chunk.Chunk.{Chunk}
-use Rattle.sym_trace.specs.declared.showing.ShownPart.{ShownPart}
+use Rattle.sym_trace.specs.declared.shown_chunks.ShownPart.{ShownPart}
 
 -- A number of one of the chunk's rows.
 pub record IsNumberOf (cut : Chunk) (no : ℕ) : Type 0 where

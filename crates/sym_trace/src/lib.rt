@@ -5,9 +5,9 @@ mod files;
 mod forms;
 mod parts;
 mod rounds;
+mod row_writer;
 mod rows;
-mod showing;
-mod writing;
+mod shown_chunks;
 
 pub use files::{Traced, trace_files};
 pub use rows::{RECORD_NAME, trace_heads, trace_row};

@@ -8,7 +8,7 @@ ghost use Rattle.sym_scan.specs.Scans.{IfDone, scanned_to};
 ghost use Rattle.sym_table.specs.ChunkRecords.{all_records};
 ghost use Rattle.sym_trace.specs.Showing.{ShowsNone};
 
-use crate::showing::{ShownPart, shown_part};
+use crate::shown_chunks::{ShownPart, shown_part};
 use std::alloc::Global;
 use std::thread::Threads;
 use sym_base::NoMemory;

@@ -3,7 +3,7 @@ ghost use Rattle.sym_check.specs.Checking.CheckedScripts.{checked_plan, checked_
 ghost use Rattle.sym_trace.specs.Tracing.{IsTracing, Tracer, Tracing, some_tracing};
 
 use crate::parts::scan_shown;
-use crate::writing::write_rows;
+use crate::row_writer::write_rows;
 use std::alloc::Global;
 use std::marker::{Brand, PhantomData};
 use std::mem;

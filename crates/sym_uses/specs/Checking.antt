@@ -6,7 +6,7 @@ use Rattle.sym_check.specs.Meaning.PathBounds.{path_bound}
 use Rattle.sym_check.specs.Plan.ScriptPlans.{ScriptPlan}
 use Rattle.sym_check.specs.Rules.Scripts.{IsAccepted, BreaksScript}
 use Rattle.sym_check.specs.declared.elaborate.error.CheckErr.{CheckErr}
-use Rattle.sym_uses.specs.declared.checking.Size.{Size}
+use Rattle.sym_uses.specs.declared.sizes.Size.{Size}
 
 -- The text is a script that breaks no rule, and this is its plan.
 pub record IsPlanOf (text : List ℕ) (plan : ScriptPlan) : Type 0 where

@@ -7,7 +7,7 @@ ghost use Rattle.sym_uses.specs.Segments.{IsAlsoFromLeft, StandsInOrder};
 use std::alloc::Global;
 use sym_base::NoMemory;
 use sym_check::Checked;
-use sym_path::laws::composing::{composition_is_associative, path_of_all_is_neutral};
+use sym_path::laws::composition::{composition_is_associative, path_of_all_is_neutral};
 use sym_path::{Path, Segment, compose};
 
 /// The segment of three, composed from the right. What is composed of them from the left gives the
@@ -54,7 +54,7 @@ pub fn all_in_one(
 #[cfg(test)]
 mod tests {
     use super::*;
-    use crate::checking::checked_text;
+    use crate::sizes::checked_text;
     use std::test::Fail;
     use sym_base::{Fault, FaultKind, Sequence};
     use sym_int::{IntForm, Line, Span};

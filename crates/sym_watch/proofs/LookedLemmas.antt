@@ -2,8 +2,8 @@
 use Rattle.std.proofs.Common.{◌≡◌, ◌↔◌, List, [], None, Some, refl, ap, sym, ◌∙◌}
 use Rattle.sym_plain.specs.Shown.{last}
 use Rattle.sym_watch.specs.declared.partial.Partial.{Partial}
-use Rattle.sym_watch.specs.declared.looking.Looked.{Looked}
-use Rattle.sym_watch.specs.declared.looking.Looked.TheVariants.{Nothing, Seen}
+use Rattle.sym_watch.specs.declared.look.Looked.{Looked}
+use Rattle.sym_watch.specs.declared.look.Looked.TheVariants.{Nothing, Seen}
 use Rattle.sym_watch.specs.Looks.{shown}
 use Rattle.sym_watch.proofs.Rising.{last_none}
 

@@ -4,18 +4,18 @@
 
 mod book;
 mod ends;
-mod looking;
+mod look;
 mod newest;
 mod observer;
 mod partial;
 mod publisher;
-mod starting;
+mod start;
 mod watcher;
 
 pub use ends::Watch;
-pub use looking::Looked;
+pub use look::Looked;
 pub use observer::Observer;
 pub use partial::{Partial, ReportRows};
 pub use publisher::{Publisher, Told};
-pub use starting::{WATCHERS_MAX, watch};
+pub use start::{WATCHERS_MAX, watch};
 pub use watcher::Watcher;

@@ -9,7 +9,7 @@ ghost use Rattle.sym_watch.specs.Looks.{shown};
 ghost use Rattle.sym_watch.specs.Newests.{name_of};
 
 use crate::book::{Reached, compare};
-use crate::looking::Looked;
+use crate::look::Looked;
 use crate::newest::{BookName, Course, Looking, Newest};
 use crate::partial::Partial;
 use crate::publisher::Told;

@@ -2,8 +2,8 @@
 #![tactic(auto)]
 
 mod news;
+mod observers;
 mod passes;
-mod telling;
 mod watched;
 
 pub use passes::pass_watched;

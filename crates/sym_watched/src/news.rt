@@ -8,7 +8,7 @@ ghost use Rattle.sym_watch.specs.Partials.{MayFollow};
 ghost use Rattle.sym_watched.specs.Partials.{AllGrew, AllGrewPart};
 ghost use Rattle.sym_files.specs.Rounds.{AreWorkers, IsLimit, IsRound, round_records};
 
-use crate::telling::tell_seen;
+use crate::observers::tell_seen;
 use std::alloc::Global;
 use std::mem;
 use std::sync::Wait;

@@ -8,7 +8,7 @@ ghost use Rattle.sym_table.specs.Reading.{Row as OneRow};
 ghost use Rattle.sym_files.specs.Rounds.{AreWorkers, IsLimit, IsRound, round_records, shown_chunks};
 ghost use Rattle.sym_workers.specs.RoundRuns.{StandsForAll};
 
-use crate::leading::{apply_run, led};
+use crate::led_groups::{apply_run, led};
 use crate::workers::worked;
 use std::alloc::Global;
 use std::sync::Wait;

@@ -2,15 +2,15 @@
 #![tactic(auto)]
 
 mod gates;
-mod leading;
+mod led_groups;
 mod piece;
-mod sharing;
+mod round_runs;
+mod shares;
 mod stretches;
 mod workers;
-mod working;
 
 pub use gates::{Gate, Hold, OpenGate};
-pub use leading::led;
+pub use led_groups::led;
+pub use round_runs::round;
 pub use sym_shuffle::{Enter, Free};
 pub use workers::worked;
-pub use working::round;

@@ -3,7 +3,7 @@
 use Rattle.std.specs.Prelude.{ℕ, Result}
 use Rattle.sym_base.specs.Trees.{StmtTree}
 use Rattle.sym_check.specs.declared.elaborate.error.CheckErr.{CheckErr}
-use Rattle.sym_check.specs.declared.elaborate.keeping.KeptCell.{KeptCell}
+use Rattle.sym_check.specs.declared.elaborate.holds.KeptCell.{KeptCell}
 use Rattle.sym_check.specs.declared.elaborate.statement.LocalValue.{LocalValue}
 use Rattle.sym_check.specs.declared.elaborate.target.Target.{Target as TargetCell}
 use Rattle.sym_check.specs.declared.elaborate.target.Target.TheVariants as target

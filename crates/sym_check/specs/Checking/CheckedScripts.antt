@@ -1,6 +1,6 @@
 -- What a contract sees of a script that breaks no rule, and its plan.
 use Rattle.sym_base.specs.Trees.{ScriptTree, script_tree}
-use Rattle.sym_check.specs.declared.checking.accepted.Checked.{Checked}
+use Rattle.sym_check.specs.declared.checked.accepted.Checked.{Checked}
 use Rattle.sym_check.specs.Plan.ScriptPlans.{ScriptPlan, script_plan}
 
 abbrev pub checked_tree : Checked → ScriptTree

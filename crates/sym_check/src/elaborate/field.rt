@@ -8,7 +8,7 @@ ghost use Rattle.sym_check.specs.Checking.TypedPlans.{Answers, itself};
 
 use crate::elaborate::error::CheckErr;
 use crate::elaborate::literal::{default_of, kind_of};
-use crate::elaborate::naming::{declare, field_named, free};
+use crate::elaborate::name_uses::{declare, field_named, free};
 use crate::elaborate::scope::{Meaning, Scope, Variable, found};
 use crate::plan::script::{FieldNos, FieldPlan, FieldPlans};
 use std::alloc::Global;

@@ -8,7 +8,7 @@ ghost use Rattle.sym_check.specs.Rules.InOrder.{each};
 ghost use Rattle.sym_check.specs.Checking.TypedPlans.{itself};
 
 use crate::elaborate::error::CheckErr;
-use crate::elaborate::naming::{declare, free};
+use crate::elaborate::name_uses::{declare, free};
 use crate::elaborate::scope::{Meaning, Scope};
 use crate::plan::script::{EnumPlan, EnumPlans};
 use std::alloc::Global;

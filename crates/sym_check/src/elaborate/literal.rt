@@ -5,7 +5,7 @@ ghost use Rattle.sym_check.specs.Checking.TypedPlans.{Answers, itself};
 ghost use Rattle.sym_check.specs.declared.plan.script.KindPlan.TheVariants as kind_plan;
 
 use crate::elaborate::error::CheckErr;
-use crate::elaborate::naming::{enum_named, label_named, no_label};
+use crate::elaborate::name_uses::{enum_named, label_named, no_label};
 use crate::elaborate::scope::Scope;
 use crate::plan::script::KindPlan;
 use std::alloc::Global;

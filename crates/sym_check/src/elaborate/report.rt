@@ -11,7 +11,7 @@ ghost use Rattle.sym_check.specs.Checking.TypedPlans.{Answers};
 
 use crate::elaborate::error::CheckErr;
 use crate::elaborate::expression::place;
-use crate::elaborate::naming::{declare, free};
+use crate::elaborate::name_uses::{declare, free};
 use crate::elaborate::scope::{Meaning, Scope, found};
 use crate::elaborate::seen::{HoldParts, Seen};
 use crate::elaborate::shown::{applied, calculated, is_part, list_function, negative, shown};

@@ -8,7 +8,7 @@ ghost use Rattle.sym_check.specs.Rules.InOrder.{each};
 ghost use Rattle.sym_check.specs.Checking.TypedPlans.{Answers, itself};
 
 use crate::elaborate::error::CheckErr;
-use crate::elaborate::naming::{declare, enum_named, free, label_named};
+use crate::elaborate::name_uses::{declare, enum_named, free, label_named};
 use crate::elaborate::part::{PartPlans, parts_of};
 use crate::elaborate::scope::{Meaning, Scope};
 use crate::plan::script::{CellPlan, CellPlans};

@@ -10,8 +10,8 @@ ghost use Rattle.sym_check.specs.Checking.TypedPlans.{typed_plan, Answers};
 
 use crate::elaborate::error::CheckErr;
 use crate::elaborate::expression::{infer, operands, place};
-use crate::elaborate::keeping::{kept, kept_from, kept_values};
-use crate::elaborate::naming::{declare, free};
+use crate::elaborate::holds::{kept, kept_from, kept_values};
+use crate::elaborate::name_uses::{declare, free};
 use crate::elaborate::scope::{Meaning, Scope, Variable};
 use crate::elaborate::target::{assigned, placed_in, pushed};
 use crate::elaborate::typed::Typed;

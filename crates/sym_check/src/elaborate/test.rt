@@ -17,7 +17,7 @@ ghost use Rattle.sym_check.specs.declared.elaborate.error.CheckErr.TheVariants a
 use crate::elaborate::error::CheckErr;
 use crate::elaborate::expression::{infer, place};
 use crate::elaborate::literal::kind_of;
-use crate::elaborate::naming::{declare, free};
+use crate::elaborate::name_uses::{declare, free};
 use crate::elaborate::scope::{Meaning, Scope, Variable, View, seen};
 use crate::plan::condition::Cond;
 use crate::plan::script::{KindPlan, KindPlans, TestPlan, TestPlans};

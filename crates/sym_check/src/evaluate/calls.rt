@@ -11,7 +11,7 @@ ghost use Rattle.sym_check.specs.Plan.LinePlans.{line_plan};
 ghost use Rattle.sym_check.specs.Meaning.LineValues.{pair};
 ghost use Rattle.sym_check.specs.Meaning.Updates.{environment};
 
-use crate::checking::Checked;
+use crate::checked::Checked;
 use crate::evaluate::arithmetic::Arith;
 use crate::evaluate::fixed_value::{FixedValue, value_of};
 use crate::evaluate::known::known_in;

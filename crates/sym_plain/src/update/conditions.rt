@@ -10,7 +10,7 @@ ghost use Rattle.sym_check.specs.Plan.ScriptPlans.{script_plan};
 ghost use Rattle.sym_check.specs.Meaning.Updates.{or_fault};
 ghost use Rattle.sym_plain.specs.Running.{Gives, Makes, with_value};
 
-use crate::putting::{put_at, put_num, put_word};
+use crate::slots::{put_at, put_num, put_word};
 use crate::update::stop::Stop;
 use crate::update::terms::term_number;
 use std::alloc::Global;

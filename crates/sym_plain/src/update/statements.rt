@@ -10,7 +10,7 @@ ghost use Rattle.sym_check.specs.Meaning.Updates.{environment, environment_after
 ghost use Rattle.sym_base.specs.States.{cell_nums, parts_at, cell_parts, cell_words, with_cell, with_num, with_word};
 ghost use Rattle.sym_plain.specs.Running.{IsAssignment, Makes, kept, kept_cell};
 
-use crate::putting::put_copy;
+use crate::slots::put_copy;
 use crate::update::buffers::Buffers;
 use crate::update::conditions::{fixed_value, set_values, truth_of};
 use crate::update::stop::Stop;

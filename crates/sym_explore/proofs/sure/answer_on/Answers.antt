@@ -6,7 +6,7 @@ use Rattle.sym_pred.specs.declared.form.HoldForm.TheVariants as hold
 use Rattle.sym_path.specs.declared.form.Form.{Form}
 use Rattle.sym_path.specs.declared.form.Form.TheVariants as form
 use Rattle.sym_explore.specs.Calling.{IsTested}
-use Rattle.sym_explore.specs.declared.calling.Tested.{Tested}
+use Rattle.sym_explore.specs.declared.hold_tests.Tested.{Tested}
 use Rattle.sym_explore.proofs.SurePaths.{parts_after, sure_parts}
 use Rattle.sym_explore.proofs.sure.answer_on.Goals as goal
 

@@ -1,0 +1,17 @@
+-- Each call is of a smaller part of the update, or of the same part by a later function.
+use Rattle.std.proofs.Common.{◌+◌, ◌*◌}
+use Rattle.sym_check.specs.Plan.DoPlans.{do_plan, dos_plan}
+use Rattle.sym_explore.proofs.Sizes.{do_size, dos_size}
+use Rattle.sym_explore.proofs.known_paths.+stepping.Given as goal
+
+abbrev pub decreases-step_all : goal.decreases-step_all
+decreases-step_all l = 4 * dos_size (dos_plan l.statements.now)
+
+abbrev pub decreases-step_block : goal.decreases-step_block
+decreases-step_block l = 4 * dos_size (dos_plan l.statements.now) + 1
+
+abbrev pub decreases-step : goal.decreases-step
+decreases-step l = 4 * do_size (do_plan l.statement.now) + 3
+
+abbrev pub decreases-choose : goal.decreases-choose
+decreases-choose l = 4 * (dos_size (dos_plan l.then.now) + dos_size (dos_plan l.otherwise.now) + 1) + 2

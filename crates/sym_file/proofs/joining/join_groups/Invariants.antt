@@ -1,7 +1,0 @@
--- The groups that were read are lawful and distinct, have been joined, and are marked.
-use Rattle.sym_check.specs.Checking.CheckedScripts.{checked_plan}
-use Rattle.sym_file.proofs.JoinedTexts.{IsJoining}
-use Rattle.sym_file.proofs.joining.join_groups.Given as goal
-
-abbrev pub invariant-groups : goal.invariant-groups
-invariant-groups l = IsJoining (checked_plan l.checked) l.first l.next l.count l.limit l.bytes l.fn.groups l.counter l.rest l.groups l.marks.items

@@ -1,6 +1,0 @@
--- What is known of the labels so far.
-use Rattle.sym_path.proofs.Checks.{AreLabelsSeen}
-use Rattle.sym_path.proofs.fitting.labels_fit.Given as goal
-
-abbrev pub invariant-labels : goal.invariant-labels
-invariant-labels l = AreLabelsSeen l.set l.count l.label l.some

@@ -1,5 +1,0 @@
-use Rattle.sym_path.proofs.Agreeing.{composed_alike}
-use Rattle.sym_path.proofs.laws.composing.agreeing_segments_are_composed_alike.Goals as goal
-
-pub returns : goal.returns
-returns c = composed_alike

@@ -1,0 +1,12 @@
+-- What is needed of the copies so far agrees with the others.
+use Rattle.std.proofs.Common.{◌≡◌, ◌<◌, ℕ, length, Some}
+use Rattle.std.specs.Prelude.{slice_get}
+use Rattle.sym_path.specs.Pulling.{OthersAgree}
+use Rattle.sym_path.specs.declared.form.Form.{Form}
+use Rattle.sym_path.specs.declared.part.Part.{Part}
+use Rattle.sym_path.proofs.preimages.needs_agree.Given as goal
+
+abbrev pub invariant-cells : goal.invariant-cells
+invariant-cells l =
+    (length l.forms ≡ length l.needs)
+    × ((d : ℕ) (f : Form) (need : Part) → d < l.index → slice_get l.forms d ≡ Some f → slice_get l.needs d ≡ Some need → OthersAgree l.cell l.forms l.needs f need)

@@ -1,0 +1,31 @@
+use Rattle.std.proofs.Common.{◌++◌, ◌∷◌, [], List, sym, subst, arith}
+use Rattle.std.proofs.lemmas.Result.{IfOk-weaker}
+use Rattle.sym_base.specs.declared.values.record.Record.{Record}
+use Rattle.sym_check.specs.Checking.CheckedScripts.{checked_plan}
+use Rattle.sym_path.specs.Fitting.{SegmentFits}
+use Rattle.sym_run.specs.Chains.{SegmentsStandFor}
+use Rattle.sym_run.proofs.ChainCuts.{cut_last, cut_longer}
+use Rattle.sym_run.proofs.TightChains.{all_front, tight_front}
+use Rattle.sym_run.proofs.covers.extend_last.Goals as goal
+
+pub push_onto-requires-clause-chain : goal.push_onto-requires-clause-chain
+push_onto-requires-clause-chain c = all_front (SegmentFits (checked_plan c.args.checked.now)) c.args.segments.items c.args.last c.requires.chain
+
+pub push_onto-requires-clause-tight : goal.push_onto-requires-clause-tight
+push_onto-requires-clause-tight c = tight_front (checked_plan c.args.checked.now) c.args.limit c.args.segments.items c.args.last c.requires.tight
+
+pub push_onto-requires-clause-few : goal.push_onto-requires-clause-few
+push_onto-requires-clause-few c =
+    let longer = rw c.in-Fits.is at c.in_ok-longer.ensures in
+    let few = longer.1 in
+    omega arith
+
+pub returns-in-Fits-clause-stands : goal.returns-in-Fits-clause-stands
+returns-in-Fits-clause-stands c = λ records h.
+    let p = checked_plan c.args.checked.now in
+    let more : List Record = records ++ c.args.rec.now ∷ [] in
+    let longer = rw c.in-Fits.is at c.in_ok-longer.ensures in
+    let cut = cut_longer p records (c.args.rec.now ∷ []) c.args.segments.items c.args.last c.in-Fits.longer (cut_last p records c.args.segments.items c.args.last h) longer.0.stands in
+    IfOk-weaker c.push_onto.result (SegmentsStandFor p (cut.first ++ cut.rest)) (SegmentsStandFor p more)
+    (λ chain s. subst (λ (rs : List Record). SegmentsStandFor p rs chain) (sym cut.all) s)
+    (c.push_onto.ensures.stands cut.first cut.rest cut.whole cut.last)

@@ -1,0 +1,347 @@
+//! Records that are taken into the chains of their keys.
+ghost use Rattle.std.specs.Prelude.{◌≡◌, ◌≤◌, ◌∷◌, [], None, IfOk, IfSome, OnOk, length};
+ghost use Rattle.std.specs.Map.{lookup};
+ghost use Rattle.sym_check.specs.Checking.CheckedScripts.{checked_plan};
+ghost use Rattle.sym_check.specs.Meaning.Groups.{is_key, key_of};
+ghost use Rattle.sym_check.specs.Meaning.Validity.{IsRecord};
+ghost use Rattle.sym_plain.specs.Pairs.{HaveDistinctKeys};
+ghost use Rattle.sym_reads.specs.Agreement.{HasReadMarked};
+ghost use Rattle.sym_run.specs.Chains.{ChainFits, ChainStandsFor, IsClosed, IsTight};
+ghost use Rattle.sym_run.specs.Covering.{Covers};
+ghost use Rattle.sym_run.specs.Growing.{GrowsByOne, GrowsIf, TakesOne, placed};
+ghost use Rattle.sym_run.specs.Opened.{OpenFits, OpenGroupsAreTight, OpenGroupsFit, OpenIsTight};
+ghost use Rattle.sym_run.specs.declared.opened.Open.TheVariants as opened;
+
+use crate::chains::Chain;
+use crate::covers::{Exploring, cover, take_on};
+use crate::opened::{Open, open_last};
+use crate::pushed::push_segment;
+use crate::unread::empty_unread;
+use indexmap::IndexMap;
+use std::alloc::Global;
+use std::mem;
+use sym_base::{Key, NoMemory, Record};
+use sym_check::Checked;
+use sym_explore::fresh_with;
+use sym_known::are_known;
+use sym_path::Segment;
+use sym_plain::{Buffers, key_into};
+
+/// After so many keys whose kept records had no segment that was worth it, no other key's are
+/// explored.
+const FAILED_MOST: u32 = 4;
+
+/// So many groups can be led by several threads. Stepping what they keep then costs less than
+/// exploring it.
+const GROUPS_MANY: usize = 32;
+
+/// What the records that are taken use again.
+#[derive(Drop)]
+pub(crate) struct Taking {
+    exploring: Exploring,
+    buffers: Buffers,
+    /// How many keys there were whose kept records had no segment that was worth it.
+    failed: u32,
+    /// How many groups there are.
+    groups: usize,
+}
+
+impl Taking {
+    /// Nothing yet. It takes no memory.
+    pub(crate) fn new(alloc: Global) -> Taking {
+        Taking {
+            exploring: Exploring::new(alloc),
+            buffers: Buffers::new(alloc),
+            failed: 0,
+            groups: 0,
+        }
+    }
+}
+
+/// The chain of the records of a chain, of which one segment covers those that were kept, and one
+/// record more.
+fn take_covered(
+    alloc: Global,
+    checked: &Checked,
+    chain: Chain,
+    segment: Segment,
+    rec: &Record,
+    limit: u32,
+    taking: &mut Taking,
+) -> Result<Open, NoMemory>
+    requires rec { IsRecord (checked_plan checked.now) rec.now }
+    requires fits { ChainFits (checked_plan checked.now) chain }
+    requires tight { IsTight (checked_plan checked.now) limit chain }
+    requires covers { Covers (checked_plan checked.now) limit chain.kept segment }
+    ensures { IfOk result
+        (TakesOne (checked_plan checked.now) limit rec.now (opened.Chain chain)) }
+{
+    let (segments, _kept) = chain.into_parts();
+    let scratch = &mut taking.exploring.scratch;
+    let segments = push_segment(alloc, checked, segments, segment, limit)?;
+    let segments = take_on(alloc, checked, segments, rec, limit, scratch)?;
+    open_last(alloc, checked, segments, limit)
+}
+
+/// The chain of a closed chain's records and one more.
+fn take_explored(
+    alloc: Global,
+    checked: &Checked,
+    chain: Chain,
+    rec: &Record,
+    limit: u32,
+    taking: &mut Taking,
+) -> Result<Open, NoMemory>
+    requires rec { IsRecord (checked_plan checked.now) rec.now }
+    requires fits { ChainFits (checked_plan checked.now) chain }
+    requires tight { IsTight (checked_plan checked.now) limit chain }
+    requires closed { IsClosed chain }
+    ensures { IfOk result
+        (TakesOne (checked_plan checked.now) limit rec.now (opened.Chain chain)) }
+{
+    let (segments, _none) = chain.into_parts();
+    let scratch = &mut taking.exploring.scratch;
+    let segments = take_on(alloc, checked, segments, rec, limit, scratch)?;
+    open_last(alloc, checked, segments, limit)
+}
+
+/// A segment of the records that a chain keeps, where they are to be explored now and it is worth
+/// it: as many as may be kept are, few other keys had no such segment, and the segment's cells are
+/// known or there are few groups.
+fn covering(
+    alloc: Global,
+    checked: &Checked,
+    chain: &Chain,
+    limit: u32,
+    most: u32,
+    taking: &mut Taking,
+) -> Result<Option<Segment>, NoMemory>
+    requires fits { ChainFits (checked_plan checked.now) chain.now }
+    requires some { 1 ≤ length chain.now.kept }
+    ensures { IfOk result (λ segment.
+        IfSome segment (Covers (checked_plan checked.now) limit chain.now.kept)) }
+{
+    if chain.kept() != most as usize || FAILED_MOST <= taking.failed {
+        return Ok(None);
+    }
+    let kept = chain.kept_records();
+    if let Some(segment) = cover(alloc, checked, kept, limit, &mut taking.exploring)? {
+        if taking.groups < GROUPS_MANY || are_known(&segment) {
+            return Ok(Some(segment));
+        }
+    }
+    taking.failed += 1;
+    Ok(None)
+}
+
+/// Takes a record into a chain that keeps some: it is kept after them, or all are explored. The
+/// chain that takes this one's place, or none where this one takes the record.
+fn take_kept(
+    alloc: Global,
+    checked: &Checked,
+    chain: &mut Chain,
+    rec: &Record,
+    limit: u32,
+    most: u32,
+    taking: &mut Taking,
+) -> Result<Option<Open>, NoMemory>
+    requires rec { IsRecord (checked_plan checked.now) rec.now }
+    requires fits { ChainFits (checked_plan checked.now) chain.old }
+    requires tight { IsTight (checked_plan checked.now) limit chain.old }
+    requires some { 1 ≤ length chain.old.kept }
+    ensures { IfOk result (λ next. TakesOne (checked_plan checked.now) limit rec.now
+        (opened.Chain chain.old) (placed next (opened.Chain chain.new))) }
+{
+    match covering(alloc, checked, chain, limit, most, taking)? {
+        Some(segment) => {
+            let none = Chain::of_one(alloc, Segment::of(Vec::new(alloc)));
+            let old = mem::replace(chain, none);
+            let next = take_covered(alloc, checked, old, segment, rec, limit, taking)?;
+            Ok(Some(next))
+        }
+        None => {
+            chain.keep(alloc, rec)?;
+            Ok(None)
+        }
+    }
+}
+
+/// Takes a record into a chain: it is kept after the others that are kept, where there are some, or
+/// explored. The chain that takes this one's place, or none where this one takes the record.
+fn take_into_chain(
+    alloc: Global,
+    checked: &Checked,
+    chain: &mut Chain,
+    rec: &Record,
+    limit: u32,
+    most: u32,
+    taking: &mut Taking,
+) -> Result<Option<Open>, NoMemory>
+    requires rec { IsRecord (checked_plan checked.now) rec.now }
+    requires fits { ChainFits (checked_plan checked.now) chain.old }
+    requires tight { IsTight (checked_plan checked.now) limit chain.old }
+    ensures { IfOk result (λ next. TakesOne (checked_plan checked.now) limit rec.now
+        (opened.Chain chain.old) (placed next (opened.Chain chain.new))) }
+{
+    if !chain.is_closed() {
+        return take_kept(alloc, checked, chain, rec, limit, most, taking);
+    }
+    let none = Chain::of_one(alloc, Segment::of(Vec::new(alloc)));
+    let old = mem::replace(chain, none);
+    let next = take_explored(alloc, checked, old, rec, limit, taking)?;
+    Ok(Some(next))
+}
+
+/// Takes a record into an open chain: its states make their steps, or the chain takes it. The chain
+/// that takes this one's place, or none where this one takes the record.
+fn take_open(
+    alloc: Global,
+    checked: &Checked,
+    chain: &mut Open,
+    rec: &Record,
+    limit: u32,
+    most: u32,
+    taking: &mut Taking,
+) -> Result<Option<Open>, NoMemory>
+    requires rec { IsRecord (checked_plan checked.now) rec.now }
+    requires fits { OpenFits (checked_plan checked.now) chain.old }
+    requires tight { OpenIsTight (checked_plan checked.now) limit chain.old }
+    ensures { IfOk result (λ next. TakesOne (checked_plan checked.now) limit rec.now
+        chain.old (placed next chain.new)) }
+{
+    match chain {
+        Open::Known(_, known) => {
+            known.step(alloc, checked, rec, &mut taking.buffers)?;
+            Ok(None)
+        }
+        Open::Chain(chain) => take_into_chain(alloc, checked, chain, rec, limit, most, taking),
+    }
+}
+
+/// Takes a record into an open chain. After an `Err` it is unspecified.
+fn take_into(
+    alloc: Global,
+    checked: &Checked,
+    chain: &mut Open,
+    rec: &Record,
+    limit: u32,
+    most: u32,
+    taking: &mut Taking,
+) -> Result<(), NoMemory>
+    requires rec { IsRecord (checked_plan checked.now) rec.now }
+    requires fits { OpenFits (checked_plan checked.now) chain.old }
+    requires tight { OpenIsTight (checked_plan checked.now) limit chain.old }
+    ensures { OnOk result
+        (TakesOne (checked_plan checked.now) limit rec.now chain.old chain.new) }
+{
+    if let Some(next) = take_open(alloc, checked, chain, rec, limit, most, taking)? {
+        *chain = next;
+    }
+    Ok(())
+}
+
+/// Whether there is a group with this key, whose chain then takes on the record.
+fn lengthen(
+    alloc: Global,
+    checked: &Checked,
+    map: &mut IndexMap<Key, Open>,
+    key: &Key,
+    rec: &Record,
+    limit: u32,
+    most: u32,
+    taking: &mut Taking,
+) -> Result<bool, NoMemory>
+    requires rec { IsRecord (checked_plan checked.now) rec.now }
+    requires fits { OpenGroupsFit (checked_plan checked.now) map.old.entries }
+    requires tight { OpenGroupsAreTight (checked_plan checked.now) limit map.old.entries }
+    ensures grows { IfOk result (λ there. GrowsIf (checked_plan checked.now) limit most key.now
+        rec.now map.old.entries there map.new.entries) }
+    ensures distinct { HaveDistinctKeys map.new.entries }
+{
+    taking.groups = map.len();
+    match map.get_mut(key) {
+        Some(chain) => {
+            take_into(alloc, checked, chain, rec, limit, most, taking)?;
+            Ok(true)
+        }
+        None => Ok(false),
+    }
+}
+
+/// The chain of one record, which is kept if any may be, and else explored.
+fn first_chain(
+    alloc: Global,
+    checked: &Checked,
+    rec: &Record,
+    _limit: u32,
+    most: u32,
+    taking: &mut Taking,
+) -> Result<Chain, NoMemory>
+    requires rec { IsRecord (checked_plan checked.now) rec.now }
+    ensures fits { IfOk result (ChainFits (checked_plan checked.now)) }
+    ensures tight { IfOk result (IsTight (checked_plan checked.now) _limit) }
+    ensures stands { IfOk result (ChainStandsFor (checked_plan checked.now) (rec.now ∷ [])) }
+    ensures closed { most ≡ 0 → IfOk result IsClosed }
+{
+    if most != 0 {
+        return Chain::of_record(alloc, rec);
+    }
+    let own = fresh_with(alloc, checked, rec, &mut taking.exploring.scratch)?;
+    Ok(Chain::of_one(alloc, own))
+}
+
+/// A new group with the record's chain, which goes last. The key is copied.
+fn begin(
+    alloc: Global,
+    checked: &Checked,
+    map: &mut IndexMap<Key, Open>,
+    key: &Key,
+    rec: &Record,
+    limit: u32,
+    most: u32,
+    taking: &mut Taking,
+) -> Result<(), NoMemory>
+    requires rec { IsRecord (checked_plan checked.now) rec.now }
+    requires new { lookup (is_key key.now) map.old.entries ≡ None }
+    requires distinct { HaveDistinctKeys map.old.entries }
+    ensures grows { OnOk result (GrowsByOne (checked_plan checked.now) limit most key.now rec.now
+        map.old.entries map.new.entries) }
+    ensures distinct { HaveDistinctKeys map.new.entries }
+{
+    let chain = first_chain(alloc, checked, rec, limit, most, taking)?;
+    map.insert(key.copy(alloc)?, Open::Chain(chain))?;
+    Ok(())
+}
+
+/// Takes a record into the chain of its key, without the words that the update doesn't read. A key's
+/// first `most` records are kept as they are; the next one has all of them explored, where their
+/// segment stays within the limit. The key is written over the one that is given. The record is
+/// unspecified afterwards.
+pub(crate) fn take_record(
+    alloc: Global,
+    checked: &Checked,
+    map: &mut IndexMap<Key, Open>,
+    rec: &mut Record,
+    reads: &[bool],
+    limit: u32,
+    most: u32,
+    key: &mut Key,
+    taking: &mut Taking,
+) -> Result<(), NoMemory>
+    requires rec { IsRecord (checked_plan checked.now) rec.old }
+    requires reads { HasReadMarked (checked_plan checked.now) reads.now }
+    requires fits { OpenGroupsFit (checked_plan checked.now) map.old.entries }
+    requires tight { OpenGroupsAreTight (checked_plan checked.now) limit map.old.entries }
+    requires distinct { HaveDistinctKeys map.old.entries }
+    ensures grows { let p = checked_plan checked.now in
+        OnOk result (GrowsByOne p limit most (key_of p rec.old) rec.old
+        map.old.entries map.new.entries) }
+    ensures distinct { HaveDistinctKeys map.new.entries }
+{
+    key_into(alloc, checked, rec, key)?;
+    empty_unread(checked, rec, reads)?;
+    if lengthen(alloc, checked, map, key, rec, limit, most, taking)? {
+        return Ok(());
+    }
+    begin(alloc, checked, map, key, rec, limit, most, taking)
+}

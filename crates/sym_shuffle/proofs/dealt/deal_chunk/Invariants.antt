@@ -1,0 +1,18 @@
+-- The rows so far are dealt, and the cursor has the others.
+use Rattle.std.proofs.Common.{◌≡◌, ◌+◌, ◌++◌, List, Some, drop}
+use Rattle.sym_check.specs.Checking.CheckedScripts.{checked_plan}
+use Rattle.sym_table.specs.ChunkRecords.{chunk_records}
+use Rattle.sym_table.specs.Reading.{Row}
+use Rattle.sym_table.specs.RowRecords.{records_or_bad}
+use Rattle.sym_shuffle.proofs.DealtRows.{AreDealtOn}
+use Rattle.sym_shuffle.proofs.dealt.deal_chunk.Given as goal
+
+abbrev pub invariant-rows : goal.invariant-rows
+invariant-rows l = record {
+  number : l.no ≡ l.chunk.first_no + l._index;
+  dealt : AreDealtOn (checked_plan l.checked) l.marks l.groups (chunk_records (checked_plan l.checked) l.chunk)
+      (records_or_bad (checked_plan l.checked) l.chunk.header l.no (drop l._index l.chunk.rows)) l.fn.dealt l.dealt;
+  rest : List Row;
+  had : l.fn.cursor ≡ Some (l.chunk.rows ++ rest);
+  left : l.cursor ≡ Some (drop l._index l.chunk.rows ++ rest);
+}

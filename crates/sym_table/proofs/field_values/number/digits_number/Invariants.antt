@@ -1,0 +1,14 @@
+-- The digits so far write the number, which isn't too large.
+use Rattle.std.proofs.Common.{◌≡◌, ◌≤◌, drop}
+use Rattle.std.specs.Char.{is_ascii_digit}
+use Rattle.std.specs.List.{list_all}
+use Rattle.std.specs.Str.Parse.{digits_value, digits_value_after}
+use Rattle.sym_base.specs.Limits.{num_max}
+use Rattle.sym_table.proofs.field_values.number.digits_number.Given as goal
+
+abbrev pub invariant-digits : goal.invariant-digits
+invariant-digits l = record {
+  small : l.number ≤ num_max;
+  read : digits_value_after 10 l.number (drop l.digit-index l.digits) ≡ digits_value 10 l.digits;
+  all : list_all is_ascii_digit (drop l.digit-index l.digits) ≡ list_all is_ascii_digit l.digits;
+}
