@@ -48,18 +48,6 @@ impl Path {
         }
     }
 
-    /// Puts a form in the place of that of the cell with this number, and gives the old one. Where
-    /// there is none, as after a fault, the path is as before. It takes no memory.
-    pub fn replace_form(&mut self, cell: u16, form: Form) -> Option<Form>
-        ensures old { result ≡ form_of self.old.end cell }
-        ensures new { self.new ≡ with_form self.old cell form }
-    {
-        match &mut self.end {
-            PathEnd::Next(forms) => forms.replace(usize::from(cell), form),
-            PathEnd::Ended(_) => None,
-        }
-    }
-
     /// Ends the path by a fault; a path that has ended stays as it is. It takes no memory.
     pub fn fail(&mut self, fault: Fault)
         ensures { self.new ≡ with_fault self.old fault }
