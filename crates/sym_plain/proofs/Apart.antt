@@ -156,6 +156,11 @@ apart_on p first (rec ∷ rest) xs e =
 pub groups_apart : (p : ScriptPlan) (records : List Record) (xs : Pairs Outcome) → after_records p records xs ≡ after_keys p records (keys p records) xs
 groups_apart p records xs = apart_on p [] records xs refl
 
+-- Records in order are the first ones and then the others.
+pub records_on : (p : ScriptPlan) (first rest : List Record) (xs : Pairs Outcome) → after_records p rest (after_records p first xs) ≡ after_records p (first ++ rest) xs
+records_on p [] rest xs = refl
+records_on p (rec ∷ first) rest xs = records_on p first rest (after_record p rec xs)
+
 -- The pass over more records goes on from where it stands.
 pub pass_more : (p : ScriptPlan) (first rest : List Record) → after_records p rest (pass p first) ≡ pass p (first ++ rest)
 pass_more p first [] = ap (pass p) (sym (append-nil first))

@@ -11,12 +11,17 @@ ghost use Rattle.sym_check.specs.Plan.WellFormed.{IsWellFormed};
 ghost use Rattle.sym_plain.specs.Pairs.{after_keys, after_record, after_records};
 
 /// Groups go apart: after many records the group of each of their keys has made the steps of its
-/// own records, in order of the keys' first appearance. Of the pass over some records this is the
-/// pass over these and the others.
+/// own records, in order of the keys' first appearance. Records may be cut in two: the groups after
+/// both parts are those that the second part makes of those after the first one. Of the pass over
+/// some records this is the pass over these and the others.
 pub fn groups_go_apart()
     ensures apart { (p : ScriptPlan) (records : List OneRecord)
         (groups : List (OneKey × OneOutcome)) →
         after_records p records groups ≡ after_keys p records (keys p records) groups }
+    ensures more { (p : ScriptPlan) (first rest : List OneRecord)
+        (groups : List (OneKey × OneOutcome)) →
+        after_records p rest (after_records p first groups)
+        ≡ after_records p (first ++ rest) groups }
     ensures pass { (p : ScriptPlan) (first rest : List OneRecord) →
         after_records p rest (pass p first) ≡ pass p (first ++ rest) }
 {}

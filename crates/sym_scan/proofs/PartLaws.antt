@@ -13,6 +13,7 @@ use Rattle.sym_base.specs.declared.values.state.Outcome.{Outcome}
 use Rattle.sym_check.specs.Meaning.Groups.{keys}
 use Rattle.sym_check.specs.Plan.ScriptPlans.{ScriptPlan}
 use Rattle.sym_plain.specs.Pairs.{after_records}
+use Rattle.sym_plain.proofs.Apart.{records_on}
 use Rattle.sym_table.specs.declared.bad.Bad.{Bad as BadRow}
 use Rattle.sym_table.specs.declared.chunk.Chunk.{Chunk}
 use Rattle.sym_table.specs.ChunkRecords.{all_records}
@@ -34,7 +35,7 @@ use Rattle.sym_scan.specs.Parts.{AreParts, AreRuns, IsPart, IsReady, IsRun, IsRu
 use Rattle.sym_scan.specs.Replays.{replayed_to, starts_of}
 use Rattle.sym_scan.specs.Traces.{from_groups, rows_after}
 use Rattle.sym_scan.proofs.Found.{Found, both_before, none_before}
-use Rattle.sym_scan.proofs.Standing.{Pairs, after_records-append, rows_then}
+use Rattle.sym_scan.proofs.Standing.{Pairs, rows_then}
 use Rattle.sym_scan.proofs.StartLaws.{rows_started}
 
 -- ---- parts
@@ -190,7 +191,7 @@ starting_on p every chunks part starts first old new parts is h s = of (all_reco
               h.are
               ∙ ap (in_turn (Ok h.records)) (part_next p chunks part ∙ ap (λ (f : Found). in_turn f (all_records p (drop (part.first + part.count) chunks))) e)
               ∙ both_before h.records next (all_records p (drop (part.first + part.count) chunks));
-          led = s.1 ∙ ap (after_records p next) h.led ∙ sym (after_records-append p h.records next first);
+          led = s.1 ∙ ap (after_records p next) h.led ∙ records_on p h.records next first;
           ready = All-push (IsReady p chunks) parts ready h.ready (record { within = is.within; records = next; are = e });
           rows =
               flat_map-append (part_rows p every chunks) parts (ready ∷ [])

@@ -10,6 +10,7 @@ use Rattle.sym_check.specs.Meaning.Groups.{is_key, key_of, records_of}
 use Rattle.sym_check.specs.Meaning.Updates.{after, step}
 use Rattle.sym_check.specs.Plan.ScriptPlans.{ScriptPlan}
 use Rattle.sym_plain.specs.Pairs.{after_record, after_records, standing}
+use Rattle.sym_plain.proofs.Apart.{records_on}
 use Rattle.sym_plain.proofs.Puts.{lookup-put-same}
 use Rattle.sym_table.specs.declared.bad.Bad.{Bad as BadRow}
 use Rattle.sym_table.specs.declared.bad.BadCause.{BadCause}
@@ -28,7 +29,7 @@ use Rattle.sym_scan.specs.Traces.{from_groups, is_shown, row_after, rows_after}
 use Rattle.sym_scan.specs.Replays.{GoesOn, replayed_to, row_of}
 use Rattle.sym_scan.proofs.Found.{Found, both_before, none_before}
 use Rattle.sym_scan.proofs.Lists.{left_from}
-use Rattle.sym_scan.proofs.Standing.{Pairs, after_records-append, rows_then, stand_after}
+use Rattle.sym_scan.proofs.Standing.{Pairs, rows_then, stand_after}
 
 -- ---- one record
 abbrev pub row_with : ℕ → Key → Outcome → TraceRow
@@ -80,7 +81,7 @@ replayed_some : (p : ScriptPlan) (every : ℕ) (found rest : Found) (next : List
 replayed_some p every found rest next bad first shown old new h g = record {
   records = h.records ++ next;
   are = h.are ∙ both_before h.records next rest;
-  groups = g.1 ∙ ap (after_records p next) h.groups ∙ sym (after_records-append p h.records next first);
+  groups = g.1 ∙ ap (after_records p next) h.groups ∙ records_on p h.records next first;
   rows =
       g.2
       ∙ ap (λ (rows : List TraceRow). rows ++ rows_after p every (from_groups p old.groups) [] next) h.rows

@@ -43,10 +43,6 @@ stand_after p (rec ∷ records) groups k =
     of true = refl
     of false = refl
 
-pub after_records-append : (p : ScriptPlan) (first rest : List Record) (groups : Pairs) → after_records p (first ++ rest) groups ≡ after_records p rest (after_records p first groups)
-after_records-append p [] rest groups = refl
-after_records-append p (rec ∷ first) rest groups = after_records-append p first rest (after_record p rec groups)
-
 -- The rows of records that come after others, from how the groups stand after those.
 pub rows_on : (p : ScriptPlan) (every : ℕ) (groups : Pairs) (first rest : List Record)
     → rows_after p every (from_groups p (after_records p first groups)) [] rest ≡ rows_after p every (from_groups p groups) first rest

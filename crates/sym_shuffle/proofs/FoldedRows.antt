@@ -10,6 +10,7 @@ use Rattle.sym_check.specs.Meaning.Validity.{IsRecord}
 use Rattle.sym_check.specs.Plan.ScriptPlans.{ScriptPlan}
 use Rattle.sym_check.specs.Plan.WellFormed.{IsWellFormed}
 use Rattle.sym_plain.specs.Pairs.{after_record, after_records}
+use Rattle.sym_plain.proofs.Apart.{records_on}
 use Rattle.sym_table.specs.declared.bad.Bad.{Bad}
 use Rattle.sym_table.specs.declared.bad.BadCause.{BadCause}
 use Rattle.sym_table.specs.declared.bad.Decoded.TheVariants as decoded
@@ -58,10 +59,6 @@ turn_later (Ok x) (Err bad) c = refl
 turn_later (Ok x) (Ok y) (Err bad) = refl
 turn_later (Ok x) (Ok y) (Ok z) = ap Ok (sym (append_assoc x y z))
 
-after_both : (p : ScriptPlan) (first rest : List Record) (old : Groups) → after_records p rest (after_records p first old) ≡ after_records p (first ++ rest) old
-after_both p [] rest old = refl
-after_both p (rec ∷ first) rest old = after_both p first rest (after_record p rec old)
-
 -- ---- how far records are folded
 pub none_folded : (p : ScriptPlan) (all : Read) (old : Groups) → IsFolding p all all old old
 none_folded p all old = record { done = []; splits = none_first all; groups = refl }
@@ -75,7 +72,7 @@ folds_on p all left part rest old now new records h split is groups = record {
       h.splits
       ∙ ap (in_turn (Ok h.done)) (split ∙ ap (λ (r : Read). in_turn r rest) is)
       ∙ turn_later (Ok h.done) (Ok records) rest;
-  groups = groups ∙ ap (after_records p records) h.groups ∙ after_both p h.done records old;
+  groups = groups ∙ ap (after_records p records) h.groups ∙ records_on p h.done records old;
 }
 
 -- The next part has a row that is no record.

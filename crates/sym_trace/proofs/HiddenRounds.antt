@@ -15,6 +15,7 @@ use Rattle.sym_check.specs.declared.plan.script.FieldPlan.{FieldPlan}
 use Rattle.sym_check.specs.Meaning.Arithmetic.{and_then}
 use Rattle.sym_check.specs.Plan.ScriptPlans.{ScriptPlan}
 use Rattle.sym_plain.specs.Pairs.{after_records}
+use Rattle.sym_plain.proofs.Apart.{records_on}
 use Rattle.sym_table.specs.declared.bad.Bad.{Bad as BadRow}
 use Rattle.sym_table.specs.declared.bad.BadCause.{BadCause}
 use Rattle.sym_table.specs.declared.chunk.Chunk.{Chunk}
@@ -34,7 +35,7 @@ use Rattle.sym_scan.specs.declared.scan.Scanned.TheVariants.{Done, Bad}
 use Rattle.sym_scan.specs.Scans.{scanned_to}
 use Rattle.sym_scan.specs.Traces.{from_groups, is_shown, row_after, rows_after}
 use Rattle.sym_scan.proofs.Found.{Found}
-use Rattle.sym_scan.proofs.Standing.{after_records-append, rows_then}
+use Rattle.sym_scan.proofs.Standing.{rows_then}
 use Rattle.sym_trace.specs.Showing.{ShowsNone}
 
 -- ---- rows of a trace
@@ -119,7 +120,7 @@ both_scanned p every (Ok first) (Ok rest) given now new rows more begun on =
     ap₂ Done
     (ap₂ (λ (xs ys : List TraceRow). xs ++ ys) rows_are (more_are ∙ ap (λ (groups : Pairs). rows_after p every (from_groups p groups) [] rest) now_is)
     ∙ sym (rows_then p every given first rest))
-    (new_is ∙ ap (after_records p rest) now_is ∙ sym (after_records-append p first rest given))
+    (new_is ∙ ap (after_records p rest) now_is ∙ records_on p first rest given)
 both_scanned p every (Ok first) (Err why) given now new rows more begun on = absurd (cc)
 both_scanned p every (Err why) next given now new rows more begun on = absurd (cc)
 

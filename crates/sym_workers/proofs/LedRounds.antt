@@ -8,7 +8,8 @@ use Rattle.sym_base.specs.declared.values.value.Key.{Key}
 use Rattle.sym_base.specs.declared.values.state.Outcome.{Outcome}
 use Rattle.sym_check.specs.Checking.CheckedScripts.{checked_plan}
 use Rattle.sym_check.specs.Plan.ScriptPlans.{ScriptPlan}
-use Rattle.sym_plain.specs.Pairs.{after_record, after_records}
+use Rattle.sym_plain.specs.Pairs.{after_records}
+use Rattle.sym_plain.proofs.Apart.{records_on}
 use Rattle.sym_table.specs.declared.bad.Bad.{Bad as BadRow}
 use Rattle.sym_table.specs.declared.chunk.Chunk.{Chunk}
 use Rattle.sym_table.specs.ChunkRecords.{all_records}
@@ -42,11 +43,6 @@ all_applied p limit chunks run old r h is =
     subst (λ (cs : List Chunk). IfOk r (λ found. found ≡ applied_to p (all_records p cs) old)) (whole chunks run.lo run.hi h.ends.from h.ends.to) is
 
 -- ---- one run after another
--- The groups after some records and more.
-records_on : (p : ScriptPlan) (first rest : List Record) (old : Pairs) → after_records p rest (after_records p first old) ≡ after_records p (first ++ rest) old
-records_on p [] rest old = refl
-records_on p (rec ∷ first) rest old = records_on p first rest (after_record p rec old)
-
 then_on : (p : ScriptPlan) (first rest : List Record) (old now new : Pairs) → applied.Done now ≡ applied.Done (after_records p first old) → new ≡ after_records p rest now
     → new ≡ after_records p (first ++ rest) old
 then_on p first rest old now new led on =
