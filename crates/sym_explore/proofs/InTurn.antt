@@ -11,7 +11,7 @@ use Rattle.sym_path.specs.declared.path.PathEnd.{PathEnd}
 use Rattle.sym_path.specs.declared.path.PathEnd.TheVariants.{Next, Ended}
 use Rattle.sym_path.specs.Joining.{IsSettled, Joinable}
 use Rattle.sym_explore.specs.Limiting.{AreInTurn, EndsBy}
-use Rattle.sym_explore.specs.declared.limited.Turn.{Turn}
+use Rattle.sym_explore.specs.declared.path_limits.Turn.{Turn}
 
 abbrev Apart : Path → Path → Type 0
 Apart p q = Joinable p q → ⊥

@@ -24,8 +24,8 @@ use Rattle.sym_path.specs.Pairs.{has_ended, is_ended}
 use Rattle.sym_path.specs.Settling.{IsSettling}
 use Rattle.sym_path.specs.Standing.{EndsAmong}
 use Rattle.sym_path.proofs.Lists.{take_get}
-use Rattle.sym_explore.specs.declared.limited.Extension.{Extension}
-use Rattle.sym_explore.specs.declared.limited.Extension.TheVariants.{Fits, Over}
+use Rattle.sym_explore.specs.declared.path_limits.Extension.{Extension}
+use Rattle.sym_explore.specs.declared.path_limits.Extension.TheVariants.{Fits, Over}
 use Rattle.sym_explore.specs.Counting.{dos_ended, dos_going, made_paths, most_grown, most_paths}
 use Rattle.sym_explore.specs.Ending.{AreMoved}
 use Rattle.sym_explore.specs.Growing.{GivesAfter, IsExplored, IsLonger}

@@ -10,9 +10,9 @@ use Rattle.sym_path.specs.Joining.{IsSettled}
 use Rattle.sym_path.specs.Pairs.{has_ended}
 use Rattle.sym_path.specs.Settling.{IsSettling}
 use Rattle.sym_explore.specs.Growing.{IsLonger}
-use Rattle.sym_explore.specs.declared.limited.Extension.{Extension}
-use Rattle.sym_explore.specs.declared.limited.Turn.{Turn}
-use Rattle.sym_explore.specs.declared.limited.Extension.TheVariants.{Fits, Over}
+use Rattle.sym_explore.specs.declared.path_limits.Extension.{Extension}
+use Rattle.sym_explore.specs.declared.path_limits.Turn.{Turn}
+use Rattle.sym_explore.specs.declared.path_limits.Extension.TheVariants.{Fits, Over}
 
 -- The paths that have ended, or those that go on, in order.
 abbrev pub is_chosen : Bool → Path → Bool

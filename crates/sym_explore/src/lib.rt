@@ -12,10 +12,10 @@ mod hold_tests;
 mod known_paths;
 mod labels;
 pub mod laws;
-mod limited;
 mod moves;
 mod nearest_ends;
 mod parted_lists;
+mod path_limits;
 mod places;
 mod ranges;
 mod scratch;
@@ -25,5 +25,5 @@ mod sure;
 mod terms;
 
 pub use extensions::{Grown, extend, fresh, fresh_with, grow, grow_with};
-pub use limited::{Extension, extend_within};
+pub use path_limits::{Extension, extend_within};
 pub use scratch::Scratch;

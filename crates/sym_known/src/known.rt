@@ -12,8 +12,8 @@ ghost use Rattle.sym_path.specs.Standing.{StandsFor};
 ghost use Rattle.sym_known.specs.Holding.{AllFit, KnownStandsFor, known_path, stepped};
 ghost use Rattle.sym_known.specs.Knowing.{AreKnown};
 
-use crate::closed::close_all;
 use crate::placed::{Placed, place_all};
+use crate::plain_paths::close_all;
 use std::alloc::Global;
 use std::marker::Model;
 use sym_base::{NoMemory, Outcome, Record};

@@ -2,11 +2,11 @@
 //! a group, and where a stretch of records ends, the states are turned back into paths.
 #![tactic(auto)]
 
-mod closed;
 mod known;
 mod known_cells;
 pub mod laws;
 mod placed;
+mod plain_paths;
 
 pub use known::Known;
 pub use known_cells::are_known;

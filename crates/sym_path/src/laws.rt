@@ -15,7 +15,7 @@ ghost use Rattle.sym_path.specs.Standing.{EndsAmong, StandsFor, GivesExactly};
 
 pub mod changes;
 pub mod composition;
-pub mod outcomes;
+pub mod given_outcomes;
 pub mod pairs;
 pub mod settled;
 pub mod standing;

@@ -3,6 +3,7 @@
 #![tactic(auto)]
 
 mod admission;
+mod cell_constraints;
 mod changes;
 mod composition;
 mod drafts;
@@ -13,7 +14,6 @@ mod joins;
 mod kinds;
 pub mod laws;
 mod led_outcomes;
-mod narrowed;
 mod outcomes;
 mod pair_count;
 mod part;

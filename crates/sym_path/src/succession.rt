@@ -20,9 +20,9 @@ ghost use Rattle.sym_int.specs.Lines.{form_cell, wide_cell, wide_on};
 ghost use Rattle.sym_path.specs.declared.part.Part.TheVariants as part;
 ghost use Rattle.sym_path.specs.declared.path.PathEnd.TheVariants.{Ended};
 
+use crate::cell_constraints::{labels_put, numbers_put};
 use crate::form::{Form, Forms};
 use crate::joins::same_part;
-use crate::narrowed::{labels_put, numbers_put};
 use crate::part::{Constraint, Part};
 use crate::path::{Path, PathEnd};
 use crate::possible_pairs::possible_by;

@@ -2,8 +2,8 @@
 #![tactic(auto)]
 
 mod blank;
+mod fields;
 pub mod laws;
-mod read_fields;
 
 pub use blank::blank_record;
-pub use read_fields::read_fields;
+pub use fields::read_fields;

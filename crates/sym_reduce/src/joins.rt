@@ -9,7 +9,7 @@ ghost use Rattle.sym_reduce.specs.Joining.{AreFilesJoined, CanGoOn, IsJoining, J
 ghost use Rattle.sym_run.specs.ClosedJoins.{IsJoinable};
 
 use crate::error::ReduceErr;
-use crate::files::read_file;
+use crate::run_files::read_file;
 use crate::window::{Window, read_first};
 use std::alloc::Global;
 use std::thread::Threads;

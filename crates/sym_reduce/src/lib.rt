@@ -3,12 +3,12 @@
 #![tactic(auto)]
 
 mod error;
-mod files;
 mod joins;
 pub mod laws;
 mod one_file;
+mod run_files;
 mod window;
 
 pub use error::ReduceErr;
-pub use files::reduce_files;
 pub use joins::join_files;
+pub use run_files::reduce_files;

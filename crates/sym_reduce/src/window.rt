@@ -7,7 +7,7 @@ ghost use Rattle.sym_files.specs.Passing.{MayAll};
 ghost use Rattle.sym_reduce.specs.Joining.{IsUnreadAt};
 
 use crate::error::ReduceErr;
-use crate::files::read_file;
+use crate::run_files::read_file;
 use std::alloc::Global;
 use sym_base::Store;
 

@@ -1,7 +1,0 @@
--- The forms so far are those of their cells.
-use Rattle.std.proofs.Common.{length}
-use Rattle.sym_known.proofs.Closed.{FormsSoFar}
-use Rattle.sym_known.proofs.closed.forms_of.Given as goal
-
-abbrev pub invariant-cells : goal.invariant-cells
-invariant-cells l = FormsSoFar l.fn.forms l.cells (length l.yielded) l.closed.items
