@@ -10,69 +10,48 @@ ghost use Rattle.sym_run.specs.Growing.{TakesOn};
 ghost use Rattle.sym_run.specs.Opened.{OpenGroupsAreTight, OpenGroupsFit, OpenGroupsKeepNone};
 ghost use Rattle.sym_run.specs.Runs.{AreClosed, GroupsFit, IsFromTo, StandsForChunks};
 
-use crate::chain_records::{Taking, take_record};
+use crate::chain_records::take_record;
+use crate::memory::Memory;
 use crate::opened::Open;
 use crate::runs::Run;
+use crate::settings::Settings;
 use indexmap::IndexMap;
 use std::alloc::Global;
-use sym_base::{Fields, Key, NoMemory, Record, Values};
+use sym_base::{Key, NoMemory};
 use sym_check::Checked;
 use sym_reads::read_fields;
 use sym_table::{Bad, Chunk, Row, RowCursor, decode_into};
 
-/// Memory that is used again for each row.
-#[derive(Drop)]
-pub(crate) struct Memory {
-    key: Key,
-    rec: Record,
-    taking: Taking,
-}
-
-impl Memory {
-    /// None of it. It takes no memory.
-    pub(crate) fn new(alloc: Global) -> Memory {
-        Memory {
-            key: Key {
-                values: Values::new(alloc),
-            },
-            rec: Record {
-                no: 0,
-                fields: Fields::new(alloc),
-            },
-            taking: Taking::new(alloc),
-        }
-    }
-}
-
 /// Takes the records of a chunk's rows, which the cursor has next, into the chains of their keys,
-/// after those that these stand for, up to the first row that is no record. A key's first `most`
-/// records are kept as they are.
+/// after those that these stand for, up to the first row that is no record. A key's first records
+/// are kept as they are, as many as the settings say.
 pub(crate) fn take_rows(
     alloc: Global,
-    checked: &Checked,
+    settings: &Settings<'_>,
     cursor: &mut RowCursor<'_>,
     chunk: &Chunk,
     map: &mut IndexMap<Key, Open>,
-    limit: u32,
-    most: u32,
     memory: &mut Memory,
 ) -> Result<Option<Bad>, NoMemory>
-    requires chunk { FitsChunk (checked_plan checked.now).fields chunk.now }
+    requires chunk { FitsChunk (checked_plan settings.now.checked.now).fields chunk.now }
     requires rows { HasNext chunk.now.rows cursor.old }
-    requires fits { OpenGroupsFit (checked_plan checked.now) map.old.entries }
-    requires tight { OpenGroupsAreTight (checked_plan checked.now) limit map.old.entries }
+    requires fits { OpenGroupsFit (checked_plan settings.now.checked.now) map.old.entries }
+    requires tight { OpenGroupsAreTight (checked_plan settings.now.checked.now) settings.now.limit
+        map.old.entries }
     requires distinct { HaveDistinctKeys map.old.entries }
-    ensures found { let p = checked_plan checked.now in IfOk result (λ bad.
-        TakesOn p limit (chunk_records p chunk.now) map.old.entries bad map.new.entries) }
-    ensures fits { IfOk result (λ bad. OpenGroupsFit (checked_plan checked.now) map.new.entries) }
-    ensures closed { most ≡ 0 → OpenGroupsKeepNone map.old.entries →
+    ensures found { let p = checked_plan settings.now.checked.now in IfOk result (λ bad.
+        TakesOn p settings.now.limit (chunk_records p chunk.now)
+        map.old.entries bad map.new.entries) }
+    ensures fits { IfOk result (λ bad.
+        OpenGroupsFit (checked_plan settings.now.checked.now) map.new.entries) }
+    ensures closed { settings.now.most ≡ 0 → OpenGroupsKeepNone map.old.entries →
         IfOk result (λ bad. OpenGroupsKeepNone map.new.entries) }
     ensures distinct { HaveDistinctKeys map.new.entries }
     ensures passes { IfOk result (λ bad.
         IfNone bad (Passes chunk.now.rows cursor.old cursor.new)) }
 {
     let mut row = Row::with_room(alloc)?;
-    let reads = read_fields(alloc, checked)?;
+    let reads = read_fields(alloc, settings.checked)?;
     'rows: for index in 0..chunk.rows.len() {
         let no = chunk.first_no + index as u64;
         if !cursor.read(&mut row)? {
@@ -80,7 +59,7 @@ pub(crate) fn take_rows(
         }
         let bad = decode_into(
             alloc,
-            checked,
+            settings.checked,
             &chunk.header,
             &row.view(),
             no,
@@ -89,17 +68,7 @@ pub(crate) fn take_rows(
         if bad.is_some() {
             return Ok(bad);
         }
-        take_record(
-            alloc,
-            checked,
-            map,
-            &mut memory.rec,
-            reads.as_slice(),
-            limit,
-            most,
-            &mut memory.key,
-            &mut memory.taking,
-        )?;
+        take_record(alloc, settings, map, reads.as_slice(), memory)?;
     }
     Ok(None)
 }

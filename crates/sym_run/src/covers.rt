@@ -9,6 +9,7 @@ ghost use Rattle.sym_run.specs.Covering.{Covers};
 use crate::kept::Kept;
 use crate::pushed::push_onto;
 use crate::segments::{Held, Segments};
+use crate::settings::Settings;
 use std::alloc::Global;
 use sym_base::{Fields, NoMemory, Record};
 use sym_check::Checked;
@@ -40,30 +41,36 @@ impl Exploring {
 /// segment is pushed.
 fn extend_last(
     alloc: Global,
-    checked: &Checked,
+    settings: &Settings<'_>,
     segments: Vec<Segment>,
     last: Segment,
     rec: &Record,
-    limit: u32,
     scratch: &mut Scratch,
 ) -> Result<Segments, NoMemory>
-    requires rec { IsRecord (checked_plan checked.now) rec.now }
-    requires chain { SegmentsFit (checked_plan checked.now) (segments.items ++ last ∷ []) }
-    requires tight { SegmentsAreTight (checked_plan checked.now) limit (segments.items ++ last ∷ []) }
+    requires rec { IsRecord (checked_plan settings.now.checked.now) rec.now }
+    requires chain { SegmentsFit (checked_plan settings.now.checked.now)
+        (segments.items ++ last ∷ []) }
+    requires tight { SegmentsAreTight (checked_plan settings.now.checked.now) settings.now.limit
+        (segments.items ++ last ∷ []) }
     ensures some { IfOk result (λ longer. 1 ≤ length longer) }
-    ensures fits { IfOk result (SegmentsFit (checked_plan checked.now)) }
-    ensures tight { IfOk result (SegmentsAreTight (checked_plan checked.now) limit) }
+    ensures fits { IfOk result (SegmentsFit (checked_plan settings.now.checked.now)) }
+    ensures tight { IfOk result
+        (SegmentsAreTight (checked_plan settings.now.checked.now) settings.now.limit) }
     ensures stands { (records : List OneRecord) →
-        SegmentsStandFor (checked_plan checked.now) records (segments.items ++ last ∷ []) →
-        IfOk result (SegmentsStandFor (checked_plan checked.now) (records ++ rec.now ∷ [])) }
+        SegmentsStandFor (checked_plan settings.now.checked.now) records
+        (segments.items ++ last ∷ []) →
+        IfOk result
+        (SegmentsStandFor (checked_plan settings.now.checked.now) (records ++ rec.now ∷ [])) }
 {
     let mut segments = segments;
-    match extend_within(alloc, checked, last, rec, limit, scratch)? {
-        Extension::Fits(longer) => push_onto(alloc, checked, segments, longer, limit),
+    match extend_within(alloc, settings.checked, last, rec, settings.limit, scratch)? {
+        Extension::Fits(longer) => {
+            push_onto(alloc, settings.checked, segments, longer, settings.limit)
+        }
         Extension::Over(last) => {
             segments.push(last)?;
-            let own = fresh_with(alloc, checked, rec, scratch)?;
-            push_onto(alloc, checked, segments, own, limit)
+            let own = fresh_with(alloc, settings.checked, rec, scratch)?;
+            push_onto(alloc, settings.checked, segments, own, settings.limit)
         }
     }
 }
@@ -71,50 +78,53 @@ fn extend_last(
 /// The record's own segment.
 fn begin(
     alloc: Global,
-    checked: &Checked,
+    settings: &Settings<'_>,
     rec: &Record,
-    _limit: u32,
     scratch: &mut Scratch,
 ) -> Result<Segments, NoMemory>
-    requires rec { IsRecord (checked_plan checked.now) rec.now }
+    requires rec { IsRecord (checked_plan settings.now.checked.now) rec.now }
     ensures some { IfOk result (λ longer. 1 ≤ length longer) }
-    ensures fits { IfOk result (SegmentsFit (checked_plan checked.now)) }
-    ensures tight { IfOk result (SegmentsAreTight (checked_plan checked.now) _limit) }
-    ensures stands { IfOk result (SegmentsStandFor (checked_plan checked.now) (rec.now ∷ [])) }
+    ensures fits { IfOk result (SegmentsFit (checked_plan settings.now.checked.now)) }
+    ensures tight { IfOk result
+        (SegmentsAreTight (checked_plan settings.now.checked.now) settings.now.limit) }
+    ensures stands { IfOk result
+        (SegmentsStandFor (checked_plan settings.now.checked.now) (rec.now ∷ [])) }
 {
-    let own = fresh_with(alloc, checked, rec, scratch)?;
+    let own = fresh_with(alloc, settings.checked, rec, scratch)?;
     Ok(Segments::of_one(own))
 }
 
 /// The segments of the records of some segments and one record more.
 pub(crate) fn take_on(
     alloc: Global,
-    checked: &Checked,
+    settings: &Settings<'_>,
     segments: Segments,
     rec: &Record,
-    limit: u32,
     scratch: &mut Scratch,
 ) -> Result<Segments, NoMemory>
-    requires rec { IsRecord (checked_plan checked.now) rec.now }
-    requires segments { SegmentsFit (checked_plan checked.now) segments }
-    requires tight { SegmentsAreTight (checked_plan checked.now) limit segments }
+    requires rec { IsRecord (checked_plan settings.now.checked.now) rec.now }
+    requires segments { SegmentsFit (checked_plan settings.now.checked.now) segments }
+    requires tight { SegmentsAreTight (checked_plan settings.now.checked.now) settings.now.limit
+        segments }
     ensures some { IfOk result (λ longer. 1 ≤ length longer) }
-    ensures fits { IfOk result (SegmentsFit (checked_plan checked.now)) }
-    ensures tight { IfOk result (SegmentsAreTight (checked_plan checked.now) limit) }
+    ensures fits { IfOk result (SegmentsFit (checked_plan settings.now.checked.now)) }
+    ensures tight { IfOk result
+        (SegmentsAreTight (checked_plan settings.now.checked.now) settings.now.limit) }
     ensures stands { (records : List OneRecord) →
-        SegmentsStandFor (checked_plan checked.now) records segments →
-        IfOk result (SegmentsStandFor (checked_plan checked.now) (records ++ rec.now ∷ [])) }
+        SegmentsStandFor (checked_plan settings.now.checked.now) records segments →
+        IfOk result
+        (SegmentsStandFor (checked_plan settings.now.checked.now) (records ++ rec.now ∷ [])) }
 {
     match segments.into_held() {
         Held::One(last) => {
             let none = Vec::new(alloc);
-            extend_last(alloc, checked, none, last, rec, limit, scratch)
+            extend_last(alloc, settings, none, last, rec, scratch)
         }
         Held::More(segments) => {
             let mut segments = segments;
             match segments.pop() {
-                Some(last) => extend_last(alloc, checked, segments, last, rec, limit, scratch),
-                None => begin(alloc, checked, rec, limit, scratch),
+                Some(last) => extend_last(alloc, settings, segments, last, rec, scratch),
+                None => begin(alloc, settings, rec, scratch),
             }
         }
     }
@@ -139,18 +149,17 @@ pub(crate) fn cover_all(
         SegmentsStandFor (checked_plan checked.now) records segments →
         IfOk result (SegmentsStandFor (checked_plan checked.now) (records ++ kept.now)) }
 {
+    let settings = &Settings {
+        checked,
+        limit,
+        most: 0,
+    };
     let mut exploring = Exploring::new(alloc);
     let mut covering = segments;
     'records: for index in 0..kept.len() {
         kept.read(alloc, index, &mut exploring.again)?;
-        covering = take_on(
-            alloc,
-            checked,
-            covering,
-            &exploring.again,
-            limit,
-            &mut exploring.scratch,
-        )?;
+        let scratch = &mut exploring.scratch;
+        covering = take_on(alloc, settings, covering, &exploring.again, scratch)?;
     }
     Ok(covering)
 }
@@ -159,26 +168,31 @@ pub(crate) fn cover_all(
 /// covered them.
 pub(crate) fn cover(
     alloc: Global,
-    checked: &Checked,
+    settings: &Settings<'_>,
     kept: &Kept,
-    limit: u32,
     exploring: &mut Exploring,
 ) -> Result<Option<Segment>, NoMemory>
-    requires kept { All (IsRecord (checked_plan checked.now)) kept.now }
+    requires kept { All (IsRecord (checked_plan settings.now.checked.now)) kept.now }
     requires some { 1 ≤ length kept.now }
     ensures { IfOk result (λ segment.
-        IfSome segment (Covers (checked_plan checked.now) limit kept.now)) }
+        IfSome segment
+        (Covers (checked_plan settings.now.checked.now) settings.now.limit kept.now)) }
 {
     kept.read(alloc, 0, &mut exploring.again)?;
-    let mut segment = fresh_with(alloc, checked, &exploring.again, &mut exploring.scratch)?;
+    let mut segment = fresh_with(
+        alloc,
+        settings.checked,
+        &exploring.again,
+        &mut exploring.scratch,
+    )?;
     'records: for index in 1..kept.len() {
         kept.read(alloc, index, &mut exploring.again)?;
         match extend_within(
             alloc,
-            checked,
+            settings.checked,
             segment,
             &exploring.again,
-            limit,
+            settings.limit,
             &mut exploring.scratch,
         )? {
             Extension::Fits(longer) => segment = longer,

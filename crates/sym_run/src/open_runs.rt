@@ -8,11 +8,13 @@ ghost use Rattle.sym_run.specs.OpenRuns.{IsOpenFromTo, OpenStandsForChunks, no_c
 ghost use Rattle.sym_run.specs.Opened.{OpenGroupsAreTight, OpenGroupsFit, OpenGroupsKeepNone};
 ghost use Rattle.sym_run.specs.Runs.{AreClosed, AreTight, GroupsFit, IsFromTo, StandsForChunks};
 
-use crate::chunks::{Memory, take_rows};
+use crate::chunks::take_rows;
+use crate::memory::Memory;
 use crate::open_groups::{close_all, open_all};
 use crate::opened::Open;
 use crate::run_groups::RunGroups;
 use crate::runs::Run;
+use crate::settings::Settings;
 use indexmap::IndexMap;
 use std::alloc::Global;
 use std::marker::Model;
@@ -88,33 +90,37 @@ impl OpenRun {
     }
 
     /// The run of this one's chunks and then the next chunk, whose rows the cursor has next, up to
-    /// the first row that is no record. A key's first `most` records are kept as they are. Where
-    /// the run has a bad row, the chunk isn't read.
+    /// the first row that is no record. A key's first records are kept as they are, as many as the
+    /// settings say. Where the run has a bad row, the chunk isn't read.
     pub(crate) fn take(
         self,
         alloc: Global,
-        checked: &Checked,
+        settings: &Settings<'_>,
         cursor: &mut RowCursor<'_>,
         chunk: &Chunk,
-        limit: u32,
-        most: u32,
         memory: &mut Memory,
     ) -> Result<OpenRun, NoMemory>
-        requires chunk { FitsChunk (checked_plan checked.now).fields chunk.now }
+        requires chunk { FitsChunk (checked_plan settings.now.checked.now).fields chunk.now }
         requires rows { self.bad ≡ None → HasNext chunk.now.rows cursor.old }
         requires number { self.hi < 64 }
-        requires fits { OpenGroupsFit (checked_plan checked.now) self.groups }
+        requires fits { OpenGroupsFit (checked_plan settings.now.checked.now) self.groups }
         requires tight { self.bad ≡ None →
-            OpenGroupsAreTight (checked_plan checked.now) limit self.groups }
+            OpenGroupsAreTight (checked_plan settings.now.checked.now) settings.now.limit
+            self.groups }
         ensures chunks { IfOk result (IsOpenFromTo self.lo (self.hi + 1)) }
-        ensures fits { IfOk result (λ run. OpenGroupsFit (checked_plan checked.now) run.groups) }
+        ensures fits { IfOk result (λ run.
+            OpenGroupsFit (checked_plan settings.now.checked.now) run.groups) }
         ensures tight { IfOk result (λ run. run.bad ≡ None →
-            OpenGroupsAreTight (checked_plan checked.now) limit run.groups) }
+            OpenGroupsAreTight (checked_plan settings.now.checked.now) settings.now.limit
+            run.groups) }
         ensures stands { (chunks : List OneChunk) →
-            OpenStandsForChunks (checked_plan checked.now) limit chunks self →
+            OpenStandsForChunks (checked_plan settings.now.checked.now) settings.now.limit
+            chunks self →
             slice_get chunks self.hi ≡ Some chunk.now →
-            IfOk result (OpenStandsForChunks (checked_plan checked.now) limit chunks) }
-        ensures closed { most ≡ 0 → OpenGroupsKeepNone self.groups →
+            IfOk result
+            (OpenStandsForChunks (checked_plan settings.now.checked.now) settings.now.limit
+            chunks) }
+        ensures closed { settings.now.most ≡ 0 → OpenGroupsKeepNone self.groups →
             IfOk result (λ run. OpenGroupsKeepNone run.groups) }
         ensures passes { IfOk result (λ run. run.bad ≡ None →
             (self.bad ≡ None) × Passes chunk.now.rows cursor.old cursor.new) }
@@ -134,16 +140,7 @@ impl OpenRun {
             });
         }
         let mut groups = groups;
-        let bad = take_rows(
-            alloc,
-            checked,
-            cursor,
-            chunk,
-            &mut groups,
-            limit,
-            most,
-            memory,
-        )?;
+        let bad = take_rows(alloc, settings, cursor, chunk, &mut groups, memory)?;
         Ok(OpenRun {
             lo,
             hi: hi + 1,

@@ -9,11 +9,12 @@ ghost use Rattle.sym_run.specs.Applying.{AreValid, IfDone, bad_of};
 ghost use Rattle.sym_run.specs.Runs.{AreClosed, AreTight, GroupsFit, GroupsStandFor, IsFromTo, StandsForChunks};
 
 use crate::applied_groups::apply_all;
-use crate::chunks::Memory;
 use crate::joined_groups::join_groups;
 use crate::led_groups::{apply_beside, threads_for};
+use crate::memory::Memory;
 use crate::open_runs::OpenRun;
 use crate::run_groups::RunGroups;
+use crate::settings::Settings;
 use std::alloc::Global;
 use std::slice;
 use std::thread::Threads;
@@ -181,8 +182,13 @@ impl Run {
         } = self;
         let mut cursor = RowCursor::over(alloc, slice::from_ref(chunk))?;
         let memory = &mut Memory::new(alloc);
+        let settings = &Settings {
+            checked,
+            limit,
+            most: 0,
+        };
         OpenRun::of(alloc, lo, hi, groups, bad)?
-            .take(alloc, checked, &mut cursor, chunk, limit, 0, memory)?
+            .take(alloc, settings, &mut cursor, chunk, memory)?
             .close(alloc, checked, limit)
     }
 

@@ -9,9 +9,10 @@ ghost use Rattle.sym_run.specs.OpenRuns.{IsOpenFromTo, OpenStandsForChunks};
 ghost use Rattle.sym_run.specs.Opened.{OpenGroupsAreTight, OpenGroupsFit, OpenGroupsKeepNone};
 ghost use Rattle.sym_run.specs.Runs.{AreClosed, AreTight, GroupsFit, IsFromTo, StandsForChunks};
 
-use crate::chunks::Memory;
+use crate::memory::Memory;
 use crate::open_runs::OpenRun;
 use crate::runs::Run;
+use crate::settings::Settings;
 use std::alloc::Global;
 use std::marker::Model;
 use std::mem;
@@ -113,8 +114,12 @@ impl Stretch {
             (self.old.bad ≡ None) × Passes chunk.now.rows cursor.old cursor.new) }
     {
         let run = mem::replace(&mut self.run, OpenRun::none(alloc, 0));
-        let memory = &mut self.memory;
-        self.run = run.take(alloc, checked, cursor, chunk, limit, self.most, memory)?;
+        let settings = &Settings {
+            checked,
+            limit,
+            most: self.most,
+        };
+        self.run = run.take(alloc, settings, cursor, chunk, &mut self.memory)?;
         Ok(())
     }
 

@@ -12,7 +12,7 @@ use Rattle.sym_run.proofs.chain_records.begin.Goals as goal
 pub returns-clause-grows : goal.returns-clause-grows
 returns-clause-grows c =
     let chain : Open = opened.Chain c.in_ok-chain.chain in
-    begun (checked_plan c.args.checked.now) c.args.limit c.args.most c.args.key.now c.args.rec.now c.args.map.now.entries c.insert.new.self.entries chain
+    begun (checked_plan c.args.settings.now.checked.now) c.args.settings.now.limit c.args.settings.now.most c.args.key.now c.args.rec.now c.args.map.now.entries c.insert.new.self.entries chain
     (c.in_ok-insert.ensures.entries ∙ ap (λ (k : Key). insert_entry is_key c.args.map.now.entries k chain) c.in_ok-copy.ensures
     ∙ insert-put c.args.map.now.entries c.args.key.now chain c.requires.distinct)
     c.requires.new c.in_ok-chain.ensures.fits c.in_ok-chain.ensures.tight c.in_ok-chain.ensures.stands c.in_ok-chain.ensures.closed

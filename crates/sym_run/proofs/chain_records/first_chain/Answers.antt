@@ -6,7 +6,7 @@ use Rattle.sym_run.proofs.chain_records.first_chain.Goals as goal
 
 pub returns-clause-stands : goal.returns-clause-stands
 returns-clause-stands c =
-    let p = checked_plan c.args.checked.now in
+    let p = checked_plan c.args.settings.now.checked.now in
     let rec = c.args.rec.now in
     subst (ChainStandsFor p (rec ∷ [])) (sym c.of_one.ensures)
     (closed_stands p (rec ∷ []) (c.in_ok-own.own ∷ []) (rec ∷ [], [], refl, c.in_ok-own.ensures.stands, refl))

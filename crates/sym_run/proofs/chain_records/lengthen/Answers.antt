@@ -10,18 +10,18 @@ use Rattle.sym_run.proofs.chain_records.lengthen.Goals as goal
 
 pub take_into-requires-clause-fits : goal.take_into-requires-clause-fits
 take_into-requires-clause-fits c =
-    let p = checked_plan c.args.checked.now in
+    let p = checked_plan c.args.settings.now.checked.now in
     all_found (λ (k : Key) (u : Open). OpenFits p u) c.args.key.now c.in-Some.chain.now c.args.map.now.entries c.requires.fits (sym c.in-Some.ensures.value)
 
 pub take_into-requires-clause-tight : goal.take_into-requires-clause-tight
 take_into-requires-clause-tight c =
-    let p = checked_plan c.args.checked.now in
-    all_found (λ (k : Key) (u : Open). OpenIsTight p c.args.limit u) c.args.key.now c.in-Some.chain.now c.args.map.now.entries c.requires.tight (sym c.in-Some.ensures.value)
+    let p = checked_plan c.args.settings.now.checked.now in
+    all_found (λ (k : Key) (u : Open). OpenIsTight p c.args.settings.now.limit u) c.args.key.now c.in-Some.chain.now c.args.map.now.entries c.requires.tight (sym c.in-Some.ensures.value)
 
 pub returns-in_ok-take_into-in-Some-clause-grows : goal.returns-in_ok-take_into-in-Some-clause-grows
 returns-in_ok-take_into-in-Some-clause-grows c =
     let chain : Open = c.take_into.new.chain in
     let there = sym c.in-Some.ensures.value in
-    grown_longer (checked_plan c.args.checked.now) c.args.limit c.args.most c.args.key.now c.args.rec.now c.args.map.now.entries (c.get_mut.follows.lender chain).entries c.in-Some.chain.now chain
+    grown_longer (checked_plan c.args.settings.now.checked.now) c.args.settings.now.limit c.args.settings.now.most c.args.key.now c.args.rec.now c.args.map.now.entries (c.get_mut.follows.lender chain).entries c.in-Some.chain.now chain
     ((c.get_mut.follows.holds chain).0 ∙ set-put c.args.map.now.entries c.args.key.now c.in-Some.chain.now chain c.in-Some.ensures.unique there)
     there c.in_ok-take_into-in-Some.ensures

@@ -8,8 +8,8 @@ use Rattle.sym_run.proofs.chain_records.take_covered.Goals as goal
 
 pub returns : goal.returns
 returns c =
-    let p = checked_plan c.args.checked.now in
-    taken_explored p c.args.limit c.args.rec.now (opened.Chain c.args.chain) c.in_ok-segments-2.segments c.open_last.result
+    let p = checked_plan c.args.settings.now.checked.now in
+    taken_explored p c.args.settings.now.limit c.args.rec.now (opened.Chain c.args.chain) c.in_ok-segments-2.segments c.open_last.result
     (λ records h.
     c.in_ok-segments-2.ensures.stands records
     (covered_stands p c.args.chain c.in_ok-segments.segments

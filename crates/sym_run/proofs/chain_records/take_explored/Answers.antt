@@ -8,7 +8,7 @@ use Rattle.sym_run.proofs.chain_records.take_explored.Goals as goal
 
 pub returns : goal.returns
 returns c =
-    let p = checked_plan c.args.checked.now in
-    taken_explored p c.args.limit c.args.rec.now (opened.Chain c.args.chain) c.in_ok-segments.segments c.open_last.result
+    let p = checked_plan c.args.settings.now.checked.now in
+    taken_explored p c.args.settings.now.limit c.args.rec.now (opened.Chain c.args.chain) c.in_ok-segments.segments c.open_last.result
     (λ records h. c.in_ok-segments.ensures.stands records (subst (SegmentsStandFor p records) (sym c.into_parts-segments.ensures.segments) (closed_segments p records c.args.chain c.requires.closed h)))
     c.open_last.ensures.fits c.open_last.ensures.tight c.open_last.ensures.stands c.open_last.ensures.none

@@ -5,8 +5,8 @@ use Rattle.sym_run.proofs.chain_records.take_open.Goals as goal
 
 pub returns-in_ok-step-in-Known : goal.returns-in_ok-step-in-Known
 returns-in_ok-step-in-Known c =
-    let p = checked_plan c.args.checked.now in
+    let p = checked_plan c.args.settings.now.checked.now in
     let fits : KnownChainFits p c.in-Known.field-0 c.in-Known.known = rw c.in-Known.is at c.requires.fits in
-    let tight : KnownChainIsTight p c.args.limit c.in-Known.field-0 c.in-Known.known = rw c.in-Known.is at c.requires.tight in
-    rw c.in-Known.is (taken_stepped p c.args.limit c.args.rec.now c.in-Known.field-0 c.in-Known.known c.step.new.self fits tight
+    let tight : KnownChainIsTight p c.args.settings.now.limit c.in-Known.field-0 c.in-Known.known = rw c.in-Known.is at c.requires.tight in
+    rw c.in-Known.is (taken_stepped p c.args.settings.now.limit c.args.rec.now c.in-Known.field-0 c.in-Known.known c.step.new.self fits tight
     c.in_ok-step-in-Known.ensures.paths c.in_ok-step-in-Known.ensures.fits c.in_ok-step-in-Known.ensures.stands)

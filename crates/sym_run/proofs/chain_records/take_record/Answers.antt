@@ -11,26 +11,26 @@ use Rattle.sym_run.proofs.chain_records.take_record.Goals as goal
 
 pub returns-then-branch-clause-grows : goal.returns-then-branch-clause-grows
 returns-then-branch-clause-grows c =
-    let p = checked_plan c.args.checked.now in
+    let p = checked_plan c.args.settings.now.checked.now in
     let kept : Record = c.empty_unread.new.rec in
     let old = c.args.map.now.entries in
     let new = c.lengthen.new.map.entries in
-    let grows : GrowsIf p c.args.limit c.args.most c.key_into.new.key kept old true new =
-    subst (λ (there : Bool). GrowsIf p c.args.limit c.args.most c.key_into.new.key kept old there new) c.if-branch.true c.in_ok-lengthen.ensures.grows in
-    grown_as_good p c.args.limit c.args.most (key_of p c.args.rec.now) c.args.rec.now kept old new c.in_ok-empty_unread.ensures.as_good
-    (subst (λ (k : Key). GrowsByOne p c.args.limit c.args.most k kept old new) c.in_ok-key_into.ensures grows)
+    let grows : GrowsIf p c.args.settings.now.limit c.args.settings.now.most c.key_into.new.key kept old true new =
+    subst (λ (there : Bool). GrowsIf p c.args.settings.now.limit c.args.settings.now.most c.key_into.new.key kept old there new) c.if-branch.true c.in_ok-lengthen.ensures.grows in
+    grown_as_good p c.args.settings.now.limit c.args.settings.now.most (key_of p c.args.memory.now.rec) c.args.memory.now.rec kept old new c.in_ok-empty_unread.ensures.as_good
+    (subst (λ (k : Key). GrowsByOne p c.args.settings.now.limit c.args.settings.now.most k kept old new) c.in_ok-key_into.ensures grows)
 
 pub returns-clause-grows : goal.returns-clause-grows
 returns-clause-grows c =
-    let p = checked_plan c.args.checked.now in
+    let p = checked_plan c.args.settings.now.checked.now in
     let kept : Record = c.empty_unread.new.rec in
     let old : List (Key × Open) = c.args.map.now.entries in
     let still : List (Key × Open) = c.lengthen.new.map.entries in
     let new : List (Key × Open) = c.begin.new.map.entries in
     let absent : IsAbsent c.key_into.new.key old still =
-    subst (λ (there : Bool). GrowsIf p c.args.limit c.args.most c.key_into.new.key kept old there still) c.if-branch.false c.in_ok-lengthen.ensures.grows in
+    subst (λ (there : Bool). GrowsIf p c.args.settings.now.limit c.args.settings.now.most c.key_into.new.key kept old there still) c.if-branch.false c.in_ok-lengthen.ensures.grows in
     on_ok_weaker c.begin.result
-    (λ grows. grown_as_good p c.args.limit c.args.most (key_of p c.args.rec.now) c.args.rec.now kept old new c.in_ok-empty_unread.ensures.as_good
-    (subst (λ (groups : List (Key × Open)). GrowsByOne p c.args.limit c.args.most (key_of p c.args.rec.now) kept groups new) absent.same
-    (subst (λ (k : Key). GrowsByOne p c.args.limit c.args.most k kept still new) c.in_ok-key_into.ensures grows)))
+    (λ grows. grown_as_good p c.args.settings.now.limit c.args.settings.now.most (key_of p c.args.memory.now.rec) c.args.memory.now.rec kept old new c.in_ok-empty_unread.ensures.as_good
+    (subst (λ (groups : List (Key × Open)). GrowsByOne p c.args.settings.now.limit c.args.settings.now.most (key_of p c.args.memory.now.rec) kept groups new) absent.same
+    (subst (λ (k : Key). GrowsByOne p c.args.settings.now.limit c.args.settings.now.most k kept still new) c.in_ok-key_into.ensures grows)))
     c.begin.ensures.grows

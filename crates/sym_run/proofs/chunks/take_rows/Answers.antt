@@ -8,7 +8,7 @@ use Rattle.sym_run.proofs.chunks.take_rows.Goals as goal
 
 pub rows-init : goal.rows-init
 rows-init c = record {
-  taking = taking_none (checked_plan c.args.checked.now) c.args.limit c.args.most c.args.chunk.now.header c.args.chunk.now.first_no c.args.map.now.entries c.requires.fits c.requires.tight;
+  taking = taking_none (checked_plan c.args.settings.now.checked.now) c.args.settings.now.limit c.args.settings.now.most c.args.chunk.now.header c.args.chunk.now.first_no c.args.map.now.entries c.requires.fits c.requires.tight;
   distinct = c.requires.distinct;
   rest = c.requires.rows.0;
   had = c.requires.rows.1;
@@ -23,22 +23,22 @@ returns-then-not-branch c =
 
 pub returns-then-is_some-clause-found : goal.returns-then-is_some-clause-found
 returns-then-is_some-clause-found c =
-    let p = checked_plan c.args.checked.now in
+    let p = checked_plan c.args.settings.now.checked.now in
     let rows : List Row = c.args.chunk.now.rows in
     let within : c.rows.index < length rows = omega (arith, c.rows-test.true, c.len-index-end.ensures) in
     let next = row_read c.rows.cursor c.read.new.self rows c.rows.invariant.rest c.rows.index c.read.new.row c.view.result c.in_ok-read.field-0 within c.rows.invariant.left c.if-not-branch.false c.view.ensures c.in_ok-read.ensures in
-    bad_told p c.args.limit c.args.most c.args.chunk.now.header c.args.chunk.now.first_no rows c.rows.index c.view.result c.in_ok-bad.bad c.decode_into.new.into c.args.map.now.entries c.rows.map.entries
+    bad_told p c.args.settings.now.limit c.args.settings.now.most c.args.chunk.now.header c.args.chunk.now.first_no rows c.rows.index c.view.result c.in_ok-bad.bad c.decode_into.new.into c.args.map.now.entries c.rows.map.entries
     c.rows.invariant.taking next.there (sym c.is_some.ensures ∙ c.if-is_some.true) c.in_ok-bad.ensures.read
 
 pub rows-preserved : goal.rows-preserved
 rows-preserved c =
-    let p = checked_plan c.args.checked.now in
+    let p = checked_plan c.args.settings.now.checked.now in
     let rows : List Row = c.args.chunk.now.rows in
     let within : c.rows.index < length rows = omega (arith, c.rows-test.true, c.len-index-end.ensures) in
     let next = row_read c.rows.cursor c.read.new.self rows c.rows.invariant.rest c.rows.index c.read.new.row c.view.result c.in_ok-read.field-0 within c.rows.invariant.left c.if-not-branch.false c.view.ensures c.in_ok-read.ensures in
     record {
       taking =
-          taking_on p c.args.limit c.args.most c.args.chunk.now.header c.args.chunk.now.first_no rows c.rows.index c.view.result c.decode_into.new.into c.args.map.now.entries c.rows.map.entries c.take_record.new.map.entries
+          taking_on p c.args.settings.now.limit c.args.settings.now.most c.args.chunk.now.header c.args.chunk.now.first_no rows c.rows.index c.view.result c.decode_into.new.into c.args.map.now.entries c.rows.map.entries c.take_record.new.map.entries
           c.rows.invariant.taking next.there
           (record_told c.in_ok-bad.bad c.decode_into.new.into _ (sym c.is_some.ensures ∙ c.if-is_some.false) c.in_ok-bad.ensures.read)
           c.in_ok-take_record.ensures.grows;

@@ -7,7 +7,7 @@ use Rattle.sym_run.proofs.chunks.take_rows.Given as goal
 
 abbrev pub invariant-rows : goal.invariant-rows
 invariant-rows l = record {
-  taking : IsTaking (checked_plan l.fn.checked) l.limit l.most l.fn.chunk.header l.fn.chunk.first_no (take l.index l.fn.chunk.rows) l.fn.map.entries l.map.entries;
+  taking : IsTaking (checked_plan l.fn.settings.checked.now) l.settings.limit l.settings.most l.fn.chunk.header l.fn.chunk.first_no (take l.index l.fn.chunk.rows) l.fn.map.entries l.map.entries;
   distinct : HaveDistinctKeys l.map.entries;
   rest : List Row;
   had : l.fn.cursor ≡ Some (l.fn.chunk.rows ++ rest);

@@ -8,17 +8,17 @@ use Rattle.sym_run.proofs.covers.begin.Goals as goal
 
 pub returns-clause-fits : goal.returns-clause-fits
 returns-clause-fits c =
-    let p = checked_plan c.args.checked.now in
+    let p = checked_plan c.args.settings.now.checked.now in
     subst (SegmentsFit p) (sym c.of_one.ensures) (All-cons (SegmentFits p) c.in_ok-own.own [] c.in_ok-own.ensures.fits (All-nil (SegmentFits p)))
 
 pub returns-clause-tight : goal.returns-clause-tight
 returns-clause-tight c =
-    let p = checked_plan c.args.checked.now in
+    let p = checked_plan c.args.settings.now.checked.now in
     let own = c.in_ok-own.ensures.few in
-    let few : HasFewPaths p c.args._limit c.in_ok-own.own = omega arith in
-    subst (SegmentsAreTight p c.args._limit) (sym c.of_one.ensures) (tight_one p c.args._limit c.in_ok-own.own few)
+    let few : HasFewPaths p c.args.settings.now.limit c.in_ok-own.own = omega arith in
+    subst (SegmentsAreTight p c.args.settings.now.limit) (sym c.of_one.ensures) (tight_one p c.args.settings.now.limit c.in_ok-own.own few)
 
 pub returns-clause-stands : goal.returns-clause-stands
 returns-clause-stands c =
-    let p = checked_plan c.args.checked.now in
+    let p = checked_plan c.args.settings.now.checked.now in
     subst (SegmentsStandFor p (c.args.rec.now ∷ [])) (sym c.of_one.ensures) (c.args.rec.now ∷ [], [], refl, c.in_ok-own.ensures.stands, refl)

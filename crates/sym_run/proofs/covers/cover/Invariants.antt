@@ -5,4 +5,4 @@ use Rattle.sym_run.specs.Covering.{Covers}
 use Rattle.sym_run.proofs.covers.cover.Given as goal
 
 abbrev pub invariant-records : goal.invariant-records
-invariant-records l = Covers (checked_plan l.checked) l.limit (take l.index l.kept) l.segment
+invariant-records l = Covers (checked_plan l.settings.checked.now) l.settings.limit (take l.index l.kept) l.segment

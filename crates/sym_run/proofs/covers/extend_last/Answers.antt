@@ -9,10 +9,10 @@ use Rattle.sym_run.proofs.TightChains.{all_front, tight_front}
 use Rattle.sym_run.proofs.covers.extend_last.Goals as goal
 
 pub push_onto-requires-clause-chain : goal.push_onto-requires-clause-chain
-push_onto-requires-clause-chain c = all_front (SegmentFits (checked_plan c.args.checked.now)) c.args.segments.items c.args.last c.requires.chain
+push_onto-requires-clause-chain c = all_front (SegmentFits (checked_plan c.args.settings.now.checked.now)) c.args.segments.items c.args.last c.requires.chain
 
 pub push_onto-requires-clause-tight : goal.push_onto-requires-clause-tight
-push_onto-requires-clause-tight c = tight_front (checked_plan c.args.checked.now) c.args.limit c.args.segments.items c.args.last c.requires.tight
+push_onto-requires-clause-tight c = tight_front (checked_plan c.args.settings.now.checked.now) c.args.settings.now.limit c.args.segments.items c.args.last c.requires.tight
 
 pub push_onto-requires-clause-few : goal.push_onto-requires-clause-few
 push_onto-requires-clause-few c =
@@ -22,7 +22,7 @@ push_onto-requires-clause-few c =
 
 pub returns-in-Fits-clause-stands : goal.returns-in-Fits-clause-stands
 returns-in-Fits-clause-stands c = λ records h.
-    let p = checked_plan c.args.checked.now in
+    let p = checked_plan c.args.settings.now.checked.now in
     let more : List Record = records ++ c.args.rec.now ∷ [] in
     let longer = rw c.in-Fits.is at c.in_ok-longer.ensures in
     let cut = cut_longer p records (c.args.rec.now ∷ []) c.args.segments.items c.args.last c.in-Fits.longer (cut_last p records c.args.segments.items c.args.last h) longer.0.stands in

@@ -30,17 +30,17 @@ returns-then-is_some-clause-chunks c = record {
 }
 
 pub returns-then-is_some-clause-fits : goal.returns-then-is_some-clause-fits
-returns-then-is_some-clause-fits c = subst (λ (run : OpenedRun). OpenGroupsFit (checked_plan c.args.checked.now) run.groups) (sym c.self.view_is) c.requires.fits
+returns-then-is_some-clause-fits c = subst (λ (run : OpenedRun). OpenGroupsFit (checked_plan c.args.settings.now.checked.now) run.groups) (sym c.self.view_is) c.requires.fits
 
 pub returns-then-is_some-clause-tight : goal.returns-then-is_some-clause-tight
 returns-then-is_some-clause-tight c = λ none. absurd (none_here c.self.inside.bad (sym c.is_some.ensures ∙ c.if-is_some.true) none)
 
 pub returns-then-is_some-clause-stands : goal.returns-then-is_some-clause-stands
 returns-then-is_some-clause-stands c = λ chunks h at.
-    let p = checked_plan c.args.checked.now in
+    let p = checked_plan c.args.settings.now.checked.now in
     let run = c.self.inside in
-    found_extended p c.args.limit chunks c.args.chunk.now run.lo run.hi run.groups.entries run.groups.entries run.bad run.bad
-    (subst (OpenStandsForChunks p c.args.limit chunks) (sym c.self.view_is) h)
+    found_extended p c.args.settings.now.limit chunks c.args.chunk.now run.lo run.hi run.groups.entries run.groups.entries run.bad run.bad
+    (subst (OpenStandsForChunks p c.args.settings.now.limit chunks) (sym c.self.view_is) h)
     (subst (λ (run : OpenedRun). slice_get chunks run.hi ≡ Some c.args.chunk.now) (sym c.self.view_is) at)
     (subst (λ (run : OpenedRun). OpenGroupsFit p run.groups) (sym c.self.view_is) c.requires.fits)
     (λ none. absurd (none_here run.bad (sym c.is_some.ensures ∙ c.if-is_some.true) none))
@@ -53,11 +53,11 @@ pub returns-then-is_some-clause-passes : goal.returns-then-is_some-clause-passes
 returns-then-is_some-clause-passes c = λ none. absurd (none_here c.self.inside.bad (sym c.is_some.ensures ∙ c.if-is_some.true) none)
 
 pub take_rows-requires-clause-fits : goal.take_rows-requires-clause-fits
-take_rows-requires-clause-fits c = subst (λ (run : OpenedRun). OpenGroupsFit (checked_plan c.args.checked.now) run.groups) (sym c.self.view_is) c.requires.fits
+take_rows-requires-clause-fits c = subst (λ (run : OpenedRun). OpenGroupsFit (checked_plan c.args.settings.now.checked.now) run.groups) (sym c.self.view_is) c.requires.fits
 
 pub take_rows-requires-clause-tight : goal.take_rows-requires-clause-tight
 take_rows-requires-clause-tight c =
-    subst (λ (run : OpenedRun). run.bad ≡ None → OpenGroupsAreTight (checked_plan c.args.checked.now) c.args.limit run.groups) (sym c.self.view_is) c.requires.tight
+    subst (λ (run : OpenedRun). run.bad ≡ None → OpenGroupsAreTight (checked_plan c.args.settings.now.checked.now) c.args.settings.now.limit run.groups) (sym c.self.view_is) c.requires.tight
     (no_bad c.self.inside.bad (sym c.is_some.ensures ∙ c.if-is_some.false))
 
 pub take_rows-requires-clause-rows : goal.take_rows-requires-clause-rows
@@ -73,15 +73,15 @@ returns-clause-chunks c = record {
 
 pub returns-clause-tight : goal.returns-clause-tight
 returns-clause-tight c =
-    let p = checked_plan c.args.checked.now in
-    taken_tight p c.args.limit (chunk_records p c.args.chunk.now) c.in_ok-bad.bad c.self.inside.groups.entries c.take_rows.new.map.entries c.in_ok-bad.ensures.found
+    let p = checked_plan c.args.settings.now.checked.now in
+    taken_tight p c.args.settings.now.limit (chunk_records p c.args.chunk.now) c.in_ok-bad.bad c.self.inside.groups.entries c.take_rows.new.map.entries c.in_ok-bad.ensures.found
 
 pub returns-clause-stands : goal.returns-clause-stands
 returns-clause-stands c = λ chunks h at.
-    let p = checked_plan c.args.checked.now in
+    let p = checked_plan c.args.settings.now.checked.now in
     let run = c.self.inside in
-    found_extended p c.args.limit chunks c.args.chunk.now run.lo run.hi run.groups.entries c.take_rows.new.map.entries run.bad c.in_ok-bad.bad
-    (subst (OpenStandsForChunks p c.args.limit chunks) (sym c.self.view_is) h)
+    found_extended p c.args.settings.now.limit chunks c.args.chunk.now run.lo run.hi run.groups.entries c.take_rows.new.map.entries run.bad c.in_ok-bad.bad
+    (subst (OpenStandsForChunks p c.args.settings.now.limit chunks) (sym c.self.view_is) h)
     (subst (λ (run : OpenedRun). slice_get chunks run.hi ≡ Some c.args.chunk.now) (sym c.self.view_is) at)
     c.in_ok-bad.ensures.fits
     (λ none. c.in_ok-bad.ensures.found)
