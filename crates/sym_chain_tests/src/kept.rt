@@ -1,20 +1,19 @@
 //! What a stretch keeps of a key's first records, and the same run with what it keeps explored.
-ghost use Rattle.std.specs.Prelude.{◌≡◌, None, IfOk};
+ghost use Rattle.std.specs.Prelude.{◌≡◌, None};
 ghost use Rattle.sym_check.specs.Checking.CheckedScripts.{checked_plan};
 ghost use Rattle.sym_table.specs.Rows.{FitsChunk};
 ghost use Rattle.sym_run.specs.Runs.{AreTight, GroupsFit};
 
 use crate::logs::{SUMS, TOGGLE};
-use crate::setting::{Case, check_cases, chunks_of, passed, same_groups};
+use crate::setting::{Case, check_cases, chunks_of, passed, same_groups, stretched};
 use Log::{Sums, Turns};
 use std::alloc::Global;
-use std::slice;
 use std::test::Fail;
 use sym_base::NoMemory;
 use sym_check::Checked;
 use sym_plain::Groups;
-use sym_run::{Applied, Chain, Run, RunGroups, Stretch};
-use sym_table::{Chunk, RowCursor};
+use sym_run::{Applied, Chain, Run, RunGroups};
+use sym_table::Chunk;
 
 /// A log of one group.
 #[derive(Clone, Copy)]
@@ -55,25 +54,6 @@ const CASES: [Kept; 21] = [
     Kept(Sums, 33, 16, 32, 33),
     Kept(Sums, 60, 16, 64, 60),
 ];
-
-/// The run of a chunk, of which up to `most` records of a key are kept before they are explored.
-fn stretched(
-    alloc: Global,
-    checked: &Checked,
-    chunk: &Chunk,
-    limit: u32,
-    most: u32,
-) -> Result<Run, NoMemory>
-    requires { FitsChunk (checked_plan checked.now).fields chunk.now }
-    ensures fits { IfOk result (λ run. GroupsFit (checked_plan checked.now) run.groups) }
-    ensures tight { IfOk result (λ run. run.bad ≡ None →
-        AreTight (checked_plan checked.now) limit run.groups) }
-{
-    let mut cursor = RowCursor::over(alloc, slice::from_ref(chunk))?;
-    let mut stretch = Stretch::new(alloc, 0, most);
-    stretch.take(alloc, checked, &mut cursor, chunk, limit)?;
-    stretch.finish(alloc, checked, limit)
-}
 
 /// Whether so many records are kept, and segments cover some exactly where none are.
 fn keeps(chain: &Chain, kept: usize) -> bool {
@@ -150,7 +130,7 @@ impl Kept {
         requires { FitsChunk (checked_plan checked.now).fields chunk.now }
     {
         let Kept(_log, _records, limit, most, kept) = *self;
-        let run = stretched(alloc, checked, chunk, limit, most)?;
+        let run = stretched(alloc, checked, chunk, 0, limit, most)?;
         let keeps = has_kept(&run.groups, kept);
         let copied = run.copy(alloc)?;
         Ok(

@@ -1,18 +1,18 @@
 //! The runs of chunks, joined in every order and applied, against the sequential pass.
-ghost use Rattle.std.specs.Prelude.{◌≡◌, ◌≤◌, ◌<◌, IfOk};
+ghost use Rattle.std.specs.Prelude.{◌+◌, ◌≤◌, ◌<◌, IfOk, length};
 ghost use Rattle.std.specs.List.{All};
 ghost use Rattle.sym_check.specs.Checking.CheckedScripts.{checked_plan};
 ghost use Rattle.sym_table.specs.Rows.{FitsChunk};
-ghost use Rattle.sym_run.specs.Bracketing.{chunk_count};
+ghost use Rattle.sym_run.specs.Runs.{IsFromTo, StandsForChunks};
 
 use crate::logs::{ACTIONS, CHANGES, DEEDS, NUMBERS, SESSIONS, SUMS, TOGGLE, VISITS};
-use crate::setting::{Case, check_cases, chunks_of, passed, same_groups};
+use crate::setting::{Case, check_cases, chunks_of, passed, same_groups, stretched};
 use std::alloc::Global;
 use std::test::Fail;
 use sym_base::NoMemory;
 use sym_check::Checked;
 use sym_plain::Groups;
-use sym_run::{Applied, JoinTree, apply_joined, of_chunks};
+use sym_run::{Applied, Run, of_chunk, of_chunks};
 use sym_table::Chunk;
 
 /// How many trees of joins there are over so many chunks.
@@ -53,39 +53,82 @@ struct Keeping {
 
 const NOTHING: Keeping = Keeping { most: 0, other: 0 };
 
-fn leaf(most: u32) -> JoinTree
-    ensures { chunk_count result ≡ 1 }
+/// An order in which the runs of consecutive chunks are joined: the number of its tree of joins,
+/// counted from 0, and how many records of a key its runs keep.
+#[derive(Clone, Copy)]
+struct Order {
+    number: usize,
+    keeping: Keeping,
+}
+
+const FIRST: Order = Order {
+    number: 0,
+    keeping: NOTHING,
+};
+
+/// The run of one chunk.
+fn leaf(
+    alloc: Global,
+    checked: &Checked,
+    chunks: &[Chunk],
+    number: u32,
+    most: u32,
+    limit: u32,
+) -> Result<Run, NoMemory>
+    requires fit { All (FitsChunk (checked_plan checked.now).fields) chunks.now }
+    requires few { length chunks.now ≤ 64 }
+    requires within { number < length chunks.now }
+    ensures chunks { IfOk result (IsFromTo number (number + 1)) }
+    ensures stands { IfOk result (StandsForChunks (checked_plan checked.now) limit chunks.now) }
 {
+    let chunk = &chunks[number as usize];
     if most == 0 {
-        JoinTree::Chunk
+        of_chunk(alloc, checked, chunk, number, limit)
     } else {
-        JoinTree::Keeping(most)
+        stretched(alloc, checked, chunk, number, limit, most)
     }
 }
 
-/// The tree of joins with this number, counted from 0, over so many chunks. Over more than eight it
-/// is the one that joins each run with all later ones.
-fn tree(
+/// The run of the chunks from `lo` to the one before `hi`, joined in this order. Over more than
+/// eight it is the one that joins each run with all later ones.
+fn joined(
     alloc: Global,
-    chunks: usize,
-    number: usize,
-    keeping: Keeping,
-) -> Result<Box<JoinTree>, NoMemory>
-    requires { 1 ≤ chunks }
-    ensures { IfOk result (λ tree. chunk_count tree.value ≡ chunks) }
+    checked: &Checked,
+    chunks: &[Chunk],
+    lo: u32,
+    hi: u32,
+    order: Order,
+    limit: u32,
+) -> Result<Run, NoMemory>
+    requires fit { All (FitsChunk (checked_plan checked.now).fields) chunks.now }
+    requires few { length chunks.now ≤ 64 }
+    requires some { lo < hi }
+    requires within { hi ≤ length chunks.now }
+    ensures chunks { IfOk result (IsFromTo lo hi) }
+    ensures stands { IfOk result (StandsForChunks (checked_plan checked.now) limit chunks.now) }
 {
-    if chunks == 1 {
-        return Ok(Box::new(alloc, leaf(keeping.most))?);
+    let count = (hi - lo) as usize;
+    let Order { number, keeping } = order;
+    if count == 1 {
+        return leaf(alloc, checked, chunks, lo, keeping.most, limit);
     }
-    let (left, rest) = split_of(chunks, number);
-    let rights = trees_over(chunks - left).max(1);
-    let turned = Keeping {
-        most: keeping.other,
-        other: keeping.most,
+    let (left, rest) = split_of(count, number);
+    let rights = trees_over(count - left).max(1);
+    let mid = lo + left as u32;
+    let order = Order {
+        number: rest / rights,
+        keeping,
     };
-    let first = tree(alloc, left, rest / rights, keeping)?;
-    let second = tree(alloc, chunks - left, rest % rights, turned)?;
-    Ok(Box::new(alloc, JoinTree::Joined(first, second))?)
+    let turned = Order {
+        number: rest % rights,
+        keeping: Keeping {
+            most: keeping.other,
+            other: keeping.most,
+        },
+    };
+    let first = joined(alloc, checked, chunks, lo, mid, order, limit)?;
+    let second = joined(alloc, checked, chunks, mid, hi, turned, limit)?;
+    first.join(alloc, checked, second, limit)
 }
 
 fn is_wanted(applied: &Applied, wanted: &Groups) -> bool {
@@ -113,24 +156,39 @@ fn extended_holds(
     Ok(is_wanted(&applied, wanted))
 }
 
-/// Whether the runs of the chunks, joined in the order of this number, give the groups.
+/// What the runs of the chunks, joined in this order, come to on no groups. There is none where
+/// there are no chunks, or more than 64.
+fn applied_in(
+    alloc: Global,
+    checked: &Checked,
+    chunks: &[Chunk],
+    order: Order,
+    limit: u32,
+) -> Result<Option<Applied>, NoMemory>
+    requires fit { All (FitsChunk (checked_plan checked.now).fields) chunks.now }
+{
+    if chunks.is_empty() || chunks.len() > 64 {
+        return Ok(None);
+    }
+    let run = joined(alloc, checked, chunks, 0, chunks.len() as u32, order, limit)?;
+    Ok(Some(run.apply(alloc, checked, Groups::new(alloc))?))
+}
+
+/// Whether the runs of the chunks, joined in this order, give the groups.
 fn order_holds(
     alloc: Global,
     checked: &Checked,
     chunks: &[Chunk],
-    number: usize,
+    order: Order,
     wanted: &Groups,
     limit: u32,
-    keeping: Keeping,
 ) -> Result<bool, NoMemory>
     requires fit { All (FitsChunk (checked_plan checked.now).fields) chunks.now }
 {
-    if chunks.is_empty() || chunks.len() > 64 {
-        return Ok(false);
+    match applied_in(alloc, checked, chunks, order, limit)? {
+        Some(applied) => Ok(is_wanted(&applied, wanted)),
+        None => Ok(false),
     }
-    let order = tree(alloc, chunks.len(), number, keeping)?;
-    let applied = apply_joined(alloc, checked, chunks, &order, Groups::new(alloc), limit)?;
-    Ok(is_wanted(&applied, wanted))
 }
 
 fn orders_hold(
@@ -144,7 +202,8 @@ fn orders_hold(
     requires fit { All (FitsChunk (checked_plan checked.now).fields) chunks.now }
 {
     'orders: for number in 0..trees_over(chunks.len()).max(1) {
-        if !order_holds(alloc, checked, chunks, number, wanted, limit, keeping)? {
+        let order = Order { number, keeping };
+        if !order_holds(alloc, checked, chunks, order, wanted, limit)? {
             return Ok(false);
         }
     }
@@ -295,7 +354,7 @@ impl Sizes {
         let wanted = passed(alloc, checked, self.log)?;
         let chunks = chunks_of(alloc, checked, self.log, rows)?;
         'limits: for limit in [1, 2, 16, 256] {
-            if !order_holds(alloc, checked, &chunks, 0, &wanted, limit, NOTHING)? {
+            if !order_holds(alloc, checked, &chunks, FIRST, &wanted, limit)? {
                 return Ok(false);
             }
             if !extended_holds(alloc, checked, &chunks, &wanted, limit)? {
@@ -366,11 +425,12 @@ impl Case for BadRows {
         if chunks.is_empty() || chunks.len() > 64 {
             return Ok(false);
         }
-        let order = tree(alloc, chunks.len(), 0, NOTHING)?;
-        let applied = apply_joined(alloc, checked, &chunks, &order, Groups::new(alloc), 16)?;
         let run = of_chunks(alloc, checked, &chunks, 16)?;
         let extended = run.apply(alloc, checked, Groups::new(alloc))?;
-        Ok(is_bad(&applied, self.first) && is_bad(&extended, self.first))
+        match applied_in(alloc, checked, &chunks, FIRST, 16)? {
+            Some(applied) => Ok(is_bad(&applied, self.first) && is_bad(&extended, self.first)),
+            None => Ok(false),
+        }
     }
 }
 

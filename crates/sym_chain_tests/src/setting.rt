@@ -1,17 +1,21 @@
-//! Scripts, and the chunks and the groups of a log, for these tests.
-ghost use Rattle.std.specs.Prelude.{IfOk};
+//! Scripts, and the chunks, a run and the groups of a log, for these tests.
+ghost use Rattle.std.specs.Prelude.{◌≡◌, ◌<◌, ◌+◌, List, None, Some, IfOk, slice_get};
 ghost use Rattle.std.specs.List.{All};
 ghost use Rattle.sym_check.specs.Checking.CheckedScripts.{checked_plan};
 ghost use Rattle.sym_table.specs.Rows.{FitsChunk, FitsHeader};
+ghost use Rattle.sym_table.specs.declared.chunk.Chunk.{Chunk as OneChunk};
+ghost use Rattle.sym_run.specs.Runs.{AreTight, GroupsFit, IsFromTo, StandsForChunks};
 
 use std::alloc::Global;
 use std::process::Abort;
+use std::slice;
 use std::test::Fail;
 use sym_base::{Fields, NoMemory, Record};
 use sym_check::{Checked, check};
 use sym_parse::parse;
 use sym_plain::{Groups, fold_into};
-use sym_table::{Chunk, Cutter, Row, decode_into};
+use sym_run::{Run, Stretch};
+use sym_table::{Chunk, Cutter, Row, RowCursor, decode_into};
 
 /// The most rows of a log in these tests.
 const ROWS: usize = 400;
@@ -103,6 +107,31 @@ pub(crate) fn chunks_of(
         Ok(cutter) => chunks_by(alloc, checked, cutter),
         Err(_) => Ok(Vec::new(alloc)),
     }
+}
+
+/// The run of the chunk with this number, of which up to `most` records of a key are kept before
+/// they are explored.
+pub(crate) fn stretched(
+    alloc: Global,
+    checked: &Checked,
+    chunk: &Chunk,
+    number: u32,
+    limit: u32,
+    most: u32,
+) -> Result<Run, NoMemory>
+    requires chunk { FitsChunk (checked_plan checked.now).fields chunk.now }
+    requires number { number < 64 }
+    ensures chunks { IfOk result (IsFromTo number (number + 1)) }
+    ensures fits { IfOk result (λ run. GroupsFit (checked_plan checked.now) run.groups) }
+    ensures tight { IfOk result (λ run. run.bad ≡ None →
+        AreTight (checked_plan checked.now) limit run.groups) }
+    ensures stands { (chunks : List OneChunk) → slice_get chunks number ≡ Some chunk.now →
+        IfOk result (StandsForChunks (checked_plan checked.now) limit chunks) }
+{
+    let mut cursor = RowCursor::over(alloc, slice::from_ref(chunk))?;
+    let mut stretch = Stretch::new(alloc, number, most);
+    stretch.take(alloc, checked, &mut cursor, chunk, limit)?;
+    stretch.finish(alloc, checked, limit)
 }
 
 /// Folds the record of the next row; false where there is none.

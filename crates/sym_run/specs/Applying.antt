@@ -13,6 +13,8 @@ use Rattle.sym_plain.specs.Pairs.{after_records, put, standing}
 use Rattle.sym_table.specs.declared.bad.Bad.{Bad as BadRow}
 use Rattle.sym_run.specs.declared.runs.Applied.{Applied}
 use Rattle.sym_run.specs.declared.runs.Applied.TheVariants.{Done, Bad}
+use Rattle.sym_run.specs.declared.runs.Run.{Run}
+use Rattle.sym_run.specs.Runs.{GroupsStandFor}
 
 -- The groups that go on do so with valid states.
 abbrev pub AreValid : ScriptPlan → List (Key × Outcome) → Type 0
@@ -26,6 +28,14 @@ bad_of (Bad bad) = Some bad
 abbrev pub IfDone : Applied → (List (Key × Outcome) → Type 0) → Type 0
 IfDone (Done groups) P = P groups
 IfDone (Bad bad) P = Unit {0}
+
+-- What a run comes to on groups, as `Run::apply` says: its bad row, or the groups after the records
+-- for which its chains stand, whatever these are.
+pub record IsApplied (p : ScriptPlan) (run : Run) (groups : List (Key × Outcome))
+    (applied : Applied) : Type 0 where
+  pub bad : bad_of applied ≡ run.bad
+  pub led : (records : List Record) → GroupsStandFor p records run.groups →
+      IfDone applied (λ g. g ≡ after_records p records groups)
 
 -- The groups after records, or the row that is none.
 abbrev pub applied_to : ScriptPlan → Result (List Record) BadRow → List (Key × Outcome) → Applied

@@ -1,5 +1,4 @@
 pub mod Applying
-pub mod Bracketing
 pub mod Chained
 pub mod Chains
 pub mod ClosedJoins

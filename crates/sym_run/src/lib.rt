@@ -4,7 +4,6 @@
 #![tactic(auto)]
 
 mod applied_groups;
-mod brackets;
 mod chain_records;
 mod chains;
 mod chunks;
@@ -14,6 +13,7 @@ mod covers;
 mod joined_groups;
 mod kept;
 mod lawful;
+pub mod laws;
 mod led_groups;
 mod memory;
 mod open_groups;
@@ -30,7 +30,6 @@ mod stored;
 mod stretches;
 mod unread;
 
-pub use brackets::{JoinTree, apply_joined, join_all};
 pub use chains::Chain;
 pub use chunks::{of_chunk, of_chunks};
 pub use closed_groups::join_and_close;

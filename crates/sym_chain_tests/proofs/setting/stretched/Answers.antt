@@ -3,7 +3,7 @@ use Rattle.std.proofs.lemmas.Option.{slice_get_within}
 use Rattle.std.specs.Prelude.{slice_get}
 use Rattle.sym_check.specs.Checking.CheckedScripts.{checked_plan}
 use Rattle.sym_table.proofs.Stepping.{one_chunk}
-use Rattle.sym_run.proofs.brackets.keep_chunk.Goals as goal
+use Rattle.sym_chain_tests.proofs.setting.stretched.Goals as goal
 
 pub take-requires-clause-rows : goal.take-requires-clause-rows
 take-requires-clause-rows c = λ none.

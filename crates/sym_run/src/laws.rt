@@ -1,0 +1,2 @@
+//! Laws of the definitions that contracts cite.
+pub mod runs;
