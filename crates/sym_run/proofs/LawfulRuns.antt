@@ -6,13 +6,14 @@ use Rattle.std.proofs.lemmas.Map.Views.{All-from_any}
 use Rattle.std.proofs.lemmas.Option.{slice_get_within}
 use Rattle.std.specs.Map.{keys_of}
 use Rattle.sym_base.specs.declared.values.record.Record.{Record}
+use Rattle.sym_base.specs.declared.values.state.Outcome.{Outcome}
 use Rattle.sym_base.specs.declared.values.value.Key.{Key}
 use Rattle.sym_check.specs.Meaning.Groups.{is_key, is_among, key_of, records_of, keys}
 use Rattle.sym_check.specs.Meaning.Updates.{initial}
-use Rattle.sym_check.specs.Meaning.Validity.{IsKey}
+use Rattle.sym_check.specs.Meaning.Validity.{IsKey, IsRecord}
 use Rattle.sym_check.specs.Plan.ScriptPlans.{ScriptPlan}
 use Rattle.sym_check.specs.Plan.WellFormed.{IsWellFormed}
-use Rattle.sym_check.proofs.GroupLaws.{keys_apart}
+use Rattle.sym_check.proofs.GroupLaws.{keys_apart, pass_keys}
 use Rattle.sym_check.proofs.Keys.{keys_equiv, among-distinct}
 use Rattle.sym_check.proofs.ValidSteps.{initial_valid}
 use Rattle.sym_path.specs.declared.path.Path.{Path}
@@ -20,10 +21,10 @@ use Rattle.sym_path.specs.declared.path.PathEnd.{PathEnd}
 use Rattle.sym_path.specs.declared.path.PathEnd.TheVariants.{Next, Ended}
 use Rattle.sym_path.specs.Standing.{EndsAmong, StandsFor}
 use Rattle.sym_run.specs.Chained.{Chained}
-use Rattle.sym_run.specs.Chains.{SegmentsStandFor}
+use Rattle.sym_run.specs.Chains.{ChainStandsFor, IsClosed, SegmentsStandFor}
 use Rattle.sym_run.specs.declared.saved.Saved.{Saved}
 use Rattle.sym_run.specs.Runs.{AreClosed, GroupsStandFor}
-use Rattle.sym_run.specs.SavedRuns.{AreNumbered, EndsWithin, IsLawfulGroup, IsLawfulSaved, IsLawfulSegment, SavedStandsFor}
+use Rattle.sym_run.specs.SavedRuns.{AreNumbered, EndsWithin, IsLawfulChain, IsLawfulGroup, IsLawfulSaved, IsLawfulSegment, SavedStandsFor}
 use Rattle.sym_run.proofs.KeptRecords.{closed_segments}
 
 abbrev Chains : Type 0
@@ -80,7 +81,7 @@ ends_within first next found (Next forms) all among = tt
 ends_within first next found (Ended fault) all (k, rec, near, at, same) =
     let in_range : IsIn first next rec = subst (IsIn first next) at (all k rec near) in (omega (arith, same, in_range.0), omega (arith, same, in_range.1))
 
-segment_lawful : (p : ScriptPlan) (first next : ℕ) (found : List Record) (paths : List Path) → IsWellFormed p → All (IsIn first next) found → StandsFor p found paths → IsLawfulSegment p first next paths
+pub segment_lawful : (p : ScriptPlan) (first next : ℕ) (found : List Record) (paths : List Path) → IsWellFormed p → All (IsIn first next) found → StandsFor p found paths → IsLawfulSegment p first next paths
 segment_lawful p first next found paths w all is =
     let only = is.exact (initial p) (initial_valid p w) in
     let near : only.index < length paths = slice_get_within paths only.index only.path only.is in
@@ -105,6 +106,15 @@ some_segments : (p : ScriptPlan) (found : List Record) (segments : List (List Pa
 some_segments p found [] is many = absurd (omega (arith, ap length is))
 some_segments p found (segment ∷ segments) is many = omega arith
 
+pub chain_lawful : (p : ScriptPlan) (first next : ℕ) (found : List Record) (chain : Chained) → IsWellFormed p → 1 ≤ length found → All (IsIn first next) found → IsClosed chain → ChainStandsFor p found chain → IsLawfulChain p first next chain
+chain_lawful p first next found chain w many all closed stand =
+    let segments = closed_segments p found chain closed stand in
+    record {
+      some = some_segments p found chain.segments segments many;
+      closed = closed;
+      each = segments_lawful p first next found chain.segments w all segments;
+    }
+
 -- ---- lawful groups
 pub keyed_groups_lawful : (p : ScriptPlan) (first next : ℕ) (found : List Record) (groups : Chains) → IsWellFormed p → All (IsKey p) (keys p found) → AreNumbered first next found → AreClosed groups → GroupsStandFor p found groups
     → All (IsLawfulGroup p first next) groups
@@ -115,15 +125,11 @@ keyed_groups_lawful p first next found groups w are_keys numbered closed stand =
     let key = unmapped (λ (g : Key × Chained). g.0) (IsKey p) groups (subst (All (IsKey p)) (sym stand.keys_are) are_keys) in
     λ k d near.
     let group = slice_index_or groups k d in
-    let own = records_of p group.0 found in
-    let segments = closed_segments p own group.1 (closed k d near) (stand.each k d near) in
     record {
       key = key k d near;
-      chain = record {
-        some = some_segments p own group.1.segments segments (some k d near);
-        closed = closed k d near;
-        each = segments_lawful p first next own group.1.segments w (All-filter (λ rec. is_key (key_of p rec) group.0) (IsIn first next) found in_range) segments;
-      };
+      chain =
+          chain_lawful p first next (records_of p group.0 found) group.1 w (some k d near)
+          (All-filter (λ rec. is_key (key_of p rec) group.0) (IsIn first next) found in_range) (closed k d near) (stand.each k d near);
     }
 
 -- ---- saved runs
@@ -136,3 +142,11 @@ keyed_saved_lawful p found saved w from closed stand are_keys = record {
   distinct = subst (IsDistinct is_key) (sym stand.groups.keys_are) (keys_apart p found);
   each = keyed_groups_lawful p saved.first saved.next found saved.groups w (subst (All (IsKey p)) stand.groups.keys_are are_keys) stand.numbered closed stand.groups;
 }
+
+-- The keys of records of the script are of its kinds.
+keys_kinds : (p : ScriptPlan) (found : List Record) → All (IsRecord p) found → All (IsKey p) (keys p found)
+keys_kinds p found kinds = unmapped _ (λ (pair : Key × Outcome). IsKey p pair.0) (keys p found) (pass_keys p found kinds)
+
+pub recorded_saved_lawful : (p : ScriptPlan) (found : List Record) (saved : Saved) → IsWellFormed p → 1 ≤ saved.first → AreClosed saved.groups → SavedStandsFor p found saved → All (IsRecord p) found → IsLawfulSaved p saved
+recorded_saved_lawful p found saved w from closed stand kinds =
+    keyed_saved_lawful p found saved w from closed stand (subst (All (IsKey p)) (sym stand.groups.keys_are) (keys_kinds p found kinds))

@@ -1,2 +1,3 @@
 //! Laws of the definitions that contracts cite.
 pub mod runs;
+pub mod saved;
