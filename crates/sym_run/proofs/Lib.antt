@@ -18,6 +18,7 @@ pub mod LedGroups
 pub mod OpenGroups
 pub mod OpenedChains
 pub mod PairsThere
+pub mod PushedSegments
 pub mod Stepping
 pub mod TakenGroups
 pub mod TakenRecords

@@ -11,6 +11,7 @@ pub mod Kinds
 pub mod Leading
 pub mod OpenRuns
 pub mod Opened
+pub mod Pushing
 pub mod RunCode
 pub mod Runs
 pub mod SavedRuns

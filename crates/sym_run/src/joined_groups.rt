@@ -8,6 +8,7 @@ ghost use Rattle.sym_plain.specs.Pairs.{HaveDistinctKeys};
 ghost use Rattle.sym_run.specs.Chains.{ChainFits, ChainStandsFor, HasFewPaths, IsClosed, IsTight, SegmentsAreTight, SegmentsFit, SegmentsStandFor};
 ghost use Rattle.sym_run.specs.Growing.{AreBoth, GrowsByChain, IsKeptAfter, JoinsUnless};
 ghost use Rattle.sym_run.specs.Keeping.{AreWide};
+ghost use Rattle.sym_run.specs.Pushing.{IsPushedOnto};
 ghost use Rattle.sym_run.specs.Runs.{AreClosed, AreTight, GroupsFit, GroupsStandFor};
 
 use crate::chains::Chain;
@@ -22,7 +23,8 @@ use sym_check::Checked;
 use sym_path::Segment;
 
 /// The chain of a chain's records and then a segment's. What the chain keeps is explored before.
-/// Segments at the end are composed while two neighbours have at most `limit` pairs.
+/// Segments at the end are composed as long as two neighbours have at most `limit` pairs, and no
+/// others are.
 pub fn push(
     alloc: Global,
     checked: &Checked,
@@ -41,6 +43,7 @@ pub fn push(
         StandsFor (checked_plan checked.now) rest segment →
         IfOk result (ChainStandsFor (checked_plan checked.now) (first ++ rest)) }
     ensures closed { IfOk result IsClosed }
+    ensures pushed { IfOk result (IsPushedOnto (checked_plan checked.now) limit chain segment) }
 {
     let chain = chain.closed(alloc, checked, limit)?;
     let (segments, _kept) = chain.into_parts();

@@ -1,10 +1,11 @@
 //! Segments that are pushed onto others.
-ghost use Rattle.std.specs.Prelude.{◌++◌, ◌≤◌, List, IfOk, length};
+ghost use Rattle.std.specs.Prelude.{◌++◌, ◌∷◌, ◌≤◌, [], List, IfOk, length};
 ghost use Rattle.sym_base.specs.declared.values.record.Record.{Record as OneRecord};
 ghost use Rattle.sym_check.specs.Checking.CheckedScripts.{checked_plan};
 ghost use Rattle.sym_path.specs.Fitting.{SegmentFits};
 ghost use Rattle.sym_path.specs.Standing.{StandsFor};
 ghost use Rattle.sym_run.specs.Chains.{HasFewPaths, SegmentsAreTight, SegmentsFit, SegmentsStandFor};
+ghost use Rattle.sym_run.specs.Pushing.{IsPushed};
 
 use crate::segments::{Held, Segments};
 use std::alloc::Global;
@@ -27,6 +28,7 @@ fn push_onto_one(
     ensures some { IfOk result (λ pushed. 1 ≤ length pushed) }
     ensures fits { IfOk result (SegmentsFit (checked_plan checked.now)) }
     ensures tight { IfOk result (SegmentsAreTight (checked_plan checked.now) limit) }
+    ensures pushed { IfOk result (IsPushed (checked_plan checked.now) limit (left ∷ []) right) }
     ensures stands { (first rest : List OneRecord) →
         StandsFor (checked_plan checked.now) first left →
         StandsFor (checked_plan checked.now) rest right →
@@ -58,6 +60,8 @@ pub(crate) fn push_onto(
     ensures some { IfOk result (λ pushed. 1 ≤ length pushed) }
     ensures fits { IfOk result (SegmentsFit (checked_plan checked.now)) }
     ensures tight { IfOk result (SegmentsAreTight (checked_plan checked.now) limit) }
+    ensures pushed { IfOk result
+        (IsPushed (checked_plan checked.now) limit segments.items segment) }
     ensures stands { (first rest : List OneRecord) →
         SegmentsStandFor (checked_plan checked.now) first segments.items →
         StandsFor (checked_plan checked.now) rest segment →
@@ -94,6 +98,7 @@ pub(crate) fn push_segment(
     ensures some { IfOk result (λ pushed. 1 ≤ length pushed) }
     ensures fits { IfOk result (SegmentsFit (checked_plan checked.now)) }
     ensures tight { IfOk result (SegmentsAreTight (checked_plan checked.now) limit) }
+    ensures pushed { IfOk result (IsPushed (checked_plan checked.now) limit segments segment) }
     ensures stands { (first rest : List OneRecord) →
         SegmentsStandFor (checked_plan checked.now) first segments →
         StandsFor (checked_plan checked.now) rest segment →

@@ -1,6 +1,9 @@
-use Rattle.std.proofs.Common.{◌++◌, ap, subst, sym}
+use Rattle.std.proofs.Common.{◌++◌, List, ap, subst, sym}
 use Rattle.sym_check.specs.Checking.CheckedScripts.{checked_plan}
+use Rattle.sym_path.specs.declared.path.Path.{Path}
+use Rattle.sym_run.specs.Chained.{Chained}
 use Rattle.sym_run.specs.Chains.{ChainFits, ChainStandsFor, IsTight, SegmentsAreTight, SegmentsFit, SegmentsStandFor}
+use Rattle.sym_run.specs.Pushing.{IsPushed}
 use Rattle.sym_run.proofs.KeptRecords.{closed_fits, closed_segments, closed_stands}
 use Rattle.sym_run.proofs.joined_groups.push.Goals as goal
 
@@ -32,3 +35,15 @@ returns-clause-stands c = λ first rest h k.
 
 pub returns-clause-closed : goal.returns-clause-closed
 returns-clause-closed c = ap (λ chain. chain.kept) c.of_segments.ensures
+
+pub returns-clause-pushed : goal.returns-clause-pushed
+returns-clause-pushed c =
+    let p = checked_plan c.args.checked.now in
+    let onto = subst (λ (ss : List (List Path)). IsPushed p c.args.limit ss c.args.segment c.in_ok-segments.segments) c.into_parts-segments.ensures.segments c.in_ok-segments.ensures.pushed in
+    record {
+      closed = c.in_ok-chain.chain;
+      none_kept = c.in_ok-chain.ensures.closed;
+      same = c.in_ok-chain.ensures.same;
+      stands = c.in_ok-chain.ensures.stands;
+      segments = subst (λ (chain : Chained). IsPushed p c.args.limit c.in_ok-chain.chain.segments c.args.segment chain.segments) (sym c.of_segments.ensures) onto;
+    }

@@ -6,6 +6,7 @@ use Rattle.sym_path.specs.Fitting.{SegmentFits}
 use Rattle.sym_path.specs.Standing.{StandsFor}
 use Rattle.sym_run.specs.Chains.{SegmentsFit, SegmentsStandFor, HasFewPaths, SegmentsAreTight}
 use Rattle.sym_run.proofs.ChainCuts.{IsCut}
+use Rattle.sym_run.proofs.PushedSegments.{IsComposing}
 use Rattle.sym_run.proofs.pushed.push_onto.Given as goal
 
 abbrev pub invariant-ends : goal.invariant-ends
@@ -16,6 +17,7 @@ invariant-ends l =
       tight : SegmentsAreTight p l.limit l.segments.items;
       segment : SegmentFits p l.last;
       few : HasFewPaths p l.limit l.last;
+      pushed : IsComposing p l.limit l.fn.segments.items l.fn.segment l.segments.items l.last;
       stands : (first rest : List Record) → SegmentsStandFor p first l.fn.segments.items → StandsFor p rest l.fn.segment → IsCut p (first ++ rest) l.segments.items l.last;
     }
 
