@@ -1,8 +1,9 @@
 -- The records of neighbouring chunks, or the first of their rows that is none.
 use Rattle.std.proofs.Common.{◌≡◌, ◌∙◌, ap, ap₂, sym, refl, subst, arith, ℕ, false, is_some, ◌+◌, ◌-◌, ◌≤◌, List, [], ◌∷◌, ◌++◌, Option, Some, None, Result, Ok, Err, length, take, drop}
-use Rattle.std.proofs.lemmas.List.Elements.{All-nil}
+use Rattle.std.proofs.lemmas.List.Elements.{All-head, All-nil, All-tail}
 use Rattle.std.proofs.Math.Seq.{take-add}
 use Rattle.std.proofs.lemmas.List.{append-nil, append_assoc, drop-drop}
+use Rattle.std.specs.List.{All}
 use Rattle.std.specs.Option.{option_or}
 use Rattle.std.specs.Prelude.{slice_get, slice_range}
 use Rattle.std.proofs.lemmas.Option.{slice_get_within}
@@ -12,8 +13,10 @@ use Rattle.sym_check.specs.Plan.ScriptPlans.{ScriptPlan}
 use Rattle.sym_run.specs.Chained.{Chained}
 use Rattle.sym_table.specs.declared.bad.Bad.{Bad}
 use Rattle.sym_table.specs.declared.chunk.Chunk.{Chunk}
-use Rattle.sym_table.specs.ChunkRecords.{all_records, chunk_records}
-use Rattle.sym_table.specs.RowRecords.{in_turn}
+use Rattle.sym_table.specs.declared.header.Header.{Header}
+use Rattle.sym_table.specs.ChunkRecords.{RunOn, all_records, all_rows, chunk_records}
+use Rattle.sym_table.specs.RowRecords.{in_turn, records_or_bad}
+use Rattle.sym_table.proofs.RecordsAgree.{rows_append}
 use Rattle.sym_path.proofs.Lists.{drop_get}
 use Rattle.sym_run.specs.declared.runs.Run.{Run}
 use Rattle.sym_run.specs.declared.opened.Open.{Open}
@@ -44,6 +47,17 @@ pub all_records-append : (p : ScriptPlan) (xs ys : List Chunk) → all_records p
 all_records-append p [] ys = none_first (all_records p ys)
 all_records-append p (x ∷ xs) ys =
     ap (in_turn (chunk_records p x)) (all_records-append p xs ys) ∙ in_turn_assoc (chunk_records p x) (all_records p xs) (all_records p ys)
+
+-- The records of chunks that run on are those of their rows.
+pub all_records-rows : (p : ScriptPlan) (header : Header) (n : ℕ) (chunks : List Chunk) → All (λ (chunk : Chunk). chunk.header ≡ header) chunks → RunOn n chunks → all_records p chunks ≡ records_or_bad p header n (all_rows chunks)
+all_records-rows p header n [] headers numbers = refl
+all_records-rows p header n (x ∷ xs) headers numbers =
+    let first : chunk_records p x ≡ records_or_bad p header n x.rows =
+    ap (λ h. records_or_bad p h x.first_no x.rows) (All-head (λ (chunk : Chunk). chunk.header ≡ header) x xs headers)
+    ∙ ap (λ m. records_or_bad p header m x.rows) numbers.0 in
+    ap (λ found. in_turn found (all_records p xs)) first
+    ∙ ap (in_turn (records_or_bad p header n x.rows)) (all_records-rows p header (n + length x.rows) xs (All-tail (λ (chunk : Chunk). chunk.header ≡ header) x xs headers) numbers.1)
+    ∙ sym (rows_append p header n x.rows (all_rows xs))
 
 -- Two neighbouring parts of a list in one.
 ranges : {A : Type 0} (xs : List A) (lo mid hi : ℕ) → lo ≤ mid → mid ≤ hi → slice_range xs lo hi ≡ slice_range xs lo mid ++ slice_range xs mid hi

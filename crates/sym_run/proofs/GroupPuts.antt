@@ -1,9 +1,10 @@
 -- Groups in which a key's value is put: their keys, and what holds of all of them.
 use Rattle.std.proofs.Common.{◌≡◌, ◌∙◌, ap, sym, refl, subst, Bool, true, false, cond, ◌||◌, if◌then◌else◌, List, [], ◌∷◌, ◌++◌, map, Option, Some, None, is_some, true≢false}
+use Rattle.std.proofs.lemmas.List.{map-append}
 use Rattle.std.proofs.lemmas.List.Elements.{All-cons, All-nil, All-push, All-head, All-tail}
 use Rattle.std.proofs.lemmas.Map.Keys.{IsDistinct-head, IsDistinct-tail}
 use Rattle.std.proofs.lemmas.Map.Made.{is_some-lookup}
-use Rattle.std.specs.List.{All, AllByRecursion}
+use Rattle.std.specs.List.{All, AllByRecursion, IsDistinct}
 use Rattle.std.specs.Map.{keys_of, lookup}
 use Rattle.indexmap.specs.IndexMap.{insert_entry}
 use Rattle.sym_base.specs.declared.values.value.Key.{Key}
@@ -13,6 +14,19 @@ use Rattle.sym_run.specs.Chained.{Chained}
 use Rattle.sym_plain.specs.Pairs.{HaveDistinctKeys, has_key, put}
 use Rattle.sym_plain.proofs.Pairs.{insert-put}
 use Rattle.sym_run.specs.Runs.{added}
+
+-- ---- distinct keys
+apart_from : (R : Key → Type 0) (before : List Key) (key : Key) (rest : List Key) → AllByRecursion R (before ++ key ∷ rest) → R key
+apart_from R [] key rest h = h.0
+apart_from R (x ∷ before) key rest h = apart_from R before key rest h.1
+
+-- A key of distinct ones isn't among those before it.
+pub others_before : (before : List Key) (key : Key) (rest : List Key) → IsDistinct is_key (before ++ key ∷ rest) → is_among key before ≡ false
+others_before [] key rest h = refl
+others_before (x ∷ before) key rest h =
+    ap (λ (b : Bool). b || is_among key before)
+    (keys_equiv.symm key x ∙ apart_from (λ k. is_key x k ≡ false) before key rest (IsDistinct-head is_key x (before ++ key ∷ rest) h))
+    ∙ others_before before key rest (IsDistinct-tail is_key x (before ++ key ∷ rest) h)
 
 module _ {V : Type 0} where
   -- This value at the key, in a pair of it.
@@ -89,16 +103,8 @@ module _ {V : Type 0} where
   all_split P [] q rest h = All-head P q rest h
   all_split P (x ∷ done) q rest h = all_split P done q rest (All-tail P x (done ++ q ∷ rest) h)
 
-  apart_from : (R : Key → Type 0) (done : List (Key × V)) (q : Key × V) (rest : List (Key × V)) → AllByRecursion R (keys_of (done ++ q ∷ rest)) → R q.0
-  apart_from R [] q rest h = h.0
-  apart_from R (x ∷ done) q rest h = apart_from R done q rest h.1
-
   pub new_key : (done : List (Key × V)) (q : Key × V) (rest : List (Key × V)) → HaveDistinctKeys (done ++ q ∷ rest) → is_among q.0 (keys_of done) ≡ false
-  new_key [] q rest h = refl
-  new_key (x ∷ done) q rest h =
-      ap (λ (b : Bool). b || is_among q.0 (keys_of done))
-      (keys_equiv.symm q.0 x.0 ∙ apart_from (λ k. is_key x.0 k ≡ false) done q rest (IsDistinct-head is_key x.0 (keys_of (done ++ q ∷ rest)) h))
-      ∙ new_key done q rest (IsDistinct-tail is_key x.0 (keys_of (done ++ q ∷ rest)) h)
+  new_key done q rest h = others_before (keys_of done) q.0 (keys_of rest) (subst (IsDistinct is_key) (map-append (λ (x : Key × V). x.0) done (q ∷ rest)) h)
 
 -- ---- a group more
 module _ (groups : List (Key × Chained)) (key : Key) (chain : Chained) (found : Option Chained) where
