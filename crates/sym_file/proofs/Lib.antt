@@ -7,6 +7,7 @@ pub mod JoinedPlaces
 pub mod JoinedTexts
 pub mod KeyPlaces
 pub mod Lawful
+pub mod Layouts
 pub mod Loops
 pub mod Made
 pub mod Marks

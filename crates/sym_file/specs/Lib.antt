@@ -1,5 +1,6 @@
 pub mod Deciding
 pub mod JoinedTexts
+pub mod Layouts
 pub mod Making
 pub mod Marks
 pub mod PlacedTexts
