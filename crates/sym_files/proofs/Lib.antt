@@ -1,5 +1,6 @@
 pub mod RowsAgree
 pub mod FilesAgree
+pub mod FilesCut
 pub mod Opened
 pub mod Walks
 pub mod FileByFile

@@ -1,5 +1,6 @@
 pub mod FileRecords
 pub mod FirstProblems
+pub mod Cuts
 pub mod Options
 pub mod Rounds
 pub mod Passing
