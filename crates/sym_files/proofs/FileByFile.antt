@@ -83,7 +83,7 @@ may_whole holds names told more k a b =
     subst P (take-append-drop k names) (may_both holds (take k names) (drop k names) told more a b)
 
 -- The name at a place, and those after it.
-drop_at : (names : List (List ℕ)) (k : ℕ) (name : List ℕ) → slice_get names k ≡ Some name → drop k names ≡ name ∷ drop (k + 1) names
+pub drop_at : (names : List (List ℕ)) (k : ℕ) (name : List ℕ) → slice_get names k ≡ Some name → drop k names ≡ name ∷ drop (k + 1) names
 drop_at [] k name e = absurd (cc)
 drop_at (n ∷ names) zero name e = let same : n ≡ name = cc in ap (λ x. x ∷ names) same
 drop_at (n ∷ names) (suc k) name e =

@@ -10,3 +10,4 @@ pub mod RowsFull
 pub mod RoundLists
 pub mod ToldRows
 pub mod ToldFiles
+pub mod RoundsOnce

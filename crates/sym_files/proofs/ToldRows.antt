@@ -30,7 +30,7 @@ use Rattle.sym_files.proofs.RoundLists.{Rounds, are_rounds, one_full_more, one_r
 use Rattle.sym_files.proofs.Walks.{alone, first_alone, left_is, records_many, round_next, some_rows, some_rows_of}
 
 -- ---- a round has as many records as rows
-turn_splits : (a b : Result (List Record) Bad) (rs : List Record) → in_turn a b ≡ Ok rs
+pub turn_splits : (a b : Result (List Record) Bad) (rs : List Record) → in_turn a b ≡ Ok rs
     → (x : List Record) × (y : List Record) × (a ≡ Ok x) × (b ≡ Ok y) × (x ++ y ≡ rs)
 turn_splits (Err e) b rs is = absurd (cc)
 turn_splits (Ok x) (Err e) rs is = absurd (cc)

@@ -1,11 +1,13 @@
 //! Laws of the definitions: the relations and the function beside them agree.
-ghost use Rattle.std.specs.Prelude.{◌≡◌, ◌↔◌, ◌++◌, ℕ, List, Ok, Err};
+ghost use Rattle.std.specs.Prelude.{◌≡◌, ◌↔◌, ◌≤◌, ◌⊎◌, ◌+◌, ◌++◌, [], ℕ, List, Some, Ok, Err, length, map};
+ghost use mathlib.Core.List.{IsPrefix};
 ghost use Rattle.sym_base.specs.declared.values.record.Record.{Record as OneRecord};
 ghost use Rattle.sym_check.specs.Plan.ScriptPlans.{ScriptPlan};
 ghost use Rattle.sym_table.specs.Reading.{Row as OneRow};
 ghost use Rattle.sym_files.specs.declared.error.PassErr.{PassErr as Problem};
 ghost use Rattle.sym_files.specs.Cuts.{AreCutTo};
 ghost use Rattle.sym_files.specs.FileRecords.{FileRules};
+ghost use Rattle.sym_files.specs.FileRounds.{AreFilesRounds, DoneFiles, DoneRounds, NamedFiles, rounds_records};
 ghost use Rattle.sym_files.specs.FirstProblems.{AllFine, FirstProblem, records_in};
 
 /// The records of files, and their first problem, are what the function answers. So any files have
@@ -29,4 +31,23 @@ pub fn files_are_cut_anywhere()
         AreCutTo rules header rows files → AreCutTo rules header rows other →
         AllFine p rules first (before ++ (files ++ after)) records
         ↔ AllFine p rules first (before ++ (other ++ after)) records }
+{}
+
+/// Files have one list of rounds, by how they are read and how many records a full round has, and
+/// its records are those of the files. Where contracts see what named files hold, and none has a
+/// problem, the rounds that were done are the first of it, whichever file they end in.
+pub fn files_have_one_list_of_rounds()
+    ensures one { (p : ScriptPlan) (rules : FileRules) (per first : ℕ) (files : List (List ℕ))
+        (rounds others : List (List OneRecord)) →
+        1 ≤ per → AreFilesRounds p rules per first files rounds →
+        AreFilesRounds p rules per first files others → rounds ≡ others }
+    ensures records { (p : ScriptPlan) (rules : FileRules) (per first : ℕ) (files : List (List ℕ))
+        (rounds : List (List OneRecord)) → AreFilesRounds p rules per first files rounds →
+        AllFine p rules first files (rounds_records rounds) }
+    ensures done { (w : NamedFiles) (files : List (List ℕ)) (all : List (List OneRecord)) (file : ℕ)
+        (rounds others : List (List OneRecord)) →
+        1 ≤ w.per → map w.holds w.names ≡ map Some files →
+        AreFilesRounds w.plan w.rules w.per w.first files all → DoneFiles w file rounds →
+        (others ≡ []) ⊎ DoneRounds w file (w.first + length (rounds_records rounds)) others →
+        IsPrefix (rounds ++ others) all }
 {}
