@@ -8,3 +8,4 @@ pub mod PartLaws
 pub mod Jobs
 pub mod RoundRecords
 pub mod ScanLaws
+pub mod LastRows

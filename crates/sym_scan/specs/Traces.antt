@@ -1,6 +1,8 @@
 -- Traces: how the group of a record stands after the record.
-use Rattle.std.specs.Prelude.{ℕ, ◌%◌, ◌==◌, Bool, if◌then◌else◌, List, [], ◌∷◌, ◌++◌}
+use Rattle.std.specs.Prelude.{ℕ, ◌%◌, ◌==◌, Bool, if◌then◌else◌, List, [], ◌∷◌, ◌++◌, Option}
+use Rattle.std.specs.List.{filter}
 use Rattle.std.specs.Map.{lookup}
+use Rattle.std.specs.Option.{option_map}
 use Rattle.sym_base.specs.declared.values.value.Key.{Key}
 use Rattle.sym_base.specs.declared.values.record.Record.{Record}
 use Rattle.sym_base.specs.declared.values.state.Outcome.{Outcome}
@@ -9,6 +11,7 @@ use Rattle.sym_check.specs.Meaning.Groups.{is_key, key_of, records_of}
 use Rattle.sym_check.specs.Meaning.Updates.{initial, after}
 use Rattle.sym_check.specs.Plan.ScriptPlans.{ScriptPlan}
 use Rattle.sym_plain.specs.Pairs.{standing}
+use Rattle.sym_plain.specs.Shown.{last}
 use Rattle.sym_scan.specs.declared.rows.TraceRow.{TraceRow}
 
 -- Each group begins with the initial state.
@@ -47,3 +50,9 @@ trace_after p every before records = rows_after p every (from_initial p) before 
 -- The trace of records: for each that is shown, how its group stands after it.
 abbrev pub trace : ScriptPlan → ℕ → List Record → List TraceRow
 trace p every records = trace_after p every [] records
+
+-- How a key's group stands by the last of the rows that have the key, if one has it.
+abbrev pub last_outcome : Key → List TraceRow → Option Outcome
+last_outcome key rows =
+    option_map (λ (row : TraceRow). row.outcome)
+    (last (filter (λ (row : TraceRow). is_key key row.key) rows))
