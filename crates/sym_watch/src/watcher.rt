@@ -1,5 +1,5 @@
 //! What looks at the partials that are published.
-ghost use Rattle.std.specs.Prelude.{◌≡◌, ◌↔◌, ◌⊎◌, [], length, Some, OnOk, OnErr, IfOk, IfSome};
+ghost use Rattle.std.specs.Prelude.{◌≡◌, ◌↔◌, ◌⊎◌, [], length, Some, OnOk, OnErr, IfOk, IfSome, MatchBool};
 ghost use mathlib.Core.List.{IsPrefix};
 ghost use Rattle.logbook.specs.Pages.{Book};
 ghost use Rattle.left_right.specs.Sides.{view};
@@ -12,7 +12,7 @@ use crate::book::{Reached, compare};
 use crate::look::Looked;
 use crate::newest::{BookName, Course, Looking, Newest};
 use crate::partial::Partial;
-use crate::publisher::Told;
+use crate::publisher::{Publisher, Told};
 use core::mem::replace_with;
 use left_right::reader::Reader;
 use std::alloc::Global;
@@ -130,6 +130,22 @@ impl Watcher {
         self.seen = seen;
         self.count = count;
         Ok(looked)
+    }
+
+    /// Whether the publisher has published all that the watcher has seen. Then what was seen is a
+    /// prefix of its list; else its list is a prefix of what was seen. So as far as both go they are
+    /// one list, and a watcher has seen no partial in the place of one that was published.
+    pub fn is_within(&self, publisher: &Publisher) -> bool
+        requires { publisher.now.of ≡ self.now.of }
+        ensures { MatchBool result (IsPrefix self.now.seen publisher.now.list)
+            (IsPrefix publisher.now.list self.now.seen) }
+    {
+        if self.count <= publisher.count {
+            compare(&self.seen, &publisher.seen);
+            return true;
+        }
+        compare(&publisher.seen, &self.seen);
+        false
     }
 
     /// The watcher is told of a list, of the same publisher: it is a prefix of what each later look
