@@ -1,6 +1,7 @@
 //! The pass over files whose partial reports are told to observers.
 #![tactic(auto)]
 
+pub mod laws;
 mod news;
 mod observers;
 mod passes;
