@@ -22,6 +22,15 @@ use sym_check::Checked;
 use sym_plain::{Groups, key_into};
 use sym_table::{Bad, Chunk, Row, RowCursor, decode_into};
 
+/// What records are dealt by: a script, the marks of the fields that its update reads, and the
+/// groups that there are.
+#[derive(Clone, Copy)]
+pub(crate) struct Dealer<'a> {
+    pub(crate) checked: &'a Checked,
+    pub(crate) marks: &'a [bool],
+    pub(crate) groups: &'a Groups,
+}
+
 /// The records of neighbouring chunks, up to the first row that is none.
 #[derive(Drop)]
 pub(crate) struct Dealt {
@@ -115,42 +124,39 @@ fn place_of(
 // Puts the record that was read after those of a batch, with the place of its group.
 fn push(
     alloc: Global,
-    checked: &Checked,
-    marks: &[bool],
-    groups: &Groups,
+    dealer: &Dealer<'_>,
     memory: &mut Memory,
     dealt: &mut Dealt,
 ) -> Result<(), NoMemory>
-    requires { IsRecord (checked_plan checked.now) memory.old.rec }
-    ensures { let p = checked_plan checked.now in (done : List OneRecord) →
-        HasDealt p marks.now groups.now (Ok done) dealt.old →
+    requires { IsRecord (checked_plan dealer.now.checked.now) memory.old.rec }
+    ensures { let p = checked_plan dealer.now.checked.now in (done : List OneRecord) →
+        HasDealt p dealer.now.marks.now dealer.now.groups.now (Ok done) dealt.old →
         let read = done ++ memory.old.rec ∷ [] in
-        OnOk result (HasDealt p marks.now groups.now (Ok read) dealt.exit.now) }
+        OnOk result
+        (HasDealt p dealer.now.marks.now dealer.now.groups.now (Ok read) dealt.exit.now) }
 {
-    key_into(alloc, checked, &memory.rec, &mut memory.key)?;
-    let place = place_of(alloc, groups, &mut dealt.new, &memory.key)?;
+    key_into(alloc, dealer.checked, &memory.rec, &mut memory.key)?;
+    let place = place_of(alloc, dealer.groups, &mut dealt.new, &memory.key)?;
     dealt.batch.places.push(place)?;
     dealt.batch.numbers.push(memory.rec.no)?;
-    push_marked(&mut dealt.batch.values, &memory.rec.fields, marks)
+    push_marked(&mut dealt.batch.values, &memory.rec.fields, dealer.marks)
 }
 
 // Deals the rows of a chunk, which the cursor has next, up to the first that is no record.
 fn deal_chunk(
     alloc: Global,
-    checked: &Checked,
-    marks: &[bool],
-    groups: &Groups,
+    dealer: &Dealer<'_>,
     cursor: &mut RowCursor<'_>,
     chunk: &Chunk,
     memory: &mut Memory,
     dealt: &mut Dealt,
 ) -> Result<(), NoMemory>
-    requires chunk { FitsChunk (checked_plan checked.now).fields chunk.now }
+    requires chunk { FitsChunk (checked_plan dealer.now.checked.now).fields chunk.now }
     requires rows { HasNext chunk.now.rows cursor.old }
-    ensures dealt { let p = checked_plan checked.now in (done : List OneRecord) →
-        HasDealt p marks.now groups.now (Ok done) dealt.old →
+    ensures dealt { let p = checked_plan dealer.now.checked.now in (done : List OneRecord) →
+        HasDealt p dealer.now.marks.now dealer.now.groups.now (Ok done) dealt.old →
         let read = in_turn (Ok done) (chunk_records p chunk.now) in
-        OnOk result (HasDealt p marks.now groups.now read dealt.exit.now) }
+        OnOk result (HasDealt p dealer.now.marks.now dealer.now.groups.now read dealt.exit.now) }
     ensures passes { OnOk result
         (IfNone dealt.exit.now.bad (Passes chunk.now.rows cursor.old cursor.new)) }
 {
@@ -160,12 +166,19 @@ fn deal_chunk(
             return Ok(());
         }
         let view = memory.row.view();
-        let bad = decode_into(alloc, checked, &chunk.header, &view, no, &mut memory.rec)?;
+        let bad = decode_into(
+            alloc,
+            dealer.checked,
+            &chunk.header,
+            &view,
+            no,
+            &mut memory.rec,
+        )?;
         if bad.is_some() {
             dealt.bad = bad;
             return Ok(());
         }
-        push(alloc, checked, marks, groups, memory, dealt)?;
+        push(alloc, dealer, memory, dealt)?;
         no += 1;
     }
     Ok(())
@@ -175,39 +188,28 @@ fn deal_chunk(
 /// groups. The worker tells `hold` of each chunk before it reads its rows.
 pub(crate) fn deal<E: Enter>(
     alloc: Global,
-    checked: &Checked,
-    marks: &[bool],
-    groups: &Groups,
+    dealer: &Dealer<'_>,
     chunks: &[Chunk],
     worker: u32,
     first: u32,
     hold: &E,
 ) -> Result<Dealt, NoMemory>
-    requires { All (FitsChunk (checked_plan checked.now).fields) chunks.now }
-    ensures { let p = checked_plan checked.now in
+    requires { All (FitsChunk (checked_plan dealer.now.checked.now).fields) chunks.now }
+    ensures { let p = checked_plan dealer.now.checked.now in
         let read = all_records p chunks.now in
-        IfOk result (HasDealt p marks.now groups.now read) }
+        IfOk result (HasDealt p dealer.now.marks.now dealer.now.groups.now read) }
 {
     let mut cursor = RowCursor::over(alloc, chunks)?;
     let mut memory = Memory::new(alloc)?;
     let mut dealt = Dealt {
-        batch: Batch::with_room(alloc, rows_of(chunks), width_of(marks))?,
+        batch: Batch::with_room(alloc, rows_of(chunks), width_of(dealer.marks))?,
         new: IndexMap::new(alloc),
         bad: None,
     };
     let mut number = first;
     'chunks: for chunk in chunks {
         hold.enter(worker, number);
-        deal_chunk(
-            alloc,
-            checked,
-            marks,
-            groups,
-            &mut cursor,
-            chunk,
-            &mut memory,
-            &mut dealt,
-        )?;
+        deal_chunk(alloc, dealer, &mut cursor, chunk, &mut memory, &mut dealt)?;
         if dealt.bad.is_some() {
             return Ok(dealt);
         }

@@ -10,6 +10,7 @@ ghost use Rattle.sym_shuffle.specs.Settled.{AreLed, Holds};
 ghost use Rattle.sym_shuffle.specs.Shuffling.{AreBlankBeside, AreReadMarks, led, marked, stepped_from, width_of};
 
 use crate::batch::Batch;
+use crate::marked_script::MarkedScript;
 use crate::marks::{set_marked, width_of};
 use crate::packed::PackedValues;
 use std::alloc::Global;
@@ -77,97 +78,116 @@ impl<'a> LendsBatches for Lent<'a> {
     }
 }
 
-// Makes the step of a record with this number, of which the values of the fields that have a mark are
-// those of a list from `first` on.
+// A record of a batch: the place of its group, its number, and the list in which the values of the
+// fields that have a mark are, from `first` on.
+#[derive(Clone, Copy)]
+struct HeldRecord<'a> {
+    place: usize,
+    no: u64,
+    values: &'a PackedValues,
+    first: usize,
+}
+
+// Makes the step of a held record at its group's outcome.
 fn step_with(
     alloc: Global,
-    checked: &Checked,
-    marks: &[bool],
-    no: u64,
-    values: &PackedValues,
-    first: usize,
+    script: &MarkedScript<'_>,
+    held: &HeldRecord<'_>,
     outcome: &mut Outcome,
     stepper: &mut Stepper,
 ) -> Result<(), NoMemory>
-    requires { AreReadMarks (checked_plan checked.now) marks.now }
-    ensures blank { let p = checked_plan checked.now in
+    requires { AreReadMarks (checked_plan script.now.checked.now) script.now.marks.now }
+    ensures blank { let p = checked_plan script.now.checked.now in
+        let marks = script.now.marks.now in
         (rec : OneRecord) → IsRecord p rec →
-        take (width_of marks.now) (drop first values.now) ≡ marked marks.now rec.fields →
-        AreBlankBeside p marks.now stepper.old.rec.fields →
-        OnOk result (AreBlankBeside p marks.now stepper.new.rec.fields) }
-    ensures steps { let p = checked_plan checked.now in
+        take (width_of marks) (drop held.now.first held.now.values.now) ≡ marked marks rec.fields →
+        AreBlankBeside p marks stepper.old.rec.fields →
+        OnOk result (AreBlankBeside p marks stepper.new.rec.fields) }
+    ensures steps { let p = checked_plan script.now.checked.now in
+        let marks = script.now.marks.now in
         (rec : OneRecord) → IsRecord p rec →
-        take (width_of marks.now) (drop first values.now) ≡ marked marks.now rec.fields →
-        AreBlankBeside p marks.now stepper.old.rec.fields → no ≡ rec.no →
+        take (width_of marks) (drop held.now.first held.now.values.now) ≡ marked marks rec.fields →
+        AreBlankBeside p marks stepper.old.rec.fields → held.now.no ≡ rec.no →
         OnOk result (outcome.new ≡ step p outcome.old rec) }
 {
-    let _plan = checked.plan();
-    set_marked(alloc, &mut stepper.rec.fields, marks, values, first)?;
-    stepper.rec.no = no;
-    advance(alloc, checked, outcome, &stepper.rec, &mut stepper.buffers)
+    let _plan = script.checked.plan();
+    set_marked(
+        alloc,
+        &mut stepper.rec.fields,
+        script.marks,
+        held.values,
+        held.first,
+    )?;
+    stepper.rec.no = held.no;
+    advance(
+        alloc,
+        script.checked,
+        outcome,
+        &stepper.rec,
+        &mut stepper.buffers,
+    )
 }
 
-// Makes the step of a record at its place, where that is one of these outcomes, of which the first
-// is at `start`.
+// Makes the step of a held record at its place, where that is one of these outcomes, of which the
+// first is at `start`.
 fn step_one(
     alloc: Global,
-    checked: &Checked,
-    marks: &[bool],
-    place: usize,
-    no: u64,
-    values: &PackedValues,
-    first: usize,
+    script: &MarkedScript<'_>,
+    held: &HeldRecord<'_>,
     start: usize,
     outcomes: &mut [Outcome],
     stepper: &mut Stepper,
 ) -> Result<(), NoMemory>
-    requires { AreReadMarks (checked_plan checked.now) marks.now }
-    ensures blank { let p = checked_plan checked.now in
+    requires { AreReadMarks (checked_plan script.now.checked.now) script.now.marks.now }
+    ensures blank { let p = checked_plan script.now.checked.now in
+        let marks = script.now.marks.now in
         (rec : OneRecord) → IsRecord p rec →
-        take (width_of marks.now) (drop first values.now) ≡ marked marks.now rec.fields →
-        AreBlankBeside p marks.now stepper.old.rec.fields →
-        OnOk result (AreBlankBeside p marks.now stepper.new.rec.fields) }
-    ensures led { let p = checked_plan checked.now in
+        take (width_of marks) (drop held.now.first held.now.values.now) ≡ marked marks rec.fields →
+        AreBlankBeside p marks stepper.old.rec.fields →
+        OnOk result (AreBlankBeside p marks stepper.new.rec.fields) }
+    ensures led { let p = checked_plan script.now.checked.now in
+        let marks = script.now.marks.now in
         (rec : OneRecord) → IsRecord p rec →
-        take (width_of marks.now) (drop first values.now) ≡ marked marks.now rec.fields →
-        AreBlankBeside p marks.now stepper.old.rec.fields → no ≡ rec.no →
-        OnOk result (outcomes.new ≡ stepped_from p start place rec outcomes.old) }
+        take (width_of marks) (drop held.now.first held.now.values.now) ≡ marked marks rec.fields →
+        AreBlankBeside p marks stepper.old.rec.fields → held.now.no ≡ rec.no →
+        OnOk result (outcomes.new ≡ stepped_from p start held.now.place rec outcomes.old) }
 {
-    if place < start {
+    if held.place < start {
         return Ok(());
     }
-    let index = place - start;
+    let index = held.place - start;
     if index >= outcomes.len() {
         return Ok(());
     }
     let outcome = &mut outcomes[index];
-    step_with(alloc, checked, marks, no, values, first, outcome, stepper)
+    step_with(alloc, script, held, outcome, stepper)
 }
 
 // Makes the steps of a batch at those of its places that are among these outcomes, of which the
 // first is at `start`.
 fn lead_batch(
     alloc: Global,
-    checked: &Checked,
-    marks: &[bool],
+    script: &MarkedScript<'_>,
     batch: &Batch,
     start: usize,
     outcomes: &mut [Outcome],
     stepper: &mut Stepper,
 ) -> Result<(), NoMemory>
-    requires { AreReadMarks (checked_plan checked.now) marks.now }
-    ensures blank { let p = checked_plan checked.now in
+    requires { AreReadMarks (checked_plan script.now.checked.now) script.now.marks.now }
+    ensures blank { let p = checked_plan script.now.checked.now in
+        let marks = script.now.marks.now in
         (keys : List OneKey) (records : List OneRecord) →
-        Holds p marks.now keys records batch.now →
-        AreBlankBeside p marks.now stepper.old.rec.fields →
-        OnOk result (AreBlankBeside p marks.now stepper.new.rec.fields) }
-    ensures led { let p = checked_plan checked.now in
+        Holds p marks keys records batch.now →
+        AreBlankBeside p marks stepper.old.rec.fields →
+        OnOk result (AreBlankBeside p marks stepper.new.rec.fields) }
+    ensures led { let p = checked_plan script.now.checked.now in
+        let marks = script.now.marks.now in
         (keys : List OneKey) (records : List OneRecord) →
-        Holds p marks.now keys records batch.now →
-        AreBlankBeside p marks.now stepper.old.rec.fields →
+        Holds p marks keys records batch.now →
+        AreBlankBeside p marks stepper.old.rec.fields →
         OnOk result (outcomes.new ≡ led p start batch.now.places.items records outcomes.old) }
 {
-    let width = width_of(marks);
+    let width = width_of(script.marks);
     let values = &batch.values;
     // There are fewer than a `usize` counts.
     let _count = values.len();
@@ -177,9 +197,15 @@ fn lead_batch(
         next = first.saturating_add(width);
         let place = batch.places[index];
         match batch.numbers.get(index) {
-            Some(no) => step_one(
-                alloc, checked, marks, place, *no, values, first, start, outcomes, stepper,
-            )?,
+            Some(no) => {
+                let held = HeldRecord {
+                    place,
+                    no: *no,
+                    values,
+                    first,
+                };
+                step_one(alloc, script, &held, start, outcomes, stepper)?;
+            }
             None => return Ok(()),
         }
     }
@@ -190,22 +216,22 @@ fn lead_batch(
 // which the first is at `start`.
 fn lead_part(
     alloc: Global,
-    checked: &Checked,
-    marks: &[bool],
+    script: &MarkedScript<'_>,
     batches: &[Batch],
     start: usize,
     outcomes: &mut [Outcome],
 ) -> Result<(), NoMemory>
-    requires { AreReadMarks (checked_plan checked.now) marks.now }
-    ensures { let p = checked_plan checked.now in
-        AreLed p marks.now batches.now start outcomes.old outcomes.new result }
+    requires { AreReadMarks (checked_plan script.now.checked.now) script.now.marks.now }
+    ensures { let p = checked_plan script.now.checked.now in
+        let marks = script.now.marks.now in
+        AreLed p marks batches.now start outcomes.old outcomes.new result }
 {
     let mut stepper = Stepper {
-        rec: blank_record(alloc, checked, 0)?,
+        rec: blank_record(alloc, script.checked, 0)?,
         buffers: Buffers::new(alloc),
     };
     'batches: for batch in batches {
-        lead_batch(alloc, checked, marks, batch, start, outcomes, &mut stepper)?;
+        lead_batch(alloc, script, batch, start, outcomes, &mut stepper)?;
     }
     Ok(())
 }
@@ -222,15 +248,11 @@ fn lead_here<S: LendsBatches>(
     ensures { let p = checked_plan (S.by lender.now) in
         AreLed p (S.read lender.now) (S.lent lender.now) start outcomes.old outcomes.new led.new }
 {
-    let script = lender.script();
-    *led = lead_part(
-        alloc,
-        script,
-        lender.marks(),
-        lender.batches(),
-        start,
-        outcomes,
-    );
+    let script = MarkedScript {
+        checked: lender.script(),
+        marks: lender.marks(),
+    };
+    *led = lead_part(alloc, &script, lender.batches(), start, outcomes);
 }
 
 // Makes them on a thread of its own, for which this one waits.

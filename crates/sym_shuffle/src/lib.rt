@@ -7,6 +7,7 @@ mod bounds;
 mod dealt;
 mod entry;
 mod led_batches;
+mod marked_script;
 mod marks;
 mod one_thread;
 mod packed;

@@ -16,15 +16,34 @@ use sym_plain::laws::records_keep_groups_valid;
 use sym_plain::{Groups, fold_into};
 use sym_table::{Bad, Chunk, Row, RowCursor, decode_into};
 
+// Memory that is used again for each row.
+#[derive(Drop)]
+struct Memory {
+    row: Row,
+    rec: Record,
+}
+
+impl Memory {
+    // Room for a row; a record takes its own as it comes.
+    fn new(alloc: Global) -> Result<Memory, NoMemory> {
+        Ok(Memory {
+            row: Row::with_room(alloc)?,
+            rec: Record {
+                no: 0,
+                fields: Fields::new(alloc),
+            },
+        })
+    }
+}
+
 // Folds the rows of a chunk, which the cursor has next, up to the first that is no record.
 fn fold_chunk(
     alloc: Global,
     checked: &Checked,
     cursor: &mut RowCursor<'_>,
-    row: &mut Row,
     chunk: &Chunk,
     groups: &mut Groups,
-    rec: &mut Record,
+    memory: &mut Memory,
 ) -> Result<Option<Bad>, NoMemory>
     requires chunk { FitsChunk (checked_plan checked.now).fields chunk.now }
     requires rows { HasNext chunk.now.rows cursor.old }
@@ -36,14 +55,15 @@ fn fold_chunk(
 {
     let mut no = chunk.first_no;
     'rows: for _index in 0..chunk.rows.len() {
-        if !cursor.read(row)? {
+        if !cursor.read(&mut memory.row)? {
             return Ok(None);
         }
-        let bad = decode_into(alloc, checked, &chunk.header, &row.view(), no, rec)?;
+        let view = memory.row.view();
+        let bad = decode_into(alloc, checked, &chunk.header, &view, no, &mut memory.rec)?;
         if bad.is_some() {
             return Ok(bad);
         }
-        fold_into(alloc, checked, groups, &*rec)?;
+        fold_into(alloc, checked, groups, &memory.rec)?;
         no += 1;
     }
     Ok(None)
@@ -70,24 +90,12 @@ pub fn folded<E: Enter>(
     records_keep_groups_valid();
     let _plan = checked.plan();
     let mut groups = groups;
-    let mut rec = Record {
-        no: 0,
-        fields: Fields::new(alloc),
-    };
     let mut cursor = RowCursor::over(alloc, chunks)?;
-    let mut row = Row::with_room(alloc)?;
+    let mut memory = Memory::new(alloc)?;
     let mut number: u32 = 0;
     'chunks: for chunk in chunks {
         hold.enter(0, number);
-        let bad = fold_chunk(
-            alloc,
-            checked,
-            &mut cursor,
-            &mut row,
-            chunk,
-            &mut groups,
-            &mut rec,
-        )?;
+        let bad = fold_chunk(alloc, checked, &mut cursor, chunk, &mut groups, &mut memory)?;
         if let Some(bad) = bad {
             return Ok(Err(bad));
         }

@@ -12,9 +12,10 @@ ghost use Rattle.sym_table.specs.declared.chunk.Chunk.{Chunk as OneChunk};
 
 use crate::batch::Batch;
 use crate::bounds::bounds_of;
-use crate::dealt::{Dealt, deal};
+use crate::dealt::{Dealer, Dealt, deal};
 use crate::entry::Enter;
 use crate::led_batches::{Lent, lead_all};
+use crate::marked_script::MarkedScript;
 use crate::settled::settle;
 use std::alloc::Global;
 use std::thread::Threads;
@@ -54,20 +55,12 @@ trait LendsGroups {
         ensures { result.now ≡ among self.now };
 }
 
-// A script, the marks of the fields that its update reads, and groups.
-#[derive(Clone, Copy)]
-struct Beside<'a> {
-    checked: &'a Checked,
-    marks: &'a [bool],
-    groups: &'a Groups,
-}
+impl<'a> LendsGroups for Dealer<'a> {
+    ghost by = { λ d. d.checked.now };
 
-impl<'a> LendsGroups for Beside<'a> {
-    ghost by = { λ b. b.checked.now };
+    ghost read = { λ d. d.marks.now };
 
-    ghost read = { λ b. b.marks.now };
-
-    ghost among = { λ b. b.groups.now };
+    ghost among = { λ d. d.groups.now };
 
     fn script(&self) -> &Checked {
         self.checked
@@ -87,6 +80,13 @@ fn as_number(index: usize) -> u32 {
     index.min(u32::MAX as usize) as u32
 }
 
+// The chunks of a round, cut into parts of `each` neighbouring ones. The last may have fewer.
+#[derive(Clone, Copy)]
+struct Parts<'a> {
+    chunks: &'a [Chunk],
+    each: usize,
+}
+
 // The part of a round with this number. Parts have `each` chunks, and the last one may have fewer.
 fn part_of(chunks: &[Chunk], each: usize, number: usize) -> &[Chunk]
     requires { number * each ≤ length chunks.now }
@@ -101,28 +101,30 @@ fn part_of(chunks: &[Chunk], each: usize, number: usize) -> &[Chunk]
 fn deal_part<S: LendsGroups, E: Enter>(
     alloc: Global,
     lender: &S,
-    chunks: &[Chunk],
-    each: usize,
+    parts: &Parts<'_>,
     thread: usize,
     number: usize,
     hold: &E,
 ) -> Result<Dealt, NoMemory>
-    requires within { number * each ≤ length chunks.now }
-    requires fit { All (FitsChunk (checked_plan (S.by lender.now)).fields) chunks.now }
+    requires within { number * parts.now.each ≤ length parts.now.chunks.now }
+    requires fit { All (FitsChunk (checked_plan (S.by lender.now)).fields) parts.now.chunks.now }
     ensures { let s = lender.now in let p = checked_plan (S.by s) in
-        let read = all_records p (take each (drop (number * each) chunks.now)) in
+        let part = take parts.now.each (drop (number * parts.now.each) parts.now.chunks.now) in
+        let read = all_records p part in
         IfOk result (HasDealt p (S.read s) (S.among s) read) }
 {
-    let part = part_of(chunks, each, number);
-    let checked = lender.script();
+    let part = part_of(parts.chunks, parts.each, number);
+    let dealer = Dealer {
+        checked: lender.script(),
+        marks: lender.marks(),
+        groups: lender.groups(),
+    };
     deal(
         alloc,
-        checked,
-        lender.marks(),
-        lender.groups(),
+        &dealer,
         part,
         as_number(thread),
-        as_number(number * each),
+        as_number(number * parts.each),
         hold,
     )
 }
@@ -154,7 +156,7 @@ fn deal_all<T: Threads + Sync, S: LendsGroups + Sync, E: Enter + Sync>(
             ensures { let s = lender.entry.now in let p = checked_plan (S.by s) in
                 let read = all_records p (take each (drop (number * each) chunks.entry.now)) in
                 IfOk result (HasDealt p (S.read s) (S.among s) read) }
-        { deal_part(alloc, lender, chunks, each, thread, number, hold) },
+        { deal_part(alloc, lender, &Parts { chunks, each }, thread, number, hold) },
     )?;
     Ok(dealt)
 }
@@ -189,28 +191,29 @@ fn settle_all(
 fn settle_round<T: Threads + Sync, E: Enter + Sync>(
     rt: &T,
     alloc: Global,
-    checked: &Checked,
-    marks: &[bool],
+    script: &MarkedScript<'_>,
     chunks: &[Chunk],
     groups: &mut Groups,
     workers: u32,
     hold: &E,
 ) -> Result<Result<Vec<Batch>, Bad>, NoMemory>
-    requires fit { All (FitsChunk (checked_plan checked.now).fields) chunks.now }
+    requires fit { All (FitsChunk (checked_plan script.now.checked.now).fields) chunks.now }
     requires workers { 1 ≤ workers }
-    ensures { let p = checked_plan checked.now in IfOk result (λ settled. MatchResult settled
-        (λ batches. AreSettled p marks.now chunks.now groups.old groups.new batches.items)
+    ensures { let p = checked_plan script.now.checked.now in
+        let marks = script.now.marks.now in
+        IfOk result (λ settled. MatchResult settled
+        (λ batches. AreSettled p marks chunks.now groups.old groups.new batches.items)
         (λ bad. all_records p chunks.now ≡ Err bad)) }
 {
     let parts = (workers as usize).saturating_mul(PARTS);
     let each = chunks.len().div_ceil(parts).max(1);
-    let beside = Beside {
-        checked,
-        marks,
+    let dealer = Dealer {
+        checked: script.checked,
+        marks: script.marks,
         groups: &*groups,
     };
-    let dealt = deal_all(rt, alloc, &beside, chunks, each, workers, hold)?;
-    settle_all(alloc, checked, groups, dealt)
+    let dealt = deal_all(rt, alloc, &dealer, chunks, each, workers, hold)?;
+    settle_all(alloc, script.checked, groups, dealt)
 }
 
 // Makes the steps of the batches of a round at the outcomes of all groups, by at most so many
@@ -218,20 +221,19 @@ fn settle_round<T: Threads + Sync, E: Enter + Sync>(
 fn lead_round<T: Threads + Sync>(
     rt: &T,
     alloc: Global,
-    checked: &Checked,
-    marks: &[bool],
+    script: &MarkedScript<'_>,
     batches: &[Batch],
     outcomes: &mut [Outcome],
     workers: u32,
 ) -> Result<(), NoMemory>
-    requires { AreReadMarks (checked_plan checked.now) marks.now }
-    ensures { let p = checked_plan checked.now in
-        AreLed p marks.now batches.now 0 outcomes.old outcomes.new result }
+    requires { AreReadMarks (checked_plan script.now.checked.now) script.now.marks.now }
+    ensures { let p = checked_plan script.now.checked.now in
+        AreLed p script.now.marks.now batches.now 0 outcomes.old outcomes.new result }
 {
     let bounds = bounds_of(alloc, batches, workers)?;
     let lent = Lent {
-        checked,
-        marks,
+        checked: script.checked,
+        marks: script.marks,
         batches,
     };
     let mut led: Result<(), NoMemory> = Ok(());
@@ -268,20 +270,12 @@ pub fn shuffled<T: Threads + Sync, E: Enter + Sync>(
     let mut groups = groups;
     let marks = read_fields(alloc, checked)?;
     let marks = marks.as_slice();
-    match settle_round(
-        rt,
-        alloc,
-        checked,
-        marks,
-        chunks,
-        &mut groups,
-        workers,
-        hold,
-    )? {
+    let script = MarkedScript { checked, marks };
+    match settle_round(rt, alloc, &script, chunks, &mut groups, workers, hold)? {
         Ok(batches) => {
             let batches = batches.as_slice();
             let outcomes = groups.outcomes_mut();
-            lead_round(rt, alloc, checked, marks, batches, outcomes, workers)?;
+            lead_round(rt, alloc, &script, batches, outcomes, workers)?;
             Ok(Ok(groups))
         }
         Err(bad) => Ok(Err(bad)),

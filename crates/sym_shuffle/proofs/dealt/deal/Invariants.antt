@@ -7,7 +7,7 @@ use Rattle.sym_shuffle.proofs.dealt.deal.Given as goal
 
 abbrev pub invariant-chunks : goal.invariant-chunks
 invariant-chunks g l = record {
-  dealt : AreChunksDealt (checked_plan l.checked) l.marks l.groups (all_records (checked_plan l.checked) l.chunks)
-      (all_records (checked_plan l.checked) (drop l.chunk-index l.chunks)) l.dealt;
+  dealt : AreChunksDealt (checked_plan l.dealer.checked.now) l.dealer.marks.now l.dealer.groups.now (all_records (checked_plan l.dealer.checked.now) l.chunks)
+      (all_records (checked_plan l.dealer.checked.now) (drop l.chunk-index l.chunks)) l.dealt;
   left : l.cursor ≡ Some (all_rows (drop l.chunk-index l.chunks));
 }

@@ -27,18 +27,18 @@ returns-then-not-branch-clause-passes c =
 
 pub returns-then-is_some-clause-dealt : goal.returns-then-is_some-clause-dealt
 returns-then-is_some-clause-dealt c = λ done was.
-    let p = checked_plan c.args.checked.now in
+    let p = checked_plan c.args.dealer.now.checked.now in
     let cut = c.args.chunk.now in
     let rows : List Row = cut.rows in
     let within : c.rows._index < length rows = omega (arith, c.rows-test.true, c.len-index-end.ensures) in
     let next = row_read c.rows.cursor c.read.new.self rows c.rows.invariant.rest c.rows._index c.read.new.row c.view-view.result c.in_ok-read.field-0 within c.rows.invariant.left c.if-not-branch.false c.view-view.ensures c.in_ok-read.ensures in
     let new : Dealt = record { batch = c.rows.dealt.batch; new = c.rows.dealt.new; bad = c.in_ok-bad.bad } in
-    row_refused p c.args.marks.now c.args.groups.now cut.header c.rows.no rows c.rows._index c.view-view.result c.in_ok-bad.bad c.decode_into.new.into (chunk_records p cut) c.args.dealt.now c.rows.dealt new
+    row_refused p c.args.dealer.now.marks.now c.args.dealer.now.groups.now cut.header c.rows.no rows c.rows._index c.view-view.result c.in_ok-bad.bad c.decode_into.new.into (chunk_records p cut) c.args.dealt.now c.rows.dealt new
     next.there (sym c.is_some.ensures ∙ c.if-is_some.true) c.in_ok-bad.ensures.read refl c.rows.invariant.dealt done
 
 pub rows-preserved : goal.rows-preserved
 rows-preserved c =
-    let p = checked_plan c.args.checked.now in
+    let p = checked_plan c.args.dealer.now.checked.now in
     let cut = c.args.chunk.now in
     let rows : List Row = cut.rows in
     let within : c.rows._index < length rows = omega (arith, c.rows-test.true, c.len-index-end.ensures) in
@@ -46,7 +46,7 @@ rows-preserved c =
     record {
       number = omega (arith, c.rows.invariant.number);
       dealt =
-          row_dealt p c.args.marks.now c.args.groups.now cut.header c.rows.no rows c.rows._index c.view-view.result c.in_ok-bad.bad c.decode_into.new.into (chunk_records p cut) c.args.dealt.now c.rows.dealt c.push.new.dealt
+          row_dealt p c.args.dealer.now.marks.now c.args.dealer.now.groups.now cut.header c.rows.no rows c.rows._index c.view-view.result c.in_ok-bad.bad c.decode_into.new.into (chunk_records p cut) c.args.dealt.now c.rows.dealt c.push.new.dealt
           next.there (sym c.is_some.ensures ∙ c.if-is_some.false) c.in_ok-bad.ensures.read c.in_ok-push.ensures c.rows.invariant.dealt;
       rest = c.rows.invariant.rest;
       had = c.rows.invariant.had;
@@ -55,11 +55,11 @@ rows-preserved c =
 
 pub returns-clause-dealt : goal.returns-clause-dealt
 returns-clause-dealt c =
-    let p = checked_plan c.args.checked.now in
+    let p = checked_plan c.args.dealer.now.checked.now in
     let cut = c.args.chunk.now in
     let rows : List Row = cut.rows in
     let past : length rows ≤ c.rows._index = omega (arith, c.rows-test.false, c.len-index-end.ensures) in
-    rows_dealt p c.args.marks.now c.args.groups.now (chunk_records p cut) (records_or_bad p cut.header c.rows.no (drop c.rows._index rows)) c.args.dealt.now c.rows.dealt
+    rows_dealt p c.args.dealer.now.marks.now c.args.dealer.now.groups.now (chunk_records p cut) (records_or_bad p cut.header c.rows.no (drop c.rows._index rows)) c.args.dealt.now c.rows.dealt
     (ap (records_or_bad p cut.header c.rows.no) (drop_all c.rows._index rows past)) c.rows.invariant.dealt
 
 pub returns-clause-passes : goal.returns-clause-passes

@@ -10,8 +10,8 @@ use Rattle.sym_shuffle.proofs.dealt.deal_chunk.Given as goal
 abbrev pub invariant-rows : goal.invariant-rows
 invariant-rows l = record {
   number : l.no ≡ l.chunk.first_no + l._index;
-  dealt : AreDealtOn (checked_plan l.checked) l.marks l.groups (chunk_records (checked_plan l.checked) l.chunk)
-      (records_or_bad (checked_plan l.checked) l.chunk.header l.no (drop l._index l.chunk.rows)) l.fn.dealt l.dealt;
+  dealt : AreDealtOn (checked_plan l.dealer.checked.now) l.dealer.marks.now l.dealer.groups.now (chunk_records (checked_plan l.dealer.checked.now) l.chunk)
+      (records_or_bad (checked_plan l.dealer.checked.now) l.chunk.header l.no (drop l._index l.chunk.rows)) l.fn.dealt l.dealt;
   rest : List Row;
   had : l.fn.cursor ≡ Some (l.chunk.rows ++ rest);
   left : l.cursor ≡ Some (drop l._index l.chunk.rows ++ rest);

@@ -9,8 +9,8 @@ use Rattle.sym_shuffle.proofs.led_batches.lead_batch.Goals as goal
 
 pub records-preserved : goal.records-preserved
 records-preserved c = λ keys records held blank.
-    let p = checked_plan c.args.checked.now in
-    let marks = c.args.marks.now in
+    let p = checked_plan c.args.script.now.checked.now in
+    let marks = c.args.script.now.marks.now in
     let batch = c.args.batch.now in
     let places : List ℕ = batch.places.items in
     let numbers : List ℕ = batch.numbers.items in

@@ -10,9 +10,9 @@ use Rattle.sym_shuffle.proofs.led_batches.lead_batch.Given as goal
 
 abbrev pub invariant-records : goal.invariant-records
 invariant-records l =
-    let p = checked_plan l.checked in
-    (keys : List Key) (records : List Record) → Holds p l.marks keys records l.batch →
-    AreBlankBeside p l.marks l.fn.stepper.rec.fields → record {
-      blank : AreBlankBeside p l.marks l.stepper.rec.fields;
-      left : AreLeft p l.marks l.start records l.batch.places.items (drop l.next l.batch.values) l.index l.fn.outcomes l.outcomes;
+    let p = checked_plan l.script.checked.now in
+    (keys : List Key) (records : List Record) → Holds p l.script.marks.now keys records l.batch →
+    AreBlankBeside p l.script.marks.now l.fn.stepper.rec.fields → record {
+      blank : AreBlankBeside p l.script.marks.now l.stepper.rec.fields;
+      left : AreLeft p l.script.marks.now l.start records l.batch.places.items (drop l.next l.batch.values) l.index l.fn.outcomes l.outcomes;
     }

@@ -8,8 +8,8 @@ use Rattle.sym_shuffle.proofs.led_batches.lead_part.Goals as goal
 
 pub batches-preserved : goal.batches-preserved
 batches-preserved c = λ keys records held.
-    let p = checked_plan c.args.checked.now in
-    let marks = c.args.marks.now in
+    let p = checked_plan c.args.script.now.checked.now in
+    let marks = c.args.script.now.marks.now in
     let batches : List Batch = c.args.batches.now in
     let batch : Batch = c.batch-item.result in
     let i = c.batches.batch-index in

@@ -10,8 +10,8 @@ use Rattle.sym_shuffle.proofs.led_batches.lead_part.Given as goal
 
 abbrev pub invariant-batches : goal.invariant-batches
 invariant-batches l =
-    let p = checked_plan l.checked in
-    (keys : List Key) (records : List (List Record)) → AllZip (Holds p l.marks keys) records l.batches → record {
-      blank : AreBlankBeside p l.marks l.stepper.rec.fields;
+    let p = checked_plan l.script.checked.now in
+    (keys : List Key) (records : List (List Record)) → AllZip (Holds p l.script.marks.now keys) records l.batches → record {
+      blank : AreBlankBeside p l.script.marks.now l.stepper.rec.fields;
       steps : led_all p l.start (drop l.batch-index l.batches) (drop l.batch-index records) l.outcomes ≡ led_all p l.start l.batches records l.fn.outcomes;
     }

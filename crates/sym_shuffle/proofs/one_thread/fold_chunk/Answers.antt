@@ -26,9 +26,9 @@ returns-then-is_some-clause-folds c =
     let cut = c.args.chunk.now in
     let rows : List Row = cut.rows in
     let within : c.rows._index < length rows = omega (arith, c.rows-test.true, c.len-index-end.ensures) in
-    let next = row_read c.rows.cursor c.read.new.self rows c.rows.invariant.rest c.rows._index c.read.new.row c.view.result c.in_ok-read.field-0 within c.rows.invariant.left c.if-not-branch.false c.view.ensures c.in_ok-read.ensures in
+    let next = row_read c.rows.cursor c.read.new.self rows c.rows.invariant.rest c.rows._index c.read.new.row c.view-view.result c.in_ok-read.field-0 within c.rows.invariant.left c.if-not-branch.false c.view-view.ensures c.in_ok-read.ensures in
     let some = found_some c.in_ok-bad.bad (sym c.is_some.ensures ∙ c.if-is_some.true) in
-    row_refused p cut.header c.rows.no rows c.rows._index c.view.result (chunk_records p cut) c.args.groups.now c.rows.groups c.in_ok-bad.bad c.decode_into.new.into
+    row_refused p cut.header c.rows.no rows c.rows._index c.view-view.result (chunk_records p cut) c.args.groups.now c.rows.groups c.in_ok-bad.bad c.decode_into.new.into
     some.0 c.rows.groups next.there some.1 c.in_ok-bad.ensures.read c.rows.invariant.folding
 
 pub rows-preserved : goal.rows-preserved
@@ -37,11 +37,11 @@ rows-preserved c =
     let cut = c.args.chunk.now in
     let rows : List Row = cut.rows in
     let within : c.rows._index < length rows = omega (arith, c.rows-test.true, c.len-index-end.ensures) in
-    let next = row_read c.rows.cursor c.read.new.self rows c.rows.invariant.rest c.rows._index c.read.new.row c.view.result c.in_ok-read.field-0 within c.rows.invariant.left c.if-not-branch.false c.view.ensures c.in_ok-read.ensures in
+    let next = row_read c.rows.cursor c.read.new.self rows c.rows.invariant.rest c.rows._index c.read.new.row c.view-view.result c.in_ok-read.field-0 within c.rows.invariant.left c.if-not-branch.false c.view-view.ensures c.in_ok-read.ensures in
     record {
       number = omega (arith, c.rows.invariant.number);
       folding =
-          row_folded p cut.header c.rows.no rows c.rows._index c.view.result (chunk_records p cut) c.args.groups.now c.rows.groups c.in_ok-bad.bad c.decode_into.new.into
+          row_folded p cut.header c.rows.no rows c.rows._index c.view-view.result (chunk_records p cut) c.args.groups.now c.rows.groups c.in_ok-bad.bad c.decode_into.new.into
           c.fold_into.new.groups next.there (found_none c.in_ok-bad.bad (sym c.is_some.ensures ∙ c.if-is_some.false)) c.in_ok-bad.ensures.read c.in_ok-fold_into.ensures.groups c.rows.invariant.folding;
       rest = c.rows.invariant.rest;
       had = c.rows.invariant.had;
