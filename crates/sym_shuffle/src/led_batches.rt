@@ -304,6 +304,16 @@ pub(crate) fn lead_all<T: Threads + Sync, S: LendsBatches + Sync>(
     }
 }
 
+// Where outcomes are cut in two, and what makes their steps: the groups before the cut begin at
+// `start`, and those from it on at `next`, where they are cut at bounds again.
+#[derive(Drop)]
+struct Cut<'a, S> {
+    lender: &'a S,
+    start: usize,
+    next: usize,
+    bounds: &'a [usize],
+}
+
 // Makes the steps of each part of the outcomes on a thread of its own.
 #[cycle(parts)]
 fn lead_each<T: Threads + Sync, S: LendsBatches + Sync>(
@@ -326,19 +336,14 @@ fn lead_each<T: Threads + Sync, S: LendsBatches + Sync>(
     }
     let middle = bounds[0].saturating_sub(start).min(outcomes.len());
     let (front, back) = outcomes.split_at_mut(middle);
-    let mut later: Result<(), NoMemory> = Ok(());
-    lead_both(
-        rt,
-        alloc,
+    let cut = Cut {
         lender,
         start,
-        front,
-        led,
-        &bounds[1..],
-        start + middle,
-        back,
-        &mut later,
-    );
+        next: start + middle,
+        bounds: &bounds[1..],
+    };
+    let mut later: Result<(), NoMemory> = Ok(());
+    lead_both(rt, alloc, &cut, front, led, back, &mut later);
     if later.is_err() {
         *led = later;
     }
@@ -349,22 +354,24 @@ fn lead_each<T: Threads + Sync, S: LendsBatches + Sync>(
 fn lead_both<T: Threads + Sync, S: LendsBatches + Sync>(
     rt: &T,
     alloc: Global,
-    lender: &S,
-    start: usize,
+    cut: &Cut<'_, S>,
     front: &mut [Outcome],
     front_led: &mut Result<(), NoMemory>,
-    bounds: &[usize],
-    next: usize,
     back: &mut [Outcome],
     back_led: &mut Result<(), NoMemory>,
 )
-    requires room { next + length back.old < 2 ^ 64 }
-    requires marks { AreReadMarks (checked_plan (S.by lender.now)) (S.read lender.now) }
-    ensures front { let p = checked_plan (S.by lender.now) in
-        AreLed p (S.read lender.now) (S.lent lender.now) start front.old front.new front_led.new }
-    ensures back { let p = checked_plan (S.by lender.now) in
-        AreLed p (S.read lender.now) (S.lent lender.now) next back.old back.new back_led.new }
+    requires room { cut.now.next + length back.old < 2 ^ 64 }
+    requires marks { let s = cut.now.lender.now in
+        AreReadMarks (checked_plan (S.by s)) (S.read s) }
+    ensures front { let s = cut.now.lender.now in let p = checked_plan (S.by s) in
+        AreLed p (S.read s) (S.lent s) cut.now.start front.old front.new front_led.new }
+    ensures back { let s = cut.now.lender.now in let p = checked_plan (S.by s) in
+        AreLed p (S.read s) (S.lent s) cut.now.next back.old back.new back_led.new }
 {
+    let lender = cut.lender;
+    let start = cut.start;
+    let next = cut.next;
+    let bounds = cut.bounds;
     let mut first = ||
         requires { IsSync S.row
             × AreReadMarks (checked_plan (S.by lender.now)) (S.read lender.now) }
