@@ -13,6 +13,7 @@ ghost use Rattle.sym_run.specs.Runs.{AreClosed, GroupsFit};
 
 use crate::led_groups::begins;
 use crate::reader::{group, head, read_own, script};
+use crate::run_head::RunHead;
 use crate::saved_err::SavedErr;
 use std::alloc::Global;
 use sym_base::{Key, NoMemory};
@@ -29,24 +30,32 @@ pub enum JoinedText {
     Apart,
 }
 
+/// What chains are joined by: a script, and the path limit. Where a segment and the next one have
+/// pairs, and at most so many of them, they are composed.
+#[derive(Clone, Copy)]
+struct Joiner<'a> {
+    checked: &'a Checked,
+    limit: u32,
+}
+
 /// Joins a group of a text; whether the text didn't name its key before: the group at each index is
 /// marked where it did. Where it is joined, the group of this key is marked, too.
 fn join_once(
     alloc: Global,
-    checked: &Checked,
+    joiner: &Joiner<'_>,
     groups: &mut RunGroups,
     marks: &mut Vec<bool>,
     key: Key,
     chain: Chain,
-    limit: u32,
 ) -> Result<bool, NoMemory>
-    requires left { GroupsFit (checked_plan checked.now) groups.old }
+    requires left { GroupsFit (checked_plan joiner.now.checked.now) groups.old }
     requires closed_left { AreClosed groups.old }
-    requires right { ChainFits (checked_plan checked.now) chain }
+    requires right { ChainFits (checked_plan joiner.now.checked.now) chain }
     requires closed_right { IsClosed chain }
     requires marks { length marks.old.items ≡ length groups.old }
-    ensures { (seen : List OneKey) → AreMarks seen groups.old marks.old.items →
-        IfOk result (λ new. IsJoinedOnce (checked_plan checked.now) limit seen key chain
+    ensures { let p = checked_plan joiner.now.checked.now in
+        (seen : List OneKey) → AreMarks seen groups.old marks.old.items →
+        IfOk result (λ new. IsJoinedOnce p joiner.now.limit seen key chain
         groups.old new groups.new marks.new.items) }
 {
     match groups.index_of(&key) {
@@ -55,7 +64,7 @@ fn join_once(
                 return Ok(false);
             }
             marks[index] = true;
-            groups.join_at(alloc, checked, index, chain, limit)?;
+            groups.join_at(alloc, joiner.checked, index, chain, joiner.limit)?;
             Ok(true)
         }
         None => {
@@ -69,29 +78,26 @@ fn join_once(
 /// Joins so many groups, which have to be lawful and distinct; the bytes after them.
 fn join_groups<'a>(
     alloc: Global,
-    checked: &Checked,
-    first: u64,
-    next: u64,
-    count: u128,
+    joiner: &Joiner<'_>,
+    head: &RunHead,
     bytes: &'a [u8],
     groups: &mut RunGroups,
-    limit: u32,
 ) -> Result<&'a [u8], SavedErr>
-    requires fits { GroupsFit (checked_plan checked.now) groups.old }
+    requires fits { GroupsFit (checked_plan joiner.now.checked.now) groups.old }
     requires closed { AreClosed groups.old }
-    ensures { JoinsGroups (checked_plan checked.now) first next count limit bytes.now
-        groups.old groups.new (λ rest. rest.now) result }
+    ensures { JoinsGroups (checked_plan joiner.now.checked.now) head.now.first head.now.next
+        head.now.count joiner.now.limit bytes.now groups.old groups.new (λ rest. rest.now) result }
 {
-    let plan = checked.plan();
+    let plan = joiner.checked.plan();
     let mut marks = vec![in alloc; false; groups.len()]?;
     let mut rest = bytes;
-    'groups: for _ in 0..count {
+    'groups: for _ in 0..head.count {
         let ((key, chain), after) = group(alloc, plan, rest)?;
-        let lawful = is_lawful_group(checked, first, next, &key, &chain);
+        let lawful = is_lawful_group(joiner.checked, head.first, head.next, &key, &chain);
         if !lawful {
             return Err(SavedErr::Malformed);
         }
-        let new = join_once(alloc, checked, groups, &mut marks, key, chain, limit)?;
+        let new = join_once(alloc, joiner, groups, &mut marks, key, chain)?;
         if !new {
             return Err(SavedErr::Malformed);
         }
@@ -104,15 +110,14 @@ fn join_groups<'a>(
 /// record after its last.
 fn join_body(
     alloc: Global,
-    checked: &Checked,
+    joiner: &Joiner<'_>,
     wanted: u64,
     bytes: &[u8],
     groups: &mut RunGroups,
-    limit: u32,
 ) -> Result<u64, SavedErr>
-    requires fits { GroupsFit (checked_plan checked.now) groups.old }
+    requires fits { GroupsFit (checked_plan joiner.now.checked.now) groups.old }
     requires closed { AreClosed groups.old }
-    ensures { JoinsBody (checked_plan checked.now) bytes.now wanted limit
+    ensures { JoinsBody (checked_plan joiner.now.checked.now) bytes.now wanted joiner.now.limit
         groups.old groups.new result }
 {
     let ((first, next, count), rest) = head(bytes)?;
@@ -120,7 +125,7 @@ fn join_body(
     if !follows {
         return Err(SavedErr::Malformed);
     }
-    let rest = join_groups(alloc, checked, first, next, count, rest, groups, limit)?;
+    let rest = join_groups(alloc, joiner, &RunHead { first, next, count }, rest, groups)?;
     let ended = rest == b"end\n".as_slice();
     if !ended {
         return Err(SavedErr::Malformed);
@@ -133,50 +138,48 @@ fn join_body(
 /// whose first record has this number isn't read of the text.
 fn join_own(
     alloc: Global,
-    checked: &Checked,
+    joiner: &Joiner<'_>,
     own: &[u8],
     bytes: &[u8],
     wanted: u64,
     groups: &mut RunGroups,
-    limit: u32,
 ) -> Result<u64, SavedErr>
     requires size { length bytes.now ≤ limits.FILE_MAX }
-    requires fits { GroupsFit (checked_plan checked.now) groups.old }
+    requires fits { GroupsFit (checked_plan joiner.now.checked.now) groups.old }
     requires closed { AreClosed groups.old }
-    ensures { JoinsOwn own.now (checked_plan checked.now) bytes.now wanted limit
-        groups.old groups.new result }
+    ensures { let p = checked_plan joiner.now.checked.now in
+        JoinsOwn own.now p bytes.now wanted joiner.now.limit groups.old groups.new result }
 {
-    let _plan = checked.plan();
+    let _plan = joiner.checked.plan();
     let (found, rest) = script(bytes)?;
     let same = found == own;
     if !same {
         return Err(SavedErr::Malformed);
     }
-    join_body(alloc, checked, wanted, rest, groups, limit)
+    join_body(alloc, joiner, wanted, rest, groups)
 }
 
 /// `join_own`, where `read_saved` says why no saved run is joined; `None` where the text has one
 /// whose first record has another number.
 fn join_unless_apart(
     alloc: Global,
-    checked: &Checked,
+    joiner: &Joiner<'_>,
     own: &[u8],
     bytes: &[u8],
     wanted: u64,
     groups: &mut RunGroups,
-    limit: u32,
 ) -> Result<Option<u64>, SavedErr>
     requires size { length bytes.now ≤ limits.FILE_MAX }
-    requires fits { GroupsFit (checked_plan checked.now) groups.old }
+    requires fits { GroupsFit (checked_plan joiner.now.checked.now) groups.old }
     requires closed { AreClosed groups.old }
-    ensures { JoinsUnlessApart own.now (checked_plan checked.now) bytes.now wanted limit
-        groups.old groups.new result }
+    ensures { let p = checked_plan joiner.now.checked.now in
+        JoinsUnlessApart own.now p bytes.now wanted joiner.now.limit groups.old groups.new result }
 {
-    match join_own(alloc, checked, own, bytes, wanted, groups, limit) {
+    match join_own(alloc, joiner, own, bytes, wanted, groups) {
         Ok(next) => Ok(Some(next)),
         Err(SavedErr::NoMemory) => Err(SavedErr::NoMemory),
         Err(_) => {
-            let _saved = read_own(alloc, checked, own, bytes)?;
+            let _saved = read_own(alloc, joiner.checked, own, bytes)?;
             Ok(None)
         }
     }
@@ -199,7 +202,8 @@ fn join_by(
 {
     let (first, next) = (before.first, before.next);
     let mut groups = before.into_groups();
-    match join_unless_apart(alloc, checked, own, bytes, next, &mut groups, limit) {
+    let joiner = Joiner { checked, limit };
+    match join_unless_apart(alloc, &joiner, own, bytes, next, &mut groups) {
         Ok(Some(next)) => Ok(JoinedText::Done(Saved {
             first,
             next,

@@ -14,6 +14,7 @@ ghost use Rattle.sym_file.specs.TakenTexts.{LeadsBody, LeadsGroups, LeadsText};
 ghost use Rattle.sym_file.specs.Totals.{led_through};
 
 use crate::reader::{group, head, script};
+use crate::run_head::RunHead;
 use crate::saved_err::SavedErr;
 use crate::totals::{begin, take_at};
 use std::alloc::Global;
@@ -71,23 +72,21 @@ fn take_once(
 fn lead_groups<'a>(
     alloc: Global,
     checked: &Checked,
-    first: u64,
-    next: u64,
-    count: u128,
+    head: &RunHead,
     bytes: &'a [u8],
     groups: &mut Groups,
 ) -> Result<(Option<u64>, &'a [u8]), SavedErr>
     requires valid { AreValid (checked_plan checked.now) groups.old }
     ensures valid { IfOk result (λ x. AreValid (checked_plan checked.now) groups.new) }
-    ensures led { LeadsGroups (checked_plan checked.now) first next count bytes.now
-        groups.old groups.new (λ x. (x.0, x.1.now)) result }
+    ensures led { LeadsGroups (checked_plan checked.now) head.now.first head.now.next head.now.count
+        bytes.now groups.old groups.new (λ x. (x.0, x.1.now)) result }
 {
     let plan = checked.plan();
     let mut marks = vec![in alloc; false; groups.len()]?;
     let mut rest = bytes;
-    'groups: for index in 0..count {
+    'groups: for index in 0..head.count {
         let ((key, chain), after) = group(alloc, plan, rest)?;
-        let lawful = is_lawful_group(checked, first, next, &key, &chain);
+        let lawful = is_lawful_group(checked, head.first, head.next, &key, &chain);
         if !lawful {
             return Err(SavedErr::Malformed);
         }
@@ -126,7 +125,13 @@ fn lead_body(
     if !follows {
         return Err(SavedErr::Malformed);
     }
-    let (gap, rest) = lead_groups(alloc, checked, first, next, count, rest, groups)?;
+    let (gap, rest) = lead_groups(
+        alloc,
+        checked,
+        &RunHead { first, next, count },
+        rest,
+        groups,
+    )?;
     match gap {
         Some(group) => Ok(Led::Gap(group)),
         None => {

@@ -13,6 +13,7 @@ mod parts;
 mod paths;
 mod places;
 mod reader;
+mod run_head;
 mod saved_err;
 mod saved_text;
 mod scan;

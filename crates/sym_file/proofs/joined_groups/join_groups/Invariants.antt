@@ -4,4 +4,4 @@ use Rattle.sym_file.proofs.JoinedTexts.{IsJoining}
 use Rattle.sym_file.proofs.joined_groups.join_groups.Given as goal
 
 abbrev pub invariant-groups : goal.invariant-groups
-invariant-groups l = IsJoining (checked_plan l.checked) l.first l.next l.count l.limit l.bytes l.fn.groups l.counter l.rest l.groups l.marks.items
+invariant-groups l = IsJoining (checked_plan l.joiner.checked.now) l.head.first l.head.next l.head.count l.joiner.limit l.bytes l.fn.groups l.counter l.rest l.groups l.marks.items

@@ -20,7 +20,7 @@ groups-init c =
     record {
       valid = c.requires.valid;
       leading =
-          begins (checked_plan c.args.checked.now) c.args.first c.args.next c.args.count c.args.bytes.now c.args.groups.now marks
+          begins (checked_plan c.args.checked.now) c.args.head.now.first c.args.head.now.next c.args.head.now.count c.args.bytes.now c.args.groups.now marks
           (no_marks c.args.groups.now marks c.len.result (c.in_ok-marks.ensures.items_if_clones_equal (λ y h. h)) c.len.ensures.len);
     }
 
@@ -30,14 +30,14 @@ returns-in_err-key-clause-led c =
     let fails : Fails c.in_err-key.field-0.0 (group_at p c.groups.rest.now) =
     subst (λ (q : ScriptPlan). Fails c.in_err-key.field-0.0 (group_at q c.groups.rest.now)) c.plan-plan.ensures.same c.in_err-key.ensures in
     let e = err_from_is_err_and c.from_residual-in_err-key.result c.from_residual-in_err-key.ensures.1 in
-    rw (e.1, e.2) (unread p c.args.first c.args.next c.args.count c.args.bytes.now c.args.groups.now c.groups.index c.groups.rest.now c.groups.groups c.groups.marks.items c.groups.invariant.leading c.groups-test.true c.in_err-key.field-0.0 fails)
+    rw (e.1, e.2) (unread p c.args.head.now.first c.args.head.now.next c.args.head.now.count c.args.bytes.now c.args.groups.now c.groups.index c.groups.rest.now c.groups.groups c.groups.marks.items c.groups.invariant.leading c.groups-test.true c.in_err-key.field-0.0 fails)
 
 pub returns-then-not-lawful-clause-led : goal.returns-then-not-lawful-clause-led
 returns-then-not-lawful-clause-led c =
     let p : ScriptPlan = checked_plan c.args.checked.now in
     let one : group_at p c.groups.rest.now ≡ Some ((c.in_ok-key.key, c.in_ok-key.chain), c.in_ok-key.after.now) =
     subst (λ (q : ScriptPlan). group_at q c.groups.rest.now ≡ Some ((c.in_ok-key.key, c.in_ok-key.chain), c.in_ok-key.after.now)) c.plan-plan.ensures.same c.in_ok-key.ensures in
-    unlawful_group p c.args.first c.args.next c.args.count c.args.bytes.now c.args.groups.now c.groups.index c.groups.rest.now c.groups.groups c.groups.marks.items c.groups.invariant.leading c.groups-test.true
+    unlawful_group p c.args.head.now.first c.args.head.now.next c.args.head.now.count c.args.bytes.now c.args.groups.now c.groups.index c.groups.rest.now c.groups.groups c.groups.marks.items c.groups.invariant.leading c.groups-test.true
     c.in_ok-key.key c.in_ok-key.chain c.in_ok-key.after.now one (λ l. let yes = c.is_lawful_group-lawful.ensures.1 l in let no = c.if-not-lawful.true in absurd (cc (yes, no)))
 
 pub take_once-requires-clause-marks : goal.take_once-requires-clause-marks
@@ -50,7 +50,7 @@ overflow_cast-result c =
     let p : ScriptPlan = checked_plan c.args.checked.now in
     let marks = c.groups.marks in
     let few : length marks.items < 2 ^ 64 = omega (arith, marks.ok.0, marks.ok.1, marks.small) in
-    let small : c.groups.index < 2 ^ 64 = index_small p c.args.first c.args.next c.args.count c.args.bytes.now c.args.groups.now c.groups.index c.groups.rest.now c.groups.groups c.groups.marks.items c.groups.invariant.leading few in
+    let small : c.groups.index < 2 ^ 64 = index_small p c.args.head.now.first c.args.head.now.next c.args.head.now.count c.args.bytes.now c.args.groups.now c.groups.index c.groups.rest.now c.groups.groups c.groups.marks.items c.groups.invariant.leading few in
     omega (arith, small)
 
 pub returns-in-Some-false-clause-led : goal.returns-in-Some-false-clause-led
@@ -63,7 +63,7 @@ returns-in-Some-false-clause-led c = λ groups end read.
     let taken : IsTakenOnce seen c.in_ok-key.key c.groups.groups led (Some false) c.take_once.new.groups c.take_once.new.marks.items =
     subst (λ (r : Option Bool). IsTakenOnce seen c.in_ok-key.key c.groups.groups led r c.take_once.new.groups c.take_once.new.marks.items) (c.in-Some-false.is ∙ ap Some c.in-Some-false.field-0-test)
     (c.in_ok-take_once.ensures.taken seen c.groups.invariant.leading.marked) in
-    is_gap p c.args.first c.args.next c.args.count c.args.bytes.now c.args.groups.now c.groups.index c.groups.rest.now c.groups.groups c.groups.marks.items c.groups.invariant.leading c.groups-test.true
+    is_gap p c.args.head.now.first c.args.head.now.next c.args.head.now.count c.args.bytes.now c.args.groups.now c.groups.index c.groups.rest.now c.groups.groups c.groups.marks.items c.groups.invariant.leading c.groups-test.true
     c.in_ok-key.key c.in_ok-key.chain c.in_ok-key.after.now one taken groups end read
 
 pub returns-in-None-clause-led : goal.returns-in-None-clause-led
@@ -76,7 +76,7 @@ returns-in-None-clause-led c =
     let taken : IsTakenOnce seen c.in_ok-key.key c.groups.groups led (None) c.take_once.new.groups c.take_once.new.marks.items =
     subst (λ (r : Option Bool). IsTakenOnce seen c.in_ok-key.key c.groups.groups led r c.take_once.new.groups c.take_once.new.marks.items) (c.in-None.is)
     (c.in_ok-take_once.ensures.taken seen c.groups.invariant.leading.marked) in
-    named_twice p c.args.first c.args.next c.args.count c.args.bytes.now c.args.groups.now c.groups.index c.groups.rest.now c.groups.groups c.groups.marks.items c.groups.invariant.leading c.groups-test.true
+    named_twice p c.args.head.now.first c.args.head.now.next c.args.head.now.count c.args.bytes.now c.args.groups.now c.groups.index c.groups.rest.now c.groups.groups c.groups.marks.items c.groups.invariant.leading c.groups-test.true
     c.in_ok-key.key c.in_ok-key.chain c.in_ok-key.after.now one taken
 
 pub groups-preserved : goal.groups-preserved
@@ -92,11 +92,11 @@ groups-preserved c =
     record {
       valid = c.in_ok-take_once.ensures.valid;
       leading =
-          leads_on p c.args.first c.args.next c.args.count c.args.bytes.now c.args.groups.now c.groups.index c.groups.rest.now c.groups.groups c.groups.marks.items c.groups.invariant.leading c.groups-test.true
+          leads_on p c.args.head.now.first c.args.head.now.next c.args.head.now.count c.args.bytes.now c.args.groups.now c.groups.index c.groups.rest.now c.groups.groups c.groups.marks.items c.groups.invariant.leading c.groups-test.true
           c.in_ok-key.key c.in_ok-key.chain c.in_ok-key.after.now one c.take_once.new.groups c.take_once.new.marks.items (c.is_lawful_group-lawful.ensures.0 c.if-not-lawful.false) taken;
     }
 
 pub returns-clause-led : goal.returns-clause-led
 returns-clause-led c =
     let p : ScriptPlan = checked_plan c.args.checked.now in
-    is_done p c.args.first c.args.next c.args.count c.args.bytes.now c.args.groups.now c.groups.index c.groups.rest.now c.groups.groups c.groups.marks.items c.groups.invariant.leading c.groups-test.false
+    is_done p c.args.head.now.first c.args.head.now.next c.args.head.now.count c.args.bytes.now c.args.groups.now c.groups.index c.groups.rest.now c.groups.groups c.groups.marks.items c.groups.invariant.leading c.groups-test.false

@@ -7,5 +7,5 @@ use Rattle.sym_file.proofs.led_groups.lead_groups.Given as goal
 abbrev pub invariant-groups : goal.invariant-groups
 invariant-groups l = record {
   valid : AreValid (checked_plan l.checked) l.groups;
-  leading : IsLeading (checked_plan l.checked) l.first l.next l.count l.bytes l.fn.groups l.index l.rest l.groups l.marks.items;
+  leading : IsLeading (checked_plan l.checked) l.head.first l.head.next l.head.count l.bytes l.fn.groups l.index l.rest l.groups l.marks.items;
 }
