@@ -9,6 +9,7 @@ mod parts;
 mod replays;
 mod rows;
 mod scan;
+mod scan_options;
 mod starts;
 
 pub use replays::{Replayed, replay, replay_all};

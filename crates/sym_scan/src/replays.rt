@@ -85,6 +85,13 @@ impl Progress {
     }
 }
 
+// A script, and every how many records a row is shown.
+#[derive(Clone, Copy)]
+struct TracedScript<'a> {
+    checked: &'a Checked,
+    every: u64,
+}
+
 // Adds the row of a record with this number and key. The key and the group are copied.
 fn push_row(
     alloc: Global,
@@ -110,22 +117,21 @@ fn push_row(
 // row more.
 fn take_record(
     alloc: Global,
-    checked: &Checked,
-    every: u64,
+    script: &TracedScript<'_>,
     progress: &mut Progress,
 ) -> Result<(), NoMemory>
-    requires { 1 ≤ every }
-    ensures groups { let p = checked_plan checked.now in
+    requires { 1 ≤ script.now.every }
+    ensures groups { let p = checked_plan script.now.checked.now in
         OnOk result (progress.new.groups ≡ after_record p progress.old.rec progress.old.groups) }
     ensures rows { let rec = progress.old.rec in
-        let key = key_of (checked_plan checked.now) rec in
+        let key = key_of (checked_plan script.now.checked.now) rec in
         let row = row_of rec.no key (lookup (is_key key) progress.new.groups) in
         OnOk result (progress.new.rows.items
-        ≡ progress.old.rows.items ++ (if is_shown every rec then row else [])) }
+        ≡ progress.old.rows.items ++ (if is_shown script.now.every rec then row else [])) }
 {
-    fold_into(alloc, checked, &mut progress.groups, &progress.rec)?;
-    if progress.rec.no % every == 0 {
-        key_into(alloc, checked, &progress.rec, &mut progress.key)?;
+    fold_into(alloc, script.checked, &mut progress.groups, &progress.rec)?;
+    if progress.rec.no % script.every == 0 {
+        key_into(alloc, script.checked, &progress.rec, &mut progress.key)?;
         push_row(
             alloc,
             progress.rec.no,
@@ -141,18 +147,18 @@ fn take_record(
 // Each is read over the memory of `row`.
 fn take_rows(
     alloc: Global,
-    checked: &Checked,
+    script: &TracedScript<'_>,
     cursor: &mut RowCursor<'_>,
     row: &mut Row,
     chunk: &Chunk,
-    every: u64,
     progress: &mut Progress,
 ) -> Result<Option<Bad>, NoMemory>
-    requires chunk { FitsChunk (checked_plan checked.now).fields chunk.now }
+    requires chunk { FitsChunk (checked_plan script.now.checked.now).fields chunk.now }
     requires rows { HasNext chunk.now.rows cursor.old }
-    requires every { 1 ≤ every }
-    ensures goes { let p = checked_plan checked.now in
-        IfOk result (λ bad. GoesOn p every (chunk_records p chunk.now) progress.old bad progress.new) }
+    requires every { 1 ≤ script.now.every }
+    ensures goes { let p = checked_plan script.now.checked.now in
+        let read = chunk_records p chunk.now in
+        IfOk result (λ bad. GoesOn p script.now.every read progress.old bad progress.new) }
     ensures passes { IfOk result (λ bad.
         IfNone bad (Passes chunk.now.rows cursor.old cursor.new)) }
 {
@@ -162,11 +168,11 @@ fn take_rows(
             return Ok(None);
         }
         let rec = &mut progress.rec;
-        let bad = decode_into(alloc, checked, &chunk.header, &row.view(), no, rec)?;
+        let bad = decode_into(alloc, script.checked, &chunk.header, &row.view(), no, rec)?;
         if bad.is_some() {
             return Ok(bad);
         }
-        take_record(alloc, checked, every, progress)?;
+        take_record(alloc, script, progress)?;
     }
     Ok(None)
 }
@@ -185,18 +191,11 @@ pub(crate) fn take_chunks(
         let found = all_records p chunks.now in
         IfOk result (λ bad. GoesOn p every found progress.old bad progress.new) }
 {
+    let script = TracedScript { checked, every };
     let mut cursor = RowCursor::over(alloc, chunks)?;
     let mut row = Row::with_room(alloc)?;
     'chunks: for chunk in chunks {
-        let taken = take_rows(
-            alloc,
-            checked,
-            &mut cursor,
-            &mut row,
-            chunk,
-            every,
-            progress,
-        )?;
+        let taken = take_rows(alloc, &script, &mut cursor, &mut row, chunk, progress)?;
         if let Some(bad) = taken {
             return Ok(Some(bad));
         }

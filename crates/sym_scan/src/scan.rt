@@ -16,6 +16,7 @@ use crate::part_starts::{AllStarted, PartRun, PartStarts, start_all};
 use crate::parts::{Part, parts};
 use crate::replays::{Progress, Replayed, replay_all, take_chunks};
 use crate::rows::{TraceRow, TraceRows};
+use crate::scan_options::ScanOptions;
 use std::alloc::Global;
 use std::thread::Threads;
 use sym_base::NoMemory;
@@ -217,21 +218,25 @@ fn scan_parts<T: Threads + Sync, S: LendsScript + Sync>(
     alloc: Global,
     lender: &S,
     chunks: &[Chunk],
-    workers: u32,
-    limit: u32,
-    every: u64,
+    options: ScanOptions,
     groups: Groups,
 ) -> Result<Scanned, NoMemory>
     requires fit { All (FitsChunk (checked_plan (S.lent lender.now)).fields) chunks.now }
     requires few { length chunks.now ≤ 64 }
-    requires workers { 1 ≤ workers }
-    requires every { 1 ≤ every }
+    requires workers { 1 ≤ options.workers }
+    requires every { 1 ≤ options.every }
     requires valid { AreValid (checked_plan (S.lent lender.now)) groups }
     ensures scanned { let p = checked_plan (S.lent lender.now) in
-        IfOk result (λ scanned. scanned ≡ scanned_to p every groups (all_records p chunks.now)) }
+        let read = all_records p chunks.now in
+        IfOk result (λ scanned. scanned ≡ scanned_to p options.every groups read) }
     ensures valid { let p = checked_plan (S.lent lender.now) in
         IfOk result (λ scanned. IfDone scanned (AreValid p)) }
 {
+    let ScanOptions {
+        workers,
+        limit,
+        every,
+    } = options;
     let parts = parts(alloc, chunks.len(), workers)?;
     let most = kept_most(limit);
     let runs = run_all(rt, alloc, lender, chunks, parts, limit, most)?;
@@ -312,5 +317,10 @@ pub fn scan_round<T: Threads + Sync>(
     if workers == 1 || chunks.len() == 1 {
         return scan_alone(alloc, checked, chunks, every, groups);
     }
-    scan_parts(rt, alloc, checked, chunks, workers, limit, every, groups)
+    let options = ScanOptions {
+        workers,
+        limit,
+        every,
+    };
+    scan_parts(rt, alloc, checked, chunks, options, groups)
 }

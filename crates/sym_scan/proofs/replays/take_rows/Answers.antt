@@ -15,7 +15,7 @@ returns-then-not-branch c =
 
 pub rows-preserved : goal.rows-preserved
 rows-preserved c =
-    let p = checked_plan c.args.checked.now in
+    let p = checked_plan c.args.script.now.checked.now in
     let cut = c.args.chunk.now in
     let rows : List Row = cut.rows in
     let within : c.rows.index < length rows = omega (arith, c.rows-test.true, c.len-index-end.ensures) in
@@ -23,9 +23,9 @@ rows-preserved c =
     let is = sym (get_or_from_slice_get rows c.rows.index c.view.result c.view.result next.there) in
     record {
       replaying =
-          row_replayed p c.args.every cut.header cut.first_no c.rows.index rows c.view.result c.in_ok-bad.bad c.decode_into.new.into (chunk_records p cut)
+          row_replayed p c.args.script.now.every cut.header cut.first_no c.rows.index rows c.view.result c.in_ok-bad.bad c.decode_into.new.into (chunk_records p cut)
           c.args.progress.now.groups c.args.progress.now.rows.items c.rows.progress c.take_record.new.progress within is (sym c.is_some.ensures ∙ c.if-is_some.false) c.in_ok-bad.ensures.read
-          (record_taken p c.args.every c.decode_into.new.into c.rows.progress c.take_record.new.progress c.in_ok-take_record.ensures.groups c.in_ok-take_record.ensures.rows)
+          (record_taken p c.args.script.now.every c.decode_into.new.into c.rows.progress c.take_record.new.progress c.in_ok-take_record.ensures.groups c.in_ok-take_record.ensures.rows)
           c.rows.invariant.replaying;
       rest = c.rows.invariant.rest;
       had = c.rows.invariant.had;
@@ -34,13 +34,13 @@ rows-preserved c =
 
 pub returns-then-is_some-clause-goes : goal.returns-then-is_some-clause-goes
 returns-then-is_some-clause-goes c =
-    let p = checked_plan c.args.checked.now in
+    let p = checked_plan c.args.script.now.checked.now in
     let cut = c.args.chunk.now in
     let rows : List Row = cut.rows in
     let within : c.rows.index < length rows = omega (arith, c.rows-test.true, c.len-index-end.ensures) in
     let next = row_read c.rows.cursor c.read.new.self rows c.rows.invariant.rest c.rows.index c.read.new.row c.view.result c.in_ok-read.field-0 within c.rows.invariant.left c.if-not-branch.false c.view.ensures c.in_ok-read.ensures in
     let is = sym (get_or_from_slice_get rows c.rows.index c.view.result c.view.result next.there) in
-    row_bad p c.args.every cut.header cut.first_no c.rows.index rows c.view.result c.in_ok-bad.bad c.decode_into.new.into (chunk_records p cut)
+    row_bad p c.args.script.now.every cut.header cut.first_no c.rows.index rows c.view.result c.in_ok-bad.bad c.decode_into.new.into (chunk_records p cut)
     c.args.progress.now c.rows.progress _ within is (sym c.is_some.ensures ∙ c.if-is_some.true) c.in_ok-bad.ensures.read c.rows.invariant.replaying
 
 pub returns-clause-passes : goal.returns-clause-passes

@@ -9,9 +9,9 @@ use Rattle.sym_scan.proofs.replays.take_rows.Given as goal
 
 abbrev pub invariant-rows : goal.invariant-rows
 invariant-rows l =
-    let p = checked_plan l.fn.checked in
+    let p = checked_plan l.fn.script.checked.now in
     record {
-      replaying : IsReplaying p l.every (chunk_records p l.fn.chunk) (records_or_bad p l.fn.chunk.header (l.fn.chunk.first_no + l.index) (drop l.index l.fn.chunk.rows)) l.fn.progress.groups l.fn.progress.rows.items l.progress;
+      replaying : IsReplaying p l.script.every (chunk_records p l.fn.chunk) (records_or_bad p l.fn.chunk.header (l.fn.chunk.first_no + l.index) (drop l.index l.fn.chunk.rows)) l.fn.progress.groups l.fn.progress.rows.items l.progress;
       rest : List Row;
       had : l.fn.cursor ≡ Some (l.fn.chunk.rows ++ rest);
       left : l.cursor ≡ Some (drop l.index l.fn.chunk.rows ++ rest);
