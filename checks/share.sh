@@ -185,9 +185,9 @@ try_words() {
     [ "$(wc -l <"$work/forms")" -eq "$(wc -l <"$work/made")" ]
     note $? "the program has other forms than $manual"
 
-    sed -n 's/.*_NAME: &str = "\(.*\)";/\1/p' crates/sym_top/src/arguments.rt >"$work/names"
+    sed -n 's/.*_NAME: &str = "\(.*\)";/\1/p' crates/sym_command/src/arguments.rt >"$work/names"
     [ -s "$work/names" ]
-    note $? "crates/sym_top/src/arguments.rt: no name of an argument"
+    note $? "crates/sym_command/src/arguments.rt: no name of an argument"
     for command in run trace map reduce join check make; do
         : >"$work/taken"
         { sed -n 's/^[a-z]* --//p' "$work/manual"; cat "$work/names"; } | sort -u >"$work/tried"
@@ -207,7 +207,7 @@ try_words() {
 # The number of a constant of the sources, or the default of an option that they have.
 number_of() {
     sed -n "/^pub const $1: NumberOption/,/default/s/^ *default: \([0-9_]*\),\$/\1/p" \
-        crates/sym_top/src/arguments.rt
+        crates/sym_command/src/arguments.rt
     sed -n "s/^pub const $1: [a-z0-9]* = \([0-9_]*\);\$/\1/p" crates/sym_base/src/limits.rt \
         crates/sym_files/src/*.rt | tr -d _
 }
@@ -287,7 +287,7 @@ try_highlighting() {
 
 # The statuses with their numbers, and the messages on a script.
 try_manual() {
-    sed -n 's/^ *Status::\([A-Za-z]*\) => \([0-9]*\),$/\2 \1/p' crates/sym_top/src/status.rt \
+    sed -n 's/^ *Status::\([A-Za-z]*\) => \([0-9]*\),$/\2 \1/p' crates/sym_message/src/status.rt \
         >"$work/statuses"
     awk '/^\.It [0-9]+$/ { number = $2; getline; sub(/:.*/, ""); print number, $0 }' "$manual" \
         >"$work/said"
@@ -295,7 +295,7 @@ try_manual() {
     note $? "no status in the sources"
     same "$manual: other statuses" "$work/statuses" "$work/said"
 
-    sed -n 's/^ *ScriptFault::[A-Za-z]* => "\([a-z ]*\)",$/\1/p' crates/sym_top/src/message.rt \
+    sed -n 's/^ *ScriptFault::[A-Za-z]* => "\([a-z ]*\)",$/\1/p' crates/sym_message/src/message.rt \
         >"$work/faults"
     [ -s "$work/faults" ]
     note $? "no message in the sources"
@@ -375,7 +375,7 @@ try_hints() {
         grep -qE "limit\[\"${words#*:}\"\].* = (\"|)${number:-none}( |;|\"|\$)" "$hints"
         note $? "$hints: the limit of ${words#*:} isn't ${number:-named so in the sources}"
     done
-    sed -n 's/^ *ScriptFault::[A-Za-z]* => "\([a-z ]*\)",$/\1/p' crates/sym_top/src/message.rt |
+    sed -n 's/^ *ScriptFault::[A-Za-z]* => "\([a-z ]*\)",$/\1/p' crates/sym_message/src/message.rt |
         while read -r fault; do
             grep -qF "what == \"$fault\"" "$hints" || echo "$fault"
         done >"$work/unhinted"

@@ -26,19 +26,20 @@ use Rattle.sym_reduce.specs.Joining.{FirstFileProblem, FirstJoinProblem, HasRunF
 use Rattle.sym_reduce.specs.Joining as of_joins
 use Rattle.sym_reduce.specs.Reducing.{FirstRunProblem, HasFault, HasRunProblem, Pairs}
 use Rattle.sym_reduce.specs.Reducing as of_runs
-use Rattle.sym_top.specs.declared.refusal.Place.TheVariants as place
-use Rattle.sym_top.specs.declared.refusal.Refusal.{Refusal}
-use Rattle.sym_top.specs.declared.refusal.Refusal.TheVariants as refusal
-use Rattle.sym_top.specs.declared.status.Status.{Status}
-use Rattle.sym_top.specs.declared.status.Status.TheVariants as status
+use Rattle.sym_command.specs.declared.place.Place.TheVariants as place
+use Rattle.sym_command.specs.Commands.{Command, Join, Reduce, Runs, Traces, Checks, Makes, Maps, Reduces, Joins, command_of, file_rules, first_no}
+use Rattle.sym_message.specs.declared.refusal.Refusal.{Refusal}
+use Rattle.sym_message.specs.declared.refusal.Refusal.TheVariants as refusal
+use Rattle.sym_message.specs.declared.status.Status.{Status}
+use Rattle.sym_message.specs.declared.status.Status.TheVariants as status
+use Rattle.sym_message.specs.Refusals.{status_of_refusal, parse_refusal, check_refusal, pass_refusal}
+use Rattle.sym_message.specs.Telling.{Sunk, Tells}
 use Rattle.sym_top.specs.Causes.{BreaksRule, IsNoCommand, no_command, IsTooLarge, large_script, large_file, large_run_file, large_joined_file, IsUnaccepted, bad_byte, bad_number, long_name, bad_text, limit_passed, unexpected_token, unknown_name, name_taken, wrong_kind, wrong_range, not_linear, many_paths, IsNoScript, IsBadInput, bad_header, bad_row, other_script, malformed, apart, gap, other_script_joined, malformed_joined, apart_joined, IsReadFault, IsToldOf, HasCause, IsWritingCut, IsStopped, RefusalsHaveCauses}
-use Rattle.sym_top.specs.Commands.{Command, Join, Reduce, Runs, Traces, Checks, Makes, Maps, Reduces, Joins, command_of, file_rules, first_no}
 use Rattle.sym_top.specs.Ends.{End, Refused, Held, IsEnd, usage, no_program, problem, finished, run_problem, reduced, join_problem, runs_joined, IsWhole, files_of, script_of, whole_end}
 use Rattle.sym_top.specs.Loading.{Says}
 use Rattle.sym_top.specs.Programs.{Program, IsProgram, IsUnparsed, lexical, unexpected, passed, IsNoProgram, too_large, unparsed, broken}
 use Rattle.sym_top.specs.Promises.{Call, Told, IsStop, at_end, script_unread, file_unread, run_unread, join_unread, no_memory, IsUntouched, WriteFails, failed, short, IsCause, stopped, cut, Refuses, IsReported, IsRefused, IsUnwritten, call_line}
-use Rattle.sym_top.specs.Refusals.{status_of_refusal, parse_refusal, check_refusal, pass_refusal, reduce_refusal}
-use Rattle.sym_top.specs.Telling.{Sunk, Tells}
+use Rattle.sym_top.specs.RunFileRefusals.{reduce_refusal}
 use Rattle.sym_top.specs.TopCall.{IsCarriedOut}
 use Rattle.sym_top.proofs.Consequences.{complete-by, decided, expected-by, held-told, no-command-by, reported-written, usage-by}
 use Rattle.sym_top.proofs.EndsFound.{one_end}

@@ -13,22 +13,23 @@ use Rattle.sym_lex.specs.declared.error.LexFault.TheVariants as lex_fault
 use Rattle.sym_parse.specs.declared.error.ParseErr.{ParseErr}
 use Rattle.sym_parse.specs.declared.error.ParseErr.TheVariants as parse_error
 use Rattle.sym_report.specs.ReportRows.{some_faulty}
+use Rattle.sym_command.specs.declared.place.Place.{Place}
+use Rattle.sym_command.specs.declared.place.Place.TheVariants as place
+use Rattle.sym_command.specs.Commands.{Command, command_of, ReadsNoRuns, Runs, Traces, Checks, Makes, Maps, Reduces, Joins, FileNames, name_at, names_of}
+use Rattle.sym_message.specs.declared.refusal.Refusal.{Refusal}
+use Rattle.sym_message.specs.declared.refusal.Refusal.TheVariants as refusal
+use Rattle.sym_message.specs.declared.status.Status.{Status}
+use Rattle.sym_message.specs.declared.status.Status.TheVariants as status
+use Rattle.sym_message.specs.Messages.{line_of}
+use Rattle.sym_message.specs.Refusals.{status_of_refusal, parse_refusal, check_refusal, pass_refusal}
+use Rattle.sym_message.specs.Telling.{Sunk, Has, Short, Tells}
 use Rattle.sym_top.specs.declared.load.Failure.{Failure}
-use Rattle.sym_top.specs.declared.refusal.Place.{Place}
-use Rattle.sym_top.specs.declared.refusal.Place.TheVariants as place
-use Rattle.sym_top.specs.declared.refusal.Refusal.{Refusal}
-use Rattle.sym_top.specs.declared.refusal.Refusal.TheVariants as refusal
-use Rattle.sym_top.specs.declared.status.Status.{Status}
-use Rattle.sym_top.specs.declared.status.Status.TheVariants as status
-use Rattle.sym_top.specs.Commands.{Command, command_of, ReadsNoRuns, Runs, Traces, Checks, Makes, Maps, Reduces, Joins, FileNames, name_at, names_of}
 use Rattle.sym_top.specs.Ends.{End, whole_end, Refused, Reported, Said, Summed, Mapped, Joined, Held, IsEnd, usage, no_program, problem, finished, run_problem, reduced, join_problem, runs_joined, IsWhole, script_of, status_of}
 use Rattle.sym_top.specs.EndReading.{command_end}
 use Rattle.sym_top.specs.Loading.{ComesTo, Ready, Says, Stops, failure_line}
-use Rattle.sym_top.specs.Messages.{line_of}
 use Rattle.sym_top.specs.Programs.{Program, IsNoProgram, too_large, unparsed, broken}
 use Rattle.sym_top.specs.Promises.{Call, IsUsage, call_line, call_names, MayScript, MayHold, TellsScript, Told, ReadFailed, IsStop, at_end, script_unread, file_unread, run_unread, join_unread, no_memory, IsUntouched, WriteFails, failed, short, IsCause, stopped, cut, Refuses, Wrote, line_told, text_written, Answers, Unless, IsReported, IsRefused, IsUnwritten, MustReport}
-use Rattle.sym_top.specs.Refusals.{status_of_refusal, parse_refusal, check_refusal, pass_refusal, reduce_refusal}
-use Rattle.sym_top.specs.Telling.{Sunk, Has, Short, Tells}
+use Rattle.sym_top.specs.RunFileRefusals.{reduce_refusal}
 use Rattle.sym_top.proofs.EndsFound.{found, one_end}
 
 -- ---- statuses

@@ -4,8 +4,8 @@ use Rattle.sym_base.specs.declared.values.record.Record.{Record}
 use Rattle.sym_files.specs.declared.error.PassErr.{PassErr}
 use Rattle.sym_files.specs.FirstProblems.{records_in}
 use Rattle.sym_files.proofs.FilesAgree.{files_records, files_problem}
-use Rattle.sym_top.specs.declared.refusal.Refusal.{Refusal}
-use Rattle.sym_top.specs.Commands.{Asked, Command, ReadsNoRuns, ReadsRecords, Runs, Traces, Checks, Makes, Maps, Reduces, Joins, command_of, file_rules, first_no}
+use Rattle.sym_command.specs.Commands.{Asked, Command, ReadsNoRuns, ReadsRecords, Runs, Traces, Checks, Makes, Maps, Reduces, Joins, command_of, file_rules, first_no}
+use Rattle.sym_message.specs.declared.refusal.Refusal.{Refusal}
 use Rattle.sym_top.specs.Ends.{End, Held, IsEnd, usage, no_program, problem, finished, run_problem, reduced, join_problem, runs_joined, script_of, files_of}
 use Rattle.sym_top.specs.EndReading.{files_end, program_end, command_end, end_of}
 use Rattle.sym_top.specs.Programs.{Program, IsProgram, program_in}

@@ -50,22 +50,22 @@ use Rattle.sym_reduce.specs.Reducing.{IsRunFile, IsTakenFile}
 use Rattle.sym_reduce.specs.Reducing as runs
 use Rattle.sym_reduce.proofs.Once.{same}
 use Rattle.sym_report.specs.Tables.{table_form}
-use Rattle.sym_top.specs.declared.refusal.Place.TheVariants as place
-use Rattle.sym_top.specs.declared.refusal.Refusal.TheVariants as refusal
-use Rattle.sym_top.specs.declared.status.Status.{Status}
-use Rattle.sym_top.specs.declared.status.Status.TheVariants as status
+use Rattle.sym_command.specs.declared.place.Place.TheVariants as place
+use Rattle.sym_command.specs.CommandLines.{run_app, reduce_app, join_app, matched}
+use Rattle.sym_command.specs.Commands.{Asked, Command, Join, Joins, Reduce, Reduces, Run, Runs, asks, command_in, command_of, names_of, shown_names, run_of, reduce_of, join_of, run_found, reduce_found, join_found, run_options, options_found, files_found}
+use Rattle.sym_command.specs.Numbers.{number_of}
+use Rattle.sym_command.specs.Working.{DifferInWork, run_otherwise, worked}
+use Rattle.sym_message.specs.declared.refusal.Refusal.TheVariants as refusal
+use Rattle.sym_message.specs.declared.status.Status.{Status}
+use Rattle.sym_message.specs.declared.status.Status.TheVariants as status
+use Rattle.sym_message.specs.Messages.{line_of}
+use Rattle.sym_message.specs.Telling.{Sunk}
 use Rattle.sym_top.specs.Causes.{IsBadInput, IsStopped, IsToldOf, IsTooLarge, apart_joined, large_file}
-use Rattle.sym_top.specs.CommandLines.{run_app, reduce_app, join_app, matched}
-use Rattle.sym_top.specs.Commands.{Asked, Command, Join, Joins, Reduce, Reduces, Run, Runs, asks, command_in, command_of, names_of, shown_names, run_of, reduce_of, join_of, run_found, reduce_found, join_found, run_options, options_found, files_found}
 use Rattle.sym_top.specs.Ends.{End, Summed, Mapped, Joined, Held, IsEnd, finished, reduced, runs_joined, groups_end, report_of, rows_of, rows_status, status_of}
 use Rattle.sym_top.specs.Headline.{FineRun, IsOnePass, pass_text}
-use Rattle.sym_top.specs.Messages.{line_of}
-use Rattle.sym_top.specs.Numbers.{number_of}
 use Rattle.sym_top.specs.Loading.{Says}
 use Rattle.sym_top.specs.Programs.{Program, IsProgram, headers_in}
 use Rattle.sym_top.specs.Promises.{Call, TellsScript, Told, Unless, call_line, call_script}
-use Rattle.sym_top.specs.Telling.{Sunk}
-use Rattle.sym_top.specs.Working.{DifferInWork, run_otherwise, worked}
 use Rattle.sym_top.proofs.CausesFound.{causes-by}
 use Rattle.sym_top.proofs.EndsFound.{one_end}
 use Rattle.sym_top.proofs.OnePass.{one-pass-by}

@@ -5,12 +5,12 @@ use Rattle.sym_reduce.specs.Joining.{AreRunFiles, FirstJoinProblem}
 use Rattle.sym_reduce.proofs.FollowingFiles.{files_follow, no_join_problem, problem_once, runs_once}
 use Rattle.sym_run.specs.declared.saved.Saved.{Saved}
 use Rattle.sym_parse.specs.Printed.{script_text}
-use Rattle.sym_top.specs.declared.refusal.Refusal.{Refusal}
-use Rattle.sym_top.specs.Commands.{Asked, Command, Join, Joins, Reduces, ReadsRecords, command_of, file_rules, first_no}
+use Rattle.sym_command.specs.Commands.{Asked, Command, Join, Joins, Reduces, ReadsRecords, command_of, file_rules, first_no}
+use Rattle.sym_command.proofs.Bounds.{joined_few}
+use Rattle.sym_message.specs.declared.refusal.Refusal.{Refusal}
 use Rattle.sym_top.specs.Ends.{End, Joined, Refused, Held, IsEnd, usage, no_program, problem, finished, run_problem, reduced, join_problem, runs_joined, files_of, script_of}
 use Rattle.sym_top.specs.Programs.{Program, program_in}
-use Rattle.sym_top.specs.Refusals.{reduce_refusal}
-use Rattle.sym_top.proofs.Bounds.{joined_few}
+use Rattle.sym_top.specs.RunFileRefusals.{reduce_refusal}
 use Rattle.sym_top.proofs.ProgramsFound.{Reading, none-found, program-found, reading}
 use Rattle.sym_top.proofs.ReducedEnds.{no_first, program-formed}
 

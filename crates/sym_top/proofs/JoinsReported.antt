@@ -26,13 +26,13 @@ use Rattle.sym_report.specs.Forms.{FormTexts}
 use Rattle.sym_run.specs.SavedRuns.{SavedStandsFor}
 use Rattle.sym_run.specs.declared.saved.Saved.{Saved}
 use Rattle.sym_table.specs.Reading.{Row}
-use Rattle.sym_top.specs.Commands.{Asked, Command, Join, Joins, Maps, ReadsRecords, Reduce, Reduces, Runs, command_of, file_rules, first_no, texts_of}
+use Rattle.sym_command.specs.Commands.{Asked, Command, Join, Joins, Maps, ReadsRecords, Reduce, Reduces, Runs, command_of, file_rules, first_no, texts_of}
+use Rattle.sym_command.proofs.Bounds.{asked_few, joined_few}
 use Rattle.sym_top.specs.Ends.{End, Held, Joined, IsEnd, usage, no_program, problem, finished, run_problem, reduced, join_problem, runs_joined, IsTextOf, IsWhole, nothing, report_in, said, summed, mapped, joined, files_of, groups_end, script_of, whole_end}
 use Rattle.sym_top.specs.Parts.{AreJoinedTo, AreParts, IsJoinOfTexts, IsReportedInOne, IsReportedJoined, IsRunFileOf}
 use Rattle.sym_top.specs.Parts as parts
 use Rattle.sym_top.specs.Programs.{Program, IsProgram}
 use Rattle.sym_top.specs.SavedFiles.{IsJoined}
-use Rattle.sym_top.proofs.Bounds.{asked_few, joined_few}
 use Rattle.sym_top.proofs.PartsReported.{cut_at as files_cut, fine_once, next_is, none_left, same_program, wrote_mapped}
 use Rattle.sym_top.proofs.PassKeys.{fine-records}
 use Rattle.sym_top.proofs.ReducedEnds.{program-formed}

@@ -17,11 +17,13 @@ use Rattle.sym_lex.specs.declared.error.LexFault.TheVariants as lex_fault
 use Rattle.sym_parse.specs.declared.error.ParseErr.{ParseErr}
 use Rattle.sym_parse.specs.declared.error.ParseErr.TheVariants as parse_error
 use Rattle.sym_watch.specs.Logs.{Log}
+use Rattle.sym_command.specs.Commands.{Command, Form, Run, Runs, command_in, command_of, file_rules, handed, is_handed}
+use Rattle.sym_message.specs.declared.refusal.Refusal.{Refusal}
+use Rattle.sym_message.specs.declared.status.Status.{Status}
+use Rattle.sym_message.specs.declared.status.Status.TheVariants as status
+use Rattle.sym_message.specs.Refusals.{check_refusal, parse_refusal, pass_refusal, status_of_refusal}
+use Rattle.sym_message.specs.Telling.{Sunk}
 use Rattle.sym_top.specs.declared.load.Failure.{Failure}
-use Rattle.sym_top.specs.declared.refusal.Refusal.{Refusal}
-use Rattle.sym_top.specs.declared.status.Status.{Status}
-use Rattle.sym_top.specs.declared.status.Status.TheVariants as status
-use Rattle.sym_top.specs.Commands.{Command, Form, Run, Runs, command_in, command_of, file_rules, handed, is_handed}
 use Rattle.sym_top.specs.Loading.{Loads, MayEnd, Unloads}
 use Rattle.sym_top.specs.Loading as loading
 use Rattle.sym_top.specs.Observers.{AreTold, AreToldAll, AreToldBefore, AreToldBy, AreToldOf, AreToldTo, AreToldUntil, AreUntold, at_files, at_script, FilesStop, Logs, run_files, StopsTold, stops_told, watched_run}
@@ -29,8 +31,6 @@ use Rattle.sym_top.specs.Programs.{Program, IsNoProgram}
 use Rattle.sym_top.specs.Programs as programs
 use Rattle.sym_top.specs.Promises.{Call, IsReported, WriteFails}
 use Rattle.sym_top.specs.Promises as promise
-use Rattle.sym_top.specs.Refusals.{check_refusal, parse_refusal, pass_refusal, status_of_refusal}
-use Rattle.sym_top.specs.Telling.{Sunk}
 
 -- ---- the files
 -- Where all rounds were told and an allocation fails after them, the partials told are a prefix of

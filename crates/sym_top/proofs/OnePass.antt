@@ -3,14 +3,14 @@ use Rattle.std.proofs.Common.{◌≡◌, List, ℕ, map, Option, Some, refl, sym
 use Rattle.sym_report.specs.declared.rows.Heads.{Heads}
 use Rattle.sym_report.specs.declared.rows.Row.{Row}
 use Rattle.sym_report.specs.Forms.{FormTexts, report_text}
-use Rattle.sym_top.specs.declared.status.Status.{Status}
-use Rattle.sym_top.specs.declared.status.Status.TheVariants as status
-use Rattle.sym_top.specs.Commands.{Command, Runs, names_of, texts_of}
+use Rattle.sym_command.specs.Commands.{Command, Runs, names_of, texts_of}
+use Rattle.sym_message.specs.declared.status.Status.{Status}
+use Rattle.sym_message.specs.declared.status.Status.TheVariants as status
+use Rattle.sym_message.specs.Telling.{Sunk, Has}
 use Rattle.sym_top.specs.Ends.{End, Reported, Held, IsEnd, finished, IsTextOf, nothing, report_in, said, summed, mapped, joined, report_of}
 use Rattle.sym_top.specs.Headline.{FineRun, IsOnePass}
 use Rattle.sym_top.specs.Loading.{Says}
 use Rattle.sym_top.specs.Promises.{Call, Answers, LeavesSinks, line_told, text_written, Told, TellsScript, IsUntouched, Unless}
-use Rattle.sym_top.specs.Telling.{Sunk, Has}
 use Rattle.sym_top.proofs.Consequences.{expected-by}
 
 unless-map : (result : Status) (P Q : Type 0) → (P → Q) → Unless result P → Unless result Q

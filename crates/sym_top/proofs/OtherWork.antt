@@ -5,10 +5,10 @@ use Rattle.sym_base.specs.declared.values.record.Record.{Record}
 use Rattle.sym_files.specs.FileRecords.{FileRules, rules_of}
 use Rattle.sym_files.specs.FirstProblems.{AllFine, FirstProblem}
 use Rattle.sym_table.specs.Reading.{Row}
-use Rattle.sym_top.specs.Commands.{Asked, Command, Form, Join, Joins, Reduce, Reduces, ReadsRecords, command_of, file_rules, first_no, texts_of}
+use Rattle.sym_command.specs.Commands.{Asked, Command, Form, Join, Joins, Reduce, Reduces, ReadsRecords, command_of, file_rules, first_no, texts_of}
+use Rattle.sym_command.specs.Working.{IsWorkedOtherwise, run_otherwise, trace_otherwise, check_likewise, make_otherwise, map_otherwise, reduce_likewise, join_likewise, worked, DifferInWork}
 use Rattle.sym_top.specs.Ends.{End, Held, IsEnd, usage, no_program, problem, finished, run_problem, reduced, join_problem, runs_joined, script_of, files_of, whole_end, report_of, trace_report_of, groups_end}
 use Rattle.sym_top.specs.Programs.{Program, IsProgram, IsNoProgram}
-use Rattle.sym_top.specs.Working.{IsWorkedOtherwise, run_otherwise, trace_otherwise, check_likewise, make_otherwise, map_otherwise, reduce_likewise, join_likewise, worked, DifferInWork}
 
 -- The first command is the second worked otherwise as well.
 swapped : (command other : Command) → IsWorkedOtherwise command other → IsWorkedOtherwise other command

@@ -21,8 +21,8 @@ use Rattle.sym_reduce.specs.Reducing.{AreReduced, Pairs}
 use Rattle.sym_reduce.specs.Reducing as runs
 use Rattle.sym_run.specs.SavedRuns.{AreNumbered}
 use Rattle.sym_table.specs.Reading.{Row}
-use Rattle.sym_top.specs.Commands.{Asked, Command, Joins, Map, Maps, Reduces, Runs, command_of, file_rules, first_no, texts_of}
 use Rattle.sym_report.specs.Forms.{FormTexts}
+use Rattle.sym_command.specs.Commands.{Asked, Command, Joins, Map, Maps, Reduces, Runs, command_of, file_rules, first_no, texts_of}
 use Rattle.sym_top.specs.Ends.{End, Mapped, Held, IsEnd, usage, no_program, problem, finished, run_problem, reduced, join_problem, runs_joined, IsTextOf, IsWhole, nothing, report_in, said, summed, mapped, joined, files_of, groups_end, script_of, whole_end}
 use Rattle.sym_top.specs.Parts.{AreParts, IsPart, IsReportedApart}
 use Rattle.sym_top.specs.Parts as parts

@@ -32,35 +32,36 @@ use Rattle.sym_reduce.specs.Reducing.{HasFirstRunProblem, Pairs, ReducedAll, Sto
 use Rattle.sym_report.specs.Forms.{FormTexts, report_text}
 use Rattle.sym_report.specs.ReportRows.{heads_of, row_of, some_faulty}
 use Rattle.sym_table.specs.Reading.{Row}
-use Rattle.sym_top.specs.declared.refusal.Place.TheVariants as place
-use Rattle.sym_top.specs.declared.refusal.Refusal.{Refusal}
-use Rattle.sym_top.specs.declared.refusal.Refusal.TheVariants as refusal
-use Rattle.sym_top.specs.declared.status.Status.{Status}
-use Rattle.sym_top.specs.declared.status.Status.TheVariants as status
-use Rattle.sym_top.specs.declared.commands.Command.{Command as CommandRead}
 use Rattle.sym_trace.specs.TraceReports.{trace_heads, trace_rows}
 use Rattle.sym_trace.specs.Tracing.{IsTraceReport}
-use Rattle.sym_top.specs.Commands.{Runs, Traces, Checks, Makes, Maps, Reduces, Joins, FileNames, ReadsRecords, command_of, file_rules, first_no, name_at, names_of, shown_names, texts_of}
+use Rattle.sym_command.specs.declared.place.Place.TheVariants as place
+use Rattle.sym_command.specs.declared.commands.Command.{Command as CommandRead}
+use Rattle.sym_command.specs.Commands.{Runs, Traces, Checks, Makes, Maps, Reduces, Joins, FileNames, ReadsRecords, command_of, file_rules, first_no, name_at, names_of, shown_names, texts_of}
+use Rattle.sym_command.specs.declared.commands.Command.TheVariants as command
+use Rattle.sym_command.specs.declared.commands.Run.{Run as RunRead}
+use Rattle.sym_command.specs.declared.commands.Trace.{Trace as TraceRead}
+use Rattle.sym_command.specs.declared.commands.Check.{Check as CheckRead}
+use Rattle.sym_command.specs.declared.commands.Make.{Make as MakeRead}
+use Rattle.sym_command.specs.declared.commands.Map.{Map as MapRead}
+use Rattle.sym_command.specs.declared.commands.Reduce.{Reduce as ReduceRead}
+use Rattle.sym_command.specs.declared.commands.Join.{Join as JoinRead}
+use Rattle.sym_command.specs.Words.{command_seen, run_seen, trace_seen, check_seen, make_seen, map_seen, reduce_seen, join_seen}
+use Rattle.sym_message.specs.declared.refusal.Refusal.{Refusal}
+use Rattle.sym_message.specs.declared.refusal.Refusal.TheVariants as refusal
+use Rattle.sym_message.specs.declared.status.Status.{Status}
+use Rattle.sym_message.specs.declared.status.Status.TheVariants as status
+use Rattle.sym_message.specs.Messages.{headers_of, line_of}
+use Rattle.sym_message.specs.Refusals.{parse_refusal, check_refusal, read_refusal, pass_refusal, write_refusal}
+use Rattle.sym_message.specs.Summaries.{summary_text}
+use Rattle.sym_message.specs.Telling.{Sunk, HasPrefix, Failed, Short}
 use Rattle.sym_top.specs.Ends.{End, Held, IsWhole, status_of, IsTextOf, report_in, said, summed, mapped, usage, no_program, problem, finished, run_problem, reduced, join_problem, runs_joined, joined, Joined, script_of, files_of, group_rows, groups_end, report_of, trace_report_of, rows_of, rows_status, said_of, whole_end}
 use Rattle.sym_top.specs.Loading.{MayRefuse, Loads, Unloads, refused, unread, no_memory, Passed, StopsRecords, first, no_more, Reports, JoinsFiles, MapsFiles, StopsFiles, stops, ReportsRuns, StopsJoins, stops_joins, StopsRuns, stops_runs, Ready, Stops}
 use Rattle.sym_top.specs.Making.{made_file, made_script}
-use Rattle.sym_top.specs.Messages.{headers_of, line_of}
 use Rattle.sym_top.specs.Programs.{Program, IsProgram, IsNoProgram, checked_program, program_headers, headers_in}
 use Rattle.sym_top.specs.Programs as programs
 use Rattle.sym_top.specs.Promises.{Call, MayHold, MayScript, ReadFailed, IsStop, WriteFails, call_line, call_names, call_script}
 use Rattle.sym_top.specs.Promises as promise
-use Rattle.sym_top.specs.Refusals.{parse_refusal, check_refusal, read_refusal, pass_refusal, reduce_refusal, write_refusal}
-use Rattle.sym_top.specs.Summaries.{summary_text}
-use Rattle.sym_top.specs.declared.commands.Command.TheVariants as command
-use Rattle.sym_top.specs.declared.commands.Run.{Run as RunRead}
-use Rattle.sym_top.specs.declared.commands.Trace.{Trace as TraceRead}
-use Rattle.sym_top.specs.declared.commands.Check.{Check as CheckRead}
-use Rattle.sym_top.specs.declared.commands.Make.{Make as MakeRead}
-use Rattle.sym_top.specs.declared.commands.Map.{Map as MapRead}
-use Rattle.sym_top.specs.declared.commands.Reduce.{Reduce as ReduceRead}
-use Rattle.sym_top.specs.declared.commands.Join.{Join as JoinRead}
-use Rattle.sym_top.specs.Words.{command_seen, run_seen, trace_seen, check_seen, make_seen, map_seen, reduce_seen, join_seen}
-use Rattle.sym_top.specs.Telling.{Sunk, HasPrefix, Failed, Short}
+use Rattle.sym_top.specs.RunFileRefusals.{reduce_refusal}
 use Rattle.sym_top.proofs.ProgramsFound.{parsed-unparsed, program-found, none-found}
 
 -- ---- the script

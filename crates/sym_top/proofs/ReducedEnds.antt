@@ -13,12 +13,12 @@ use Rattle.sym_reduce.specs.declared.error.ReduceErr.{ReduceErr}
 use Rattle.sym_reduce.specs.Reducing.{AreReduced, FirstRunProblem, Pairs}
 use Rattle.sym_reduce.proofs.Found.{found as files_found}
 use Rattle.sym_reduce.proofs.Once.{first_once, no_problem, totals_once}
-use Rattle.sym_top.specs.declared.refusal.Refusal.{Refusal}
-use Rattle.sym_top.specs.Commands.{Asked, Command, Joins, ReadsRecords, Reduce, Reduces, command_of, file_rules, first_no, texts_of}
+use Rattle.sym_command.specs.Commands.{Asked, Command, Joins, ReadsRecords, Reduce, Reduces, command_of, file_rules, first_no, texts_of}
+use Rattle.sym_command.proofs.Bounds.{asked_few}
+use Rattle.sym_message.specs.declared.refusal.Refusal.{Refusal}
 use Rattle.sym_top.specs.Ends.{End, Refused, Held, IsEnd, usage, no_program, problem, finished, run_problem, reduced, join_problem, runs_joined, files_of, groups_end, script_of}
 use Rattle.sym_top.specs.Programs.{Program, IsProgram, program_in}
-use Rattle.sym_top.specs.Refusals.{reduce_refusal}
-use Rattle.sym_top.proofs.Bounds.{asked_few}
+use Rattle.sym_top.specs.RunFileRefusals.{reduce_refusal}
 use Rattle.sym_top.proofs.ProgramsFound.{program-found, none-found, Reading, reading}
 
 pub program-formed : (text : List ℕ) (program : Program) → IsProgram text program → IsWellFormed program.plan

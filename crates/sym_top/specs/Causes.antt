@@ -21,18 +21,18 @@ use Rattle.sym_reduce.specs.declared.error.ReduceErr.{ReduceErr}
 use Rattle.sym_reduce.specs.declared.error.ReduceErr.TheVariants as reduce_error
 use Rattle.sym_reduce.specs.Joining.{FirstJoinProblem}
 use Rattle.sym_reduce.specs.Reducing.{FirstRunProblem}
-use Rattle.sym_top.specs.declared.refusal.Place.{Place}
-use Rattle.sym_top.specs.declared.refusal.Place.TheVariants as place
-use Rattle.sym_top.specs.declared.refusal.Refusal.{Refusal}
-use Rattle.sym_top.specs.declared.refusal.Refusal.TheVariants as refusal
-use Rattle.sym_top.specs.declared.refusal.ScriptFault.TheVariants as fault
-use Rattle.sym_top.specs.declared.status.Status.{Status}
-use Rattle.sym_top.specs.declared.status.Status.TheVariants as status
-use Rattle.sym_top.specs.Commands.{Command, Join, Joins, Reduce, Reduces, command_of, file_rules, first_no}
+use Rattle.sym_command.specs.declared.place.Place.{Place}
+use Rattle.sym_command.specs.declared.place.Place.TheVariants as place
+use Rattle.sym_command.specs.Commands.{Command, Join, Joins, Reduce, Reduces, command_of, file_rules, first_no}
+use Rattle.sym_message.specs.declared.refusal.Refusal.{Refusal}
+use Rattle.sym_message.specs.declared.refusal.Refusal.TheVariants as refusal
+use Rattle.sym_message.specs.declared.refusal.ScriptFault.TheVariants as fault
+use Rattle.sym_message.specs.declared.status.Status.{Status}
+use Rattle.sym_message.specs.declared.status.Status.TheVariants as status
+use Rattle.sym_message.specs.Telling.{Sunk, Tells}
 use Rattle.sym_top.specs.Ends.{Held, files_of, script_of}
 use Rattle.sym_top.specs.Programs.{Program, IsProgram}
 use Rattle.sym_top.specs.Promises.{Call, HasReport, IsStop, IsUntouched, IsUsage, MayHold, ReadFailed, Told, WriteFails, call_line}
-use Rattle.sym_top.specs.Telling.{Sunk, Tells}
 
 -- ---- what is looked at
 

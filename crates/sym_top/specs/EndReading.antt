@@ -3,12 +3,12 @@ use Rattle.std.specs.Prelude.{ℕ, List, Option, None, Some, Result, Ok, Err}
 use Rattle.sym_base.specs.declared.values.record.Record.{Record}
 use Rattle.sym_files.specs.declared.error.PassErr.{PassErr}
 use Rattle.sym_files.specs.FirstProblems.{records_in}
-use Rattle.sym_top.specs.declared.refusal.Refusal.{Refusal}
-use Rattle.sym_top.specs.declared.refusal.Refusal.TheVariants as refusal
-use Rattle.sym_top.specs.Commands.{Asked, Command, command_of, file_rules, first_no}
+use Rattle.sym_command.specs.Commands.{Asked, Command, command_of, file_rules, first_no}
+use Rattle.sym_message.specs.declared.refusal.Refusal.{Refusal}
+use Rattle.sym_message.specs.declared.refusal.Refusal.TheVariants as refusal
+use Rattle.sym_message.specs.Refusals.{pass_refusal}
 use Rattle.sym_top.specs.Ends.{End, Refused, Held, script_of, files_of, whole_end}
 use Rattle.sym_top.specs.Programs.{Program, program_in}
-use Rattle.sym_top.specs.Refusals.{pass_refusal}
 
 abbrev pub files_end : Asked → Command → Program → Result (List Record) PassErr → End
 files_end asked command program (Ok records) = whole_end asked command program records

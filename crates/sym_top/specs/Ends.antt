@@ -15,18 +15,19 @@ use Rattle.sym_report.specs.ReportRows.{heads_of, row_of, some_faulty}
 use Rattle.sym_run.specs.declared.saved.Saved.{Saved}
 use Rattle.sym_report.specs.Forms.{FormTexts, report_text}
 use Rattle.sym_parse.specs.Printed.{script_text}
-use Rattle.sym_top.specs.declared.refusal.Refusal.{Refusal}
-use Rattle.sym_top.specs.declared.refusal.Refusal.TheVariants as refusal
-use Rattle.sym_top.specs.declared.status.Status.{Status}
-use Rattle.sym_top.specs.declared.status.Status.TheVariants as status
 use Rattle.sym_trace.specs.TraceReports.{trace_heads, trace_rows}
-use Rattle.sym_top.specs.Commands.{Asked, Command, Join, Reduce, Runs, Traces, Checks, Makes, Maps, Reduces, Joins, ReadsRecords, command_of, file_rules, first_no, texts_of}
-use Rattle.sym_top.specs.CheckLines.{check_line}
+use Rattle.sym_command.specs.Commands.{Asked, Command, Join, Reduce, Runs, Traces, Checks, Makes, Maps, Reduces, Joins, ReadsRecords, command_of, file_rules, first_no, texts_of}
+use Rattle.sym_message.specs.declared.refusal.Refusal.{Refusal}
+use Rattle.sym_message.specs.declared.refusal.Refusal.TheVariants as refusal
+use Rattle.sym_message.specs.declared.status.Status.{Status}
+use Rattle.sym_message.specs.declared.status.Status.TheVariants as status
+use Rattle.sym_message.specs.CheckLines.{check_line}
+use Rattle.sym_message.specs.Summaries.{summary_text}
+use Rattle.sym_message.specs.Refusals.{pass_refusal, status_of_refusal}
 use Rattle.sym_top.specs.Making.{made_file, made_script}
 use Rattle.sym_top.specs.Programs.{Program, IsProgram, IsNoProgram}
 use Rattle.sym_top.specs.SavedFiles.{IsJoined, IsMapped}
-use Rattle.sym_top.specs.Summaries.{summary_text}
-use Rattle.sym_top.specs.Refusals.{pass_refusal, reduce_refusal, status_of_refusal}
+use Rattle.sym_top.specs.RunFileRefusals.{reduce_refusal}
 
 -- How a call ends: refused for a cause; with a report, which is shown in this form and has these
 -- names and rows; with a text of a script; with the summary of so many records, which have these

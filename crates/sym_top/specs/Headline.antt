@@ -6,12 +6,12 @@ use Rattle.sym_files.specs.FileRecords.{rules_of}
 use Rattle.sym_files.specs.FirstProblems.{AllFine}
 use Rattle.sym_report.specs.Forms.{FormTexts, report_text}
 use Rattle.sym_report.specs.ReportRows.{heads_of}
-use Rattle.sym_top.specs.declared.status.Status.{Status}
-use Rattle.sym_top.specs.Commands.{Run, Runs, command_of}
+use Rattle.sym_command.specs.Commands.{Run, Runs, command_of}
+use Rattle.sym_message.specs.declared.status.Status.{Status}
+use Rattle.sym_message.specs.Telling.{Sunk, Has}
 use Rattle.sym_top.specs.Ends.{rows_of, rows_status}
 use Rattle.sym_top.specs.Programs.{Program, IsProgram}
 use Rattle.sym_top.specs.Promises.{Call, IsUntouched}
-use Rattle.sym_top.specs.Telling.{Sunk, Has}
 
 -- A call of `run` whose script and files are visible, whose script is accepted, and whose files have
 -- no problem.

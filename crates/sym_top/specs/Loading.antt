@@ -18,22 +18,23 @@ use Rattle.sym_reduce.specs.Joining.{AreRunFiles, StopsJoin}
 use Rattle.sym_reduce.specs.Reducing.{AreReduced, Pairs, StopsReduce}
 use Rattle.sym_run.specs.declared.saved.Saved.{Saved}
 use Rattle.sym_report.specs.Forms.{FormTexts}
-use Rattle.sym_top.specs.declared.refusal.Place.TheVariants as place
-use Rattle.sym_top.specs.declared.refusal.Refusal.{Refusal}
-use Rattle.sym_top.specs.declared.refusal.Refusal.TheVariants as refusal
-use Rattle.sym_top.specs.declared.status.Status.{Status}
-use Rattle.sym_top.specs.declared.status.Status.TheVariants as status
-use Rattle.sym_top.specs.declared.commands.Command.{Command as CommandRead}
+use Rattle.sym_command.specs.declared.place.Place.TheVariants as place
+use Rattle.sym_command.specs.declared.commands.Command.{Command as CommandRead}
+use Rattle.sym_command.specs.Commands.{FileNames, shown_names}
+use Rattle.sym_command.specs.Words.{command_seen}
+use Rattle.sym_message.specs.declared.refusal.Refusal.{Refusal}
+use Rattle.sym_message.specs.declared.refusal.Refusal.TheVariants as refusal
+use Rattle.sym_message.specs.declared.status.Status.{Status}
+use Rattle.sym_message.specs.declared.status.Status.TheVariants as status
+use Rattle.sym_message.specs.Messages.{headers_of, line_of}
+use Rattle.sym_message.specs.Refusals.{pass_refusal, status_of_refusal}
+use Rattle.sym_message.specs.Telling.{Sunk, Short}
 use Rattle.sym_top.specs.declared.load.Failure.{Failure}
-use Rattle.sym_top.specs.Commands.{FileNames, shown_names}
 use Rattle.sym_top.specs.Ends.{End, Held, IsTextOf, groups_end, status_of}
-use Rattle.sym_top.specs.Messages.{headers_of, line_of}
 use Rattle.sym_top.specs.Programs.{Program, IsProgram, IsNoProgram}
 use Rattle.sym_top.specs.Promises.{Call, MayHold, IsStop, IsUntouched, HasReport, Wrote, Refuses, IsUsage, IsReported, IsRefused, IsUnwritten, call_line}
-use Rattle.sym_top.specs.Refusals.{pass_refusal, reduce_refusal, status_of_refusal}
+use Rattle.sym_top.specs.RunFileRefusals.{reduce_refusal}
 use Rattle.sym_top.specs.SavedFiles.{IsJoined, IsMapped}
-use Rattle.sym_top.specs.Telling.{Sunk, Short}
-use Rattle.sym_top.specs.Words.{command_seen}
 
 -- A text that isn't too large is refused for its own sake, or memory ran out.
 abbrev pub MayRefuse : List ℕ → Refusal → Type 0
@@ -54,11 +55,6 @@ pub data Unloads (told : Option (List ℕ)) (before after : ℕ) : Refusal → T
       → Unloads told before after why
   unread : Rose before after → Unloads told before after (refusal.Read place.Script)
   no_memory : Unloads told before after refusal.NoMemory
-
--- At most one item, as a list.
-abbrev pub listed : {A : Type 0} → Option A → List A
-listed None = []
-listed (Some x) = x ∷ []
 
 -- The groups are those of one sequential pass over the records of these files.
 pub record Passed (program : Program) (rules : FileRules) (files : List (List ℕ))

@@ -10,17 +10,17 @@ use Rattle.sym_watched.specs.Partials.{ToldAll, ToldUntil, WatchedFiles, watched
 use Rattle.sym_files.specs.Passing.{Counts, Holds, May, StopsPass}
 use Rattle.sym_table.specs.Reading.{Row as FileRow}
 use Rattle.sym_watch.specs.Logs.{Log}
-use Rattle.sym_top.specs.declared.commands.Run.{Run as RunRead}
+use Rattle.sym_command.specs.declared.commands.Run.{Run as RunRead}
+use Rattle.sym_command.specs.Commands.{Command, Run, Runs, Traces, Checks, Makes, Maps, Reduces, Joins, command_of, file_rules}
+use Rattle.sym_command.specs.Words.{run_seen}
+use Rattle.sym_message.specs.declared.refusal.Refusal.{Refusal}
+use Rattle.sym_message.specs.declared.status.Status.{Status}
+use Rattle.sym_message.specs.declared.status.Status.TheVariants as status
+use Rattle.sym_message.specs.Refusals.{pass_refusal, status_of_refusal}
 use Rattle.sym_top.specs.declared.load.Failure.{Failure}
-use Rattle.sym_top.specs.declared.refusal.Refusal.{Refusal}
-use Rattle.sym_top.specs.declared.status.Status.{Status}
-use Rattle.sym_top.specs.declared.status.Status.TheVariants as status
-use Rattle.sym_top.specs.Commands.{Command, Run, Runs, Traces, Checks, Makes, Maps, Reduces, Joins, command_of, file_rules}
 use Rattle.sym_top.specs.Loading.{Loads, Unloads}
 use Rattle.sym_top.specs.Programs.{Program}
 use Rattle.sym_top.specs.Promises.{Call}
-use Rattle.sym_top.specs.Refusals.{pass_refusal, status_of_refusal}
-use Rattle.sym_top.specs.Words.{run_seen}
 
 -- The logs of a call's observers, in order, before it and after it.
 pub record Logs : Type 0 where

@@ -9,8 +9,8 @@ use Rattle.sym_reduce.specs.Reducing.{IsRunFile}
 use Rattle.sym_run.specs.SavedRuns.{SavedStandsFor}
 use Rattle.sym_run.specs.declared.saved.Saved.{Saved}
 use Rattle.sym_table.specs.Reading.{Row}
-use Rattle.sym_top.specs.declared.status.Status.TheVariants as status
-use Rattle.sym_top.specs.Commands.{Asked, Join, Joins, Map, Maps, Reduce, Reduces, Run, Runs, command_of, file_rules, texts_of}
+use Rattle.sym_command.specs.Commands.{Asked, Join, Joins, Map, Maps, Reduce, Reduces, Run, Runs, command_of, file_rules, texts_of}
+use Rattle.sym_message.specs.declared.status.Status.TheVariants as status
 use Rattle.sym_top.specs.Ends.{Held}
 use Rattle.sym_top.specs.Programs.{Program, IsProgram}
 use Rattle.sym_top.specs.Promises.{HasReport}

@@ -14,11 +14,11 @@ use Rattle.sym_check.specs.Plan.ScriptPlans.{ScriptPlan}
 use Rattle.sym_check.specs.Rules.Scripts.{IsAccepted, BreaksScript, plan_of}
 use Rattle.sym_check.specs.declared.checked.accepted.Checked.{Checked}
 use Rattle.sym_check.specs.declared.elaborate.error.CheckErr.{CheckErr}
-use Rattle.sym_top.specs.declared.refusal.Place.TheVariants as place
-use Rattle.sym_top.specs.declared.refusal.Refusal.{Refusal}
-use Rattle.sym_top.specs.declared.refusal.Refusal.TheVariants as refusal
-use Rattle.sym_top.specs.Messages.{headers_of}
-use Rattle.sym_top.specs.Refusals.{parse_refusal, check_refusal}
+use Rattle.sym_command.specs.declared.place.Place.TheVariants as place
+use Rattle.sym_message.specs.declared.refusal.Refusal.{Refusal}
+use Rattle.sym_message.specs.declared.refusal.Refusal.TheVariants as refusal
+use Rattle.sym_message.specs.Messages.{headers_of}
+use Rattle.sym_message.specs.Refusals.{parse_refusal, check_refusal}
 
 -- A script with its plan.
 pub record Program : Type 0 where

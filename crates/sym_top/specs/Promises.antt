@@ -11,18 +11,18 @@ use Rattle.sym_run.specs.declared.saved.Saved.{Saved}
 use Rattle.sym_files.specs.Passing.{Holds, Counts, May, MayAll}
 use Rattle.sym_report.specs.Forms.{FormTexts}
 use Rattle.sym_table.specs.Reading.{Row as FileRow}
-use Rattle.sym_top.specs.declared.refusal.Place.{Place}
-use Rattle.sym_top.specs.declared.refusal.Place.TheVariants as place
-use Rattle.sym_top.specs.declared.refusal.Refusal.{Refusal}
-use Rattle.sym_top.specs.declared.refusal.Refusal.TheVariants as refusal
-use Rattle.sym_top.specs.declared.status.Status.{Status}
-use Rattle.sym_top.specs.declared.status.Status.TheVariants as status
-use Rattle.sym_top.specs.Commands.{Asked, Command, FileNames, ReadsRecords, Join, Joins, Reduce, Reduces, asks, command_of, file_rules, first_no, forms_of, name_at, names_of, shown_names}
+use Rattle.sym_command.specs.declared.place.Place.{Place}
+use Rattle.sym_command.specs.declared.place.Place.TheVariants as place
+use Rattle.sym_command.specs.Commands.{Asked, Command, FileNames, ReadsRecords, Join, Joins, Reduce, Reduces, asks, command_of, file_rules, first_no, forms_of, name_at, names_of, shown_names}
+use Rattle.sym_message.specs.declared.refusal.Refusal.{Refusal}
+use Rattle.sym_message.specs.declared.refusal.Refusal.TheVariants as refusal
+use Rattle.sym_message.specs.declared.status.Status.{Status}
+use Rattle.sym_message.specs.declared.status.Status.TheVariants as status
+use Rattle.sym_message.specs.Messages.{line_of}
+use Rattle.sym_message.specs.Refusals.{status_of_refusal}
+use Rattle.sym_message.specs.Telling.{Sunk, Has, HasPrefix, Failed, Short, Tells}
 use Rattle.sym_top.specs.Ends.{End, Refused, Held, IsEnd, IsTextOf, IsWhole, script_of, status_of}
-use Rattle.sym_top.specs.Messages.{line_of}
 use Rattle.sym_top.specs.Programs.{Program, IsProgram, headers_in}
-use Rattle.sym_top.specs.Refusals.{status_of_refusal}
-use Rattle.sym_top.specs.Telling.{Sunk, Has, HasPrefix, Failed, Short, Tells}
 
 -- A call: what it is asked, what the store tells, and how many reads of each name have failed
 -- before and after it.

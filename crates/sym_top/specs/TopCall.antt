@@ -1,12 +1,12 @@
 -- What the top call promises: what its status says of its sinks, and what it leaves as it was.
 use Rattle.std.specs.Prelude.{◌≡◌, ◌⊎◌}
-use Rattle.sym_top.specs.declared.status.Status.{Status}
-use Rattle.sym_top.specs.declared.status.Status.TheVariants as status
+use Rattle.sym_message.specs.declared.status.Status.{Status}
+use Rattle.sym_message.specs.declared.status.Status.TheVariants as status
+use Rattle.sym_message.specs.Telling.{Short, Sunk}
 use Rattle.sym_top.specs.Causes.{RefusalsHaveCauses}
 use Rattle.sym_top.specs.Ends.{End, Held, IsEnd}
 use Rattle.sym_top.specs.Observers.{IsUnwatched}
 use Rattle.sym_top.specs.Promises.{Answers, Call, IsRefused, IsReported, IsUnwritten, IsUsage, MustReport, Refuses, Told, Unless, Wrote}
-use Rattle.sym_top.specs.Telling.{Short, Sunk}
 
 -- A call that ended with this status, with what it wrote to `out` and to `err`.
 pub record IsCarriedOut (call : Call) (out err : Sunk) (result : Status) : Type 0 where

@@ -1,18 +1,16 @@
 //! The end of a command: its text is written, or a line tells why there is none.
 ghost use Rattle.std.specs.Prelude.{◌≡◌, ◌⊎◌, MatchResult, IfOk, OnOk, IfErr};
+ghost use Rattle.sym_message.specs.Messages.{headers_of};
+ghost use Rattle.sym_message.specs.Refusals.{status_of_refusal};
+ghost use Rattle.sym_message.specs.Telling.{Has, Later, Short, Tells, sunk};
 ghost use Rattle.sym_top.specs.Loading.{MayEnd, Ready, Says, Stops, failure_line, known_headers};
-ghost use Rattle.sym_top.specs.Messages.{headers_of};
 ghost use Rattle.sym_top.specs.Promises.{Call, WriteFails, IsReported, IsUnwritten};
-ghost use Rattle.sym_top.specs.Refusals.{status_of_refusal};
-ghost use Rattle.sym_top.specs.Telling.{Has, Later, Short, Tells, sunk};
 
-use crate::commands::shown_names;
 use crate::load::Failure;
-use crate::message::tell;
-use crate::refusal::{Refusal, write_refusal};
-use crate::status::Status;
 use sym_base::{Sink, write_all};
 use sym_check::{Checked, FieldPlan};
+use sym_command::shown_names;
+use sym_message::{Refusal, Status, tell, write_refusal};
 
 // Writes a report's text.
 fn write_report<O: Sink>(out: &mut O, text: &[u8]) -> Result<(), Refusal>

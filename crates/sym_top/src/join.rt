@@ -2,21 +2,21 @@
 ghost use Rattle.std.specs.Prelude.{◌≡◌, ◌≤◌, ℕ, List, Some, map, IfOk, IfErr};
 ghost use Rattle.std.specs.String.{string_bytes};
 ghost use Rattle.sym_base.specs.declared.limits.TheConstants as limits;
-ghost use Rattle.sym_top.specs.Commands.{Asked, Joins, command_of};
+ghost use Rattle.sym_command.specs.Commands.{Asked, Joins, command_of};
+ghost use Rattle.sym_command.specs.Words.{join_seen, IsJoin};
 ghost use Rattle.sym_top.specs.Loading.{JoinsFiles, Ready, Stops, StopsJoins};
 ghost use Rattle.sym_top.specs.Programs.{checked_program};
 ghost use Rattle.sym_top.specs.Promises.{call_of};
-ghost use Rattle.sym_top.specs.Words.{join_seen, IsJoin};
 
-use crate::commands::{Command, Join};
 use crate::load::{Failure, load_script};
-use crate::refusal::{Refusal, reduce_refusal};
-use crate::status::Status;
+use crate::run_file_refusal::reduce_refusal;
 use std::alloc::Global;
 use std::thread::Threads;
 use sym_base::Store;
 use sym_check::Checked;
+use sym_command::{Command, Join};
 use sym_file::write_saved;
+use sym_message::{Refusal, Status};
 use sym_reduce::join_files;
 
 /// The text of the join, by the limit, of the saved runs of the files of these names, in order.

@@ -1,11 +1,11 @@
 //! Laws of the definitions that contracts cite.
 ghost use Rattle.std.specs.Prelude.{◌≡◌, ◌↔◌, ℕ, List, [], ◌∷◌};
-ghost use Rattle.sym_top.specs.Commands.{Asked, ReadsNoRuns, command_of};
+ghost use Rattle.sym_command.specs.Commands.{Asked, ReadsNoRuns, command_of};
+ghost use Rattle.sym_command.specs.Working.{DifferInWork};
 ghost use Rattle.sym_top.specs.Ends.{End, Held, IsEnd, IsWhole};
 ghost use Rattle.sym_top.specs.EndReading.{end_of};
 ghost use Rattle.sym_top.specs.Parts.{IsJoinOfTexts, IsReportedApart, IsReportedInOne, IsReportedJoined};
 ghost use Rattle.sym_top.specs.Programs.{Program};
-ghost use Rattle.sym_top.specs.Working.{DifferInWork};
 
 /// Each call has one end. That of a call whose files have records is the one that the function finds.
 pub fn ends_are_found()

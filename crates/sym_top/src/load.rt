@@ -4,11 +4,11 @@ ghost use Rattle.sym_base.specs.declared.limits.TheConstants as limit;
 ghost use Rattle.sym_top.specs.Loading.{MayRefuse, Loads, Unloads};
 ghost use Rattle.sym_top.specs.Programs.{IsProgram, checked_program};
 
-use crate::commands::Command;
-use crate::refusal::{Place, Refusal, check_refusal, parse_refusal, read_refusal};
 use std::alloc::Global;
 use sym_base::{SCRIPT_MAX, Store, read_all};
 use sym_check::{Checked, check};
+use sym_command::{Command, Place};
+use sym_message::{Refusal, check_refusal, parse_refusal, read_refusal};
 use sym_parse::parse;
 
 /// Why a call stops before it writes, with the command, where the arguments are those of one, and

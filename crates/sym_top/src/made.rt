@@ -4,26 +4,23 @@ ghost use Rattle.std.specs.String.{string_bytes};
 ghost use Rattle.sym_base.specs.InMemory.{visible_bytes};
 ghost use Rattle.sym_files.specs.FileRecords.{rules_of};
 ghost use Rattle.sym_files.specs.Options.{InRange};
-ghost use Rattle.sym_top.specs.Commands.{Makes, command_of};
+ghost use Rattle.sym_command.specs.Commands.{Makes, command_of};
+ghost use Rattle.sym_command.specs.Words.{make_seen};
 ghost use Rattle.sym_top.specs.Loading.{Passed, StopsRecords, Ready, Stops};
 ghost use Rattle.sym_top.specs.Making.{made_file as made_file_of};
 ghost use Rattle.sym_top.specs.Programs.{checked_program};
 ghost use Rattle.sym_top.specs.Promises.{Call, IsReported};
-ghost use Rattle.sym_top.specs.Words.{make_seen};
 
-use crate::arguments::MADE_NAME;
-use crate::commands::{Command, Make};
 use crate::load::{Failure, accept};
 use crate::make::{made_file, made_script};
-use crate::refusal::{Refusal, pass_refusal};
-use crate::report::Report;
-use crate::summary::summary;
 use std::alloc::Global;
 use std::sync::Wait;
 use std::thread::Threads;
 use sym_base::{NoMemory, SureStore};
 use sym_check::Checked;
+use sym_command::{Command, MADE_NAME, Make};
 use sym_engine::{Gate, pass};
+use sym_message::{Refusal, Report, pass_refusal, summary};
 use sym_plain::Groups;
 
 // A store with the log.

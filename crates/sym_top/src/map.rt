@@ -4,24 +4,22 @@ ghost use Rattle.std.specs.String.{string_bytes};
 ghost use Rattle.sym_base.specs.declared.limits.TheConstants as limit;
 ghost use Rattle.sym_files.specs.FileRecords.{rules_of};
 ghost use Rattle.sym_files.specs.Options.{InRange};
-ghost use Rattle.sym_top.specs.Commands.{Asked, Maps, command_of};
+ghost use Rattle.sym_command.specs.Commands.{Asked, Maps, command_of};
+ghost use Rattle.sym_command.specs.Words.{map_seen, IsMap};
 ghost use Rattle.sym_top.specs.Loading.{MapsFiles, Ready, Stops, StopsFiles};
 ghost use Rattle.sym_top.specs.Programs.{checked_program};
 ghost use Rattle.sym_top.specs.Promises.{call_of};
-ghost use Rattle.sym_top.specs.Words.{map_seen, IsMap};
 
-use crate::arguments::FIRST_MAX;
-use crate::commands::{Command, Map};
 use crate::load::{Failure, load_script};
-use crate::refusal::{Refusal, pass_refusal};
-use crate::status::Status;
 use std::alloc::Global;
 use std::sync::Wait;
 use std::thread::Threads;
 use sym_base::Store;
 use sym_check::Checked;
+use sym_command::{Command, FIRST_MAX, Map};
 use sym_engine::{Gate, Options, summarise};
 use sym_file::write_saved;
+use sym_message::{Refusal, Status, pass_refusal};
 
 /// The text of the saved run of the records of the files of these names, in order, numbered from
 /// `first` on, which are cut and worked on by the options, through the gate.

@@ -1,25 +1,23 @@
 //! Everything of a command but the writing.
 ghost use Rattle.std.specs.Prelude.{◌≡◌, ◌≤◌, ℕ, true, false, List, [], Some, IfOk, IfErr};
-ghost use Rattle.sym_top.specs.Commands.{Asked, Runs, Checks, command_of, texts_of};
+ghost use Rattle.sym_command.specs.Commands.{Asked, Runs, Checks, command_of, texts_of};
+ghost use Rattle.sym_command.specs.Words.{run_seen, check_seen, IsRun};
 ghost use Rattle.sym_top.specs.Ends.{said_of};
 ghost use Rattle.sym_top.specs.Loading.{Ready, Stops};
 ghost use Rattle.sym_top.specs.Observers.{AreToldBefore, logs_of};
 ghost use Rattle.sym_top.specs.Programs.{checked_program};
 ghost use Rattle.sym_top.specs.Promises.{call_of, IsReported};
-ghost use Rattle.sym_top.specs.Words.{run_seen, check_seen, IsRun};
 
-use crate::check_line::check_line;
-use crate::commands::{Check, Command, Run};
 use crate::load::{Failure, load_script};
-use crate::refusal::Refusal;
 use crate::report::report_run;
-use crate::status::Status;
 use std::alloc::Global;
 use std::sync::Wait;
 use std::thread::Threads;
 use sym_base::{NoMemory, Store};
 use sym_check::Checked;
+use sym_command::{Check, Command, Run};
 use sym_engine::Gate;
+use sym_message::{Refusal, Status, check_line};
 use sym_parse::print;
 use sym_report::ReportForm;
 use sym_watch::Observer;

@@ -2,20 +2,19 @@
 ghost use Rattle.std.specs.Prelude.{◌≡◌, ◌≤◌, ℕ, List, [], Some, map, IfOk, IfErr, length};
 ghost use Rattle.std.specs.String.{string_bytes};
 ghost use Rattle.sym_base.specs.declared.limits.TheConstants as limit;
-ghost use Rattle.sym_top.specs.Commands.{Asked, Reduces, command_of, texts_of};
+ghost use Rattle.sym_command.specs.Commands.{Asked, Reduces, command_of, texts_of};
+ghost use Rattle.sym_command.specs.Words.{reduce_seen, IsReduce};
 ghost use Rattle.sym_top.specs.Loading.{Ready, ReportsRuns, Stops, StopsRuns};
 ghost use Rattle.sym_top.specs.Programs.{checked_program};
 ghost use Rattle.sym_top.specs.Promises.{call_of, IsReported};
-ghost use Rattle.sym_top.specs.Words.{reduce_seen, IsReduce};
 
-use crate::commands::{Command, Reduce};
 use crate::load::{Failure, load_script};
-use crate::refusal::{Refusal, reduce_refusal};
-use crate::report::report_status;
-use crate::status::Status;
+use crate::run_file_refusal::reduce_refusal;
 use std::alloc::Global;
 use sym_base::Store;
 use sym_check::Checked;
+use sym_command::{Command, Reduce};
+use sym_message::{Refusal, Status, report_status};
 use sym_reduce::reduce_files;
 use sym_report::{ReportForm, write_report};
 

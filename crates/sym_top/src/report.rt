@@ -1,47 +1,28 @@
 //! What is written of the groups of a pass.
-ghost use Rattle.std.specs.Prelude.{◌≡◌, ◌≤◌, ℕ, true, false, List, [], map, IfOk, IfErr, OnOk, if◌then◌else◌};
+ghost use Rattle.std.specs.Prelude.{◌≡◌, ◌≤◌, ℕ, true, false, List, [], map, IfOk, IfErr, OnOk};
 ghost use Rattle.std.specs.String.{string_bytes};
 ghost use Rattle.sym_files.specs.FileRecords.{rules_of};
 ghost use Rattle.sym_watched.specs.Partials.{ToldAll, ToldUntil};
 ghost use Rattle.sym_passes.specs.Passed.{PassedAll};
 ghost use Rattle.sym_files.specs.Passing.{StopsPass};
+ghost use Rattle.sym_command.specs.Words.{IsRun};
 ghost use Rattle.sym_top.specs.Ends.{report_of};
 ghost use Rattle.sym_top.specs.Loading.{Reports, StopsFiles};
 ghost use Rattle.sym_top.specs.Observers.{StopsTold, logs_of, watched_by};
 ghost use Rattle.sym_top.specs.Programs.{checked_program};
 ghost use Rattle.sym_top.specs.Promises.{IsReported};
-ghost use Rattle.sym_top.specs.Words.{IsRun};
 
-use crate::commands::Run;
-use crate::refusal::{Refusal, pass_refusal};
-use crate::status::Status;
 use std::alloc::Global;
 use std::sync::Wait;
 use std::thread::Threads;
 use sym_base::Store;
 use sym_check::Checked;
+use sym_command::Run;
 use sym_engine::{Gate, PassErr, pass, pass_watched};
+use sym_message::{Refusal, Status, pass_refusal, report_status};
 use sym_plain::Groups;
 use sym_report::{ReportForm, write_report};
 use sym_watch::Observer;
-
-/// A text, and the status with which it is written.
-#[derive(Drop)]
-pub struct Report {
-    pub text: Vec<u8>,
-    pub status: Status,
-}
-
-/// A report is Faulted where a row is.
-pub fn report_status(faulty: bool) -> Status
-    ensures { result ≡ (if faulty then Status.Faulted else Status.Done) }
-{
-    if faulty {
-        Status::Faulted
-    } else {
-        Status::Done
-    }
-}
 
 // The groups of a script over the records of the run's files, in order, which are cut and worked on
 // by its options, through the gate. The observers are told of partials where the run is watched.

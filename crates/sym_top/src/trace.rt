@@ -2,22 +2,20 @@
 ghost use Rattle.std.specs.Prelude.{◌≡◌, ◌≤◌, ℕ, List, [], Some, IfOk, IfErr};
 ghost use Rattle.std.specs.List.{All};
 ghost use Rattle.sym_table.specs.Reading.{Row as FileRow};
-ghost use Rattle.sym_top.specs.Commands.{Asked, Traces, command_in, command_of, texts_of};
+ghost use Rattle.sym_command.specs.Commands.{Asked, Traces, command_in, command_of, texts_of};
+ghost use Rattle.sym_command.specs.Words.{trace_seen, IsTrace};
+ghost use Rattle.sym_message.specs.Telling.{Later, sunk};
 ghost use Rattle.sym_top.specs.Loading.{ComesTo, Ready, Stops};
 ghost use Rattle.sym_top.specs.Promises.{call_of, call_with, IsReported};
-ghost use Rattle.sym_top.specs.Telling.{Later, sunk};
-ghost use Rattle.sym_top.specs.Words.{trace_seen, IsTrace};
 
-use crate::commands::{Command, Trace};
 use crate::ends::{finish, refuse};
 use crate::load::{Failure, load_script, no_command};
-use crate::refusal::{Refusal, pass_refusal};
-use crate::report::report_status;
-use crate::status::Status;
 use std::alloc::Global;
 use std::sync::Wait;
 use std::thread::Threads;
 use sym_base::{Sink, Store};
+use sym_command::{Command, Trace};
+use sym_message::{Refusal, Status, pass_refusal, report_status};
 use sym_report::{ReportForm, choose, report_bytes};
 use sym_trace::trace_files;
 

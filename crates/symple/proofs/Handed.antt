@@ -2,7 +2,7 @@
 use Rattle.std.proofs.Common.{◌≡◌, ◌∙◌, ℕ, List, [], ◌∷◌, refl, ap}
 use Rattle.std.specs.List.{AllZip}
 use Rattle.sym_report.specs.Forms.{FormTexts}
-use Rattle.sym_top.specs.Commands.{Form, forms_of}
+use Rattle.sym_command.specs.Commands.{Form, forms_of}
 
 module _ {F : Type 0} (named : F → List ℕ) (texts : F → FormTexts) where
   abbrev IsForm : F → Form → Type 0

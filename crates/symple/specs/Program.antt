@@ -6,14 +6,14 @@ use Rattle.std.specs.declared.string.String.{String}
 use Rattle.sym_report.specs.Csvs.{csv_form}
 use Rattle.sym_report.specs.Pairs.{pairs_form}
 use Rattle.sym_report.specs.Tables.{table_form}
-use Rattle.sym_top.specs.declared.refusal.StartErr.{StartErr}
-use Rattle.sym_top.specs.declared.status.Status.{Status}
-use Rattle.sym_top.specs.declared.status.Status.TheVariants as status
-use Rattle.sym_top.specs.Commands.{Form, asks, shown_names}
-use Rattle.sym_top.specs.Messages.{line_of}
+use Rattle.sym_command.specs.Commands.{Form, asks, shown_names}
+use Rattle.sym_message.specs.declared.refusal.StartErr.{StartErr}
+use Rattle.sym_message.specs.declared.status.Status.{Status}
+use Rattle.sym_message.specs.declared.status.Status.TheVariants as status
+use Rattle.sym_message.specs.Messages.{line_of}
+use Rattle.sym_message.specs.Refusals.{start_refusal, status_of_refusal}
+use Rattle.sym_message.specs.Telling.{Sunk, Tells, sunk}
 use Rattle.sym_top.specs.Promises.{Call, IsReported, IsUnwritten, IsUsage, Refuses, Wrote, call_of}
-use Rattle.sym_top.specs.Refusals.{start_refusal, status_of_refusal}
-use Rattle.sym_top.specs.Telling.{Sunk, Tells, sunk}
 use Rattle.symple.specs.Counting.{Disk, Stream}
 
 -- The forms of reports that the program has, in this order.

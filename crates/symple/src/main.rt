@@ -4,9 +4,9 @@
 ghost use Rattle.std.specs.Prelude.{◌≡◌, ◌⊎◌, [], IfOk, OnErr};
 ghost use Rattle.std.specs.List.{All, AllZip};
 ghost use Rattle.std.specs.Process.{exit_status};
+ghost use Rattle.sym_message.specs.Statuses.{exit_number};
 ghost use Rattle.sym_top.specs.Observers.{IsUnwatched};
 ghost use Rattle.sym_top.specs.Promises.{IsRefused, IsReported, IsUnwritten};
-ghost use Rattle.sym_top.specs.Statuses.{exit_number};
 ghost use Rattle.sym_top.specs.TopCall.{IsCarriedOut};
 ghost use Rattle.symple.specs.Program.{LeavesAll, NotBegun, RefusesSome, WroteSome, called_with, program_forms, streamed};
 

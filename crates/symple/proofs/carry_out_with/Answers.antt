@@ -1,9 +1,9 @@
 use Rattle.std.proofs.Common.{◌≡◌, ◌≤◌, ◌⊎◌, inl, inr, List, None, map, subst, arith}
 use Rattle.std.specs.String.{string_bytes}
-use Rattle.sym_top.specs.Commands.{Form, asks}
+use Rattle.sym_command.specs.Commands.{Form, asks}
+use Rattle.sym_message.specs.Telling.{Short}
 use Rattle.sym_top.specs.Observers.{IsUnwatched}
 use Rattle.sym_top.specs.Promises.{call_of}
-use Rattle.sym_top.specs.Telling.{Short}
 use Rattle.sym_top.specs.TopCall.{IsCarriedOut}
 use Rattle.symple.specs.Counting.{Stream}
 use Rattle.symple.specs.Program.{LeavesAll, program_forms, streamed}

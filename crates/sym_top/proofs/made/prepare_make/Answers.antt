@@ -1,5 +1,5 @@
 use Rattle.std.proofs.Common.{Some, sym, subst}
-use Rattle.sym_top.specs.declared.commands.Command.TheVariants as command
+use Rattle.sym_command.specs.declared.commands.Command.TheVariants as command
 use Rattle.sym_top.specs.Loading.{MayRefuse}
 use Rattle.sym_top.specs.Programs.{IsProgram, checked_program}
 use Rattle.sym_top.specs.Promises.{IsReported}

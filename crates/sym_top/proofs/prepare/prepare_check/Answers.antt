@@ -1,6 +1,6 @@
+use Rattle.sym_command.specs.declared.commands.Command.TheVariants as command
 use Rattle.sym_top.specs.Programs.{checked_program}
 use Rattle.sym_top.proofs.Preparing.{check-load-stops, check-ready, memory-out}
-use Rattle.sym_top.specs.declared.commands.Command.TheVariants as command
 use Rattle.std.proofs.Common.{Some}
 use Rattle.sym_top.proofs.prepare.prepare_check.Goals as goal
 

@@ -1,11 +1,11 @@
 use Rattle.std.proofs.Common.{ap, sym, subst, map, refl}
 use Rattle.std.specs.String.{string_bytes}
 use Rattle.sym_files.specs.FileRecords.{rules_of}
+use Rattle.sym_command.specs.Words.{run_seen}
 use Rattle.sym_top.specs.Ends.{report_of}
 use Rattle.sym_top.specs.Loading.{StopsFiles}
 use Rattle.sym_top.specs.Observers.{at_script}
 use Rattle.sym_top.specs.Programs.{checked_program}
-use Rattle.sym_top.specs.Words.{run_seen}
 use Rattle.sym_top.proofs.Observed.{stops_along, told_all, told_along, told_to}
 use Rattle.sym_top.proofs.Preparing.{reports-along, run-load-stops, run-ready, run-files-stop}
 use Rattle.sym_top.proofs.prepare.prepare_run.Goals as goal

@@ -1,9 +1,9 @@
 use Rattle.std.proofs.Common.{◌∙◌, Some, refl, sym, ap, subst, option_map}
+use Rattle.sym_command.specs.Words.{command_seen}
+use Rattle.sym_command.proofs.Handed.{read-asked}
+use Rattle.sym_message.specs.Refusals.{status_of_refusal}
 use Rattle.sym_top.specs.Loading.{Stops}
-use Rattle.sym_top.specs.Refusals.{status_of_refusal}
-use Rattle.sym_top.specs.Words.{command_seen}
 use Rattle.sym_top.proofs.Consequences.{stop-comes}
-use Rattle.sym_top.proofs.Handed.{read-asked}
 use Rattle.sym_top.proofs.Observed.{memory_told, unwatched_told}
 use Rattle.sym_top.proofs.Preparing.{usage-stops, memory-stops}
 use Rattle.sym_top.proofs.top.run.Goals as goal

@@ -1,8 +1,8 @@
 use Rattle.std.proofs.Common.{◌≡◌, [], ap, map, refl, sym, subst}
+use Rattle.sym_command.specs.Words.{run_seen}
+use Rattle.sym_command.proofs.Handed.{chosen-all, run-handed, run-unhanded, texts-named}
 use Rattle.sym_top.specs.Loading.{Stops}
-use Rattle.sym_top.specs.Words.{run_seen}
 use Rattle.sym_top.proofs.Consequences.{made-match, some-comes, stop-comes}
-use Rattle.sym_top.proofs.Handed.{chosen-all, run-handed, run-unhanded, texts-named}
 use Rattle.sym_top.proofs.Observed.{no_command_told, run_told, run_unwatched}
 use Rattle.sym_top.proofs.Preparing.{usage-stops}
 use Rattle.sym_top.proofs.top.run_files.Goals as goal

@@ -1,8 +1,8 @@
 use Rattle.std.proofs.Common.{◌≡◌, [], refl, sym, subst}
+use Rattle.sym_command.specs.Words.{reduce_seen}
+use Rattle.sym_command.proofs.Handed.{chosen-all, reduce-handed, reduce-unhanded, texts-named}
 use Rattle.sym_top.specs.Loading.{Stops}
-use Rattle.sym_top.specs.Words.{reduce_seen}
 use Rattle.sym_top.proofs.Consequences.{made-match, some-comes, stop-comes}
-use Rattle.sym_top.proofs.Handed.{chosen-all, reduce-handed, reduce-unhanded, texts-named}
 use Rattle.sym_top.proofs.Preparing.{usage-stops}
 use Rattle.sym_top.proofs.top.run_reduce.Goals as goal
 

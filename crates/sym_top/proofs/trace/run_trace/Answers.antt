@@ -1,8 +1,8 @@
 use Rattle.std.proofs.Common.{◌≡◌, [], refl, sym, subst}
+use Rattle.sym_command.specs.Words.{trace_seen}
+use Rattle.sym_command.proofs.Handed.{chosen-all, texts-named, trace-handed, trace-unhanded}
 use Rattle.sym_top.specs.Loading.{Ready, Stops}
-use Rattle.sym_top.specs.Words.{trace_seen}
 use Rattle.sym_top.proofs.Consequences.{some-comes, stop-comes}
-use Rattle.sym_top.proofs.Handed.{chosen-all, texts-named, trace-handed, trace-unhanded}
 use Rattle.sym_top.proofs.Preparing.{usage-stops}
 use Rattle.sym_top.proofs.trace.run_trace.Goals as goal
 

@@ -1,0 +1,14 @@
+use Rattle.std.proofs.Common.{ap, ◌∙◌}
+use Rattle.std.proofs.lemmas.Result.{IfOk-weaker}
+use Rattle.clap.specs.Words.{with_rule}
+use Rattle.sym_command.specs.declared.arguments.TheConstants as own
+use Rattle.sym_command.specs.CommandLines.{option_rule, word_rule, words_rule, join_app}
+use Rattle.sym_command.proofs.command_lines.join_command.Goals as goal
+
+pub returns : goal.returns
+unfolding join_app
+returns c =
+    let limited = c.in_ok-limited.ensures ∙ ap (λ app. with_rule app (option_rule own.LIMIT_NAME.now)) c.bare_command.ensures in
+    let sized = c.in_ok-sized.ensures ∙ ap (λ app. with_rule app (option_rule own.MAX_BYTES_NAME.now)) limited in
+    let scripted = c.in_ok-scripted.ensures ∙ ap (λ app. with_rule app (word_rule own.SCRIPT_NAME.now)) sized in
+    IfOk-weaker c.with_words.result _ _ (λ made is. is ∙ ap (λ app. with_rule app (words_rule own.FILES_NAME.now)) scripted) c.with_words.ensures

@@ -1,0 +1,16 @@
+use Rattle.std.proofs.Common.{ap, ◌∙◌}
+use Rattle.std.proofs.lemmas.Result.{IfOk-weaker}
+use Rattle.clap.specs.Words.{with_rule}
+use Rattle.sym_command.specs.declared.arguments.TheConstants as own
+use Rattle.sym_command.specs.CommandLines.{option_rule, word_rule, words_rule, with_pass_options, trace_app}
+use Rattle.sym_command.proofs.command_lines.trace_command.Goals as goal
+
+pub returns : goal.returns
+unfolding trace_app
+returns c =
+    let formed = c.in_ok-formed.ensures ∙ ap (λ app. with_rule app (option_rule own.FORM_NAME.now)) c.bare_command.ensures in
+    let numbered = c.in_ok-numbered.ensures ∙ ap (λ app. with_rule app (option_rule own.EVERY_NAME.now)) formed in
+    let optional = c.in_ok-optional.ensures ∙ ap with_pass_options numbered in
+    let sized = c.in_ok-sized.ensures ∙ ap (λ app. with_rule app (option_rule own.MAX_BYTES_NAME.now)) optional in
+    let scripted = c.in_ok-scripted.ensures ∙ ap (λ app. with_rule app (word_rule own.SCRIPT_NAME.now)) sized in
+    IfOk-weaker c.with_words.result _ _ (λ made is. is ∙ ap (λ app. with_rule app (words_rule own.FILES_NAME.now)) scripted) c.with_words.ensures

@@ -1,0 +1,5 @@
+pub mod CommandLines
+pub mod Commands
+pub mod Numbers
+pub mod Words
+pub mod Working

@@ -1,0 +1,5 @@
+mod MessageExamples
+pub mod Rows
+mod SummaryExamples
+pub mod TellingLemmas
+pub mod TotalsMore

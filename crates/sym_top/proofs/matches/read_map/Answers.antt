@@ -1,9 +1,0 @@
-use Rattle.std.proofs.Common.{ap, arith, length}
-use Rattle.std.proofs.lemmas.List.{length-map}
-use Rattle.sym_top.proofs.matches.read_map.Goals as goal
-
-pub returns-clause-range : goal.returns-clause-range
-returns-clause-range c =
-    let same = simp length-map at (ap length c.in_ok-copy_names.ensures) in
-    let few = c.in-Some-read_files.ensures.few in
-    record { some = c.in-Some.ensures.least; first = c.in-Some.ensures.most; range = c.in-Some-read_run_options.ensures.range; few = omega arith }

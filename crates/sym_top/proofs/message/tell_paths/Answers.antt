@@ -1,7 +1,0 @@
-use Rattle.std.proofs.Common.{append_assoc}
-use Rattle.sym_top.proofs.TellingLemmas.{told-along}
-use Rattle.sym_top.proofs.message.tell_paths.Goals as goal
-
-pub returns-clause-told : goal.returns-clause-told
-returns-clause-told g c =
-    told-along _ _ _ c.write_pieces.ensures.told (simp (c.format-count.ensures.text, append_assoc))

@@ -1,7 +1,0 @@
-use Rattle.std.proofs.Common.{◌∙◌, ap}
-use Rattle.clap.specs.Faults.{is_simple_and_free}
-use Rattle.sym_top.proofs.Matching.{trace-free}
-use Rattle.sym_top.proofs.words.read_trace_words.Goals as goal
-
-pub find_matches-requires : goal.find_matches-requires
-find_matches-requires c = ap is_simple_and_free c.in_ok-command.ensures ∙ trace-free
