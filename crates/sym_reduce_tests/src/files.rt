@@ -1,15 +1,16 @@
 //! Files of saved runs under a checked script, in order.
-use crate::calls::{all_hold, store_of};
-use crate::scripts::{
-    COUNTER, CUT_OFF, ENDS, FROM_ONE, KEPT, LATER_FROM_ONE, MORE_USERS, NONE, NOT_FIVE, SET, SIXTH,
-    THREE, TWO, USERS,
-};
+use crate::setting::{all_hold, names_of, store_of};
 use std::alloc::Global;
 use std::test::Fail;
 use sym_base::{Cell, Key, MemStore, NoMemory, Outcome, Value};
-use sym_check::{Checked, check};
+use sym_check::Checked;
 use sym_file::Totals;
-use sym_parse::parse;
+use sym_given::accepted;
+use sym_given::saved::{
+    CUT_OFF, ENDS, FROM_ONE, KEPT, LATER_FROM_ONE, MORE_USERS, NONE, NOT_FIVE, SET, SIXTH, THREE,
+    TWO, USERS,
+};
+use sym_given::scripts::COUNTER;
 use sym_reduce::{ReduceErr, reduce_files};
 
 /// How a group stands.
@@ -51,25 +52,6 @@ const FILES: [(&str, &str); 12] = [
     ("not five", NOT_FIVE),
     ("empty", ""),
 ];
-
-fn names_of(alloc: Global, given: &[&'static str]) -> Result<Vec<String>, NoMemory> {
-    let mut names = Vec::new(alloc);
-    'names: for name in given {
-        names.push(String::from_str(alloc, name)?)?;
-    }
-    Ok(names)
-}
-
-/// The script of a text; `None` if the text is refused.
-pub(crate) fn accepted(alloc: Global, text: &str) -> Option<Checked> {
-    if text.len() >= 10_000 {
-        return None;
-    }
-    match parse(alloc, text.as_bytes()) {
-        Ok(script) => check(alloc, script).ok(),
-        Err(_) => None,
-    }
-}
 
 fn word_of(key: &Key) -> &str {
     match key.values.get(0) {
@@ -132,7 +114,7 @@ fn reduced_is(
 
 fn holds_by(alloc: Global, checked: &Checked, row: &Row) -> Result<bool, NoMemory> {
     let names = names_of(alloc, row.1)?;
-    let mut files = store_of(alloc, "", &FILES)?;
+    let mut files = store_of(alloc, &FILES)?;
     files.fail_at(alloc, row.3)?;
     Ok(reduced_is(alloc, checked, &mut files, names.as_slice(), row))
 }

@@ -1,18 +1,18 @@
 //! Run files joined under a checked script, in order: the text of what they come to, or the first
 //! problem.
-use crate::calls::{all_hold, store_of, words_of};
-use crate::files::accepted;
-use crate::scripts::{
-    A_TWICE, AFTER_KEY_LINE, ALL_LINES, ALL_USERS, CUT_OFF, FIVE, KEPT, KEY_LINE, LINES,
-    MORE_CUT_OFF, MORE_LINES, MORE_USERS, NONE, PUSHED, SET, SIX, SIXTH, THREE, TURNED, TWO, USERS,
-    WITH_KEY_LINE,
-};
+use crate::setting::{all_hold, names_of, store_of};
 use std::alloc::Global;
 use std::test::Fail;
 use std::thread::Threads;
 use sym_base::{MemStore, NoMemory};
 use sym_check::Checked;
 use sym_file::write_saved;
+use sym_given::accepted;
+use sym_given::saved::{
+    A_TWICE, AFTER_KEY_LINE, ALL_LINES, ALL_USERS, CUT_OFF, FIVE, KEPT, KEY_LINE, LINES,
+    MORE_CUT_OFF, MORE_LINES, MORE_USERS, NONE, PUSHED, SET, SIX, SIXTH, THREE, TURNED, TWO, USERS,
+    WITH_KEY_LINE,
+};
 use sym_reduce::{ReduceErr, join_files};
 
 /// What files come to: the text of their saved run, or why there is none.
@@ -87,8 +87,8 @@ fn holds_by<T: Threads + Sync>(
     checked: &Checked,
     row: &Row,
 ) -> Result<bool, NoMemory> {
-    let names = words_of(alloc, row.1)?;
-    let mut files = store_of(alloc, "", &FILES)?;
+    let names = names_of(alloc, row.1)?;
+    let mut files = store_of(alloc, &FILES)?;
     files.fail_at(alloc, row.3)?;
     Ok(joined_is(rt, alloc, checked, &mut files, names.as_slice(), row))
 }

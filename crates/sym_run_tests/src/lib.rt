@@ -1,40 +1,19 @@
-//! Tests of runs over files: rows, passes, groups and whole runs, over the public calls of
-//! `sym_plain`, `sym_table`, `sym_run`, `sym_engine` and `sym_top`.
+//! Tests of chains and runs, over the public calls of `sym_run`.
 #![tactic(auto)]
 
 #[cfg(test)]
-mod agreement;
+mod beside;
 #[cfg(test)]
-mod commands;
+mod chains;
 #[cfg(test)]
-mod copies;
+mod kept;
 #[cfg(test)]
-mod drawn;
+mod logs;
 #[cfg(test)]
-mod files;
+mod orders;
 #[cfg(test)]
-mod hostile;
+mod setting;
 #[cfg(test)]
-mod marks;
+mod stretches;
 #[cfg(test)]
-mod passes;
-#[cfg(test)]
-mod plain;
-#[cfg(test)]
-mod rounds;
-#[cfg(test)]
-mod runs;
-#[cfg(test)]
-mod scripts;
-#[cfg(test)]
-mod summaries;
-#[cfg(test)]
-mod traces;
-#[cfg(test)]
-mod walk;
-#[cfg(test)]
-mod words;
-#[cfg(test)]
-mod worked;
-#[cfg(test)]
-mod working;
+mod texts;

@@ -1,0 +1,12 @@
+//! Tests of the sequential pass, of copies and of expressions, over the public calls of `sym_plain`
+//! and `sym_check`.
+#![tactic(auto)]
+
+#[cfg(test)]
+mod copies;
+#[cfg(test)]
+mod plain;
+#[cfg(test)]
+mod rows;
+#[cfg(test)]
+mod walk;

@@ -1,0 +1,37 @@
+//! Files in memory and their names, and rows of tables.
+use std::alloc::Global;
+use std::process::Abort;
+use std::test::Fail;
+use sym_base::{MemStore, NoMemory};
+
+/// The names of files.
+pub(crate) fn names_of(alloc: Global, given: &[&'static str]) -> Result<Vec<String>, NoMemory> {
+    let mut names = Vec::new(alloc);
+    'names: for name in given {
+        names.push(String::from_str(alloc, name)?)?;
+    }
+    Ok(names)
+}
+
+/// A store of files, each with its name and its text.
+pub(crate) fn store_of(
+    alloc: Global,
+    files: &[(&'static str, &'static str)],
+) -> Result<MemStore, NoMemory> {
+    let mut store = MemStore::new(alloc);
+    'files: for file in files {
+        store.add(alloc, file.0, file.1.as_bytes())?;
+    }
+    Ok(store)
+}
+
+/// Fails the test at the row of this place, counted from 0.
+pub(crate) fn all_hold(
+    rt: &impl Abort,
+    wrong: Result<Option<usize>, NoMemory>,
+) -> Result<(), Fail> {
+    if let Some(place) = wrong? {
+        panic!(rt; "row {place}");
+    }
+    Ok(())
+}
