@@ -9,9 +9,10 @@ use std::alloc::Global;
 use std::process::Abort;
 use std::test::Fail;
 use sym_base::NoMemory;
-use sym_check::{Checked, check};
+use sym_check::Checked;
 use sym_file::{SavedErr, Taken, TakenText, Totals, read_saved, write_saved};
-use sym_parse::{parse, print};
+use sym_given::accepted;
+use sym_parse::print;
 use sym_run::Saved;
 
 /// A test under a script.
@@ -19,17 +20,6 @@ pub(crate) trait Case {
     fn script(&self) -> &str;
 
     fn holds(&self, alloc: Global, checked: &Checked) -> Result<bool, NoMemory>;
-}
-
-/// The script of a text; `None` if the text is refused.
-pub(crate) fn accepted(alloc: Global, text: &str) -> Option<Checked> {
-    if text.len() >= 10_000 {
-        return None;
-    }
-    match parse(alloc, text.as_bytes()) {
-        Ok(script) => check(alloc, script).ok(),
-        Err(_) => None,
-    }
 }
 
 fn case_holds<C: Case>(alloc: Global, case: &C) -> Result<bool, NoMemory> {

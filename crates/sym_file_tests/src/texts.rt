@@ -1,11 +1,12 @@
 //! Texts of saved runs, and texts that are none: of each text a part is replaced.
 use crate::scripts::{KEPT, SESSIONS, TOGGLE, WORDS};
-use crate::setting::{Answer, accepted, answer_of, file_of};
+use crate::setting::{Answer, answer_of, file_of};
 use std::alloc::Global;
 use std::process::Abort;
 use std::test::Fail;
 use sym_base::NoMemory;
 use sym_check::Checked;
+use sym_given::accepted;
 
 /// A part of a text that stands there once, what takes its place, and whether that is read.
 struct Edit(&'static str, &'static str, bool);

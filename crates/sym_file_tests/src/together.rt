@@ -4,13 +4,14 @@ ghost use Rattle.std.specs.List.{All};
 ghost use Rattle.sym_base.specs.declared.limits.TheConstants as limit;
 
 use crate::scripts::{RISING, WORDS};
-use crate::setting::{accepted, file_of};
+use crate::setting::file_of;
 use std::alloc::Global;
 use std::test::Fail;
 use std::thread::Threads;
 use sym_base::NoMemory;
 use sym_check::Checked;
 use sym_file::{join_texts, write_saved};
+use sym_given::accepted;
 
 /// Texts, after the script, and what they come to.
 #[derive(Drop)]

@@ -3,12 +3,13 @@ ghost use Rattle.sym_check.specs.Checking.CheckedScripts.{checked_plan};
 ghost use Rattle.sym_check.specs.Meaning.Validity.{IsRecord};
 
 use crate::comparing::{fits, record};
-use crate::setting::{accepted, all_hold, number, path_of, span};
+use crate::setting::{all_hold, number, path_of, span};
 use std::alloc::Global;
 use std::test::Fail;
 use sym_base::{NoMemory, Record};
 use sym_check::Checked;
 use sym_explore::{Grown, extend, fresh};
+use sym_given::accepted;
 use sym_path::{Form, Part, Path, Segment};
 
 /// A path of n from the first number to the second one. There n becomes `a * n + b` of the last two

@@ -5,7 +5,7 @@ ghost use Rattle.sym_check.specs.Meaning.Validity.{IsRecord, IsValid, IsValidOut
 ghost use Rattle.sym_path.specs.Fitting.{SegmentFits};
 ghost use Rattle.sym_table.specs.Rows.{FitsHeader};
 
-use crate::setting::{accepted, number, state_by};
+use crate::setting::{number, state_by};
 use std::alloc::Global;
 use sym_base::{
     Cell, Fault, FaultKind, NoMemory, Outcome, Record, Sequence, State, Text, Value, Values,
@@ -15,6 +15,7 @@ use sym_enum::EnumForm;
 use sym_explore::{
     Extension, Grown, Scratch, extend, extend_within, fresh, fresh_with, grow, grow_with,
 };
+use sym_given::accepted;
 use sym_path::{Form, Path, PathEnd, Segment};
 use sym_plain::step;
 use sym_pred::HoldForm;

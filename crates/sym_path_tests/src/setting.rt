@@ -8,27 +8,16 @@ use std::alloc::Global;
 use std::process::Abort;
 use std::test::Fail;
 use sym_base::{NoMemory, Outcome, Sequence, State};
+use sym_check::Checked;
 use sym_check::laws::plans::well_formed_plans_keep_states_valid;
-use sym_check::{Checked, check};
+use sym_given::accepted;
 use sym_int::{IntForm, Line, Number, Span};
-use sym_parse::parse;
 use sym_path::{Form, Part, Path, PathEnd, follow, join_paths, joinable, possible};
 use sym_plain::initial;
 
 /// A row of a table: whether what it says holds under a checked script.
 pub(crate) trait Row {
     fn holds(&self, alloc: Global, checked: &Checked) -> Result<bool, NoMemory>;
-}
-
-/// The script of a text; `None` if the text is refused.
-pub(crate) fn accepted(alloc: Global, text: &str) -> Option<Checked> {
-    if text.len() >= 10_000 {
-        return None;
-    }
-    match parse(alloc, text.as_bytes()) {
-        Ok(script) => check(alloc, script).ok(),
-        Err(_) => None,
-    }
 }
 
 // The place of the first row that doesn't hold, counted from 0.

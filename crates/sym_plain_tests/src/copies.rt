@@ -1,9 +1,9 @@
 //! A copy of a checked script, against the script.
-use crate::rows::{Row, check_rows};
 use std::alloc::Global;
 use std::test::Fail;
 use sym_base::{Fields, NoMemory, Outcome, Record, State, Text, Value};
 use sym_check::Checked;
+use sym_given::{Row, bytes_differ, check_rows, difference, outcome_text};
 use sym_parse::print;
 use sym_plain::{columns, initial, step};
 
@@ -45,47 +45,67 @@ fn after(alloc: Global, checked: &Checked, x: i64) -> Result<Outcome, NoMemory> 
     step(alloc, checked, initial(alloc, checked)?, &rec)
 }
 
-// Whether the states are equal, and their columns.
-fn same_columns(
+// How the columns of the copy's state differ.
+fn columns_differ(
     alloc: Global,
     checked: &Checked,
     copied: &Checked,
     state: &State,
     other: &State,
-) -> Result<bool, NoMemory> {
-    let shown = columns(alloc, checked, state)?;
-    Ok(state == other && columns(alloc, copied, other)? == shown)
+) -> Result<Option<String>, NoMemory> {
+    let wanted = columns(alloc, checked, state)?;
+    if columns(alloc, copied, other)? != wanted {
+        return Ok(Some(String::from_str(
+            alloc,
+            "found other columns, wanted those of the script",
+        )?));
+    }
+    Ok(None)
 }
 
-// Whether both go on, and the same is shown of both.
-fn same_outcome(
+// How the copy's outcome differs, or what is shown of it.
+fn outcome_differs(
     alloc: Global,
     checked: &Checked,
     copied: &Checked,
-    outcome: &Outcome,
-    other: &Outcome,
-) -> Result<bool, NoMemory> {
-    match (outcome, other) {
-        (Outcome::Going(state), Outcome::Going(same)) => {
-            same_columns(alloc, checked, copied, state, same)
+    wanted: &Outcome,
+    found: &Outcome,
+) -> Result<Option<String>, NoMemory> {
+    let wanted_text = outcome_text(alloc, wanted)?;
+    let told = difference(alloc, &outcome_text(alloc, found)?, &wanted_text)?;
+    match (wanted, found) {
+        (Outcome::Going(state), Outcome::Going(same)) if told.is_none() => {
+            columns_differ(alloc, checked, copied, state, same)
         }
-        _ => Ok(false),
+        _ => Ok(told),
     }
 }
 
-fn same_after(
+fn state_differs(
     alloc: Global,
     checked: &Checked,
     copied: &Checked,
     x: i64,
-) -> Result<bool, NoMemory> {
+) -> Result<Option<String>, NoMemory> {
     let outcome = after(alloc, checked, x)?;
-    same_outcome(alloc, checked, copied, &outcome, &after(alloc, copied, x)?)
+    outcome_differs(alloc, checked, copied, &outcome, &after(alloc, copied, x)?)
 }
 
-fn same_text(alloc: Global, checked: &Checked, copied: &Checked) -> Result<bool, NoMemory> {
+fn text_differs(
+    alloc: Global,
+    checked: &Checked,
+    copied: &Checked,
+) -> Result<Option<String>, NoMemory> {
+    let told = difference(alloc, &copied.path_bound(), &checked.path_bound())?;
+    if told.is_some() {
+        return Ok(told);
+    }
     let text = print(alloc, checked.script())?;
-    Ok(print(alloc, copied.script())? == text)
+    bytes_differ(
+        alloc,
+        print(alloc, copied.script())?.as_slice(),
+        text.as_slice(),
+    )
 }
 
 /// What is the same of a script and of its copy.
@@ -97,25 +117,23 @@ enum Same {
 }
 
 impl Row for Same {
-    fn holds(&self, alloc: Global, checked: &Checked) -> Result<bool, NoMemory> {
+    fn differs(&self, alloc: Global, checked: &Checked) -> Result<Option<String>, NoMemory> {
         let copied = checked.copy(alloc)?;
         match self {
-            Same::Text => Ok(
-                copied.path_bound() == checked.path_bound() && same_text(alloc, checked, &copied)?,
-            ),
-            Same::State(x) => same_after(alloc, checked, &copied, *x),
+            Same::Text => text_differs(alloc, checked, &copied),
+            Same::State(x) => state_differs(alloc, checked, &copied, *x),
         }
     }
 }
 
 #[test]
 fn a_copied_script_is_printed_and_bounded_as_the_script(rt: HostRuntime) -> Result<(), Fail> {
-    check_rows(&rt, rt.alloc(), SCRIPT, &[Same::Text])
+    check_rows(rt.alloc(), SCRIPT, &[Same::Text])
 }
 
 const STATES: [Same; 3] = [Same::State(-3), Same::State(-1), Same::State(2)];
 
 #[test]
 fn a_copied_script_runs_as_the_script(rt: HostRuntime) -> Result<(), Fail> {
-    check_rows(&rt, rt.alloc(), SCRIPT, &STATES)
+    check_rows(rt.alloc(), SCRIPT, &STATES)
 }

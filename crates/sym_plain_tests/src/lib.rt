@@ -7,6 +7,4 @@ mod copies;
 #[cfg(test)]
 mod plain;
 #[cfg(test)]
-mod rows;
-#[cfg(test)]
 mod walk;

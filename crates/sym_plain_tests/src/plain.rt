@@ -1,12 +1,12 @@
 //! What expressions and tests stand for, and the plain step, over a script that was read and
 //! checked.
-use crate::rows::{Row, check_rows};
 use std::alloc::Global;
 use std::test::Fail;
 use sym_base::{Fields, NUM_MAX, NoMemory, Outcome, Record, Text, Value, Values};
 use sym_check::{
     ArithOp, Checked, Fixed, FixedValue, Line, Num, Pair, WordOf, fixed, number, pair, test,
 };
+use sym_given::{Row, check_rows, difference};
 use sym_plain::{initial, step};
 
 // A sum for each name, in a range.
@@ -33,19 +33,23 @@ fn quotient(alloc: Global, divisor: i64) -> Result<Fixed, NoMemory> {
     Ok(Fixed::Num(Num::Bin(ArithOp::Div, field, divisor)))
 }
 
-fn is_word(value: &FixedValue, word: &str) -> bool {
-    match value {
-        FixedValue::Is(Value::Word(text)) => text.as_str() == word,
-        _ => false,
-    }
+// A value beside the one that is wanted; with `None` none, since its arithmetic fails.
+fn value_differs(
+    alloc: Global,
+    found: FixedValue,
+    wanted: Option<Value>,
+) -> Result<Option<String>, NoMemory> {
+    let found = match found {
+        FixedValue::Is(value) => Some(value),
+        FixedValue::Arith => None,
+    };
+    difference(alloc, &found, &wanted)
 }
 
-// Whether the value is this number, or with `None` none, since its arithmetic fails.
-fn is_number(value: &FixedValue, wanted: Option<i64>) -> bool {
-    match value {
-        FixedValue::Is(Value::Num(found)) => wanted == Some(*found),
-        FixedValue::Is(_) => false,
-        FixedValue::Arith => wanted.is_none(),
+fn number_value(wanted: Option<i64>) -> Option<Value> {
+    match wanted {
+        Some(number) => Some(Value::Num(number)),
+        None => None,
     }
 }
 
@@ -72,51 +76,55 @@ enum Asked {
     Step(i64, Option<i64>),
 }
 
-fn word_is(alloc: Global, checked: &Checked, word: &str) -> Result<bool, NoMemory> {
+fn word_differs(alloc: Global, checked: &Checked, word: &str) -> Result<Option<String>, NoMemory> {
     let found = value(alloc, checked, &Fixed::Word(WordOf::Field(1)))?;
-    Ok(is_word(&found, word))
+    let wanted = Value::Word(Text::from_str(alloc, word)?);
+    value_differs(alloc, found, Some(wanted))
 }
 
-fn quotient_is(
+fn quotient_differs(
     alloc: Global,
     checked: &Checked,
     divisor: i64,
     wanted: Option<i64>,
-) -> Result<bool, NoMemory> {
+) -> Result<Option<String>, NoMemory> {
     let expression = quotient(alloc, divisor)?;
-    Ok(is_number(&value(alloc, checked, &expression)?, wanted))
+    let found = value(alloc, checked, &expression)?;
+    value_differs(alloc, found, number_value(wanted))
 }
 
 impl Row for Asked {
-    fn holds(&self, alloc: Global, checked: &Checked) -> Result<bool, NoMemory> {
+    fn differs(&self, alloc: Global, checked: &Checked) -> Result<Option<String>, NoMemory> {
         match self {
-            Asked::Word(word) => word_is(alloc, checked, word),
-            Asked::Quotient(divisor, wanted) => quotient_is(alloc, checked, *divisor, *wanted),
-            Asked::Step(x, wanted) => Ok(sum_after(alloc, checked, *x)? == *wanted),
+            Asked::Word(word) => word_differs(alloc, checked, word),
+            Asked::Quotient(divisor, wanted) => {
+                quotient_differs(alloc, checked, *divisor, *wanted)
+            }
+            Asked::Step(x, wanted) => difference(alloc, &sum_after(alloc, checked, *x)?, wanted),
         }
     }
 }
 
 #[test]
 fn a_fixed_word_has_its_field(rt: HostRuntime) -> Result<(), Fail> {
-    check_rows(&rt, rt.alloc(), SUMS, &[Asked::Word("ann")])
+    check_rows(rt.alloc(), SUMS, &[Asked::Word("ann")])
 }
 
 #[test]
 fn a_quotient_is_rounded_towards_zero(rt: HostRuntime) -> Result<(), Fail> {
-    check_rows(&rt, rt.alloc(), SUMS, &[Asked::Quotient(2, Some(-3))])
+    check_rows(rt.alloc(), SUMS, &[Asked::Quotient(2, Some(-3))])
 }
 
 #[test]
 fn a_zero_divisor_has_no_value(rt: HostRuntime) -> Result<(), Fail> {
-    check_rows(&rt, rt.alloc(), SUMS, &[Asked::Quotient(0, None)])
+    check_rows(rt.alloc(), SUMS, &[Asked::Quotient(0, None)])
 }
 
 const STEPS: [Asked; 2] = [Asked::Step(2, Some(3)), Asked::Step(9, None)];
 
 #[test]
 fn a_step_changes_the_state_or_ends_the_group(rt: HostRuntime) -> Result<(), Fail> {
-    check_rows(&rt, rt.alloc(), SUMS, &STEPS)
+    check_rows(rt.alloc(), SUMS, &STEPS)
 }
 
 // Two fields that are numbers, and tests of two numbers.
@@ -184,16 +192,16 @@ fn number_at(
     Ok(number(checked, &expression, rec, &Values::new(alloc)).ok())
 }
 
-fn fixed_is(
+fn fixed_differs(
     alloc: Global,
     checked: &Checked,
     operator: ArithOp,
     rec: &Record,
     wanted: Option<i64>,
-) -> Result<bool, NoMemory> {
+) -> Result<Option<String>, NoMemory> {
     let expression = Fixed::Num(calculated(alloc, operator)?);
     let found = fixed(alloc, checked, &expression, rec, &Values::new(alloc))?;
-    Ok(is_number(&found, wanted))
+    value_differs(alloc, found, number_value(wanted))
 }
 
 fn pair_at(
@@ -206,40 +214,52 @@ fn pair_at(
     Ok(pair(checked, &line, rec, &Values::new(alloc)).ok())
 }
 
-// Whether the pair of the cell 4 has this number twice.
-fn is_pair(found: Option<Pair>, wanted: Option<i64>) -> bool {
-    match (found, wanted) {
-        (Some(pair), Some(number)) => pair.cell == 4 && pair.a == number && pair.b == number,
-        (None, None) => true,
-        (Some(_), None) | (None, Some(_)) => false,
+// The pair of the cell 4 that has this number twice.
+fn twice(wanted: Option<i64>) -> Option<Pair> {
+    match wanted {
+        Some(number) => Some(Pair {
+            cell: 4,
+            a: number,
+            b: number,
+        }),
+        None => None,
     }
 }
 
-// Whether the number, the value and the pair of an expression, by the three calls, are as wanted.
-fn all_are(
+// The number, the value and the pair of an expression, by the three calls: the first that isn't as
+// wanted.
+fn first_differs(
     alloc: Global,
     checked: &Checked,
     operator: ArithOp,
     rec: &Record,
     wanted: Option<i64>,
-) -> Result<bool, NoMemory> {
-    Ok(
-        number_at(alloc, checked, operator, rec)? == wanted
-            && fixed_is(alloc, checked, operator, rec, wanted)?
-            && is_pair(pair_at(alloc, checked, operator, rec)?, wanted),
+) -> Result<Option<String>, NoMemory> {
+    let told = difference(alloc, &number_at(alloc, checked, operator, rec)?, &wanted)?;
+    if told.is_some() {
+        return Ok(told);
+    }
+    let told = fixed_differs(alloc, checked, operator, rec, wanted)?;
+    if told.is_some() {
+        return Ok(told);
+    }
+    difference(
+        alloc,
+        &pair_at(alloc, checked, operator, rec)?,
+        &twice(wanted),
     )
 }
 
 impl Row for Operation {
-    fn holds(&self, alloc: Global, checked: &Checked) -> Result<bool, NoMemory> {
+    fn differs(&self, alloc: Global, checked: &Checked) -> Result<Option<String>, NoMemory> {
         let Operation(operator, x, y, wanted) = self;
-        all_are(alloc, checked, *operator, &two(alloc, *x, *y)?, *wanted)
+        first_differs(alloc, checked, *operator, &two(alloc, *x, *y)?, *wanted)
     }
 }
 
 #[test]
 fn numbers_values_and_pairs_keep_the_range(rt: HostRuntime) -> Result<(), Fail> {
-    check_rows(&rt, rt.alloc(), CALLED, &CALCULATED)
+    check_rows(rt.alloc(), CALLED, &CALCULATED)
 }
 
 /// The number of a test, the part of a hold cell, the argument, and the answer.
@@ -261,14 +281,15 @@ const ANSWERS: [Answer; 12] = [
 ];
 
 impl Row for Answer {
-    fn holds(&self, alloc: Global, checked: &Checked) -> Result<bool, NoMemory> {
+    fn differs(&self, alloc: Global, checked: &Checked) -> Result<Option<String>, NoMemory> {
         let Answer(id, part, argument, wanted) = self;
         let parts = one(alloc, *part)?;
-        Ok(test(checked, *id, &parts, &one(alloc, *argument)?) == *wanted)
+        let found = test(checked, *id, &parts, &one(alloc, *argument)?);
+        difference(alloc, &found, wanted)
     }
 }
 
 #[test]
 fn a_test_is_false_where_its_arithmetic_fails(rt: HostRuntime) -> Result<(), Fail> {
-    check_rows(&rt, rt.alloc(), CALLED, &ANSWERS)
+    check_rows(rt.alloc(), CALLED, &ANSWERS)
 }

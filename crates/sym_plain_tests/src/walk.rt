@@ -3,11 +3,11 @@ ghost use Rattle.std.specs.Prelude.{◌≡◌, false, None, IfOk};
 ghost use Rattle.std.specs.Map.{lookup};
 ghost use Rattle.sym_check.specs.Meaning.Groups.{is_key};
 
-use crate::rows::{Row, all_hold, check_rows};
 use std::alloc::Global;
 use std::test::Fail;
 use sym_base::{Fault, FaultKind, Fields, Key, NoMemory, Outcome, Record, Text, Value, Values};
 use sym_check::Checked;
+use sym_given::{Row, all_hold, check_rows, difference, group_text, told_at};
 use sym_plain::{Groups, fold, fold_into, initial, key_into, key_of, step};
 
 // A sum for each name, in a range.
@@ -31,7 +31,7 @@ const MOVES: [(i64, &str); 11] = [
 ];
 
 /// How a sum stands.
-#[derive(Clone, Copy, PartialEq, Eq)]
+#[derive(Clone, Copy, Debug, PartialEq, Eq)]
 enum Standing {
     Is(i64),
     /// It left the range at the record of this number.
@@ -98,18 +98,46 @@ fn is_group(groups: &Groups, place: usize, who: &str, standing: Standing) -> boo
     }
 }
 
-// Whether the groups are those of a plain walk: the names in order of their first record.
-fn is_walk(groups: &Groups, moves: &[(i64, &'static str)]) -> bool {
+// The group at a place.
+fn line_at(alloc: Global, groups: &Groups, place: usize) -> Result<String, NoMemory> {
+    match groups.at(place) {
+        Some((key, outcome)) => group_text(alloc, key, outcome),
+        None => Ok(String::from_str(alloc, "no group")?),
+    }
+}
+
+// How the group at this place differs from the one that is wanted.
+fn group_differs(
+    alloc: Global,
+    groups: &Groups,
+    place: usize,
+    who: &str,
+    standing: Standing,
+) -> Result<Option<String>, NoMemory> {
+    if is_group(groups, place, who, standing) {
+        return Ok(None);
+    }
+    let found = line_at(alloc, groups, place)?;
+    Ok(Some(format!(in alloc; "group {place}: found {found}, wanted {who:?}: {standing:?}")?))
+}
+
+// How the groups differ from those of a plain walk: the names in order of their first record.
+fn walk_differs(
+    alloc: Global,
+    groups: &Groups,
+    moves: &[(i64, &'static str)],
+) -> Result<Option<String>, NoMemory> {
     let mut place = 0usize;
     'moves: for (at, (_, who)) in moves.iter().enumerate() {
         if is_new(&moves[..at], who) {
-            if !is_group(groups, place, who, walk(moves, who)) {
-                return false;
+            let told = group_differs(alloc, groups, place, who, walk(moves, who))?;
+            if told.is_some() {
+                return Ok(told);
             }
             place = place.wrapping_add(1);
         }
     }
-    groups.len() == place
+    difference(alloc, &groups.len(), &place)
 }
 
 fn record(alloc: Global, no: u64, x: i64, who: &str) -> Result<Record, NoMemory> {
@@ -242,83 +270,89 @@ fn fold_copied(
     Ok(Folded { before, after })
 }
 
+// How the groups before a record or after it differ from those of a plain walk.
+fn folded_differs(
+    alloc: Global,
+    folded: &Folded,
+    earlier: &[(i64, &'static str)],
+    moves: &[(i64, &'static str)],
+) -> Result<Option<String>, NoMemory> {
+    let told = walk_differs(alloc, &folded.before, earlier)?;
+    if told.is_some() {
+        return Ok(told);
+    }
+    walk_differs(alloc, &folded.after, moves)
+}
+
 // The groups after the last of these records, which are those of a plain walk, as those before it
-// are; `None` where they aren't.
+// are; or how they differ.
 fn next(
     alloc: Global,
     checked: &Checked,
     way: Way,
     groups: Groups,
     moves: &[(i64, &'static str)],
-) -> Result<Option<Groups>, NoMemory> {
+) -> Result<Result<Groups, String>, NoMemory> {
     let Some(((x, who), earlier)) = moves.split_last() else {
-        return Ok(None);
+        return Ok(Ok(groups));
     };
     let rec = record(alloc, moves.len() as u64, *x, who)?;
-    let Folded { before, after } = fold_copied(alloc, checked, way, groups, &rec)?;
-    if is_walk(&before, earlier) && is_walk(&after, moves) {
-        Ok(Some(after))
-    } else {
-        Ok(None)
+    let folded = fold_copied(alloc, checked, way, groups, &rec)?;
+    match folded_differs(alloc, &folded, earlier, moves)? {
+        Some(told) => Ok(Err(told)),
+        None => Ok(Ok(folded.after)),
     }
-}
-
-// Whether the groups are those of a plain walk after each record.
-fn is_walk_throughout(
-    alloc: Global,
-    checked: &Checked,
-    way: Way,
-    moves: &[(i64, &'static str)],
-) -> Result<bool, NoMemory> {
-    let mut groups = Groups::new(alloc);
-    'moves: for at in 0..moves.len() {
-        match next(alloc, checked, way, groups, &moves[..at + 1])? {
-            Some(more) => groups = more,
-            None => return Ok(false),
-        }
-    }
-    Ok(true)
 }
 
 impl Row for Way {
-    fn holds(&self, alloc: Global, checked: &Checked) -> Result<bool, NoMemory> {
-        is_walk_throughout(alloc, checked, *self, &MOVES)
+    // The groups are those of a plain walk after each record.
+    fn differs(&self, alloc: Global, checked: &Checked) -> Result<Option<String>, NoMemory> {
+        let mut groups = Groups::new(alloc);
+        'moves: for at in 0..MOVES.len() {
+            match next(alloc, checked, *self, groups, &MOVES[..at + 1])? {
+                Ok(more) => groups = more,
+                Err(told) => return Ok(Some(told)),
+            }
+        }
+        Ok(None)
     }
 }
 
 #[test]
 fn fold_is_a_plain_walk(rt: HostRuntime) -> Result<(), Fail> {
-    check_rows(&rt, rt.alloc(), SUMS, &[Way::Given])
+    check_rows(rt.alloc(), SUMS, &[Way::Given])
 }
 
 #[test]
 fn fold_into_is_a_plain_walk_and_a_copy_stays(rt: HostRuntime) -> Result<(), Fail> {
-    check_rows(&rt, rt.alloc(), SUMS, &[Way::InPlace])
+    check_rows(rt.alloc(), SUMS, &[Way::InPlace])
 }
 
 #[test]
 fn a_copy_of_groups_goes_on(rt: HostRuntime) -> Result<(), Fail> {
-    check_rows(&rt, rt.alloc(), SUMS, &[Way::InCopy])
+    check_rows(rt.alloc(), SUMS, &[Way::InCopy])
 }
 
 #[test]
 fn groups_that_are_looked_up_make_the_same_steps(rt: HostRuntime) -> Result<(), Fail> {
-    check_rows(&rt, rt.alloc(), SUMS, &[Way::ByKey])
+    check_rows(rt.alloc(), SUMS, &[Way::ByKey])
 }
 
 /// A name, which is a record's key.
 struct Named(&'static str);
 
 impl Row for Named {
-    fn holds(&self, alloc: Global, checked: &Checked) -> Result<bool, NoMemory> {
+    fn differs(&self, alloc: Global, checked: &Checked) -> Result<Option<String>, NoMemory> {
         let rec = record(alloc, 1, 2, self.0)?;
-        Ok(is_key(&key_of(alloc, checked, &rec)?, self.0))
+        let key = key_of(alloc, checked, &rec)?;
+        let wanted = [Value::Word(Text::from_str(alloc, self.0)?)];
+        difference(alloc, &key.values.as_slice(), &wanted.as_slice())
     }
 }
 
 #[test]
 fn a_record_has_the_key_of_its_name(rt: HostRuntime) -> Result<(), Fail> {
-    check_rows(&rt, rt.alloc(), SUMS, &[Named("ann")])
+    check_rows(rt.alloc(), SUMS, &[Named("ann")])
 }
 
 /// The number that is a key, and the record at which its group ended, in the order of putting.
@@ -365,37 +399,41 @@ fn has_ended(groups: &Groups, place: usize, number: i64, no: u64) -> bool {
     }
 }
 
-// The place of the first group that isn't as wanted.
-fn wrong_group(groups: &Groups, rows: &[(i64, u64)]) -> Option<usize> {
+// How the first group that isn't as wanted differs.
+fn groups_differ(
+    alloc: Global,
+    groups: &Groups,
+    rows: &[(i64, u64)],
+) -> Result<Option<String>, NoMemory> {
     'rows: for (place, (number, no)) in rows.iter().enumerate() {
         if !has_ended(groups, place, *number, *no) {
-            return Some(place);
+            let found = line_at(alloc, groups, place)?;
+            let told = format!(in alloc; "found {found}, wanted {number} that ended at {no}")?;
+            return told_at(alloc, place, Some(told));
         }
     }
-    if groups.len() == rows.len() {
-        None
-    } else {
-        Some(rows.len())
-    }
+    difference(alloc, &groups.len(), &rows.len())
 }
 
 /// A number, and the record at which the group with this key ended; `None` where there is no such
 /// group.
 const SOUGHT: [(i64, Option<u64>); 3] = [(7, Some(3)), (9, None), (8, Some(2))];
 
-fn is_found(groups: &Groups, key: &Key, no: Option<u64>) -> bool {
-    match (groups.find(key), no) {
-        (Some(outcome), Some(no)) => stands(outcome, Standing::Left(no)),
-        (None, None) => true,
-        _ => false,
+// The record at which the group with this key ended.
+fn ended_at(groups: &Groups, key: &Key) -> Option<u64> {
+    match groups.find(key) {
+        Some(Outcome::Ended(fault)) => Some(fault.no),
+        Some(Outcome::Going(_)) | None => None,
     }
 }
 
-// The place of the first row that isn't found as wanted.
-fn wrong_find(alloc: Global, groups: &Groups) -> Result<Option<usize>, NoMemory> {
+// How the first row that isn't found as wanted differs.
+fn find_differs(alloc: Global, groups: &Groups) -> Result<Option<String>, NoMemory> {
     'rows: for (place, (number, no)) in SOUGHT.iter().enumerate() {
-        if !is_found(groups, &number_key(alloc, *number)?, *no) {
-            return Ok(Some(place));
+        let found = ended_at(groups, &number_key(alloc, *number)?);
+        let told = difference(alloc, &found, no)?;
+        if told.is_some() {
+            return told_at(alloc, place, told);
         }
     }
     Ok(None)
@@ -403,14 +441,14 @@ fn wrong_find(alloc: Global, groups: &Groups) -> Result<Option<usize>, NoMemory>
 
 #[test]
 fn an_outcome_is_found_by_its_key(rt: HostRuntime) -> Result<(), Fail> {
-    all_hold(&rt, wrong_find(rt.alloc(), &put_all(rt.alloc(), &PUT)?))
+    all_hold(find_differs(rt.alloc(), &put_all(rt.alloc(), &PUT)?))
 }
 
-fn wrong_put(alloc: Global) -> Result<Option<usize>, NoMemory> {
-    Ok(wrong_group(&put_all(alloc, &PUT)?, &FOUND))
+fn put_differs(alloc: Global) -> Result<Option<String>, NoMemory> {
+    groups_differ(alloc, &put_all(alloc, &PUT)?, &FOUND)
 }
 
 #[test]
 fn an_outcome_is_put_in_the_place_of_its_keys(rt: HostRuntime) -> Result<(), Fail> {
-    all_hold(&rt, wrong_put(rt.alloc()))
+    all_hold(put_differs(rt.alloc()))
 }

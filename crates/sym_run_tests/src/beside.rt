@@ -5,12 +5,13 @@ ghost use Rattle.sym_run.specs.Applying.{AreValid};
 ghost use Rattle.sym_run.specs.Runs.{GroupsFit};
 
 use crate::logs::SUMS;
-use crate::setting::{accepted, chunks_of, same_groups};
+use crate::setting::{chunks_of, same_groups};
 use std::alloc::Global;
 use std::test::Fail;
 use std::thread::Threads;
 use sym_base::NoMemory;
 use sym_check::Checked;
+use sym_given::accepted;
 use sym_plain::Groups;
 use sym_run::{Applied, Run, of_chunks};
 

@@ -11,8 +11,8 @@ use std::process::Abort;
 use std::slice;
 use std::test::Fail;
 use sym_base::{Fields, NoMemory, Record};
-use sym_check::{Checked, check};
-use sym_parse::parse;
+use sym_check::Checked;
+use sym_given::accepted;
 use sym_plain::{Groups, fold_into};
 use sym_run::{Run, Stretch};
 use sym_table::{Chunk, Cutter, Row, RowCursor, decode_into};
@@ -25,17 +25,6 @@ pub(crate) trait Case {
     fn script(&self) -> &str;
 
     fn holds(&self, alloc: Global, checked: &Checked) -> Result<bool, NoMemory>;
-}
-
-/// The script of a text; `None` if the text is refused.
-pub(crate) fn accepted(alloc: Global, text: &str) -> Option<Checked> {
-    if text.len() >= 10_000 {
-        return None;
-    }
-    match parse(alloc, text.as_bytes()) {
-        Ok(script) => check(alloc, script).ok(),
-        Err(_) => None,
-    }
 }
 
 fn case_holds<C: Case>(alloc: Global, case: &C) -> Result<bool, NoMemory> {

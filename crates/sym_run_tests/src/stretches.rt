@@ -8,7 +8,7 @@ ghost use Rattle.sym_run.specs.Runs.{GroupsFit};
 ghost use Rattle.sym_table.specs.Rows.{FitsChunk};
 
 use crate::logs::{BALANCES, BY_NUMBER, DEALS, HELD, MANY, MODES, NAMED, QUOTIENTS, STREAKS, SUMS};
-use crate::setting::{accepted, chunks_of, passed};
+use crate::setting::{chunks_of, passed};
 use crate::texts::difference;
 use std::alloc::Global;
 use std::process::Abort;
@@ -16,6 +16,7 @@ use std::slice;
 use std::test::Fail;
 use sym_base::{Fields, NoMemory, Outcome, Record};
 use sym_check::Checked;
+use sym_given::accepted;
 use sym_plain::{Groups, fold_into};
 use sym_run::{Applied, Run, Stretch};
 use sym_table::{Chunk, Row, RowCursor, decode_into};

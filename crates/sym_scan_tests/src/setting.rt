@@ -10,8 +10,8 @@ use std::process::Abort;
 use std::test::Fail;
 use std::thread::Threads;
 use sym_base::NoMemory;
-use sym_check::{Checked, check};
-use sym_parse::parse;
+use sym_check::Checked;
+use sym_given::accepted;
 use sym_table::{Chunk, Chunks, Cutter};
 
 /// A test under a script.
@@ -25,17 +25,6 @@ pub(crate) trait Case {
         checked: &Checked,
     ) -> Result<bool, NoMemory>
         requires sync { IsSync T.row };
-}
-
-/// The script of a text; `None` if the text is refused.
-fn accepted(alloc: Global, text: &str) -> Option<Checked> {
-    if text.len() >= 10_000 {
-        return None;
-    }
-    match parse(alloc, text.as_bytes()) {
-        Ok(script) => check(alloc, script).ok(),
-        Err(_) => None,
-    }
 }
 
 fn case_holds<T: Threads + Sync, C: Case>(

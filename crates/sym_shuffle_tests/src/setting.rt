@@ -6,23 +6,11 @@ ghost use Rattle.sym_table.specs.Rows.{FitsChunk, FitsHeader};
 
 use std::alloc::Global;
 use sym_base::NoMemory;
-use sym_check::{Checked, check};
-use sym_parse::parse;
+use sym_check::Checked;
 use sym_table::{Chunk, Chunks, Cutter};
 
 /// The most chunks of a log in these tests.
 const CHUNKS: usize = 200;
-
-/// The script of a text; `None` if the text is refused.
-pub(crate) fn accepted(alloc: Global, text: &str) -> Option<Checked> {
-    if text.len() >= 10_000 {
-        return None;
-    }
-    match parse(alloc, text.as_bytes()) {
-        Ok(script) => check(alloc, script).ok(),
-        Err(_) => None,
-    }
-}
 
 /// Reads the chunks of a log; `None` if it has no header of the script, or is too long for a test.
 pub(crate) fn opened<'a>(

@@ -3,12 +3,12 @@ ghost use Rattle.std.specs.Prelude.{◌≡◌};
 ghost use Rattle.sym_check.specs.Checking.CheckedScripts.{checked_plan};
 ghost use Rattle.sym_table.specs.Rows.{FitsHeader};
 
-use crate::rows::{Row as TableRow, check_rows};
 use std::alloc::Global;
 use std::slice;
 use std::test::Fail;
 use sym_base::{Fields, NoMemory, Record, Text, Value};
 use sym_check::Checked;
+use sym_given::{Row as TableRow, all_hold, bytes_differ, check_rows, difference};
 use sym_table::{
     Bad, BadCause, Chunk, Chunks, Cutter, Decoded, HeadErr, HeadFault, Header, Places, Row,
     RowCursor, RowView, Rows, Spare, decode, decode_into,
@@ -124,93 +124,120 @@ fn bytes_of(alloc: Global, first: &str, second: &str) -> Result<Vec<u8>, NoMemor
     Ok(bytes)
 }
 
-// Whether the value is as wanted.
-fn is_value(value: &Value, want: Want) -> bool {
-    match (value, want) {
-        (Value::Num(number), Want::Num(wanted)) => *number == wanted,
-        (Value::Label(label), Want::Label(wanted)) => *label == wanted,
-        (Value::Word(word), Want::Word(wanted)) => word.as_str() == wanted,
-        _ => false,
+// The value that is wanted, or the cause of the refusal.
+fn wanted_of(alloc: Global, want: Want) -> Result<Result<Value, Bad>, NoMemory> {
+    Ok(match want {
+        Want::Num(number) => Ok(Value::Num(number)),
+        Want::Word(word) => Ok(Value::Word(Text::from_str(alloc, word)?)),
+        Want::Label(label) => Ok(Value::Label(label)),
+        Want::Bad(cause) => Err(Bad { no: 9, cause }),
+    })
+}
+
+// A first field beside the value that is wanted.
+fn field_differs(
+    alloc: Global,
+    value: Option<&Value>,
+    wanted: &Result<Value, Bad>,
+) -> Result<Option<String>, NoMemory> {
+    match (value, wanted) {
+        (Some(found), Ok(wanted)) => difference(alloc, found, wanted),
+        _ => Ok(Some(format!(in alloc; "found {value:?}, wanted {wanted:?}")?)),
     }
 }
 
-// Whether the first field, or the answer for the whole row, is as wanted.
-fn is_as_wanted(decoded: &Decoded, want: Want) -> bool {
-    match decoded {
-        Decoded::Is(record) => match record.fields.get(0) {
-            Some(value) => record.no == 9 && is_value(value, want),
-            None => false,
-        },
-        Decoded::Bad(bad) => bad.no == 9 && want == Want::Bad(bad.cause),
+// The first field, or the answer for the whole row, beside what is wanted.
+fn decoded_differs(
+    alloc: Global,
+    decoded: &Decoded,
+    wanted: &Result<Value, Bad>,
+) -> Result<Option<String>, NoMemory> {
+    match (decoded, wanted) {
+        (Decoded::Is(record), _) if record.no != 9 => difference(alloc, &record.no, &9),
+        (Decoded::Is(record), _) => field_differs(alloc, record.fields.get(0), wanted),
+        (Decoded::Bad(found), Err(wanted)) => difference(alloc, found, wanted),
+        (Decoded::Bad(found), Ok(wanted)) => {
+            Ok(Some(format!(in alloc; "found {found:?}, wanted {wanted:?}")?))
+        }
     }
 }
 
-// Whether the next row of a file is as wanted.
-fn next_is(
+// The next row of a file beside what is wanted.
+fn next_differs(
     alloc: Global,
     checked: &Checked,
     cutter: &mut Cutter<'_>,
     want: Want,
-) -> Result<bool, NoMemory>
+) -> Result<Option<String>, NoMemory>
     requires { FitsHeader (checked_plan checked.now).fields cutter.old.header }
 {
     let mut row = Row::new(alloc);
     if !cutter.next_row(&mut row)? {
-        return Ok(false);
+        return Ok(Some(String::from_str(alloc, "found no row, wanted one")?));
     }
     let decoded = decode(alloc, checked, cutter.header(), &row.view(), 9)?;
-    Ok(is_as_wanted(&decoded, want))
+    decoded_differs(alloc, &decoded, &wanted_of(alloc, want)?)
 }
 
-// Whether the first row of a file is as wanted.
-fn first_is(alloc: Global, checked: &Checked, bytes: &[u8], want: Want) -> Result<bool, NoMemory> {
+// What is said of a file that isn't opened.
+fn unopened(alloc: Global) -> Result<Option<String>, NoMemory> {
+    Ok(Some(String::from_str(alloc, "found a file that is refused, wanted its rows")?))
+}
+
+// The first row of a file beside what is wanted.
+fn first_differs(
+    alloc: Global,
+    checked: &Checked,
+    bytes: &[u8],
+    want: Want,
+) -> Result<Option<String>, NoMemory> {
     if bytes.len() >= 1_000 {
-        return Ok(false);
+        return unopened(alloc);
     }
     match Cutter::open(alloc, checked, bytes, 9, 1) {
         Ok(opened) => {
             let mut cutter = opened;
-            next_is(alloc, checked, &mut cutter, want)
+            next_differs(alloc, checked, &mut cutter, want)
         }
-        Err(_) => Ok(false),
+        Err(_) => unopened(alloc),
     }
 }
 
 impl TableRow for Field {
-    fn holds(&self, alloc: Global, checked: &Checked) -> Result<bool, NoMemory> {
+    fn differs(&self, alloc: Global, checked: &Checked) -> Result<Option<String>, NoMemory> {
         let bytes = bytes_of(alloc, "f\n", self.0)?;
-        first_is(alloc, checked, bytes.as_slice(), self.1)
+        first_differs(alloc, checked, bytes.as_slice(), self.1)
     }
 }
 
 #[test]
 fn numbers_read_their_texts(rt: HostRuntime) -> Result<(), Fail> {
-    check_rows(&rt, rt.alloc(), NUMBER, &NUMBERS)
+    check_rows(rt.alloc(), NUMBER, &NUMBERS)
 }
 
 #[test]
 fn words_read_their_texts(rt: HostRuntime) -> Result<(), Fail> {
-    check_rows(&rt, rt.alloc(), WORD, &WORDS)
+    check_rows(rt.alloc(), WORD, &WORDS)
 }
 
 #[test]
 fn labels_read_their_texts(rt: HostRuntime) -> Result<(), Fail> {
-    check_rows(&rt, rt.alloc(), LABEL, &LABELS)
+    check_rows(rt.alloc(), LABEL, &LABELS)
 }
 
 #[test]
 fn numbers_with_a_default_read_their_texts(rt: HostRuntime) -> Result<(), Fail> {
-    check_rows(&rt, rt.alloc(), NUMBER_ELSE_7, &NUMBERS_ELSE_7)
+    check_rows(rt.alloc(), NUMBER_ELSE_7, &NUMBERS_ELSE_7)
 }
 
 #[test]
 fn words_with_a_default_read_their_texts(rt: HostRuntime) -> Result<(), Fail> {
-    check_rows(&rt, rt.alloc(), WORD_ELSE_NONE, &WORDS_ELSE_NONE)
+    check_rows(rt.alloc(), WORD_ELSE_NONE, &WORDS_ELSE_NONE)
 }
 
 #[test]
 fn labels_with_a_default_read_their_texts(rt: HostRuntime) -> Result<(), Fail> {
-    check_rows(&rt, rt.alloc(), LABEL_ELSE_GREEN, &LABELS_ELSE_GREEN)
+    check_rows(rt.alloc(), LABEL_ELSE_GREEN, &LABELS_ELSE_GREEN)
 }
 
 // The fields `n`, `w` and `c`.
@@ -242,14 +269,14 @@ fn header_fault(alloc: Global, checked: &Checked, header: &str) -> Option<HeadFa
 }
 
 impl TableRow for Headed {
-    fn holds(&self, alloc: Global, checked: &Checked) -> Result<bool, NoMemory> {
-        Ok(header_fault(alloc, checked, self.0) == Some(self.1))
+    fn differs(&self, alloc: Global, checked: &Checked) -> Result<Option<String>, NoMemory> {
+        difference(alloc, &header_fault(alloc, checked, self.0), &Some(self.1))
     }
 }
 
 #[test]
 fn headers_are_refused_at_their_first_fault(rt: HostRuntime) -> Result<(), Fail> {
-    check_rows(&rt, rt.alloc(), FIELDS, &HEADERS)
+    check_rows(rt.alloc(), FIELDS, &HEADERS)
 }
 
 /// A file for these fields, how many rows a chunk has, and the chunks: each with the number of its
@@ -332,43 +359,47 @@ fn push_chunks(alloc: Global, text: &mut Vec<u8>, cutter: &mut Cutter<'_>) -> Re
     Ok(())
 }
 
-fn chunks_are(alloc: Global, cutter: &mut Cutter<'_>, wanted: &[u8]) -> Result<bool, NoMemory> {
+fn chunks_differ(
+    alloc: Global,
+    cutter: &mut Cutter<'_>,
+    wanted: &[u8],
+) -> Result<Option<String>, NoMemory> {
     let mut text = Vec::new(alloc);
     push_chunks(alloc, &mut text, cutter)?;
-    Ok(text.as_slice() == wanted)
+    bytes_differ(alloc, text.as_slice(), wanted)
 }
 
-// Whether the chunks of a file are as wanted.
-fn file_is(
+// The chunks of a file beside those that are wanted.
+fn file_differs(
     alloc: Global,
     checked: &Checked,
     bytes: &[u8],
     chunk: u32,
     wanted: &[u8],
-) -> Result<bool, NoMemory> {
+) -> Result<Option<String>, NoMemory> {
     if bytes.len() >= 20_000 || chunk < 1 || chunk > 1_024 {
-        return Ok(false);
+        return unopened(alloc);
     }
     match Cutter::open(alloc, checked, bytes, 1, chunk) {
         Ok(opened) => {
             let mut cutter = opened;
-            chunks_are(alloc, &mut cutter, wanted)
+            chunks_differ(alloc, &mut cutter, wanted)
         }
-        Err(_) => Ok(false),
+        Err(_) => unopened(alloc),
     }
 }
 
 impl TableRow for File {
-    fn holds(&self, alloc: Global, checked: &Checked) -> Result<bool, NoMemory> {
+    fn differs(&self, alloc: Global, checked: &Checked) -> Result<Option<String>, NoMemory> {
         let bytes = bytes_of(alloc, self.0, "")?;
         let wanted = bytes_of(alloc, self.2, "")?;
-        file_is(alloc, checked, bytes.as_slice(), self.1, wanted.as_slice())
+        file_differs(alloc, checked, bytes.as_slice(), self.1, wanted.as_slice())
     }
 }
 
 #[test]
 fn files_are_cut_into_rows(rt: HostRuntime) -> Result<(), Fail> {
-    check_rows(&rt, rt.alloc(), FIELDS, &FILES)
+    check_rows(rt.alloc(), FIELDS, &FILES)
 }
 
 /// So many bytes in one field, and how many rows a chunk has.
@@ -388,7 +419,7 @@ fn around(alloc: Global, before: &[u8], count: usize, after: &[u8]) -> Result<Ve
 }
 
 impl TableRow for Long {
-    fn holds(&self, alloc: Global, checked: &Checked) -> Result<bool, NoMemory> {
+    fn differs(&self, alloc: Global, checked: &Checked) -> Result<Option<String>, NoMemory> {
         let file = around(alloc, b"n,w,c\n1,", self.0, b",red\n2,b")?;
         let next: &[u8] = if self.1 == 1 {
             b"|red;2|2|b;"
@@ -396,13 +427,13 @@ impl TableRow for Long {
             b"|red;|2|b;"
         };
         let wanted = around(alloc, b"1|1|", self.0, next)?;
-        file_is(alloc, checked, file.as_slice(), self.1, wanted.as_slice())
+        file_differs(alloc, checked, file.as_slice(), self.1, wanted.as_slice())
     }
 }
 
 #[test]
 fn long_fields_are_cut_into_rows(rt: HostRuntime) -> Result<(), Fail> {
-    check_rows(&rt, rt.alloc(), FIELDS, &LONG)
+    check_rows(rt.alloc(), FIELDS, &LONG)
 }
 
 /// How many rows of a file are read one by one before a chunk is cut, and the chunk, after which a
@@ -430,38 +461,38 @@ fn push_mixed(
     Ok(())
 }
 
-// Whether that is what is read of a file in chunks of two rows.
-fn mixed_is(
+// What is read so of a file in chunks of two rows, beside what is wanted.
+fn mixed_differs(
     alloc: Global,
     checked: &Checked,
     bytes: &[u8],
     before: usize,
     wanted: &[u8],
-) -> Result<bool, NoMemory> {
+) -> Result<Option<String>, NoMemory> {
     if bytes.len() >= 20_000 {
-        return Ok(false);
+        return unopened(alloc);
     }
     match Cutter::open(alloc, checked, bytes, 1, 2) {
         Ok(opened) => {
             let mut cutter = opened;
             let mut text = Vec::new(alloc);
             push_mixed(alloc, &mut text, &mut cutter, before)?;
-            Ok(text.as_slice() == wanted)
+            bytes_differ(alloc, text.as_slice(), wanted)
         }
-        Err(_) => Ok(false),
+        Err(_) => unopened(alloc),
     }
 }
 
 impl TableRow for Mixed {
-    fn holds(&self, alloc: Global, checked: &Checked) -> Result<bool, NoMemory> {
+    fn differs(&self, alloc: Global, checked: &Checked) -> Result<Option<String>, NoMemory> {
         let wanted = self.1.as_bytes();
-        mixed_is(alloc, checked, b"n,w,c\n1\n2\n3\n", self.0, wanted)
+        mixed_differs(alloc, checked, b"n,w,c\n1\n2\n3\n", self.0, wanted)
     }
 }
 
 #[test]
 fn rows_that_are_added_are_read_last(rt: HostRuntime) -> Result<(), Fail> {
-    check_rows(&rt, rt.alloc(), FIELDS, &MIXED)
+    check_rows(rt.alloc(), FIELDS, &MIXED)
 }
 
 // The record of a number, a word and a label.
@@ -500,16 +531,22 @@ const THIRD: Bad = Bad {
     cause: BadCause::Number(0),
 };
 
-fn is_record(rec: &Record, wanted: &Wanted) -> bool {
-    match rec.fields.as_slice() {
-        [Value::Num(number), Value::Word(word), Value::Label(label)] => {
-            rec.no == wanted.no
-                && *number == wanted.number
-                && word.as_str() == wanted.word
-                && *label == wanted.label
-        }
-        _ => false,
+// A record that was read beside the one that is wanted.
+fn record_differs(
+    alloc: Global,
+    rec: &Record,
+    wanted: &Wanted,
+) -> Result<Option<String>, NoMemory> {
+    let fields = [
+        Value::Num(wanted.number),
+        Value::Word(Text::from_str(alloc, wanted.word)?),
+        Value::Label(wanted.label),
+    ];
+    let told = difference(alloc, &rec.no, &wanted.no)?;
+    if told.is_some() {
+        return Ok(told);
     }
+    difference(alloc, &rec.fields.as_slice(), &fields.as_slice())
 }
 
 // Reads the next row over a row and a record that were used before. What is wrong with the row;
@@ -531,36 +568,76 @@ fn read_next(
     Ok(Some(decode_into(alloc, checked, cutter.header(), &row.view(), no, rec)?))
 }
 
-// Whether no row is left, and stays so.
-fn is_at_end(cutter: &mut Cutter<'_>, row: &mut Row) -> Result<bool, NoMemory> {
-    Ok(!cutter.next_row(row)? && !cutter.next_row(row)? && cutter.next_no() == 8)
+// No row is left, and stays so.
+fn end_differs(
+    alloc: Global,
+    cutter: &mut Cutter<'_>,
+    row: &mut Row,
+) -> Result<Option<String>, NoMemory> {
+    if cutter.next_row(row)? || cutter.next_row(row)? {
+        return Ok(Some(String::from_str(alloc, "found a fourth row, wanted three")?));
+    }
+    difference(alloc, &cutter.next_no(), &8)
 }
 
-// Whether the rows after the header are two records and a row that is none.
-fn read_three(
+// The next row, which is this record, beside what is read.
+fn next_record_differs(
     alloc: Global,
     checked: &Checked,
     cutter: &mut Cutter<'_>,
     row: &mut Row,
     rec: &mut Record,
-) -> Result<bool, NoMemory>
+    wanted: &Wanted,
+) -> Result<Option<String>, NoMemory>
     requires { FitsHeader (checked_plan checked.now).fields cutter.old.header }
+    ensures { cutter.new.header ≡ cutter.old.header }
 {
-    if read_next(alloc, checked, cutter, row, rec)? != Some(None) || !is_record(rec, &FIRST) {
-        return Ok(false);
+    let told = difference(
+        alloc,
+        &read_next(alloc, checked, cutter, row, rec)?,
+        &Some(None),
+    )?;
+    if told.is_some() {
+        return Ok(told);
     }
-    if read_next(alloc, checked, cutter, row, rec)? != Some(None) || !is_record(rec, &SECOND) {
-        return Ok(false);
-    }
-    let third = read_next(alloc, checked, cutter, row, rec)?;
-    Ok(third == Some(Some(THIRD)) && is_at_end(cutter, row)?)
+    record_differs(alloc, rec, wanted)
 }
 
-fn read_all(alloc: Global, checked: &Checked, cutter: &mut Cutter<'_>) -> Result<bool, NoMemory>
+// The rows after the header, two records and a row that is none, beside what is read.
+fn three_differ(
+    alloc: Global,
+    checked: &Checked,
+    cutter: &mut Cutter<'_>,
+    row: &mut Row,
+    rec: &mut Record,
+) -> Result<Option<String>, NoMemory>
+    requires { FitsHeader (checked_plan checked.now).fields cutter.old.header }
+{
+    let told = next_record_differs(alloc, checked, cutter, row, rec, &FIRST)?;
+    if told.is_some() {
+        return Ok(told);
+    }
+    let told = next_record_differs(alloc, checked, cutter, row, rec, &SECOND)?;
+    if told.is_some() {
+        return Ok(told);
+    }
+    let third = read_next(alloc, checked, cutter, row, rec)?;
+    let told = difference(alloc, &third, &Some(Some(THIRD)))?;
+    if told.is_some() {
+        return Ok(told);
+    }
+    end_differs(alloc, cutter, row)
+}
+
+fn all_differ(
+    alloc: Global,
+    checked: &Checked,
+    cutter: &mut Cutter<'_>,
+) -> Result<Option<String>, NoMemory>
     requires { FitsHeader (checked_plan checked.now).fields cutter.old.header }
 {
     let mut rec = record(alloc, 0, 0, "", 0)?;
-    read_three(alloc, checked, cutter, &mut Row::new(alloc), &mut rec)
+    three_differ(alloc, checked, cutter, &mut Row::new(alloc), &mut rec)
 }
 
 /// A file of the three rows.
@@ -569,24 +646,24 @@ struct Three(&'static str);
 const THREE: [Three; 1] = [Three("n,w,c\n1,a longer word,red\n2,b,green\nx,b,red\n")];
 
 impl TableRow for Three {
-    fn holds(&self, alloc: Global, checked: &Checked) -> Result<bool, NoMemory> {
+    fn differs(&self, alloc: Global, checked: &Checked) -> Result<Option<String>, NoMemory> {
         let file = self.0;
         if file.len() >= 1_000 {
-            return Ok(false);
+            return unopened(alloc);
         }
         match Cutter::open(alloc, checked, file.as_bytes(), 5, 1) {
             Ok(opened) => {
                 let mut cutter = opened;
-                read_all(alloc, checked, &mut cutter)
+                all_differ(alloc, checked, &mut cutter)
             }
-            Err(_) => Ok(false),
+            Err(_) => unopened(alloc),
         }
     }
 }
 
 #[test]
 fn a_row_and_a_record_are_used_again(rt: HostRuntime) -> Result<(), Fail> {
-    check_rows(&rt, rt.alloc(), FIELDS, &THREE)
+    check_rows(rt.alloc(), FIELDS, &THREE)
 }
 
 // A row of two fields, and one of none.
@@ -619,28 +696,31 @@ fn chunks(alloc: Global) -> Result<Chunks, NoMemory> {
     Ok(chunks)
 }
 
-// Whether the chunk is the one above.
-fn is_chunk(alloc: Global, cut: &Chunk) -> Result<bool, NoMemory> {
+// A chunk beside the one above.
+fn chunk_differs(alloc: Global, cut: &Chunk) -> Result<Option<String>, NoMemory> {
     let mut text = Vec::new(alloc);
     push_chunk(alloc, &mut text, cut)?;
-    Ok(text.as_slice() == b"9|5|a;;".as_slice() && cut.header == header(alloc)?)
+    if cut.header != header(alloc)? {
+        return Ok(Some(String::from_str(alloc, "found another header, wanted that of the chunk")?));
+    }
+    bytes_differ(alloc, text.as_slice(), b"9|5|a;;")
 }
 
-fn are_copied(alloc: Global, chunks: &Chunks) -> Result<bool, NoMemory> {
+fn copy_differs(alloc: Global, chunks: &Chunks) -> Result<Option<String>, NoMemory> {
     let copied = chunks.copy(alloc)?;
     match copied.as_slice() {
-        [cut] => is_chunk(alloc, cut),
-        _ => Ok(false),
+        [cut] => chunk_differs(alloc, cut),
+        found => difference(alloc, &found.len(), &1),
     }
 }
 
-fn chunks_hold(alloc: Global) -> Result<bool, NoMemory> {
-    are_copied(alloc, &chunks(alloc)?)
+fn chunks_differ_copied(alloc: Global) -> Result<Option<String>, NoMemory> {
+    copy_differs(alloc, &chunks(alloc)?)
 }
 
 #[test]
-fn chunks_are_copied(rt: HostRuntime) {
-    assert!(rt; chunks_hold(rt.alloc()) == Ok(true));
+fn chunks_are_copied(rt: HostRuntime) -> Result<(), Fail> {
+    all_hold(chunks_differ_copied(rt.alloc()))
 }
 
 fn is_copied(alloc: Global, answer: &Decoded) -> Result<bool, NoMemory> {
@@ -660,16 +740,13 @@ fn answers_are_copied(rt: HostRuntime) {
     assert!(rt; answers_hold(rt.alloc()) == Ok(true));
 }
 
-fn is_shown(alloc: Global, why: HeadErr, text: &str) -> Result<bool, NoMemory> {
-    Ok(format!(in alloc; "{why}")?.as_str() == text)
-}
-
-fn texts_hold(alloc: Global) -> Result<bool, NoMemory> {
-    let fault = HeadErr::Fault(HeadFault::NoField { which: 0 });
-    Ok(is_shown(alloc, fault, "Fault")? && is_shown(alloc, HeadErr::NoMemory, "NoMemory")?)
+fn text_differs(alloc: Global, why: HeadErr, wanted: &str) -> Result<Option<String>, NoMemory> {
+    difference(alloc, &format!(in alloc; "{why}")?.as_str(), &wanted)
 }
 
 #[test]
-fn the_text_of_a_header_error_is_its_variant(rt: HostRuntime) {
-    assert!(rt; texts_hold(rt.alloc()) == Ok(true));
+fn the_text_of_a_header_error_is_its_variant(rt: HostRuntime) -> Result<(), Fail> {
+    let fault = HeadErr::Fault(HeadFault::NoField { which: 0 });
+    all_hold(text_differs(rt.alloc(), fault, "Fault"))?;
+    all_hold(text_differs(rt.alloc(), HeadErr::NoMemory, "NoMemory"))
 }
