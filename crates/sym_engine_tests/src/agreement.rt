@@ -21,17 +21,17 @@ const LIMITS: [u32; 4] = [1, 2, 16, LIMIT_MAX];
 
 /// What a pass has to come to.
 pub(crate) trait Wanted {
-    /// Whether it is this: groups, or why there are none.
-    fn is(
+    /// What it comes to, groups or why there are none, in place of this.
+    fn differs(
         &self,
         alloc: Global,
         checked: &Checked,
         passed: &Result<Groups, PassErr>,
-    ) -> Result<bool, NoMemory>;
+    ) -> Result<Option<String>, NoMemory>;
 }
 
 /// How a file is passed over: by runs of so many rows and a limit, or in sequence.
-#[derive(Clone, Copy)]
+#[derive(Clone, Copy, Debug)]
 enum Way {
     Runs(u32, u32),
     InSequence,
@@ -101,62 +101,72 @@ fn passed_over<T: Threads + Wait + Sync>(
     Ok(passed(rt, alloc, checked, files, names(alloc)?.as_slice(), way))
 }
 
-// Whether the pass over a log comes to this, if it is made in this way.
-fn way_is<T: Threads + Wait + Sync, W: Wanted>(
+// What the pass over a log comes to in place of this, if it is made in this way.
+fn way_differs<T: Threads + Wait + Sync, W: Wanted>(
     rt: &T,
     alloc: Global,
     checked: &Checked,
     log: &str,
     way: Way,
     wanted: &W,
-) -> Result<bool, NoMemory> {
-    match passed_over(rt, alloc, checked, &mut store(alloc, log)?, way)? {
-        Some(passed) => wanted.is(alloc, checked, &passed),
-        None => Ok(false),
+) -> Result<Option<String>, NoMemory> {
+    let told = match passed_over(rt, alloc, checked, &mut store(alloc, log)?, way)? {
+        Some(passed) => wanted.differs(alloc, checked, &passed)?,
+        None => Some(String::from_str(alloc, "found wrong options")?),
+    };
+    match told {
+        Some(told) => Ok(Some(format!(in alloc; "{way:?}: {told}")?)),
+        None => Ok(None),
     }
 }
 
-fn limits_are<T: Threads + Wait + Sync, W: Wanted>(
+fn limits_differ<T: Threads + Wait + Sync, W: Wanted>(
     rt: &T,
     alloc: Global,
     checked: &Checked,
     log: &str,
     chunk: u32,
     wanted: &W,
-) -> Result<bool, NoMemory> {
+) -> Result<Option<String>, NoMemory> {
     'limits: for limit in LIMITS {
-        if !way_is(rt, alloc, checked, log, Way::Runs(chunk, limit), wanted)? {
-            return Ok(false);
+        let told = way_differs(rt, alloc, checked, log, Way::Runs(chunk, limit), wanted)?;
+        if told.is_some() {
+            return Ok(told);
         }
     }
-    Ok(true)
+    Ok(None)
 }
 
-/// Whether the passes over a log, by runs of each size, come to this.
-pub(crate) fn runs_are<T: Threads + Wait + Sync, W: Wanted>(
+/// What the passes over a log, by runs of each size, come to in place of this.
+pub(crate) fn runs_differ<T: Threads + Wait + Sync, W: Wanted>(
     rt: &T,
     alloc: Global,
     checked: &Checked,
     log: &str,
     wanted: &W,
-) -> Result<bool, NoMemory> {
+) -> Result<Option<String>, NoMemory> {
     'chunks: for chunk in CHUNKS {
-        if !limits_are(rt, alloc, checked, log, chunk, wanted)? {
-            return Ok(false);
+        let told = limits_differ(rt, alloc, checked, log, chunk, wanted)?;
+        if told.is_some() {
+            return Ok(told);
         }
     }
-    Ok(true)
+    Ok(None)
 }
 
-/// Whether the sequential pass over a log comes to this.
-pub(crate) fn sequence_is<T: Threads + Wait + Sync, W: Wanted>(
+/// What the passes over a log, by runs of each size and in sequence, come to in place of this.
+pub(crate) fn passes_differ<T: Threads + Wait + Sync, W: Wanted>(
     rt: &T,
     alloc: Global,
     checked: &Checked,
     log: &str,
     wanted: &W,
-) -> Result<bool, NoMemory> {
-    way_is(rt, alloc, checked, log, Way::InSequence, wanted)
+) -> Result<Option<String>, NoMemory> {
+    let told = runs_differ(rt, alloc, checked, log, wanted)?;
+    if told.is_some() {
+        return Ok(told);
+    }
+    way_differs(rt, alloc, checked, log, Way::InSequence, wanted)
 }
 
 /// The groups of the sequential pass over a log; `None` where it has a problem.

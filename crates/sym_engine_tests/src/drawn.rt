@@ -1,7 +1,7 @@
 //! Logs of records that are drawn by a fixed generator: runs of many sizes beside the sequential
 //! pass.
-use crate::agreement::{Wanted, runs_are, sequence_of};
-use crate::rows::{Scripted, check_scripted};
+use crate::agreement::{Wanted, runs_differ, sequence_of};
+use crate::texts::{groups_text, passed_text};
 use crate::worked::{GUARDED, PURCHASES, SIX};
 use std::alloc::Global;
 use std::sync::Wait;
@@ -11,6 +11,7 @@ use sym_base::NoMemory;
 use sym_check::Checked;
 use sym_engine::PassErr;
 use sym_given::scripts::{BY_USER, COUNTER, SESSIONS, SHOWN, SUMS, TOGGLE};
+use sym_given::{ThreadedCase, check_threaded_cases, difference};
 use sym_plain::Groups;
 
 /// The records of a log.
@@ -77,15 +78,19 @@ fn same_groups(left: &Groups, right: &Groups) -> bool {
 }
 
 impl Wanted for Given {
-    fn is(
+    fn differs(
         &self,
-        _alloc: Global,
+        alloc: Global,
         _checked: &Checked,
         passed: &Result<Groups, PassErr>,
-    ) -> Result<bool, NoMemory> {
+    ) -> Result<Option<String>, NoMemory> {
         match passed {
-            Ok(groups) => Ok(same_groups(groups, &self.0)),
-            Err(_) => Ok(false),
+            Ok(groups) if same_groups(groups, &self.0) => Ok(None),
+            _ => {
+                let found = passed_text(alloc, passed)?;
+                let wanted = groups_text(alloc, &self.0)?;
+                Ok(Some(format!(in alloc; "found {found}, wanted {wanted}")?))
+            }
         }
     }
 }
@@ -107,60 +112,62 @@ const BY_STATE: [Drawn; 2] = [Drawn(SESSIONS, 5, 5), Drawn(PURCHASES, 6, 5)];
 /// Scripts that count, add and show.
 const IN_LINE: [Drawn; 3] = [Drawn(BY_USER, 7, 5), Drawn(SUMS, 8, 5), Drawn(SHOWN, 9, 5)];
 
-// Whether the runs over the log give these groups, of which there are so many.
-fn are_given<T: Threads + Wait + Sync>(
+// What the runs over the log give in place of these groups, of which there are so many.
+fn given_differs<T: Threads + Wait + Sync>(
     rt: &T,
     alloc: Global,
     checked: &Checked,
     log: &str,
     wanted: Option<Groups>,
     count: usize,
-) -> Result<bool, NoMemory> {
+) -> Result<Option<String>, NoMemory> {
     match wanted {
-        Some(groups) => Ok(
-            groups.len() == count && runs_are(rt, alloc, checked, log, &Given(groups))?,
-        ),
-        None => Ok(false),
+        Some(groups) if groups.len() == count => {
+            runs_differ(rt, alloc, checked, log, &Given(groups))
+        }
+        Some(groups) => difference(alloc, &groups.len(), &count),
+        None => Ok(Some(format!(in alloc; "found no groups, wanted {count}")?)),
     }
 }
 
-fn agree<T: Threads + Wait + Sync>(
+fn drawn_differs<T: Threads + Wait + Sync>(
     rt: &T,
     alloc: Global,
     checked: &Checked,
     log: &str,
     count: usize,
-) -> Result<bool, NoMemory> {
+) -> Result<Option<String>, NoMemory> {
     let wanted = sequence_of(rt, alloc, checked, log)?;
-    are_given(rt, alloc, checked, log, wanted, count)
+    given_differs(rt, alloc, checked, log, wanted, count)
 }
 
-impl Scripted for Drawn {
+impl ThreadedCase for Drawn {
     fn script(&self) -> &str {
         self.0
     }
 
-    fn holds<T: Threads + Wait + Sync>(
+    fn differs<T: Threads + Wait + Sync>(
         &self,
         rt: &T,
         alloc: Global,
         checked: &Checked,
-    ) -> Result<bool, NoMemory> {
-        agree(rt, alloc, checked, log_of(alloc, self.1)?.as_str(), self.2)
+    ) -> Result<Option<String>, NoMemory> {
+        let log = log_of(alloc, self.1)?;
+        drawn_differs(rt, alloc, checked, log.as_str(), self.2)
     }
 }
 
 #[test]
 fn runs_agree_on_one_group(rt: HostRuntime) -> Result<(), Fail> {
-    check_scripted(&rt, rt.alloc(), &ALONE)
+    check_threaded_cases(&rt, rt.alloc(), &ALONE)
 }
 
 #[test]
 fn runs_agree_where_states_split(rt: HostRuntime) -> Result<(), Fail> {
-    check_scripted(&rt, rt.alloc(), &BY_STATE)
+    check_threaded_cases(&rt, rt.alloc(), &BY_STATE)
 }
 
 #[test]
 fn runs_agree_on_counts_sums_and_reports(rt: HostRuntime) -> Result<(), Fail> {
-    check_scripted(&rt, rt.alloc(), &IN_LINE)
+    check_threaded_cases(&rt, rt.alloc(), &IN_LINE)
 }

@@ -10,9 +10,9 @@ mod passes;
 #[cfg(test)]
 mod rounds;
 #[cfg(test)]
-mod rows;
-#[cfg(test)]
 mod summaries;
+#[cfg(test)]
+mod texts;
 #[cfg(test)]
 mod worked;
 #[cfg(test)]

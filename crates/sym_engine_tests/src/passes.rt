@@ -1,5 +1,5 @@
 //! Passes over files, by example.
-use crate::rows::{Scripted, all_hold, check_scripted};
+use crate::texts::passed_text;
 use std::alloc::Global;
 use std::sync::Wait;
 use std::test::Fail;
@@ -9,11 +9,12 @@ use sym_check::Checked;
 use sym_engine::{
     CHUNK_DEFAULT, Free, LIMIT_DEFAULT, OpenGate, Options, PassErr, WORKERS_DEFAULT, pass,
 };
+use sym_given::{ThreadedCase, all_hold, check_threaded_cases, difference, told_at};
 use sym_plain::{Groups, columns};
 use sym_table::{Bad, BadCause, HeadFault};
 
 /// How the number of a group stands.
-#[derive(Clone, Copy)]
+#[derive(Clone, Copy, Debug)]
 pub(crate) enum Standing {
     Is(i64),
     /// It left its range at the record of this number.
@@ -23,7 +24,7 @@ pub(crate) enum Standing {
 use Standing::{Is, Left};
 
 /// What a pass comes to: the word of each group and its number, or the first problem.
-#[derive(Clone, Copy)]
+#[derive(Clone, Copy, Debug)]
 enum Want {
     Groups(&'static [(&'static str, Standing)]),
     Stops(PassErr),
@@ -197,9 +198,35 @@ pub(crate) fn are_groups(
     Ok(groups.len() == wanted.len())
 }
 
-// Whether the pass over the files of these names, of at most 16 bytes each, cut into chunks of so
-// many rows, comes to this.
-fn pass_is<T: Threads + Wait + Sync>(
+fn is_wanted(
+    alloc: Global,
+    checked: &Checked,
+    passed: &Result<Groups, PassErr>,
+    want: Want,
+) -> Result<bool, NoMemory> {
+    match (passed, want) {
+        (Ok(groups), Want::Groups(wanted)) => are_groups(alloc, checked, groups, wanted),
+        (Err(why), Want::Stops(wanted)) => Ok(*why == wanted),
+        (Ok(_), Want::Stops(_)) | (Err(_), Want::Groups(_)) => Ok(false),
+    }
+}
+
+fn passed_differs(
+    alloc: Global,
+    checked: &Checked,
+    passed: &Result<Groups, PassErr>,
+    want: Want,
+) -> Result<Option<String>, NoMemory> {
+    if is_wanted(alloc, checked, passed, want)? {
+        return Ok(None);
+    }
+    let found = passed_text(alloc, passed)?;
+    Ok(Some(format!(in alloc; "found {found}, wanted {want:?}")?))
+}
+
+// What the pass over the files of these names, of at most 16 bytes each, cut into chunks of so many
+// rows, comes to in place of this.
+fn pass_differs<T: Threads + Wait + Sync>(
     rt: &T,
     alloc: Global,
     checked: &Checked,
@@ -207,9 +234,9 @@ fn pass_is<T: Threads + Wait + Sync>(
     names: &[String],
     chunk: u32,
     want: Want,
-) -> Result<bool, NoMemory> {
+) -> Result<Option<String>, NoMemory> {
     if names.len() > 3 || chunk < 1 || chunk > CHUNK_DEFAULT {
-        return Ok(false);
+        return Ok(Some(String::from_str(alloc, "found wrong options")?));
     }
     let options = Options {
         chunk,
@@ -219,14 +246,10 @@ fn pass_is<T: Threads + Wait + Sync>(
     };
     let gate = OpenGate { hold: Free };
     let passed = pass(rt, alloc, checked, files, names, &options, &gate);
-    match (passed, want) {
-        (Ok(groups), Want::Groups(wanted)) => are_groups(alloc, checked, &groups, wanted),
-        (Err(why), Want::Stops(wanted)) => Ok(why == wanted),
-        (Ok(_), Want::Stops(_)) | (Err(_), Want::Groups(_)) => Ok(false),
-    }
+    passed_differs(alloc, checked, &passed, want)
 }
 
-fn run_is<T: Threads + Wait + Sync>(
+fn run_differs<T: Threads + Wait + Sync>(
     rt: &T,
     alloc: Global,
     checked: &Checked,
@@ -234,42 +257,36 @@ fn run_is<T: Threads + Wait + Sync>(
     run: &[&'static str],
     chunk: u32,
     want: Want,
-) -> Result<bool, NoMemory> {
+) -> Result<Option<String>, NoMemory> {
     let names = names(alloc, run)?;
-    pass_is(rt, alloc, checked, files, names.as_slice(), chunk, want)
+    pass_differs(rt, alloc, checked, files, names.as_slice(), chunk, want)
 }
 
-impl Scripted for Run {
+impl ThreadedCase for Run {
     fn script(&self) -> &str {
         SCRIPT
     }
 
-    fn holds<T: Threads + Wait + Sync>(
+    fn differs<T: Threads + Wait + Sync>(
         &self,
         rt: &T,
         alloc: Global,
         checked: &Checked,
-    ) -> Result<bool, NoMemory> {
+    ) -> Result<Option<String>, NoMemory> {
         'chunks: for chunk in CHUNKS {
-            if !run_is(
-                rt,
-                alloc,
-                checked,
-                &mut store(alloc, 0)?,
-                &self.0,
-                chunk,
-                self.1,
-            )? {
-                return Ok(false);
+            let mut files = store(alloc, 0)?;
+            let told = run_differs(rt, alloc, checked, &mut files, &self.0, chunk, self.1)?;
+            if let Some(told) = told {
+                return Ok(Some(format!(in alloc; "chunks of {chunk}: {told}")?));
             }
         }
-        Ok(true)
+        Ok(None)
     }
 }
 
 #[test]
 fn files_are_passed_in_order_up_to_their_first_problem(rt: HostRuntime) -> Result<(), Fail> {
-    check_scripted(&rt, rt.alloc(), &RUNS)
+    check_threaded_cases(&rt, rt.alloc(), &RUNS)
 }
 
 /// The read that fails in a pass over three files, and the file that it is of. A file takes two
@@ -290,40 +307,41 @@ const WHOLE: Run = Run(
     Want::Groups(&[("a", Is(3)), ("b", Is(5))]),
 );
 
-// Whether the pass fails at this file, and goes through afterwards.
-fn fails_once<T: Threads + Wait + Sync>(
+// The pass fails at this file, and goes through afterwards.
+fn failing_differs<T: Threads + Wait + Sync>(
     rt: &T,
     alloc: Global,
     checked: &Checked,
     files: &mut MemStore,
     file: u64,
-) -> Result<bool, NoMemory> {
+) -> Result<Option<String>, NoMemory> {
     let Run(names, whole) = WHOLE;
     let fault = Want::Stops(PassErr::Read { file });
-    Ok(
-        run_is(rt, alloc, checked, files, &names, CHUNK_DEFAULT, fault)?
-            && run_is(rt, alloc, checked, files, &names, CHUNK_DEFAULT, whole)?,
-    )
+    let told = run_differs(rt, alloc, checked, files, &names, CHUNK_DEFAULT, fault)?;
+    if told.is_some() {
+        return Ok(told);
+    }
+    run_differs(rt, alloc, checked, files, &names, CHUNK_DEFAULT, whole)
 }
 
-impl Scripted for Read {
+impl ThreadedCase for Read {
     fn script(&self) -> &str {
         SCRIPT
     }
 
-    fn holds<T: Threads + Wait + Sync>(
+    fn differs<T: Threads + Wait + Sync>(
         &self,
         rt: &T,
         alloc: Global,
         checked: &Checked,
-    ) -> Result<bool, NoMemory> {
-        fails_once(rt, alloc, checked, &mut store(alloc, self.0)?, self.1)
+    ) -> Result<Option<String>, NoMemory> {
+        failing_differs(rt, alloc, checked, &mut store(alloc, self.0)?, self.1)
     }
 }
 
 #[test]
 fn a_read_may_fail_at_each_place(rt: HostRuntime) -> Result<(), Fail> {
-    check_scripted(&rt, rt.alloc(), &READS)
+    check_threaded_cases(&rt, rt.alloc(), &READS)
 }
 
 /// Errors and their texts.
@@ -350,14 +368,12 @@ const SHOWN: [(PassErr, &str); 5] = [
     (PassErr::NoMemory, "NoMemory"),
 ];
 
-fn is_shown(alloc: Global, why: PassErr, text: &str) -> Result<bool, NoMemory> {
-    Ok(format!(in alloc; "{why}")?.as_str() == text)
-}
-
-fn wrong_text(alloc: Global) -> Result<Option<usize>, NoMemory> {
+// The first text that isn't as wanted.
+fn texts_differ(alloc: Global) -> Result<Option<String>, NoMemory> {
     'rows: for (place, (why, text)) in SHOWN.iter().enumerate() {
-        if !is_shown(alloc, *why, text)? {
-            return Ok(Some(place));
+        let told = difference(alloc, &format!(in alloc; "{why}")?.as_str(), text)?;
+        if told.is_some() {
+            return told_at(alloc, place, told);
         }
     }
     Ok(None)
@@ -365,5 +381,5 @@ fn wrong_text(alloc: Global) -> Result<Option<usize>, NoMemory> {
 
 #[test]
 fn the_text_of_an_error_is_its_variant(rt: HostRuntime) -> Result<(), Fail> {
-    all_hold(&rt, wrong_text(rt.alloc()))
+    all_hold(texts_differ(rt.alloc()))
 }

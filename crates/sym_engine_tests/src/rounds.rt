@@ -8,7 +8,6 @@ ghost use Rattle.sym_table.specs.Rows.{FitsChunk};
 ghost use Rattle.sym_files.specs.Rounds.{round_records, shown_chunk};
 ghost use Rattle.sym_engine_tests.specs.Rounds.{Reads};
 
-use crate::rows::{Row as Case, Scripted, check_rows, check_scripted};
 use std::alloc::Global;
 use std::slice;
 use std::sync::Wait;
@@ -18,6 +17,9 @@ use sym_base::{FILE_MAX_DEFAULT, MemStore, NoMemory};
 use sym_check::Checked;
 use sym_engine::{
     CHUNK_DEFAULT, LIMIT_DEFAULT, Options, PassErr, Rounds, Took, WORKERS_DEFAULT, Work, each_round,
+};
+use sym_given::{
+    Row as Case, ThreadedCase, bytes_differ, check_rows, check_threaded_cases, difference,
 };
 use sym_table::{Bad, BadCause, Chunk, Chunks, Cutter, Decoded, Row, RowCursor, RowView, decode};
 
@@ -198,30 +200,32 @@ fn taken<T: Threads + Wait + Sync>(
     Ok(Some(each_round(rt, alloc, checked, files, names, &options, 1, noted)))
 }
 
-impl Scripted for Cut {
+impl ThreadedCase for Cut {
     fn script(&self) -> &str {
         SCRIPT
     }
 
-    fn holds<T: Threads + Wait + Sync>(
+    fn differs<T: Threads + Wait + Sync>(
         &self,
         rt: &T,
         alloc: Global,
         checked: &Checked,
-    ) -> Result<bool, NoMemory> {
+    ) -> Result<Option<String>, NoMemory> {
         let Cut(rows, row, chunk, one, rounds, wanted) = self;
         let mut noted = noting(alloc, *one)?;
         let mut files = store(alloc, *rows, row)?;
-        match taken(rt, alloc, checked, &mut files, *chunk, &mut noted)? {
-            Some(found) => Ok(found == *wanted && noted.rounds.as_slice() == *rounds),
-            None => Ok(false),
+        let found = taken(rt, alloc, checked, &mut files, *chunk, &mut noted)?;
+        let told = difference(alloc, &found, &Some(*wanted))?;
+        if told.is_some() {
+            return Ok(told);
         }
+        difference(alloc, &noted.rounds.as_slice(), rounds)
     }
 }
 
 #[test]
 fn files_are_cut_into_rounds_of_up_to_64_chunks(rt: HostRuntime) -> Result<(), Fail> {
-    check_scripted(&rt, rt.alloc(), &CUTS)
+    check_threaded_cases(&rt, rt.alloc(), &CUTS)
 }
 
 /// The limit of a work, and the text of its file, which is cut into chunks of two rows.
@@ -250,40 +254,50 @@ fn work_of(alloc: Global, checked: &Checked, shared: &Shared) -> Result<Option<W
     }))
 }
 
-// Whether the chunk has this number and these rows of one field.
-fn is_chunk(alloc: Global, chunk: &Chunk, first_no: u64, rows: &[&str]) -> Result<bool, NoMemory> {
+// A chunk of rows of one field as a text: the number of its first row, and each field.
+fn push_chunk(alloc: Global, text: &mut Vec<u8>, chunk: &Chunk) -> Result<(), NoMemory> {
+    let first_no = chunk.first_no;
+    text.extend_from_slice(format!(in alloc; "{first_no}:")?.as_bytes())?;
     let mut cursor = RowCursor::over(alloc, slice::from_ref(chunk))?;
     let mut row = Row::with_room(alloc)?;
-    'rows: for field in rows {
-        if !cursor.read(&mut row)? || row.get(0) != Some(field.as_bytes()) {
-            return Ok(false);
+    'rows: for _row in 0..chunk.rows.len() {
+        if !cursor.read(&mut row)? {
+            return Ok(());
         }
+        text.extend_from_slice(row.get(0).unwrap_or(b""))?;
+        text.push(b';')?;
     }
-    Ok(chunk.first_no == first_no && chunk.rows.len() == rows.len())
+    Ok(())
 }
 
-fn is_work(alloc: Global, work: &Work, checked: &Checked, limit: u32) -> Result<bool, NoMemory> {
-    match work.chunks.as_slice() {
-        [first, second] => Ok(
-            work.limit == limit
-                && work.checked.path_bound() == checked.path_bound()
-                && is_chunk(alloc, first, 1, &["1", "2"])?
-                && is_chunk(alloc, second, 3, &["3"])?,
-        ),
-        _ => Ok(false),
+fn work_differs(
+    alloc: Global,
+    work: &Work,
+    checked: &Checked,
+    limit: u32,
+) -> Result<Option<String>, NoMemory> {
+    let found = (work.limit, work.checked.path_bound());
+    let told = difference(alloc, &found, &(limit, checked.path_bound()))?;
+    if told.is_some() {
+        return Ok(told);
     }
+    let mut text = Vec::new(alloc);
+    'chunks: for chunk in work.chunks.as_slice() {
+        push_chunk(alloc, &mut text, chunk)?;
+    }
+    bytes_differ(alloc, text.as_slice(), b"1:1;2;3:3;")
 }
 
 impl Case for Shared {
-    fn holds(&self, alloc: Global, checked: &Checked) -> Result<bool, NoMemory> {
+    fn differs(&self, alloc: Global, checked: &Checked) -> Result<Option<String>, NoMemory> {
         match work_of(alloc, checked, self)? {
-            Some(work) => is_work(alloc, &work.copy(alloc)?, checked, self.0),
-            None => Ok(false),
+            Some(work) => work_differs(alloc, &work.copy(alloc)?, checked, self.0),
+            None => Ok(Some(String::from_str(alloc, "found no work, wanted its copy")?)),
         }
     }
 }
 
 #[test]
 fn a_copy_of_work_has_its_chunks(rt: HostRuntime) -> Result<(), Fail> {
-    check_rows(&rt, rt.alloc(), SCRIPT, &SHARED)
+    check_rows(rt.alloc(), SCRIPT, &SHARED)
 }

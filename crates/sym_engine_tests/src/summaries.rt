@@ -4,7 +4,7 @@ ghost use Rattle.sym_check.specs.Checking.CheckedScripts.{checked_plan};
 ghost use Rattle.sym_run.specs.Applying.{AreValid};
 
 use crate::passes::{SCRIPT, Standing, are_groups, names, store};
-use crate::rows::{Scripted, check_scripted};
+use crate::texts::groups_text;
 use Standing::{Is, Left};
 use std::alloc::Global;
 use std::mem;
@@ -14,13 +14,14 @@ use std::thread::Threads;
 use sym_base::{MemStore, NoMemory};
 use sym_check::Checked;
 use sym_engine::{CHUNK_DEFAULT, Free, LIMIT_MAX, OpenGate, Options, PassErr, summarise};
+use sym_given::{ThreadedCase, check_threaded_cases, difference};
 use sym_plain::Groups;
 use sym_run::{Applied, Run, RunGroups, Saved};
 use sym_table::{Bad, BadCause, HeadFault};
 
 /// The rows of a chunk, the path limit and the workers. What a saved run makes of groups doesn't
 /// depend on them.
-#[derive(Clone, Copy)]
+#[derive(Clone, Copy, Debug)]
 struct How(u32, u32, u32);
 
 const HOWS: [How; 4] = [
@@ -170,42 +171,46 @@ fn after_parts<T: Threads + Wait + Sync>(
     }
 }
 
-fn parts_are<T: Threads + Wait + Sync>(
+fn parts_differ<T: Threads + Wait + Sync>(
     rt: &T,
     alloc: Global,
     checked: &Checked,
     parts: &Parts,
     how: How,
-) -> Result<bool, NoMemory> {
-    match after_parts(rt, alloc, checked, parts, how)? {
-        Some(groups) => are_groups(alloc, checked, &groups, parts.4),
-        None => Ok(false),
-    }
+) -> Result<Option<String>, NoMemory> {
+    let wanted = parts.4;
+    let found = match after_parts(rt, alloc, checked, parts, how)? {
+        Some(groups) if are_groups(alloc, checked, &groups, wanted)? => return Ok(None),
+        Some(groups) => groups_text(alloc, &groups)?,
+        None => String::from_str(alloc, "no groups")?,
+    };
+    Ok(Some(format!(in alloc; "{how:?}: found {found}, wanted {wanted:?}")?))
 }
 
-impl Scripted for Parts {
+impl ThreadedCase for Parts {
     fn script(&self) -> &str {
         SCRIPT
     }
 
-    fn holds<T: Threads + Wait + Sync>(
+    fn differs<T: Threads + Wait + Sync>(
         &self,
         rt: &T,
         alloc: Global,
         checked: &Checked,
-    ) -> Result<bool, NoMemory> {
+    ) -> Result<Option<String>, NoMemory> {
         'hows: for how in HOWS {
-            if !parts_are(rt, alloc, checked, self, how)? {
-                return Ok(false);
+            let told = parts_differ(rt, alloc, checked, self, how)?;
+            if told.is_some() {
+                return Ok(told);
             }
         }
-        Ok(true)
+        Ok(None)
     }
 }
 
 #[test]
 fn parts_that_are_summarised_apart_come_to_the_groups_of_all(rt: HostRuntime) -> Result<(), Fail> {
-    check_scripted(&rt, rt.alloc(), &PARTS)
+    check_threaded_cases(&rt, rt.alloc(), &PARTS)
 }
 
 /// The files of a part, the number of its first record, and why it isn't summarised.
@@ -246,27 +251,27 @@ const STOPS: [Stop; 5] = [
     Stop(&["none", "absent"], 9, PassErr::Read { file: 1 }),
 ];
 
-impl Scripted for Stop {
+impl ThreadedCase for Stop {
     fn script(&self) -> &str {
         SCRIPT
     }
 
-    fn holds<T: Threads + Wait + Sync>(
+    fn differs<T: Threads + Wait + Sync>(
         &self,
         rt: &T,
         alloc: Global,
         checked: &Checked,
-    ) -> Result<bool, NoMemory> {
+    ) -> Result<Option<String>, NoMemory> {
         let Stop(files, first, wanted) = self;
         let names = names(alloc, files)?;
         match summary(rt, alloc, checked, names.as_slice(), *first, HOWS[0])? {
-            Some(Err(why)) => Ok(why == *wanted),
-            Some(Ok(_)) | None => Ok(false),
+            Some(Err(why)) => difference(alloc, &why, wanted),
+            Some(Ok(_)) | None => Ok(Some(format!(in alloc; "found none, wanted {wanted:?}")?)),
         }
     }
 }
 
 #[test]
 fn a_part_is_refused_at_its_first_problem(rt: HostRuntime) -> Result<(), Fail> {
-    check_scripted(&rt, rt.alloc(), &STOPS)
+    check_threaded_cases(&rt, rt.alloc(), &STOPS)
 }

@@ -1,6 +1,6 @@
 //! Worked logs: the groups of each, by runs of many sizes and by the sequential pass.
-use crate::agreement::{Wanted, runs_are, sequence_is};
-use crate::rows::{Scripted, check_scripted};
+use crate::agreement::{Wanted, passes_differ};
+use crate::texts::{groups_text, passed_text};
 use std::alloc::Global;
 use std::sync::Wait;
 use std::test::Fail;
@@ -11,6 +11,7 @@ use sym_engine::PassErr;
 use sym_given::scripts::{
     BY_USER, COUNTER, DOUBLE, EARLY, MIRROR, QUOTIENT, SESSIONS, SHOWN, SUMS, TOGGLE, TWO_HUNDRED,
 };
+use sym_given::{ThreadedCase, check_threaded_cases, difference};
 use sym_plain::{Groups, columns};
 use sym_table::{Bad, BadCause};
 
@@ -34,7 +35,7 @@ pub(crate) const PURCHASES: &str = "enum action { view, cart, buy } enum stage {
     report { buys = buys; paid = sum(paid); biggest = max(paid); }";
 
 /// What a column shows.
-#[derive(Clone, Copy)]
+#[derive(Clone, Copy, Debug)]
 enum Shown {
     Num(i128),
     Word(&'static str),
@@ -45,7 +46,7 @@ enum Shown {
 use Shown::{Nothing, Num, Word};
 
 /// How a group stands: its columns, or the number of the record at which it ended.
-#[derive(Clone, Copy)]
+#[derive(Clone, Copy, Debug)]
 enum Standing {
     Shows(&'static [Shown]),
     Ended(u64),
@@ -214,40 +215,41 @@ fn are_groups(
 }
 
 impl Wanted for Worked {
-    fn is(
+    fn differs(
         &self,
         alloc: Global,
         checked: &Checked,
         passed: &Result<Groups, PassErr>,
-    ) -> Result<bool, NoMemory> {
+    ) -> Result<Option<String>, NoMemory> {
+        let wanted = self.2;
         match passed {
-            Ok(groups) => are_groups(alloc, checked, groups, self.2),
-            Err(_) => Ok(false),
+            Ok(groups) if are_groups(alloc, checked, groups, wanted)? => Ok(None),
+            _ => {
+                let found = passed_text(alloc, passed)?;
+                Ok(Some(format!(in alloc; "found {found}, wanted {wanted:?}")?))
+            }
         }
     }
 }
 
-impl Scripted for Worked {
+impl ThreadedCase for Worked {
     fn script(&self) -> &str {
         self.0
     }
 
-    fn holds<T: Threads + Wait + Sync>(
+    fn differs<T: Threads + Wait + Sync>(
         &self,
         rt: &T,
         alloc: Global,
         checked: &Checked,
-    ) -> Result<bool, NoMemory> {
-        Ok(
-            runs_are(rt, alloc, checked, self.1, self)?
-                && sequence_is(rt, alloc, checked, self.1, self)?,
-        )
+    ) -> Result<Option<String>, NoMemory> {
+        passes_differ(rt, alloc, checked, self.1, self)
     }
 }
 
 #[test]
 fn runs_of_all_sizes_give_the_worked_groups(rt: HostRuntime) -> Result<(), Fail> {
-    check_scripted(&rt, rt.alloc(), &WORKED)
+    check_threaded_cases(&rt, rt.alloc(), &WORKED)
 }
 
 /// A script, a log, and its first row that is no record.
@@ -283,38 +285,42 @@ const REFUSED: [Refused; 3] = [
 ];
 
 impl Wanted for Refused {
-    fn is(
+    fn differs(
         &self,
-        _alloc: Global,
+        alloc: Global,
         _checked: &Checked,
         passed: &Result<Groups, PassErr>,
-    ) -> Result<bool, NoMemory> {
+    ) -> Result<Option<String>, NoMemory> {
+        let wanted = PassErr::Bad {
+            file: 0,
+            bad: self.2,
+        };
         match passed {
-            Err(PassErr::Bad { file, bad }) => Ok(*file == 0 && *bad == self.2),
-            Ok(_) | Err(_) => Ok(false),
+            Err(why) => difference(alloc, why, &wanted),
+            Ok(groups) => {
+                let found = groups_text(alloc, groups)?;
+                Ok(Some(format!(in alloc; "found {found}, wanted {wanted:?}")?))
+            }
         }
     }
 }
 
-impl Scripted for Refused {
+impl ThreadedCase for Refused {
     fn script(&self) -> &str {
         self.0
     }
 
-    fn holds<T: Threads + Wait + Sync>(
+    fn differs<T: Threads + Wait + Sync>(
         &self,
         rt: &T,
         alloc: Global,
         checked: &Checked,
-    ) -> Result<bool, NoMemory> {
-        Ok(
-            runs_are(rt, alloc, checked, self.1, self)?
-                && sequence_is(rt, alloc, checked, self.1, self)?,
-        )
+    ) -> Result<Option<String>, NoMemory> {
+        passes_differ(rt, alloc, checked, self.1, self)
     }
 }
 
 #[test]
 fn runs_of_all_sizes_find_the_first_row_that_is_no_record(rt: HostRuntime) -> Result<(), Fail> {
-    check_scripted(&rt, rt.alloc(), &REFUSED)
+    check_threaded_cases(&rt, rt.alloc(), &REFUSED)
 }

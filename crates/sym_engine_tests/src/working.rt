@@ -1,6 +1,5 @@
 //! The run of a round.
 use crate::rounds::read_chunks;
-use crate::rows::{Scripted, check_scripted};
 use std::alloc::Global;
 use std::sync::Wait;
 use std::test::Fail;
@@ -11,11 +10,12 @@ use sym_engine::{
     CHUNK_DEFAULT, Free, LIMIT_DEFAULT, OpenGate, Options, PassErr, Rounds, Took, WORKERS_DEFAULT,
     Work, each_round, round,
 };
+use sym_given::{ThreadedCase, check_threaded_cases, difference};
 use sym_run::Run;
 
 /// What is seen of a run: its ends, the words of its keys, joined, and the number of its first row
 /// that is no record.
-#[derive(Drop)]
+#[derive(Debug, Drop)]
 struct Seen {
     lo: u32,
     hi: u32,
@@ -110,16 +110,19 @@ fn is_seen(seen: &Seen, hi: u32, keys: &str, bad: Option<u64>) -> bool {
         && (bad.is_some() || seen.keys.as_str() == keys)
 }
 
-fn are_seen(made: &Made, runs: &[(u32, &'static str, Option<u64>)]) -> bool {
-    if made.runs.len() != runs.len() {
-        return false;
-    }
+// The run of the first round that isn't as wanted.
+fn made_differs(
+    alloc: Global,
+    made: &Made,
+    runs: &[(u32, &'static str, Option<u64>)],
+) -> Result<Option<String>, NoMemory> {
     'runs: for (seen, (hi, keys, bad)) in made.runs.iter().zip(runs) {
         if !is_seen(seen, *hi, keys, *bad) {
-            return false;
+            let wanted = (hi, keys, bad);
+            return Ok(Some(format!(in alloc; "found {seen:?}, wanted {wanted:?}")?));
         }
     }
-    true
+    difference(alloc, &made.runs.len(), &runs.len())
 }
 
 fn store(alloc: Global, log: &str) -> Result<MemStore, NoMemory> {
@@ -165,13 +168,13 @@ fn is_through(taken: Option<Result<u64, PassErr>>) -> bool {
     }
 }
 
-fn makes<T: Threads + Wait + Sync>(
+fn case_differs<T: Threads + Wait + Sync>(
     rt: &T,
     alloc: Global,
     checked: &Checked,
     files: &mut MemStore,
     case: &Case,
-) -> Result<bool, NoMemory> {
+) -> Result<Option<String>, NoMemory> {
     let mut made = Made {
         runs: Vec::new(alloc),
     };
@@ -185,25 +188,28 @@ fn makes<T: Threads + Wait + Sync>(
         case.1,
         &mut made,
     );
-    Ok(is_through(taken) && are_seen(&made, case.2))
+    if !is_through(taken) {
+        return Ok(Some(format!(in alloc; "found {taken:?}, wanted all rounds")?));
+    }
+    made_differs(alloc, &made, case.2)
 }
 
-impl Scripted for Case {
+impl ThreadedCase for Case {
     fn script(&self) -> &str {
         SCRIPT
     }
 
-    fn holds<T: Threads + Wait + Sync>(
+    fn differs<T: Threads + Wait + Sync>(
         &self,
         rt: &T,
         alloc: Global,
         checked: &Checked,
-    ) -> Result<bool, NoMemory> {
-        makes(rt, alloc, checked, &mut store(alloc, self.0)?, self)
+    ) -> Result<Option<String>, NoMemory> {
+        case_differs(rt, alloc, checked, &mut store(alloc, self.0)?, self)
     }
 }
 
 #[test]
 fn a_round_has_the_run_of_all_its_chunks(rt: HostRuntime) -> Result<(), Fail> {
-    check_scripted(&rt, rt.alloc(), &CASES)
+    check_threaded_cases(&rt, rt.alloc(), &CASES)
 }

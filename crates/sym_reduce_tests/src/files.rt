@@ -1,20 +1,20 @@
 //! Files of saved runs under a checked script, in order.
-use crate::setting::{all_hold, names_of, store_of};
+use crate::setting::{names_of, store_of};
 use std::alloc::Global;
 use std::test::Fail;
 use sym_base::{Cell, Key, MemStore, NoMemory, Outcome, Value};
 use sym_check::Checked;
 use sym_file::Totals;
-use sym_given::accepted;
 use sym_given::saved::{
     CUT_OFF, ENDS, FROM_ONE, KEPT, LATER_FROM_ONE, MORE_USERS, NONE, NOT_FIVE, SET, SIXTH, THREE,
     TWO, USERS,
 };
 use sym_given::scripts::COUNTER;
+use sym_given::{Case, check_cases, group_text};
 use sym_reduce::{ReduceErr, reduce_files};
 
 /// How a group stands.
-#[derive(Clone, Copy)]
+#[derive(Clone, Copy, Debug)]
 enum Standing {
     /// Its first cell has this number.
     Is(i64),
@@ -26,7 +26,7 @@ use Standing::{Is, Left};
 
 /// What files come to: the first word of each group's key, empty where it has none, and how the
 /// group stands; or why there are no totals.
-#[derive(Clone, Copy)]
+#[derive(Clone, Copy, Debug)]
 enum Want {
     Groups(&'static [(&'static str, Standing)]),
     Stops(ReduceErr),
@@ -95,45 +95,58 @@ fn is_wanted(found: &Result<Totals, ReduceErr>, wanted: Want) -> bool {
     }
 }
 
-fn reduced_is(
+fn totals_text(alloc: Global, totals: &Totals) -> Result<String, NoMemory> {
+    let mut text = String::new(alloc);
+    'groups: for place in 0..totals.len() {
+        if let Some((key, outcome)) = totals.at(place) {
+            text.push_str(group_text(alloc, key, outcome)?.as_str())?;
+            text.push_str("; ")?;
+        }
+    }
+    Ok(text)
+}
+
+fn reduced_differs(
+    alloc: Global,
+    found: &Result<Totals, ReduceErr>,
+    wanted: Want,
+) -> Result<Option<String>, NoMemory> {
+    if is_wanted(found, wanted) {
+        return Ok(None);
+    }
+    let found = match found {
+        Ok(totals) => totals_text(alloc, totals)?,
+        Err(why) => format!(in alloc; "{why:?}")?,
+    };
+    Ok(Some(format!(in alloc; "found {found}, wanted {wanted:?}")?))
+}
+
+fn files_differ(
     alloc: Global,
     checked: &Checked,
     files: &mut MemStore,
     names: &[String],
     row: &Row,
-) -> bool {
+) -> Result<Option<String>, NoMemory> {
     let Row(_, _, max_bytes, _, wanted) = row;
     if *max_bytes > 1_000 {
-        return false;
+        return Ok(Some(format!(in alloc; "found the size {max_bytes}, wanted at most 1000")?));
     }
-    is_wanted(
-        &reduce_files(alloc, checked, files, names, *max_bytes),
-        *wanted,
-    )
+    let found = reduce_files(alloc, checked, files, names, *max_bytes);
+    reduced_differs(alloc, &found, *wanted)
 }
 
-fn holds_by(alloc: Global, checked: &Checked, row: &Row) -> Result<bool, NoMemory> {
-    let names = names_of(alloc, row.1)?;
-    let mut files = store_of(alloc, &FILES)?;
-    files.fail_at(alloc, row.3)?;
-    Ok(reduced_is(alloc, checked, &mut files, names.as_slice(), row))
-}
-
-fn holds(alloc: Global, row: &Row) -> Result<bool, NoMemory> {
-    match accepted(alloc, row.0) {
-        Some(checked) => holds_by(alloc, &checked, row),
-        None => Ok(false),
+impl Case for Row {
+    fn script(&self) -> &str {
+        self.0
     }
-}
 
-// The place of the first row that doesn't hold, counted from 0.
-fn wrong_row(alloc: Global, rows: &[Row]) -> Result<Option<usize>, NoMemory> {
-    'rows: for (place, row) in rows.iter().enumerate() {
-        if !holds(alloc, row)? {
-            return Ok(Some(place));
-        }
+    fn differs(&self, alloc: Global, checked: &Checked) -> Result<Option<String>, NoMemory> {
+        let names = names_of(alloc, self.1)?;
+        let mut files = store_of(alloc, &FILES)?;
+        files.fail_at(alloc, self.3)?;
+        files_differ(alloc, checked, &mut files, names.as_slice(), self)
     }
-    Ok(None)
 }
 
 const TAKEN: [Row; 8] = [
@@ -174,7 +187,7 @@ const TAKEN: [Row; 8] = [
 
 #[test]
 fn files_in_order_come_to_the_totals(rt: HostRuntime) -> Result<(), Fail> {
-    all_hold(&rt, wrong_row(rt.alloc(), &TAKEN))
+    check_cases(rt.alloc(), &TAKEN)
 }
 
 const STOPS: [Row; 18] = [
@@ -309,5 +322,5 @@ const STOPS: [Row; 18] = [
 
 #[test]
 fn the_first_problem_of_files_is_answered(rt: HostRuntime) -> Result<(), Fail> {
-    all_hold(&rt, wrong_row(rt.alloc(), &STOPS))
+    check_cases(rt.alloc(), &STOPS)
 }

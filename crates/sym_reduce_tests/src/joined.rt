@@ -1,22 +1,23 @@
 //! Run files joined under a checked script, in order: the text of what they come to, or the first
 //! problem.
-use crate::setting::{all_hold, names_of, store_of};
+use crate::setting::{names_of, store_of};
 use std::alloc::Global;
+use std::sync::Wait;
 use std::test::Fail;
 use std::thread::Threads;
 use sym_base::{MemStore, NoMemory};
 use sym_check::Checked;
 use sym_file::write_saved;
-use sym_given::accepted;
 use sym_given::saved::{
     A_TWICE, AFTER_KEY_LINE, ALL_LINES, ALL_USERS, CUT_OFF, FIVE, KEPT, KEY_LINE, LINES,
     MORE_CUT_OFF, MORE_LINES, MORE_USERS, NONE, PUSHED, SET, SIX, SIXTH, THREE, TURNED, TWO, USERS,
     WITH_KEY_LINE,
 };
+use sym_given::{ThreadedCase, bytes_differ, check_threaded_cases, difference};
 use sym_reduce::{ReduceErr, join_files};
 
 /// What files come to: the text of their saved run, or why there is none.
-#[derive(Clone, Copy)]
+#[derive(Clone, Copy, Debug)]
 enum Want {
     Text(&'static str),
     Stops(ReduceErr),
@@ -46,72 +47,57 @@ const FILES: [(&str, &str); 15] = [
     ("empty", ""),
 ];
 
-fn has_text(found: &[u8], wanted: Want) -> bool {
+fn text_differs(alloc: Global, found: &[u8], wanted: Want) -> Result<Option<String>, NoMemory> {
     match wanted {
-        Want::Text(text) => found == text.as_bytes(),
-        Want::Stops(_) => false,
+        Want::Text(text) => bytes_differ(alloc, found, text.as_bytes()),
+        Want::Stops(why) => Ok(Some(format!(in alloc; "found a saved run, wanted {why:?}")?)),
     }
 }
 
-fn has_stop(found: ReduceErr, wanted: Want) -> bool {
+fn stop_differs(alloc: Global, found: ReduceErr, wanted: Want) -> Result<Option<String>, NoMemory> {
     match wanted {
-        Want::Text(_) => false,
-        Want::Stops(why) => found == why,
+        Want::Text(_) => Ok(Some(format!(in alloc; "found {found:?}, wanted a saved run")?)),
+        Want::Stops(why) => difference(alloc, &found, &why),
     }
 }
 
-fn joined_is<T: Threads + Sync>(
+fn joined_differs<T: Threads + Sync>(
     rt: &T,
     alloc: Global,
     checked: &Checked,
     files: &mut MemStore,
     names: &[String],
     row: &Row,
-) -> bool {
+) -> Result<Option<String>, NoMemory> {
     let Row(_, _, max_bytes, _, wanted) = row;
     if *max_bytes > 1_000 {
-        return false;
+        return Ok(Some(format!(in alloc; "found the size {max_bytes}, wanted at most 1000")?));
     }
     match join_files(rt, alloc, checked, files, names, *max_bytes, 16) {
-        Ok(saved) => match write_saved(alloc, checked, &saved) {
-            Ok(text) => has_text(text.as_slice(), *wanted),
-            Err(_) => false,
-        },
-        Err(why) => has_stop(why, *wanted),
-    }
-}
-
-fn holds_by<T: Threads + Sync>(
-    rt: &T,
-    alloc: Global,
-    checked: &Checked,
-    row: &Row,
-) -> Result<bool, NoMemory> {
-    let names = names_of(alloc, row.1)?;
-    let mut files = store_of(alloc, &FILES)?;
-    files.fail_at(alloc, row.3)?;
-    Ok(joined_is(rt, alloc, checked, &mut files, names.as_slice(), row))
-}
-
-fn holds<T: Threads + Sync>(rt: &T, alloc: Global, row: &Row) -> Result<bool, NoMemory> {
-    match accepted(alloc, row.0) {
-        Some(checked) => holds_by(rt, alloc, &checked, row),
-        None => Ok(false),
-    }
-}
-
-// The place of the first row that doesn't hold, counted from 0.
-fn wrong_row<T: Threads + Sync>(
-    rt: &T,
-    alloc: Global,
-    rows: &[Row],
-) -> Result<Option<usize>, NoMemory> {
-    'rows: for (place, row) in rows.iter().enumerate() {
-        if !holds(rt, alloc, row)? {
-            return Ok(Some(place));
+        Ok(saved) => {
+            let text = write_saved(alloc, checked, &saved)?;
+            text_differs(alloc, text.as_slice(), *wanted)
         }
+        Err(why) => stop_differs(alloc, why, *wanted),
     }
-    Ok(None)
+}
+
+impl ThreadedCase for Row {
+    fn script(&self) -> &str {
+        self.0
+    }
+
+    fn differs<T: Threads + Wait + Sync>(
+        &self,
+        rt: &T,
+        alloc: Global,
+        checked: &Checked,
+    ) -> Result<Option<String>, NoMemory> {
+        let names = names_of(alloc, self.1)?;
+        let mut files = store_of(alloc, &FILES)?;
+        files.fail_at(alloc, self.3)?;
+        joined_differs(rt, alloc, checked, &mut files, names.as_slice(), self)
+    }
 }
 
 const JOINS: [Row; 9] = [
@@ -156,7 +142,7 @@ const JOINS: [Row; 9] = [
 
 #[test]
 fn files_in_order_are_joined(rt: HostRuntime) -> Result<(), Fail> {
-    all_hold(&rt, wrong_row(&rt, rt.alloc(), &JOINS))
+    check_threaded_cases(&rt, rt.alloc(), &JOINS)
 }
 
 /// One file, and several with a fault at each place: the first one is answered.
@@ -307,5 +293,5 @@ const STOPS: [Row; 20] = [
 
 #[test]
 fn the_first_problem_of_joined_files_is_answered(rt: HostRuntime) -> Result<(), Fail> {
-    all_hold(&rt, wrong_row(&rt, rt.alloc(), &STOPS))
+    check_threaded_cases(&rt, rt.alloc(), &STOPS)
 }

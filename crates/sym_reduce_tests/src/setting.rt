@@ -1,7 +1,5 @@
-//! Files in memory and their names, and rows of tables.
+//! Files in memory and their names.
 use std::alloc::Global;
-use std::process::Abort;
-use std::test::Fail;
 use sym_base::{MemStore, NoMemory};
 
 /// The names of files.
@@ -23,15 +21,4 @@ pub(crate) fn store_of(
         store.add(alloc, file.0, file.1.as_bytes())?;
     }
     Ok(store)
-}
-
-/// Fails the test at the row of this place, counted from 0.
-pub(crate) fn all_hold(
-    rt: &impl Abort,
-    wrong: Result<Option<usize>, NoMemory>,
-) -> Result<(), Fail> {
-    if let Some(place) = wrong? {
-        panic!(rt; "row {place}");
-    }
-    Ok(())
 }
