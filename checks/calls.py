@@ -20,7 +20,7 @@ import sys
 
 ROOT = os.path.dirname(os.path.dirname(os.path.abspath(__file__)))
 # Crates whose public items only tests and benchmarks use have no row.
-LEFT_OUT = re.compile(r"_tests$|^sym_given$|^sym_uses$|^sym_bench$")
+LEFT_OUT = re.compile(r"_tests$|^sym_given(?:_calls)?$|^sym_uses$|^sym_bench$")
 CLAUSE = re.compile(r"^\s*(?:unsafe )?ensures ?\*? ?([a-z_0-9]*) ?\{")
 HEAD = re.compile(r"^(?:unsafe )?(?:pub )?(?:unsafe )?(impl|trait)\b")
 

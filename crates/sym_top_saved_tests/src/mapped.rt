@@ -1,6 +1,7 @@
 //! `map` over logs: the run file of a part, and why there is none.
-use crate::calls::{Call, NO_SCRIPT, check_calls};
+use crate::calls::{Call, NO_SCRIPT};
 use std::test::Fail;
+use sym_given::check_threaded_rows;
 use sym_given::saved::{KEPT, SET, USERS};
 use sym_top::Status;
 
@@ -120,7 +121,7 @@ const RUN_FILES: [Call; 12] = [
 
 #[test]
 fn a_part_has_a_run_file(rt: HostRuntime) -> Result<(), Fail> {
-    check_calls(&rt, rt.alloc(), &RUN_FILES)
+    check_threaded_rows(&rt, rt.alloc(), &RUN_FILES)
 }
 
 /// Logs that have no run file. The read after the last one that is made fails.
@@ -216,7 +217,7 @@ const REFUSED: [Call; 11] = [
 
 #[test]
 fn a_part_is_refused_as_a_run_is(rt: HostRuntime) -> Result<(), Fail> {
-    check_calls(&rt, rt.alloc(), &REFUSED)
+    check_threaded_rows(&rt, rt.alloc(), &REFUSED)
 }
 
 /// A part of two files.
@@ -287,5 +288,5 @@ const FAILED: [Call; 9] = [
 
 #[test]
 fn a_part_fails_where_a_read_or_a_write_does(rt: HostRuntime) -> Result<(), Fail> {
-    check_calls(&rt, rt.alloc(), &FAILED)
+    check_threaded_rows(&rt, rt.alloc(), &FAILED)
 }

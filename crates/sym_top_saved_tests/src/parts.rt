@@ -1,11 +1,13 @@
 //! Logs that are summarised by parts and reported on together, beside `run` over the whole.
-use crate::calls::{all_hold, make_call, store_of, words_of};
+use crate::calls::store_of;
 use std::alloc::Global;
 use std::sync::Wait;
 use std::test::Fail;
 use std::thread::Threads;
 use sym_base::{MemSink, MemStore, NoMemory};
 use sym_given::scripts::{BY_USER, COUNTER, SESSIONS, TOGGLE};
+use sym_given::{ThreadedRow, check_threaded_rows};
+use sym_given_calls::{End, call, end_differs, push_words, words_of};
 use sym_top::Status;
 
 /// A sum of each user in a range, which most users leave, and the greatest number that was added.
@@ -57,17 +59,6 @@ fn store_with(alloc: Global, log: &Log) -> Result<MemStore, NoMemory> {
     Ok(store)
 }
 
-fn push_words(
-    alloc: Global,
-    words: &mut Vec<String>,
-    given: &[&'static str],
-) -> Result<(), NoMemory> {
-    'words: for word in given {
-        words.push(String::from_str(alloc, word)?)?;
-    }
-    Ok(())
-}
-
 // The arguments that summarise a part in some way.
 fn map_words(
     alloc: Global,
@@ -94,123 +85,111 @@ fn report_words(
     Ok(words)
 }
 
-// Whether a call comes to this status with nothing on `err`.
-fn is_done<T: Threads + Wait + Sync>(
-    rt: &T,
-    alloc: Global,
-    words: &Vec<String>,
-    store: &mut MemStore,
-    out: &mut MemSink,
-    status: Status,
-) -> Result<bool, NoMemory> {
-    let mut err = MemSink::new(alloc, 100);
-    let found = make_call(rt, alloc, words, store, out, &mut err)?;
-    Ok(found == status && err.bytes().is_empty())
-}
-
-// Writes the run file of a part; whether that is done.
-fn map_part<T: Threads + Wait + Sync>(
+// Writes the run file of a part; what that comes to in place of a summary.
+fn map_differs<T: Threads + Wait + Sync>(
     rt: &T,
     alloc: Global,
     words: &Vec<String>,
     store: &mut MemStore,
     run_file: &str,
-) -> Result<bool, NoMemory> {
+) -> Result<Option<String>, NoMemory> {
     let mut out = MemSink::new(alloc, 4_096);
-    let done = is_done(rt, alloc, words, store, &mut out, Status::Done)?;
+    let mut err = MemSink::new(alloc, 100);
+    let status = call(rt, alloc, words, store, &mut out, &mut err)?;
     store.add(alloc, run_file, out.bytes())?;
-    Ok(done)
+    let done = End {
+        status: Status::Done,
+        out: "",
+        err: "",
+    };
+    end_differs(alloc, status, b"", err.bytes(), &done)
 }
 
-fn map_parts<T: Threads + Wait + Sync>(
+fn maps_differ<T: Threads + Wait + Sync>(
     rt: &T,
     alloc: Global,
     store: &mut MemStore,
     log: &Log,
     how: &[&'static str],
-) -> Result<bool, NoMemory> {
+) -> Result<Option<String>, NoMemory> {
     'parts: for ((name, run_file), part) in LOGS
         .iter()
         .zip(RUN_FILES.iter())
         .zip(log.parts.iter())
     {
         let words = map_words(alloc, name, part.0, how)?;
-        if !map_part(rt, alloc, &words, store, run_file)? {
-            return Ok(false);
+        if let Some(told) = map_differs(rt, alloc, &words, store, run_file)? {
+            return Ok(Some(format!(in alloc; "map of {name}: {told}")?));
         }
     }
-    Ok(true)
+    Ok(None)
 }
 
-// Whether a command over files of these names writes the report on the log.
-fn reports<T: Threads + Wait + Sync>(
+// What a command over files of these names comes to in place of the report on the log.
+fn report_differs<T: Threads + Wait + Sync>(
     rt: &T,
     alloc: Global,
     store: &mut MemStore,
-    words: &Vec<String>,
+    command: &'static str,
+    names: &[&'static str],
     log: &Log,
-) -> Result<bool, NoMemory> {
+) -> Result<Option<String>, NoMemory> {
+    let words = report_words(alloc, command, names, log)?;
     let mut out = MemSink::new(alloc, 4_096);
-    Ok(is_done(rt, alloc, words, store, &mut out, log.status)? && out.bytes() == log.out.as_bytes())
+    let mut err = MemSink::new(alloc, 100);
+    let status = call(rt, alloc, &words, store, &mut out, &mut err)?;
+    let end = End {
+        status: log.status,
+        out: log.out,
+        err: "",
+    };
+    end_differs(alloc, status, out.bytes(), err.bytes(), &end)
 }
 
-fn reduces<T: Threads + Wait + Sync>(
-    rt: &T,
-    alloc: Global,
-    store: &mut MemStore,
-    log: &Log,
-) -> Result<bool, NoMemory> {
-    let words = report_words(alloc, "reduce", &RUN_FILES, log)?;
-    reports(rt, alloc, store, &words, log)
-}
-
-fn runs<T: Threads + Wait + Sync>(
-    rt: &T,
-    alloc: Global,
-    store: &mut MemStore,
-    log: &Log,
-) -> Result<bool, NoMemory> {
-    let words = report_words(alloc, "run", &LOGS, log)?;
-    reports(rt, alloc, store, &words, log)
-}
-
-fn how_is<T: Threads + Wait + Sync>(
+fn how_differs<T: Threads + Wait + Sync>(
     rt: &T,
     alloc: Global,
     store: &mut MemStore,
     log: &Log,
     how: &[&'static str],
-) -> Result<bool, NoMemory> {
-    Ok(map_parts(rt, alloc, store, log, how)? && reduces(rt, alloc, store, log)?)
+) -> Result<Option<String>, NoMemory> {
+    let told = maps_differ(rt, alloc, store, log, how)?;
+    if told.is_some() {
+        return Ok(told);
+    }
+    match report_differs(rt, alloc, store, "reduce", &RUN_FILES, log)? {
+        Some(told) => Ok(Some(format!(in alloc; "reduce of {how:?}: {told}")?)),
+        None => Ok(None),
+    }
 }
 
-// Whether the parts, summarised in each way, come to the report that `run` writes.
-fn holds<T: Threads + Wait + Sync>(
+// The report on the parts, summarised in each way, and the one that `run` writes.
+fn log_differs<T: Threads + Wait + Sync>(
     rt: &T,
     alloc: Global,
     store: &mut MemStore,
     log: &Log,
-) -> Result<bool, NoMemory> {
+) -> Result<Option<String>, NoMemory> {
     'hows: for how in HOWS {
-        if !how_is(rt, alloc, store, log, how)? {
-            return Ok(false);
+        let told = how_differs(rt, alloc, store, log, how)?;
+        if told.is_some() {
+            return Ok(told);
         }
     }
-    runs(rt, alloc, store, log)
+    match report_differs(rt, alloc, store, "run", &LOGS, log)? {
+        Some(told) => Ok(Some(format!(in alloc; "run: {told}")?)),
+        None => Ok(None),
+    }
 }
 
-// The place of the first log whose report is another, counted from 0.
-fn wrong_log<T: Threads + Wait + Sync>(
-    rt: &T,
-    alloc: Global,
-    logs: &[Log],
-) -> Result<Option<usize>, NoMemory> {
-    'logs: for (place, log) in logs.iter().enumerate() {
-        if !holds(rt, alloc, &mut store_with(alloc, log)?, log)? {
-            return Ok(Some(place));
-        }
+impl ThreadedRow for Log {
+    fn differs<T: Threads + Wait + Sync>(
+        &self,
+        rt: &T,
+        alloc: Global,
+    ) -> Result<Option<String>, NoMemory> {
+        log_differs(rt, alloc, &mut store_with(alloc, self)?, self)
     }
-    Ok(None)
 }
 
 /// Counts that leave their range at the fourth record.
@@ -276,7 +255,7 @@ const OF_ONE_GROUP: [Log; 8] = [
 
 #[test]
 fn parts_of_one_group_are_reported_as_a_whole(rt: HostRuntime) -> Result<(), Fail> {
-    all_hold(&rt, wrong_log(&rt, rt.alloc(), &OF_ONE_GROUP))
+    check_threaded_rows(&rt, rt.alloc(), &OF_ONE_GROUP)
 }
 
 /// Sessions that go on from one part to the next.
@@ -366,5 +345,5 @@ const OF_USERS: [Log; 9] = [
 
 #[test]
 fn parts_of_users_are_reported_as_a_whole(rt: HostRuntime) -> Result<(), Fail> {
-    all_hold(&rt, wrong_log(&rt, rt.alloc(), &OF_USERS))
+    check_threaded_rows(&rt, rt.alloc(), &OF_USERS)
 }

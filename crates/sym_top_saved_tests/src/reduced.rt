@@ -1,7 +1,8 @@
 //! `reduce` and `join` over run files: the report of all their records, or one run file of them, and
 //! the first problem.
-use crate::calls::{Call, File, NO_SCRIPT, check_calls};
+use crate::calls::{Call, File, NO_SCRIPT};
 use std::test::Fail;
+use sym_given::check_threaded_rows;
 use sym_given::saved::{
     A_TWICE, ALL_USERS, CUT_OFF, D_TWICE, ENDS, FIVE, FROM_ONE, KEPT, KEPT_OTHERWISE,
     LATER_FROM_ONE, MORE_CUT_OFF, MORE_USERS, NONE, NOT_FIVE, SET, SIXTH, THREE, TURNED, TWO,
@@ -137,7 +138,7 @@ const REPORTS: [Call; 17] = [
 
 #[test]
 fn run_files_are_reported_on(rt: HostRuntime) -> Result<(), Fail> {
-    check_calls(&rt, rt.alloc(), &REPORTS)
+    check_threaded_rows(&rt, rt.alloc(), &REPORTS)
 }
 
 /// A call that is refused at its first file, after which nothing is read.
@@ -272,7 +273,7 @@ const FAULTS: [Call; 18] = [
 
 #[test]
 fn a_file_that_is_not_taken_is_told(rt: HostRuntime) -> Result<(), Fail> {
-    check_calls(&rt, rt.alloc(), &FAULTS)
+    check_threaded_rows(&rt, rt.alloc(), &FAULTS)
 }
 
 /// Files in which several things are wrong: the first one is told.
@@ -346,7 +347,7 @@ const FIRST_PROBLEMS: [Call; 9] = [
 
 #[test]
 fn the_first_problem_is_told(rt: HostRuntime) -> Result<(), Fail> {
-    check_calls(&rt, rt.alloc(), &FIRST_PROBLEMS)
+    check_threaded_rows(&rt, rt.alloc(), &FIRST_PROBLEMS)
 }
 
 /// A report on two files.
@@ -429,5 +430,5 @@ const FAILED: [Call; 11] = [
 
 #[test]
 fn a_report_fails_where_a_read_or_a_write_does(rt: HostRuntime) -> Result<(), Fail> {
-    check_calls(&rt, rt.alloc(), &FAILED)
+    check_threaded_rows(&rt, rt.alloc(), &FAILED)
 }

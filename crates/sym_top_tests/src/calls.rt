@@ -3,11 +3,10 @@ use std::alloc::Global;
 use std::sync::Wait;
 use std::thread::Threads;
 use sym_base::{MemSink, MemStore, NoMemory};
-use sym_engine::{Free, OpenGate};
+use sym_given::ThreadedRow;
 use sym_given::scripts::BY_USER;
-use sym_report::{CsvForm, PairsForm, ReportForm, TableForm};
-use sym_top::{Status, symple};
-use sym_watch::Observer;
+use sym_given_calls::{End, call, end_differs};
+use sym_top::Status;
 
 // The names of at most three files.
 const NAMES: [&str; 3] = ["log.csv", "second.csv", "third.csv"];
@@ -78,17 +77,6 @@ pub(crate) const USAGE: Run = Run {
     ..DONE
 };
 
-pub(crate) fn push_words(
-    alloc: Global,
-    words: &mut Vec<String>,
-    given: &[&'static str],
-) -> Result<(), NoMemory> {
-    'words: for word in given {
-        words.push(String::from_str(alloc, word)?)?;
-    }
-    Ok(())
-}
-
 fn push_more(alloc: Global, words: &mut Vec<String>, more: usize) -> Result<(), NoMemory> {
     'names: for _ in 0..more {
         words.push(String::from_str(alloc, "log.csv")?)?;
@@ -97,8 +85,7 @@ fn push_more(alloc: Global, words: &mut Vec<String>, more: usize) -> Result<(), 
 }
 
 pub(crate) fn words_of(alloc: Global, run: &Run) -> Result<Vec<String>, NoMemory> {
-    let mut words = Vec::new(alloc);
-    push_words(alloc, &mut words, run.words)?;
+    let mut words = sym_given_calls::words_of(alloc, run.words)?;
     push_more(alloc, &mut words, run.more)?;
     Ok(words)
 }
@@ -128,90 +115,57 @@ fn sinks_of(alloc: Global, run: &Run) -> Result<(MemSink, MemSink), NoMemory> {
     Ok((out, err))
 }
 
-/// No observers.
-pub(crate) fn no_observers(alloc: Global) -> Vec<Box<dyn Observer + Send>> {
-    Vec::new(alloc)
-}
-
-/// The top call, with the forms and the gate of the program, and no observers. Few functions make it,
-/// since proofs beside its long contract are slow.
-pub(crate) fn call<T: Threads + Wait + Sync>(
-    rt: &T,
-    alloc: Global,
-    words: &Vec<String>,
-    store: &mut MemStore,
-    out: &mut MemSink,
-    err: &mut MemSink,
-) -> Result<Status, NoMemory> {
-    let table: Box<dyn ReportForm> = Box::new(alloc, TableForm::new(alloc))?;
-    let csv: Box<dyn ReportForm> = Box::new(alloc, CsvForm::new(alloc))?;
-    let pairs: Box<dyn ReportForm> = Box::new(alloc, PairsForm::new(alloc))?;
-    let forms = Vec::from_array(alloc, [table, csv, pairs])?;
-    let mut observers = no_observers(alloc);
-    let gate = OpenGate { hold: Free };
-    Ok(symple(
-        rt,
-        alloc,
-        words,
-        store,
-        out,
-        err,
-        forms,
-        &mut observers,
-        &gate,
-    ))
-}
-
-fn is_end(run: &Run, status: Status, out: &MemSink, err: &MemSink) -> bool {
-    status == run.status && out.bytes() == run.out.as_bytes() && err.bytes() == run.err.as_bytes()
-}
-
-/// Whether a call with these words comes to what is said of the run.
-pub(crate) fn ends_by<T: Threads + Wait + Sync>(
+/// What a call with these words comes to in place of what is said of the run.
+pub(crate) fn differs_by<T: Threads + Wait + Sync>(
     rt: &T,
     alloc: Global,
     words: &Vec<String>,
     store: &mut MemStore,
     run: &Run,
-) -> Result<bool, NoMemory> {
+) -> Result<Option<String>, NoMemory> {
     let (mut out, mut err) = sinks_of(alloc, run)?;
     let status = call(rt, alloc, words, store, &mut out, &mut err)?;
-    Ok(is_end(run, status, &out, &err))
+    let end = End {
+        status: run.status,
+        out: run.out,
+        err: run.err,
+    };
+    end_differs(alloc, status, out.bytes(), err.bytes(), &end)
 }
 
-/// Whether a run over this store comes to what is said of it.
-pub(crate) fn ends<T: Threads + Wait + Sync>(
+/// What a run over this store comes to in place of what is said of it.
+pub(crate) fn differs_over<T: Threads + Wait + Sync>(
     rt: &T,
     alloc: Global,
     store: &mut MemStore,
     run: &Run,
-) -> Result<bool, NoMemory> {
-    ends_by(rt, alloc, &words_of(alloc, run)?, store, run)
+) -> Result<Option<String>, NoMemory> {
+    differs_by(rt, alloc, &words_of(alloc, run)?, store, run)
 }
 
-fn ends_and_stops<T: Threads + Wait + Sync>(
+// The run, and a later one if it is wanted.
+fn differs_or_goes_on<T: Threads + Wait + Sync>(
     rt: &T,
     alloc: Global,
     store: &mut MemStore,
     run: &Run,
-) -> Result<bool, NoMemory> {
-    Ok(ends(rt, alloc, store, run)? && (!run.stops || ends(rt, alloc, store, &UNREAD)?))
-}
-
-fn holds<T: Threads + Wait + Sync>(rt: &T, alloc: Global, run: &Run) -> Result<bool, NoMemory> {
-    ends_and_stops(rt, alloc, &mut store_of(alloc, run)?, run)
-}
-
-/// The place of the first run that comes to something else, counted from 0.
-pub(crate) fn wrong_run<T: Threads + Wait + Sync>(
-    rt: &T,
-    alloc: Global,
-    runs: &[Run],
-) -> Result<Option<usize>, NoMemory> {
-    'runs: for (place, run) in runs.iter().enumerate() {
-        if !holds(rt, alloc, run)? {
-            return Ok(Some(place));
-        }
+) -> Result<Option<String>, NoMemory> {
+    let told = differs_over(rt, alloc, store, run)?;
+    if told.is_some() || !run.stops {
+        return Ok(told);
     }
-    Ok(None)
+    match differs_over(rt, alloc, store, &UNREAD)? {
+        Some(told) => Ok(Some(format!(in alloc; "a later run: {told}")?)),
+        None => Ok(None),
+    }
+}
+
+impl ThreadedRow for Run {
+    fn differs<T: Threads + Wait + Sync>(
+        &self,
+        rt: &T,
+        alloc: Global,
+    ) -> Result<Option<String>, NoMemory> {
+        differs_or_goes_on(rt, alloc, &mut store_of(alloc, self)?, self)
+    }
 }

@@ -1,9 +1,9 @@
 //! Runs with options, checks and makings, with their ends.
-use crate::calls::{DONE, Run, USAGE, wrong_run};
+use crate::calls::{DONE, Run, USAGE};
 use crate::hostile::{ASKED, ASKED_MORE};
-use crate::rows::all_hold;
 use crate::scripts::{BY_DAY, CLAMPED};
 use std::test::Fail;
+use sym_given::check_threaded_rows;
 use sym_given::scripts::{COUNTER, DOUBLE, SESSIONS, TOGGLE, TWO_HUNDRED};
 use sym_top::Status;
 
@@ -202,7 +202,7 @@ const OPTIONS: [Run; 15] = [
 
 #[test]
 fn options_change_the_form_and_the_size_alone(rt: HostRuntime) -> Result<(), Fail> {
-    all_hold(&rt, wrong_run(&rt, rt.alloc(), &OPTIONS))
+    check_threaded_rows(&rt, rt.alloc(), &OPTIONS)
 }
 
 /// A check of the script.
@@ -300,7 +300,7 @@ const CHECKS: [Run; 14] = [
 
 #[test]
 fn a_check_says_what_a_script_has(rt: HostRuntime) -> Result<(), Fail> {
-    all_hold(&rt, wrong_run(&rt, rt.alloc(), &CHECKS))
+    check_threaded_rows(&rt, rt.alloc(), &CHECKS)
 }
 
 /// A making, over a store of which each read fails.
@@ -358,5 +358,5 @@ const MAKES: [Run; 8] = [
 
 #[test]
 fn a_making_sums_up_its_log(rt: HostRuntime) -> Result<(), Fail> {
-    all_hold(&rt, wrong_run(&rt, rt.alloc(), &MAKES))
+    check_threaded_rows(&rt, rt.alloc(), &MAKES)
 }

@@ -1,13 +1,14 @@
 //! Runs over a store that gives its bytes one at a time and fails at each read in turn, and over
 //! scripts and logs near the limits.
-use crate::calls::{DONE, Run, UNREAD, call, ends, store_of, wrong_run};
-use crate::rows::all_hold;
+use crate::calls::{DONE, Run, UNREAD, differs_over, store_of, words_of};
 use std::alloc::Global;
 use std::sync::Wait;
 use std::test::Fail;
 use std::thread::Threads;
 use sym_base::{MemSink, MemStore, NoMemory};
 use sym_given::scripts::{COUNTER, SESSIONS};
+use sym_given::{ThreadedRow, all_hold, check_threaded_rows, difference};
+use sym_given_calls::call;
 use sym_top::Status;
 
 // So many tests of a cell that each of them may be true or false of it: a record has 1,024 paths.
@@ -45,22 +46,14 @@ fn byte_by_byte(alloc: Global, near: &Near) -> Result<MemStore, NoMemory> {
     Ok(store)
 }
 
-fn holds<T: Threads + Wait + Sync>(rt: &T, alloc: Global, near: &Near) -> Result<bool, NoMemory> {
-    ends(rt, alloc, &mut byte_by_byte(alloc, near)?, &near.run)
-}
-
-// The place of the first run that comes to something else, counted from 0.
-fn wrong_near<T: Threads + Wait + Sync>(
-    rt: &T,
-    alloc: Global,
-    rows: &[Near],
-) -> Result<Option<usize>, NoMemory> {
-    'rows: for (place, near) in rows.iter().enumerate() {
-        if !holds(rt, alloc, near)? {
-            return Ok(Some(place));
-        }
+impl ThreadedRow for Near {
+    fn differs<T: Threads + Wait + Sync>(
+        &self,
+        rt: &T,
+        alloc: Global,
+    ) -> Result<Option<String>, NoMemory> {
+        differs_over(rt, alloc, &mut byte_by_byte(alloc, self)?, &self.run)
     }
-    Ok(None)
 }
 
 /// A group ends at its fourth record.
@@ -151,7 +144,7 @@ const NEAR_LIMITS: [Near; 9] = [
 
 #[test]
 fn runs_near_the_limits_end_as_said(rt: HostRuntime) -> Result<(), Fail> {
-    all_hold(&rt, wrong_near(&rt, rt.alloc(), &NEAR_LIMITS))
+    check_threaded_rows(&rt, rt.alloc(), &NEAR_LIMITS)
 }
 
 /// The reads of the script's 78 bytes, and one that gives nothing.
@@ -180,11 +173,14 @@ fn with_read(read: u64) -> Near {
     Near { run, log: FIVES }
 }
 
-// The number of the first read whose failing comes to something else, less one.
-fn wrong_read<T: Threads + Wait + Sync>(rt: &T, alloc: Global) -> Result<Option<usize>, NoMemory> {
-    'reads: for place in 0..=92usize {
-        if !holds(rt, alloc, &with_read(place as u64 + 1))? {
-            return Ok(Some(place));
+// What the first run that comes to something else comes to, by the read that fails.
+fn read_differs<T: Threads + Wait + Sync>(
+    rt: &T,
+    alloc: Global,
+) -> Result<Option<String>, NoMemory> {
+    'reads: for read in 1..=93u64 {
+        if let Some(told) = with_read(read).differs(rt, alloc)? {
+            return Ok(Some(format!(in alloc; "read {read} fails: {told}")?));
         }
     }
     Ok(None)
@@ -192,7 +188,7 @@ fn wrong_read<T: Threads + Wait + Sync>(rt: &T, alloc: Global) -> Result<Option<
 
 #[test]
 fn each_read_of_a_byte_fails_in_turn(rt: HostRuntime) -> Result<(), Fail> {
-    all_hold(&rt, wrong_read(&rt, rt.alloc()))
+    all_hold(read_differs(&rt, rt.alloc()))
 }
 
 /// A report without rows, of which a write to `out` takes four bytes.
@@ -240,7 +236,7 @@ const FAILING: [Run; 6] = [
 
 #[test]
 fn each_write_of_a_heading_fails_in_turn(rt: HostRuntime) -> Result<(), Fail> {
-    all_hold(&rt, wrong_run(&rt, rt.alloc(), &FAILING))
+    check_threaded_rows(&rt, rt.alloc(), &FAILING)
 }
 
 /// A script that is too large, whatever it has.
@@ -265,8 +261,7 @@ fn too_large(alloc: Global) -> Result<MemStore, NoMemory> {
 
 #[test]
 fn a_script_may_have_65536_bytes(rt: HostRuntime) -> Result<(), Fail> {
-    assert!(rt; ends(&rt, rt.alloc(), &mut too_large(rt.alloc())?, &LARGE)?);
-    Ok(())
+    all_hold(differs_over(&rt, rt.alloc(), &mut too_large(rt.alloc())?, &LARGE))
 }
 
 // A log of so many users, of one record each.
@@ -279,19 +274,15 @@ fn users(alloc: Global, many: u32) -> Result<Vec<u8>, NoMemory> {
     Ok(log)
 }
 
-fn words(alloc: Global) -> Result<Vec<String>, NoMemory> {
-    let mut words = Vec::new(alloc);
-    'words: for word in DONE.words {
-        words.push(String::from_str(alloc, word)?)?;
-    }
-    Ok(words)
-}
-
 // The heading has 9 bytes, the end 3, and the row of a user whose number has d digits 6 + d.
-fn is_report(report: &[u8]) -> bool {
-    report.len() == 208_902
-        && report.starts_with(b"user | n\nu0 | 1\nu1 | 1\n")
-        && report.ends_with(b"\nu19998 | 1\nu19999 | 1\n--\n")
+fn report_differs(alloc: Global, report: &[u8]) -> Result<Option<String>, NoMemory> {
+    if !report.starts_with(b"user | n\nu0 | 1\nu1 | 1\n") {
+        return Ok(Some(String::from_str(alloc, "found another first row, wanted user 0")?));
+    }
+    if !report.ends_with(b"\nu19998 | 1\nu19999 | 1\n--\n") {
+        return Ok(Some(String::from_str(alloc, "found another last row, wanted user 19999")?));
+    }
+    difference(alloc, &report.len(), &208_902)
 }
 
 fn many_users(alloc: Global) -> Result<MemStore, NoMemory> {
@@ -307,21 +298,24 @@ fn report_of<T: Threads + Wait + Sync>(
     out: &mut MemSink,
 ) -> Result<Status, NoMemory> {
     let mut err = MemSink::new(alloc, 100);
-    call(rt, alloc, &words(alloc)?, store, out, &mut err)
+    call(rt, alloc, &words_of(alloc, &DONE)?, store, out, &mut err)
 }
 
-fn reports_all<T: Threads + Wait + Sync>(
+fn reports_differ<T: Threads + Wait + Sync>(
     rt: &T,
     alloc: Global,
     store: &mut MemStore,
-) -> Result<bool, NoMemory> {
+) -> Result<Option<String>, NoMemory> {
     let mut out = MemSink::new(alloc, 4_096);
     let status = report_of(rt, alloc, store, &mut out)?;
-    Ok(status == Status::Done && is_report(out.bytes()))
+    let told = difference(alloc, &status, &Status::Done)?;
+    if told.is_some() {
+        return Ok(told);
+    }
+    report_differs(alloc, out.bytes())
 }
 
 #[test]
 fn a_report_may_have_many_rows(rt: HostRuntime) -> Result<(), Fail> {
-    assert!(rt; reports_all(&rt, rt.alloc(), &mut many_users(rt.alloc())?)?);
-    Ok(())
+    all_hold(reports_differ(&rt, rt.alloc(), &mut many_users(rt.alloc())?))
 }

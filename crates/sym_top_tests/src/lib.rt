@@ -10,8 +10,6 @@ mod hostile;
 #[cfg(test)]
 mod marks;
 #[cfg(test)]
-mod rows;
-#[cfg(test)]
 mod runs;
 #[cfg(test)]
 mod scripts;

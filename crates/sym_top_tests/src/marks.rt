@@ -1,8 +1,6 @@
 //! Runs through forms of the tests' own.
 ghost use Rattle.std.specs.Prelude.{◌≡◌, [], ◌∷◌, codes};
 
-use crate::calls::no_observers;
-use crate::rows::all_hold;
 use std::alloc::Global;
 use std::sync::Wait;
 use std::test::Fail;
@@ -10,6 +8,8 @@ use std::thread::Threads;
 use sym_base::{MemSink, MemStore, NoMemory};
 use sym_engine::{Free, OpenGate};
 use sym_given::scripts::BY_USER;
+use sym_given::{ThreadedRow, check_threaded_rows};
+use sym_given_calls::{End, end_differs, no_observers, words_of};
 use sym_report::{Heads, ReportForm, Row};
 use sym_top::{Status, symple};
 
@@ -73,14 +73,6 @@ impl ReportForm for Marks {
     }
 }
 
-fn words_of(alloc: Global, given: &[&'static str]) -> Result<Vec<String>, NoMemory> {
-    let mut words = Vec::new(alloc);
-    'words: for word in given {
-        words.push(String::from_str(alloc, word)?)?;
-    }
-    Ok(words)
-}
-
 fn store_of(alloc: Global) -> Result<MemStore, NoMemory> {
     let mut store = MemStore::new(alloc);
     store.add(alloc, "s", BY_USER.as_bytes())?;
@@ -121,73 +113,57 @@ fn call_with<T: Threads + Wait + Sync>(
 struct Marked {
     words: &'static [&'static str],
     room: usize,
-    status: Status,
-    out: &'static str,
-    err: &'static str,
+    end: End,
 }
 
-fn is_end(marked: &Marked, status: Status, out: &MemSink, err: &MemSink) -> bool {
-    status == marked.status
-        && out.bytes() == marked.out.as_bytes()
-        && err.bytes() == marked.err.as_bytes()
-}
-
-fn ends<T: Threads + Wait + Sync>(
+fn end_differs_by<T: Threads + Wait + Sync>(
     rt: &T,
     alloc: Global,
     words: &Vec<String>,
     store: &mut MemStore,
     marked: &Marked,
-) -> Result<bool, NoMemory> {
+) -> Result<Option<String>, NoMemory> {
     let mut out = MemSink::new(alloc, 100);
     let mut err = MemSink::new(alloc, 100);
     let status = call_with(rt, alloc, words, store, &mut out, &mut err, marked.room)?;
-    Ok(is_end(marked, status, &out, &err))
+    end_differs(alloc, status, out.bytes(), err.bytes(), &marked.end)
 }
 
-fn comes_to<T: Threads + Wait + Sync>(
-    rt: &T,
-    alloc: Global,
-    marked: &Marked,
-) -> Result<bool, NoMemory> {
-    let words = words_of(alloc, marked.words)?;
-    ends(rt, alloc, &words, &mut store_of(alloc)?, marked)
-}
-
-// The place of the first run that comes to something else, counted from 0.
-fn wrong_run<T: Threads + Wait + Sync>(
-    rt: &T,
-    alloc: Global,
-    rows: &[Marked],
-) -> Result<Option<usize>, NoMemory> {
-    'rows: for (place, marked) in rows.iter().enumerate() {
-        if !comes_to(rt, alloc, marked)? {
-            return Ok(Some(place));
-        }
+impl ThreadedRow for Marked {
+    fn differs<T: Threads + Wait + Sync>(
+        &self,
+        rt: &T,
+        alloc: Global,
+    ) -> Result<Option<String>, NoMemory> {
+        let words = words_of(alloc, self.words)?;
+        end_differs_by(rt, alloc, &words, &mut store_of(alloc)?, self)
     }
-    Ok(None)
 }
 
 /// A run over three groups through the first form.
 const MARKED: Marked = Marked {
     words: &["run", "--form", "marks", "s", "f"],
     room: 3,
-    status: Status::Done,
-    out: "<...>",
-    err: "",
+    end: End {
+        status: Status::Done,
+        out: "<...>",
+        err: "",
+    },
 };
 
 #[test]
 fn the_first_form_of_the_name_writes_the_report(rt: HostRuntime) -> Result<(), Fail> {
-    all_hold(&rt, wrong_run(&rt, rt.alloc(), &[MARKED]))
+    check_threaded_rows(&rt, rt.alloc(), &[MARKED])
 }
 
 /// The same without memory for a row.
 const FULL: Marked = Marked {
     room: 0,
-    status: Status::NoMemory,
-    out: "",
-    err: "symple: out of memory\n",
+    end: End {
+        status: Status::NoMemory,
+        out: "",
+        err: "symple: out of memory\n",
+    },
     ..MARKED
 };
 
@@ -196,26 +172,32 @@ const FULL_AT: [Marked; 3] = [FULL, Marked { room: 1, ..FULL }, Marked { room: 2
 
 #[test]
 fn a_form_without_memory_ends_the_run(rt: HostRuntime) -> Result<(), Fail> {
-    all_hold(&rt, wrong_run(&rt, rt.alloc(), &FULL_AT))
+    check_threaded_rows(&rt, rt.alloc(), &FULL_AT)
 }
 
 /// A run in the form `table`, and a check, which writes in no form.
 const OTHERS: [Marked; 2] = [
     Marked {
         words: &["run", "s", "f"],
-        status: Status::Usage,
-        out: "",
-        err: "symple: usage\n",
+        end: End {
+            status: Status::Usage,
+            out: "",
+            err: "symple: usage\n",
+        },
         ..MARKED
     },
     Marked {
         words: &["check", "s"],
-        out: "cells 1 tests 0 paths 3\n",
+        end: End {
+            status: Status::Done,
+            out: "cells 1 tests 0 paths 3\n",
+            err: "",
+        },
         ..MARKED
     },
 ];
 
 #[test]
 fn a_form_that_is_not_handed_in_is_usage(rt: HostRuntime) -> Result<(), Fail> {
-    all_hold(&rt, wrong_run(&rt, rt.alloc(), &OTHERS))
+    check_threaded_rows(&rt, rt.alloc(), &OTHERS)
 }

@@ -1,16 +1,17 @@
 //! Whole runs over stores and sinks in memory.
-use crate::calls::{DONE, Run, THREE_FILES, TWO_FILES, USAGE, wrong_run};
-use crate::rows::all_hold;
+use crate::calls::{DONE, Run, THREE_FILES, TWO_FILES, USAGE};
 use crate::scripts::{
     BETWEEN, BY_ALL, BY_DAY, CALCULATED, CLAMPED, CLAMPED_QUOTIENT, CLAMPED_SUMS, NO_RANGE,
     NO_SCRIPT, TURNED, TWO,
 };
 use std::alloc::Global;
 use std::test::Fail;
-use sym_base::MemSink;
+use sym_base::{MemSink, NoMemory};
 use sym_given::scripts::{
     BY_USER, COUNTER, DOUBLE, EARLY, MIRROR, QUOTIENT, SESSIONS, SHOWN, SUMS, TOGGLE, TWO_HUNDRED,
 };
+use sym_given::{all_hold, check_threaded_rows};
+use sym_given_calls::{End, end_differs};
 use sym_top::{StartErr, Status, refuse_start};
 
 /// Scripts, the files that they are run over, and the reports.
@@ -181,7 +182,7 @@ const REPORTS: [Run; 25] = [
 
 #[test]
 fn runs_write_their_reports(rt: HostRuntime) -> Result<(), Fail> {
-    all_hold(&rt, wrong_run(&rt, rt.alloc(), &REPORTS))
+    check_threaded_rows(&rt, rt.alloc(), &REPORTS)
 }
 
 /// Scripts, the files that they are run over, and the lines of the refusals.
@@ -240,7 +241,7 @@ const REFUSALS: [Run; 7] = [
 
 #[test]
 fn what_is_refused_is_told(rt: HostRuntime) -> Result<(), Fail> {
-    all_hold(&rt, wrong_run(&rt, rt.alloc(), &REFUSALS))
+    check_threaded_rows(&rt, rt.alloc(), &REFUSALS)
 }
 
 /// A run over three files of users.
@@ -305,7 +306,7 @@ const READS: [Run; 8] = [
 
 #[test]
 fn a_failed_read_names_its_file(rt: HostRuntime) -> Result<(), Fail> {
-    all_hold(&rt, wrong_run(&rt, rt.alloc(), &READS))
+    check_threaded_rows(&rt, rt.alloc(), &READS)
 }
 
 /// A run over these files whose report is cut off.
@@ -361,7 +362,7 @@ const WRITES: [Run; 8] = [
 
 #[test]
 fn a_failed_write_leaves_a_prefix(rt: HostRuntime) -> Result<(), Fail> {
-    all_hold(&rt, wrong_run(&rt, rt.alloc(), &WRITES))
+    check_threaded_rows(&rt, rt.alloc(), &WRITES)
 }
 
 const WRITTEN: [Run; 1] = [Run {
@@ -372,7 +373,7 @@ const WRITTEN: [Run; 1] = [Run {
 
 #[test]
 fn a_report_is_whole_where_a_later_write_would_fail(rt: HostRuntime) -> Result<(), Fail> {
-    all_hold(&rt, wrong_run(&rt, rt.alloc(), &WRITTEN))
+    check_threaded_rows(&rt, rt.alloc(), &WRITTEN)
 }
 
 /// Words that are no command line.
@@ -409,7 +410,7 @@ const COMMANDS: [Run; 7] = [
 
 #[test]
 fn other_words_are_refused_before_anything_is_read(rt: HostRuntime) -> Result<(), Fail> {
-    all_hold(&rt, wrong_run(&rt, rt.alloc(), &COMMANDS))
+    check_threaded_rows(&rt, rt.alloc(), &COMMANDS)
 }
 
 /// Runs that are refused. The read that is to fail is the first one after the run.
@@ -482,7 +483,7 @@ const STOPPED: [Run; 7] = [
 
 #[test]
 fn nothing_is_read_after_a_refusal(rt: HostRuntime) -> Result<(), Fail> {
-    all_hold(&rt, wrong_run(&rt, rt.alloc(), &STOPPED))
+    check_threaded_rows(&rt, rt.alloc(), &STOPPED)
 }
 
 /// A run over as many files as a run may have, without the script's field.
@@ -496,7 +497,7 @@ const MOST_FILES: [Run; 1] = [Run {
 
 #[test]
 fn as_many_files_are_taken_as_a_run_may_have(rt: HostRuntime) -> Result<(), Fail> {
-    all_hold(&rt, wrong_run(&rt, rt.alloc(), &MOST_FILES))
+    check_threaded_rows(&rt, rt.alloc(), &MOST_FILES)
 }
 
 const ONE_FILE_MORE: [Run; 1] = [Run {
@@ -508,7 +509,7 @@ const ONE_FILE_MORE: [Run; 1] = [Run {
 
 #[test]
 fn one_file_more_is_refused(rt: HostRuntime) -> Result<(), Fail> {
-    all_hold(&rt, wrong_run(&rt, rt.alloc(), &ONE_FILE_MORE))
+    check_threaded_rows(&rt, rt.alloc(), &ONE_FILE_MORE)
 }
 
 /// A run that is refused, of which each write to `err` takes all it is given.
@@ -567,19 +568,28 @@ const LINES: [Run; 8] = [
 
 #[test]
 fn a_failed_write_ends_the_line(rt: HostRuntime) -> Result<(), Fail> {
-    all_hold(&rt, wrong_run(&rt, rt.alloc(), &LINES))
+    check_threaded_rows(&rt, rt.alloc(), &LINES)
 }
 
-fn start_is(alloc: Global, why: StartErr, status: Status, line: &str) -> bool {
+// How the end of a process that begins no run differs.
+fn start_differs(alloc: Global, why: StartErr, wanted: &End) -> Result<Option<String>, NoMemory> {
     let mut err = MemSink::new(alloc, 100);
-    refuse_start(&mut err, why) == status && err.bytes() == line.as_bytes()
+    let status = refuse_start(&mut err, why);
+    end_differs(alloc, status, b"", err.bytes(), wanted)
 }
 
 #[test]
-fn a_process_that_begins_no_run_has_a_line_and_a_status(rt: HostRuntime) {
-    let alloc = rt.alloc();
-    let line = "symple: usage\n";
-    assert!(rt; start_is(alloc, StartErr::NotUtf8, Status::Usage, line));
-    let line = "symple: out of memory\n";
-    assert!(rt; start_is(alloc, StartErr::NoMemory, Status::NoMemory, line));
+fn a_process_that_begins_no_run_has_a_line_and_a_status(rt: HostRuntime) -> Result<(), Fail> {
+    let usage = End {
+        status: Status::Usage,
+        out: "",
+        err: "symple: usage\n",
+    };
+    all_hold(start_differs(rt.alloc(), StartErr::NotUtf8, &usage))?;
+    let full = End {
+        status: Status::NoMemory,
+        out: "",
+        err: "symple: out of memory\n",
+    };
+    all_hold(start_differs(rt.alloc(), StartErr::NoMemory, &full))
 }

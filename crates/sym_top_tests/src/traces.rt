@@ -1,12 +1,13 @@
 //! Traces over stores and sinks in memory, in chunks of several sizes and by several workers.
-use crate::calls::{DONE, Run, UNREAD, USAGE, ends_by, push_words, store_of, words_of, wrong_run};
-use crate::rows::all_hold;
+use crate::calls::{DONE, Run, UNREAD, USAGE, differs_by, store_of, words_of};
 use std::alloc::Global;
 use std::sync::Wait;
 use std::test::Fail;
 use std::thread::Threads;
 use sym_base::NoMemory;
 use sym_given::scripts::{COUNTER, QUOTIENT, SESSIONS, SHOWN, TOGGLE, TWO_HUNDRED};
+use sym_given::{ThreadedRow, check_threaded_rows};
+use sym_given_calls::push_words;
 use sym_top::Status;
 
 const CHUNKS: [&str; 3] = ["1", "2", "1024"];
@@ -23,62 +24,54 @@ const FIFTIETH: &str = "x\n\
     1\n1\n1\n1\n1\n1\n1\n1\n1\n1\n1\n1\n1\n1\n1\n1\n1\n1\n1\n1\n1\n1\n1\n1\n1,1\n\
     1\n1\n1\n1\n1\n1\n1\n1\n1\n1\n1\n1\n1\n1\n1\n1\n1\n1\n1\n1\n";
 
-// Whether a trace in chunks of this size and by so many workers comes to what is said of it.
-fn ends_cut<T: Threads + Wait + Sync>(
+// What a trace in chunks of this size and by so many workers comes to in place of what is said.
+fn differs_cut<T: Threads + Wait + Sync>(
     rt: &T,
     alloc: Global,
     run: &Run,
     chunk: &'static str,
     workers: &'static str,
-) -> Result<bool, NoMemory> {
+) -> Result<Option<String>, NoMemory> {
     let mut words = words_of(alloc, run)?;
     push_words(alloc, &mut words, &["--chunk", chunk, "--workers", workers])?;
-    ends_by(rt, alloc, &words, &mut store_of(alloc, run)?, run)
-}
-
-fn wrong_cut<T: Threads + Wait + Sync>(
-    rt: &T,
-    alloc: Global,
-    runs: &[Run],
-    chunk: &'static str,
-    workers: &'static str,
-) -> Result<Option<usize>, NoMemory> {
-    'runs: for (place, run) in runs.iter().enumerate() {
-        if !ends_cut(rt, alloc, run, chunk, workers)? {
-            return Ok(Some(place));
-        }
+    match differs_by(rt, alloc, &words, &mut store_of(alloc, run)?, run)? {
+        Some(told) => Ok(Some(format!(in alloc; "chunk {chunk}, workers {workers}: {told}")?)),
+        None => Ok(None),
     }
-    Ok(None)
 }
 
-fn wrong_chunks<T: Threads + Wait + Sync>(
+fn differs_with<T: Threads + Wait + Sync>(
     rt: &T,
     alloc: Global,
-    runs: &[Run],
+    run: &Run,
     workers: &'static str,
-) -> Result<Option<usize>, NoMemory> {
+) -> Result<Option<String>, NoMemory> {
     'chunks: for chunk in CHUNKS {
-        let wrong = wrong_cut(rt, alloc, runs, chunk, workers)?;
-        if wrong.is_some() {
-            return Ok(wrong);
+        let told = differs_cut(rt, alloc, run, chunk, workers)?;
+        if told.is_some() {
+            return Ok(told);
         }
     }
     Ok(None)
 }
 
-// The place of the first trace that comes to something else, however it is cut and worked on.
-fn wrong_trace<T: Threads + Wait + Sync>(
-    rt: &T,
-    alloc: Global,
-    runs: &[Run],
-) -> Result<Option<usize>, NoMemory> {
-    'workers: for workers in WORKERS {
-        let wrong = wrong_chunks(rt, alloc, runs, workers)?;
-        if wrong.is_some() {
-            return Ok(wrong);
+/// A run that comes to the same however it is cut and worked on.
+struct Trace(Run);
+
+impl ThreadedRow for Trace {
+    fn differs<T: Threads + Wait + Sync>(
+        &self,
+        rt: &T,
+        alloc: Global,
+    ) -> Result<Option<String>, NoMemory> {
+        'workers: for workers in WORKERS {
+            let told = differs_with(rt, alloc, &self.0, workers)?;
+            if told.is_some() {
+                return Ok(told);
+            }
         }
+        Ok(None)
     }
-    Ok(None)
 }
 
 /// A trace of each record.
@@ -88,112 +81,112 @@ const TRACE: Run = Run {
 };
 
 /// Scripts, the files that they are traced over, and the reports.
-const TRACES: [Run; 22] = [
-    Run {
+const TRACES: [Trace; 22] = [
+    Trace(Run {
         script: COUNTER,
         files: &["x\n5\n5\n5\n5\n5\n"],
         status: Status::Faulted,
         out: "record | n\n1 | 1\n2 | 2\n3 | 3\n4 | fault: n overflows at record 4\n\
             5 | fault: n overflows at record 4\n--\n",
         ..TRACE
-    },
-    Run {
+    }),
+    Trace(Run {
         words: &["trace", "--every", "2", "count.symple", "log.csv"],
         script: COUNTER,
         files: &["x\n5\n5\n5\n5\n5\n"],
         status: Status::Faulted,
         out: "record | n\n2 | 2\n4 | fault: n overflows at record 4\n--\n",
         ..TRACE
-    },
-    Run {
+    }),
+    Trace(Run {
         words: &["trace", "--every", "5", "count.symple", "log.csv"],
         script: SESSIONS,
         files: &["ts,user\n10,a\n20,a\n60,a\n5,b\n61,a\n"],
         out: "record | user | sessions | open | longest\n5 | a | 1 | 2 | 2\n--\n",
         ..TRACE
-    },
-    Run {
+    }),
+    Trace(Run {
         words: &["trace", "--every", "9", "count.symple", "log.csv"],
         script: COUNTER,
         files: &["x\n5\n5\n5\n5\n5\n"],
         out: "record | n\n--\n",
         ..TRACE
-    },
-    Run {
+    }),
+    Trace(Run {
         words: &["trace", "count.symple", "log.csv", "--every=50"],
         script: COUNTS,
         files: &[TWO_HUNDRED],
         out: "record | n\n50 | 50\n100 | 100\n150 | 150\n200 | 200\n--\n",
         ..TRACE
-    },
-    Run {
+    }),
+    Trace(Run {
         words: &["trace", "count.symple", "log.csv", "--every=70"],
         script: COUNTS,
         files: &[TWO_HUNDRED],
         out: "record | n\n70 | 70\n140 | 140\n--\n",
         ..TRACE
-    },
-    Run {
+    }),
+    Trace(Run {
         words: &["trace", "count.symple", "log.csv", "--every=64"],
         script: COUNTS,
         files: &[TWO_HUNDRED],
         out: "record | n\n64 | 64\n128 | 128\n192 | 192\n--\n",
         ..TRACE
-    },
-    Run {
+    }),
+    Trace(Run {
         words: &["trace", "count.symple", "log.csv", "--every=65"],
         script: TOGGLE,
         files: &[TWO_HUNDRED],
         out: "record | phase\n65 | busy\n130 | idle\n195 | busy\n--\n",
         ..TRACE
-    },
-    Run {
+    }),
+    Trace(Run {
         words: &["trace", "count.symple", "log.csv", "--every=97"],
         script: COUNTS,
         files: &[TWO_HUNDRED],
         out: "record | n\n97 | 97\n194 | 194\n--\n",
         ..TRACE
-    },
-    Run {
+    }),
+    Trace(Run {
         words: &["trace", "count.symple", "log.csv", "--every=25"],
         script: TOGGLE,
         files: &[TWO_HUNDRED],
         out: "record | phase\n25 | busy\n50 | idle\n75 | busy\n100 | idle\n125 | busy\n\
             150 | idle\n175 | busy\n200 | idle\n--\n",
         ..TRACE
-    },
-    Run {
+    }),
+    Trace(Run {
         words: &["trace", "count.symple", "log.csv", "--every=60"],
         script: COUNTS,
         files: &[FIFTIETH],
         status: Status::Input,
         err: "symple: log.csv: record 50: 2 fields\n",
         ..TRACE
-    },
-    Run {
+    }),
+    Trace(Run {
         words: &["trace", "count.symple", "log.csv", "--every=40"],
         script: COUNTS,
         files: &[FIFTIETH],
         status: Status::Input,
         err: "symple: log.csv: record 50: 2 fields\n",
         ..TRACE
-    },
-    Run {
+    }),
+    Trace(Run {
         words: &["trace", "count.symple", "log.csv", "--every=20"],
         script: COUNTS,
         files: &[FIFTIETH],
         status: Status::Input,
         err: "symple: log.csv: record 50: 2 fields\n",
         ..TRACE
-    },
-    Run {
+    }),
+    Trace(Run {
         script: SESSIONS,
         files: &["ts,user\n10,a\n20,a\n60,a\n5,b\n61,a\n"],
         out: "record | user | sessions | open | longest\n1 | a | 0 | 1 | none\n\
             2 | a | 0 | 2 | none\n3 | a | 1 | 1 | 2\n4 | b | 0 | 1 | none\n5 | a | 1 | 2 | 2\n--\n",
         ..TRACE
-    },
-    Run {
+    }),
+    Trace(Run {
         words: &[
             "trace",
             "--every",
@@ -205,48 +198,48 @@ const TRACES: [Run; 22] = [
         files: &["user\na\nb\na\n", "user\nb\nc\na\n"],
         out: "record | user | n\n2 | b | 1\n4 | b | 2\n6 | a | 3\n--\n",
         ..TRACE
-    },
-    Run {
+    }),
+    Trace(Run {
         words: &["trace", "count.symple", "log.csv", "second.csv"],
         files: &["", "user\n"],
         out: "record | user | n\n--\n",
         ..TRACE
-    },
-    Run {
+    }),
+    Trace(Run {
         script: QUOTIENT,
         files: &["x\n3\n0\n5\n"],
         status: Status::Faulted,
         out: "record | n\n1 | 1\n2 | fault: arithmetic at record 2\n\
             3 | fault: arithmetic at record 2\n--\n",
         ..TRACE
-    },
-    Run {
+    }),
+    Trace(Run {
         script: SHOWN,
         files: &["user\na\n"],
         status: Status::Faulted,
         out: "record | user | q | r | m | k\n1 | a | zero divisor | -7 | none | none\n--\n",
         ..TRACE
-    },
-    Run {
+    }),
+    Trace(Run {
         words: &["trace", "--form", "csv", "count.symple", "log.csv"],
         files: &["user\na\nb\na\n"],
         out: "record,user,n,fault\n1,a,1,\n2,b,1,\n3,a,2,\n",
         ..TRACE
-    },
-    Run {
+    }),
+    Trace(Run {
         words: &["trace", "--form", "pairs", "count.symple", "log.csv"],
         files: &["user\na\nb\na\n"],
         out: "record=1 user=\"a\" n=1\nrecord=2 user=\"b\" n=1\nrecord=3 user=\"a\" n=2\n",
         ..TRACE
-    },
-    Run {
+    }),
+    Trace(Run {
         words: &["trace", "count.symple", "log.csv", "second.csv"],
         files: &["user\na\n", "user\na\na,b\na\n"],
         status: Status::Input,
         err: "symple: second.csv: record 3: 2 fields\n",
         ..TRACE
-    },
-    Run {
+    }),
+    Trace(Run {
         words: &[
             "trace",
             "--every",
@@ -259,12 +252,12 @@ const TRACES: [Run; 22] = [
         status: Status::Input,
         err: "symple: second.csv: record 3: 2 fields\n",
         ..TRACE
-    },
+    }),
 ];
 
 #[test]
 fn a_trace_is_the_same_however_it_is_worked(rt: HostRuntime) -> Result<(), Fail> {
-    all_hold(&rt, wrong_trace(&rt, rt.alloc(), &TRACES))
+    check_threaded_rows(&rt, rt.alloc(), &TRACES)
 }
 
 /// Traces that are refused, or cut.
@@ -316,5 +309,5 @@ const REFUSED: [Run; 8] = [
 
 #[test]
 fn a_trace_is_refused_as_a_run_is(rt: HostRuntime) -> Result<(), Fail> {
-    all_hold(&rt, wrong_run(&rt, rt.alloc(), &REFUSED))
+    check_threaded_rows(&rt, rt.alloc(), &REFUSED)
 }

@@ -1,28 +1,16 @@
 //! Lists of arguments, each with what it comes to by the rules of the command line.
-use crate::calls::call;
-use crate::rows::all_hold;
 use std::alloc::Global;
 use std::sync::Wait;
 use std::test::Fail;
 use std::thread::Threads;
 use sym_base::{MemSink, MemStore, NoMemory};
+use sym_given::all_hold;
+use sym_given::scripts::BY_USER;
+use sym_given_calls::{End, call, end_differs, words_of};
 use sym_top::Status;
 
-// The script of the file `s`: how many records each user has.
-const SCRIPT: &str =
-    "field user: word; group user; state n: int [0..1000000] = 0; update { n = n + 1; } \
-    report { n = n; }";
-
-// The file `f` has one record, in 7 bytes.
+// The file `f` has one record, in 7 bytes; the file `s` has the script.
 const RECORDS: &str = "user\na\n";
-
-/// The end of a run.
-#[derive(Clone, Copy)]
-struct End {
-    status: Status,
-    out: &'static str,
-    err: &'static str,
-}
 
 /// The report over `f`.
 const ONE: End = End {
@@ -53,65 +41,49 @@ const LARGE: End = End {
 
 fn store_of(alloc: Global) -> Result<MemStore, NoMemory> {
     let mut store = MemStore::new(alloc);
-    store.add(alloc, "s", SCRIPT.as_bytes())?;
+    store.add(alloc, "s", BY_USER.as_bytes())?;
     store.add(alloc, "f", RECORDS.as_bytes())?;
     Ok(store)
 }
 
-fn words_of(alloc: Global, given: &[&'static str]) -> Result<Vec<String>, NoMemory> {
-    let mut words = Vec::new(alloc);
-    'words: for word in given {
-        words.push(String::from_str(alloc, word)?)?;
-    }
-    Ok(words)
-}
-
-fn is_end(end: End, status: Status, out: &MemSink, err: &MemSink) -> bool {
-    status == end.status && out.bytes() == end.out.as_bytes() && err.bytes() == end.err.as_bytes()
-}
-
-fn ends<T: Threads + Wait + Sync>(
+fn end_differs_by<T: Threads + Wait + Sync>(
     rt: &T,
     alloc: Global,
     words: &Vec<String>,
     store: &mut MemStore,
     end: End,
-) -> Result<bool, NoMemory> {
+) -> Result<Option<String>, NoMemory> {
     let mut out = MemSink::new(alloc, 100);
     let mut err = MemSink::new(alloc, 100);
     let status = call(rt, alloc, words, store, &mut out, &mut err)?;
-    Ok(is_end(end, status, &out, &err))
+    end_differs(alloc, status, out.bytes(), err.bytes(), &end)
 }
 
-fn ends_over<T: Threads + Wait + Sync>(
-    rt: &T,
-    alloc: Global,
-    words: &Vec<String>,
-    end: End,
-) -> Result<bool, NoMemory> {
-    let mut store = store_of(alloc)?;
-    ends(rt, alloc, words, &mut store, end)
-}
-
-fn comes_to<T: Threads + Wait + Sync>(
+// What these arguments come to in place of this end.
+fn list_differs<T: Threads + Wait + Sync>(
     rt: &T,
     alloc: Global,
     given: &[&'static str],
     end: End,
-) -> Result<bool, NoMemory> {
-    ends_over(rt, alloc, &words_of(alloc, given)?, end)
+) -> Result<Option<String>, NoMemory> {
+    let words = words_of(alloc, given)?;
+    match end_differs_by(rt, alloc, &words, &mut store_of(alloc)?, end)? {
+        Some(told) => Ok(Some(format!(in alloc; "{given:?}: {told}")?)),
+        None => Ok(None),
+    }
 }
 
-// The place of the first list that comes to something else, counted from 0.
-fn wrong_list<T: Threads + Wait + Sync>(
+// What the first list that comes to something else comes to.
+fn lists_differ<T: Threads + Wait + Sync>(
     rt: &T,
     alloc: Global,
     lists: &[&'static [&'static str]],
     end: End,
-) -> Result<Option<usize>, NoMemory> {
-    'lists: for (place, list) in lists.iter().enumerate() {
-        if !comes_to(rt, alloc, list, end)? {
-            return Ok(Some(place));
+) -> Result<Option<String>, NoMemory> {
+    'lists: for list in lists {
+        let told = list_differs(rt, alloc, list, end)?;
+        if told.is_some() {
+            return Ok(told);
         }
     }
     Ok(None)
@@ -171,7 +143,7 @@ const RUNS: [&[&str]; 28] = [
 
 #[test]
 fn a_run_is_read_wherever_its_options_stand(rt: HostRuntime) -> Result<(), Fail> {
-    all_hold(&rt, wrong_list(&rt, rt.alloc(), &RUNS, ONE))
+    all_hold(lists_differ(&rt, rt.alloc(), &RUNS, ONE))
 }
 
 /// The trace of the one record of `f`.
@@ -201,7 +173,7 @@ const TRACES: [&[&str]; 7] = [
 
 #[test]
 fn a_trace_has_the_words_of_a_run_and_its_own(rt: HostRuntime) -> Result<(), Fail> {
-    all_hold(&rt, wrong_list(&rt, rt.alloc(), &TRACES, TRACED))
+    all_hold(lists_differ(&rt, rt.alloc(), &TRACES, TRACED))
 }
 
 /// The trace of `f` where no record is shown.
@@ -218,7 +190,7 @@ const FEW: [&[&str]; 2] = [
 
 #[test]
 fn a_trace_shows_the_records_that_a_number_divides(rt: HostRuntime) -> Result<(), Fail> {
-    all_hold(&rt, wrong_list(&rt, rt.alloc(), &FEW, UNSHOWN))
+    all_hold(lists_differ(&rt, rt.alloc(), &FEW, UNSHOWN))
 }
 
 /// A run over the file `f`, twice.
@@ -232,7 +204,7 @@ const TWO_FILES: [&[&str]; 5] = [
 
 #[test]
 fn all_words_after_the_script_are_files(rt: HostRuntime) -> Result<(), Fail> {
-    all_hold(&rt, wrong_list(&rt, rt.alloc(), &TWO_FILES, TWO))
+    all_hold(lists_differ(&rt, rt.alloc(), &TWO_FILES, TWO))
 }
 
 const TOO_SMALL: [&[&str]; 4] = [
@@ -244,7 +216,7 @@ const TOO_SMALL: [&[&str]; 4] = [
 
 #[test]
 fn a_file_has_no_more_bytes_than_asked(rt: HostRuntime) -> Result<(), Fail> {
-    all_hold(&rt, wrong_list(&rt, rt.alloc(), &TOO_SMALL, LARGE))
+    all_hold(lists_differ(&rt, rt.alloc(), &TOO_SMALL, LARGE))
 }
 
 const NO_TRACES: [&[&str]; 12] = [
@@ -264,7 +236,7 @@ const NO_TRACES: [&[&str]; 12] = [
 
 #[test]
 fn other_lists_are_no_trace(rt: HostRuntime) -> Result<(), Fail> {
-    all_hold(&rt, wrong_list(&rt, rt.alloc(), &NO_TRACES, USAGE))
+    all_hold(lists_differ(&rt, rt.alloc(), &NO_TRACES, USAGE))
 }
 
 const NO_PARTS: [&[&str]; 22] = [
@@ -294,7 +266,7 @@ const NO_PARTS: [&[&str]; 22] = [
 
 #[test]
 fn other_lists_are_no_map_reduce_or_join(rt: HostRuntime) -> Result<(), Fail> {
-    all_hold(&rt, wrong_list(&rt, rt.alloc(), &NO_PARTS, USAGE))
+    all_hold(lists_differ(&rt, rt.alloc(), &NO_PARTS, USAGE))
 }
 
 const NOT_WATCHED: [&[&str]; 13] = [
@@ -315,7 +287,7 @@ const NOT_WATCHED: [&[&str]; 13] = [
 
 #[test]
 fn other_lists_watch_no_run(rt: HostRuntime) -> Result<(), Fail> {
-    all_hold(&rt, wrong_list(&rt, rt.alloc(), &NOT_WATCHED, USAGE))
+    all_hold(lists_differ(&rt, rt.alloc(), &NOT_WATCHED, USAGE))
 }
 
 const NONE: [&[&str]; 101] = [
@@ -424,25 +396,26 @@ const NONE: [&[&str]; 101] = [
 
 #[test]
 fn other_lists_are_no_command(rt: HostRuntime) -> Result<(), Fail> {
-    all_hold(&rt, wrong_list(&rt, rt.alloc(), &NONE, USAGE))
+    all_hold(lists_differ(&rt, rt.alloc(), &NONE, USAGE))
 }
 
 /// Arguments that name a file which isn't there, and the line that names it.
 type Missing = (&'static [&'static str], &'static str);
 
-fn wrong_name<T: Threads + Wait + Sync>(
+fn names_differ<T: Threads + Wait + Sync>(
     rt: &T,
     alloc: Global,
     rows: &[Missing],
-) -> Result<Option<usize>, NoMemory> {
-    'rows: for (place, row) in rows.iter().enumerate() {
+) -> Result<Option<String>, NoMemory> {
+    'rows: for row in rows {
         let end = End {
             status: Status::ReadFault,
             out: "",
             err: row.1,
         };
-        if !comes_to(rt, alloc, row.0, end)? {
-            return Ok(Some(place));
+        let told = list_differs(rt, alloc, row.0, end)?;
+        if told.is_some() {
+            return Ok(told);
         }
     }
     Ok(None)
@@ -486,7 +459,7 @@ const MISSING: [Missing; 18] = [
 
 #[test]
 fn a_file_has_the_name_of_its_word(rt: HostRuntime) -> Result<(), Fail> {
-    all_hold(&rt, wrong_name(&rt, rt.alloc(), &MISSING))
+    all_hold(names_differ(&rt, rt.alloc(), &MISSING))
 }
 
 /// The cells, the tests and the path bound of `s`.
@@ -504,7 +477,7 @@ const CHECKS: [&[&str]; 3] = [
 
 #[test]
 fn a_check_names_one_script(rt: HostRuntime) -> Result<(), Fail> {
-    all_hold(&rt, wrong_list(&rt, rt.alloc(), &CHECKS, COUNTS))
+    all_hold(lists_differ(&rt, rt.alloc(), &CHECKS, COUNTS))
 }
 
 /// The summary of five records.
@@ -526,5 +499,5 @@ const MAKES: [&[&str]; 7] = [
 
 #[test]
 fn a_making_has_two_numbers(rt: HostRuntime) -> Result<(), Fail> {
-    all_hold(&rt, wrong_list(&rt, rt.alloc(), &MAKES, FIVE))
+    all_hold(lists_differ(&rt, rt.alloc(), &MAKES, FIVE))
 }

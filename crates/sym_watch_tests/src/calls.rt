@@ -8,11 +8,6 @@ use sym_report::{ReportForm, TableForm};
 use sym_top::{Status, symple};
 use sym_watch::Observer;
 
-/// Counts the records of each user.
-pub(crate) const COUNTS: &str =
-    "field user: word; group user; state n: int [0..1000000] = 0; update { n = n + 1; } \
-    report { n = n; }";
-
 /// A log of so many records of the user `a`, of which one, counted from 0, has two fields.
 pub(crate) fn log_of(
     alloc: Global,
@@ -25,15 +20,6 @@ pub(crate) fn log_of(
         log.push_str(row)?;
     }
     Ok(log)
-}
-
-/// Arguments.
-pub(crate) fn words_of(alloc: Global, given: &[&'static str]) -> Result<Vec<String>, NoMemory> {
-    let mut words = Vec::new(alloc);
-    'words: for word in given {
-        words.push(String::from_str(alloc, word)?)?;
-    }
-    Ok(words)
 }
 
 /// What a call came to.

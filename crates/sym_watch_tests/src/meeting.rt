@@ -1,5 +1,5 @@
 //! A `tell` that is held until the next round is worked, and a round that is held until then.
-use crate::calls::{COUNTS, call, log_of, words_of};
+use crate::calls::{call, log_of};
 use std::alloc::Global;
 use std::sync::atomic::{AtomicBool, AtomicU64, Ordering};
 use std::sync::{Arc, Wait};
@@ -7,6 +7,8 @@ use std::test::Fail;
 use std::thread::Threads;
 use sym_base::{MemStore, NoMemory};
 use sym_engine::{Enter, Hold, OpenGate, Work, worked};
+use sym_given::scripts::BY_USER;
+use sym_given_calls::words_of;
 use sym_run::Run;
 use sym_top::Status;
 use sym_watch::{Observer, Partial};
@@ -153,7 +155,7 @@ fn came_of<T: Threads + Wait + Sync>(
 ) -> Result<Came, NoMemory> {
     let words = words_of(alloc, given)?;
     let mut store = MemStore::new(alloc);
-    store.add(alloc, "s", COUNTS.as_bytes())?;
+    store.add(alloc, "s", BY_USER.as_bytes())?;
     store.add(alloc, "f", log_of(alloc, 130, None)?.as_bytes())?;
     let meeting = Arc::new(alloc, Meeting::new(turns))?;
     let observer: Box<dyn Observer + Send> = Box::new(

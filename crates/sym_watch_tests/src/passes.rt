@@ -8,9 +8,9 @@ use std::sync::{Arc, Wait};
 use std::test::Fail;
 use std::thread::Threads;
 use sym_base::{FILE_MAX_DEFAULT, MemStore, NoMemory};
-use sym_check::{Checked, check};
+use sym_check::Checked;
 use sym_engine::{Free, LIMIT_DEFAULT, OpenGate, Options, PassErr, pass_watched};
-use sym_parse::parse;
+use sym_given::accepted;
 use sym_watch::Observer;
 
 // A count of all records.
@@ -51,17 +51,6 @@ const NO_PASS: Came = Came {
     last: (None, None),
     answer: Err(Stopped::NoPass),
 };
-
-// The script of a text; `None` if the text is refused.
-fn accepted(alloc: Global, text: &str) -> Option<Checked> {
-    if text.len() >= 10_000 {
-        return None;
-    }
-    match parse(alloc, text.as_bytes()) {
-        Ok(script) => check(alloc, script).ok(),
-        Err(_) => None,
-    }
-}
 
 // A file of so many records of one user, one of which has two fields.
 fn log_of(alloc: Global, records: usize, bad: Option<usize>) -> Result<String, AllocError> {

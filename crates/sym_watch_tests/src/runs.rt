@@ -1,5 +1,5 @@
 //! Whole runs with observers: what each comes to, and what they are told of.
-use crate::calls::{COUNTS, Ended, call, log_of, words_of};
+use crate::calls::{Ended, call, log_of};
 use crate::noter::{Borders, noter_into};
 use std::alloc::Global;
 use std::sync::{Arc, Wait};
@@ -7,6 +7,8 @@ use std::test::Fail;
 use std::thread::Threads;
 use sym_base::{MemStore, NoMemory};
 use sym_engine::{Free, OpenGate};
+use sym_given::scripts::BY_USER;
+use sym_given_calls::words_of;
 use sym_top::Status;
 use sym_watch::Observer;
 
@@ -47,7 +49,7 @@ struct Came {
 
 const CALL: Call = Call {
     words: WATCHED,
-    script: COUNTS,
+    script: BY_USER,
     spaces: 0,
     records: 130,
     bad: None,

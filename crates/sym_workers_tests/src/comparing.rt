@@ -12,11 +12,11 @@ use std::alloc::Global;
 use std::sync::Wait;
 use std::thread::Threads;
 use sym_base::{FILE_MAX_DEFAULT, MemStore, NoMemory};
-use sym_check::{Checked, check};
+use sym_check::Checked;
 use sym_engine::{
     Gate, Hold, LIMIT_DEFAULT, OpenGate, Options, Rounds, Took, WORKERS_DEFAULT, Work, each_round,
 };
-use sym_parse::parse;
+use sym_given::accepted;
 use sym_plain::Groups;
 use sym_run::{Applied, Run, of_chunk, of_chunks};
 
@@ -236,17 +236,6 @@ impl<'a> Rounds for Compared<'a> {
             Applied::Done(_groups) => Ok(Took::Done),
             Applied::Bad(bad) => Ok(Took::Bad(bad)),
         }
-    }
-}
-
-// The script of a text; `None` if the text is refused.
-pub(crate) fn accepted(alloc: Global, text: &str) -> Option<Checked> {
-    if text.len() >= 10_000 {
-        return None;
-    }
-    match parse(alloc, text.as_bytes()) {
-        Ok(script) => check(alloc, script).ok(),
-        Err(_) => None,
     }
 }
 

@@ -2,7 +2,7 @@
 ghost use Rattle.std.specs.Prelude.{◌≤◌};
 ghost use Rattle.sym_files.specs.Options.{InRange};
 
-use crate::comparing::{accepted, names, same_groups, store};
+use crate::comparing::{names, same_groups, store};
 use crate::showing::{Joins, ShowsB};
 use std::alloc::Global;
 use std::sync::Wait;
@@ -11,6 +11,7 @@ use std::thread::Threads;
 use sym_base::{FILE_MAX_DEFAULT, MemStore, NoMemory};
 use sym_check::Checked;
 use sym_engine::{Free, Gate, LIMIT_DEFAULT, OpenGate, Options, PassErr, pass, sequential_pass};
+use sym_given::accepted;
 use sym_plain::Groups;
 
 // How rows are read, and in which way: so many rows a chunk and so many workers. Where they are

@@ -8,6 +8,10 @@ use std::test::Fail;
 use std::thread::Threads;
 use sym_base::{Column, MemSink, MemStore, NoMemory};
 use sym_engine::{Gate, OpenGate, Work};
+use sym_given::saved::SET;
+use sym_given::scripts::BY_USER;
+use sym_given::{ThreadedRow, all_hold, check_threaded_rows, difference};
+use sym_given_calls::{End, end_differs, no_observers, words_of};
 use sym_report::{ReportForm, Row, RowBody, TableForm};
 use sym_run::Run;
 use sym_top::{Status, symple};
@@ -19,17 +23,9 @@ const TURNS: u64 = 500_000_000;
 /// For how many turns the only worker of a run is held.
 const FEW_TURNS: u64 = 1_000;
 
-// Counts the records of each user.
-const COUNTS: &str = "field user: word; group user; state n: int [0..1000000] = 0; \
-    update { n = n + 1; } report { n = n; }";
-
 // Comes to 1 for each user, whatever was held before, so that the state gets known.
 const ONES: &str = "field user: word; group user; state n: int [0..1] = 0; \
     update { n = 1; } report { n = n; }";
-
-// The same, with a run file that is easily written out.
-const FIVES: &str = "field user: word; group user; state n: int [0..9] = 0; \
-    update { n = 5; } report { n = n; }";
 
 /// Has all chunks worked on one thread, and else is as the program's gate.
 #[derive(Drop)]
@@ -64,24 +60,11 @@ struct Call {
     err: &'static str,
 }
 
-fn words_of(alloc: Global, call: &Call) -> Result<Vec<String>, NoMemory> {
-    let mut words = Vec::new(alloc);
-    'words: for word in call.words {
-        words.push(String::from_str(alloc, word)?)?;
-    }
-    Ok(words)
-}
-
 fn store_of(alloc: Global, call: &Call) -> Result<MemStore, NoMemory> {
     let mut store = MemStore::new(alloc);
     store.add(alloc, "s", call.script.as_bytes())?;
     store.add(alloc, "f", call.log.as_bytes())?;
     Ok(store)
-}
-
-// No observers.
-fn no_observers(alloc: Global) -> Vec<Box<dyn Observer + Send>> {
-    Vec::new(alloc)
 }
 
 // The top call, with the form `table`.
@@ -100,14 +83,9 @@ fn called<T: Threads + Wait + Sync, G: Gate + Sync>(
     Ok(symple(rt, alloc, words, store, out, err, forms, observers, gate))
 }
 
-fn is_end(call: &Call, status: Status, out: &MemSink, err: &MemSink) -> bool {
-    status == call.status
-        && out.bytes() == call.out.as_bytes()
-        && err.bytes() == call.err.as_bytes()
-}
-
-// Whether a call with these words, over this store and through a gate, comes to what is said of it.
-fn ends<T: Threads + Wait + Sync, G: Gate + Sync>(
+// What a call with these words, over this store and through a gate, comes to in place of what is
+// said of it.
+fn differs_by<T: Threads + Wait + Sync, G: Gate + Sync>(
     rt: &T,
     alloc: Global,
     words: &Vec<String>,
@@ -115,30 +93,35 @@ fn ends<T: Threads + Wait + Sync, G: Gate + Sync>(
     call: &Call,
     observers: &mut Vec<Box<dyn Observer + Send>>,
     gate: &G,
-) -> Result<bool, NoMemory> {
+) -> Result<Option<String>, NoMemory> {
     let mut out = MemSink::new(alloc, 100);
     let mut err = MemSink::new(alloc, 100);
     let status = called(rt, alloc, words, store, &mut out, &mut err, observers, gate)?;
-    Ok(is_end(call, status, &out, &err))
+    let end = End {
+        status: call.status,
+        out: call.out,
+        err: call.err,
+    };
+    end_differs(alloc, status, out.bytes(), err.bytes(), &end)
 }
 
 // The same of the call's own words and store, with no observers.
-fn holds<T: Threads + Wait + Sync, G: Gate + Sync>(
+fn call_differs<T: Threads + Wait + Sync, G: Gate + Sync>(
     rt: &T,
     alloc: Global,
     call: &Call,
     gate: &G,
-) -> Result<bool, NoMemory> {
-    let words = words_of(alloc, call)?;
+) -> Result<Option<String>, NoMemory> {
+    let words = words_of(alloc, call.words)?;
     let mut observers = no_observers(alloc);
     let mut store = store_of(alloc, call)?;
-    ends(rt, alloc, &words, &mut store, call, &mut observers, gate)
+    differs_by(rt, alloc, &words, &mut store, call, &mut observers, gate)
 }
 
 /// Two records, each of which is a chunk, and two workers, who share the records out by their
 /// groups.
 const TWO: Call = Call {
-    script: COUNTS,
+    script: BY_USER,
     words: &["run", "--chunk", "1", "--workers", "2", "s", "f"],
     log: "user\na\nb\n",
     status: Status::Done,
@@ -171,38 +154,42 @@ fn two_workers_of_a_run_are_at_work_at_once(rt: HostRuntime) -> Result<(), Fail>
     'calls: for call in [TWO, TWO_KNOWN] {
         let hold = Holder::new(Until::OtherWorker, TURNS);
         let gate = OpenGate { hold };
-        assert!(rt; holds(&rt, rt.alloc(), &call, &gate)?, "{}", call.script);
+        all_hold(call_differs(&rt, rt.alloc(), &call, &gate))?;
         assert!(rt; gate.hold.claimed_once(2), "{}", call.script);
         assert!(rt; !gate.hold.gave_up(), "{}", call.script);
     }
     Ok(())
 }
 
-// Whether a call over 64 chunks comes to what is said of it, each is claimed once, and the other
-// worker claims all from this one on while the worker of the first stretch is held.
-fn goes_through<T: Threads + Wait + Sync>(
+// What a call over 64 chunks comes to in place of what is said of it, where each chunk is claimed
+// once, and the other worker claims all from this one on while the worker of the first stretch is
+// held.
+fn many_differ<T: Threads + Wait + Sync>(
     rt: &T,
     alloc: Global,
     call: &Call,
     from: u32,
-) -> Result<bool, NoMemory> {
+) -> Result<Option<String>, NoMemory> {
     let hold = Holder::new(Until::Others(from, 64), TURNS);
     let gate = OpenGate { hold };
-    let is_so = holds(rt, alloc, call, &gate)?;
-    Ok(is_so && gate.hold.claimed_once(64) && !gate.hold.gave_up())
+    let told = call_differs(rt, alloc, call, &gate)?;
+    if told.is_some() {
+        return Ok(told);
+    }
+    let found = (gate.hold.claimed_once(64), gate.hold.gave_up());
+    difference(alloc, &found, &(true, false))
 }
 
 #[test]
 fn the_other_worker_of_a_run_takes_all_later_stretches(rt: HostRuntime) -> Result<(), Fail> {
     let alloc = rt.alloc();
-    assert!(rt; goes_through(&rt, alloc, &MANY, 8)?);
+    all_hold(many_differ(&rt, alloc, &MANY, 8))?;
     let known = Call {
         script: ONES,
         out: "user | n\na | 1\n--\n",
         ..MANY
     };
-    assert!(rt; goes_through(&rt, alloc, &known, 16)?);
-    Ok(())
+    all_hold(many_differ(&rt, alloc, &known, 16))
 }
 
 #[test]
@@ -211,7 +198,7 @@ fn a_hold_on_the_only_worker_of_a_run_gives_up(rt: HostRuntime) -> Result<(), Fa
     let gate = Alone {
         open: OpenGate { hold },
     };
-    assert!(rt; holds(&rt, rt.alloc(), &TWO, &gate)?);
+    all_hold(call_differs(&rt, rt.alloc(), &TWO, &gate))?;
     assert!(rt; gate.open.hold.claimed_once(2));
     assert!(rt; gate.open.hold.gave_up());
     Ok(())
@@ -219,7 +206,7 @@ fn a_hold_on_the_only_worker_of_a_run_gives_up(rt: HostRuntime) -> Result<(), Fa
 
 /// A run that is watched, over a log of which a row is no record.
 const WATCHED: Call = Call {
-    script: COUNTS,
+    script: BY_USER,
     words: &["run", "--chunk", "1", "--workers", "2", "--watch", "s", "f"],
     log: "user\nc\na\nb\na,a\n",
     status: Status::Done,
@@ -230,7 +217,7 @@ const WATCHED: Call = Call {
 /// Calls whose gate shows each row as the one field `b`.
 const SHOWN: [Call; 10] = [
     Call {
-        script: COUNTS,
+        script: BY_USER,
         words: &["run", "s", "f"],
         log: "user\nc\na\nb\na\n",
         status: Status::Done,
@@ -238,7 +225,7 @@ const SHOWN: [Call; 10] = [
         err: "",
     },
     Call {
-        script: COUNTS,
+        script: BY_USER,
         words: &["run", "--chunk", "1", "--workers", "4", "s", "f"],
         log: "user\nc\na\nb\na\n",
         status: Status::Done,
@@ -247,7 +234,7 @@ const SHOWN: [Call; 10] = [
     },
     // A row is no record, but it is shown as one.
     Call {
-        script: COUNTS,
+        script: BY_USER,
         words: &["run", "--chunk", "1", "--limit", "1", "s", "f", "f"],
         log: "user\na\na,a\n",
         status: Status::Done,
@@ -256,7 +243,7 @@ const SHOWN: [Call; 10] = [
     },
     // The header isn't shown, and a row of one field is no record by it.
     Call {
-        script: COUNTS,
+        script: BY_USER,
         words: &["run", "--chunk", "1", "s", "f"],
         log: "user,x\na,1\nb,2\n",
         status: Status::Input,
@@ -265,7 +252,7 @@ const SHOWN: [Call; 10] = [
     },
     // The log that is made has two columns.
     Call {
-        script: COUNTS,
+        script: BY_USER,
         words: &["make", "5", "1"],
         log: "",
         status: Status::Input,
@@ -274,7 +261,7 @@ const SHOWN: [Call; 10] = [
     },
     // Run files are of the rows that are shown, where rows of the file are records and where not.
     Call {
-        script: FIVES,
+        script: SET,
         words: &["map", "--chunk", "1", "--workers", "2", "s", "f"],
         log: "user\nc\na\nb\na,a\n",
         status: Status::Done,
@@ -284,7 +271,7 @@ const SHOWN: [Call; 10] = [
         err: "",
     },
     Call {
-        script: FIVES,
+        script: SET,
         words: &["map", "--first", "7", "s", "f"],
         log: "user,x\na,1\nb,2\n",
         status: Status::Input,
@@ -293,7 +280,7 @@ const SHOWN: [Call; 10] = [
     },
     WATCHED,
     Call {
-        script: COUNTS,
+        script: BY_USER,
         words: &["run", "--chunk", "1", "--watch", "s", "f"],
         log: "user,x\na,1\nb,2\n",
         status: Status::Input,
@@ -301,7 +288,7 @@ const SHOWN: [Call; 10] = [
         err: "symple: f: record 1: 1 fields\n",
     },
     Call {
-        script: COUNTS,
+        script: BY_USER,
         words: &["check", "s"],
         log: "",
         status: Status::Done,
@@ -310,25 +297,28 @@ const SHOWN: [Call; 10] = [
     },
 ];
 
-// The place of the first call that comes to something else, counted from 0.
-fn first_wrong<T: Threads + Wait + Sync>(
-    rt: &T,
-    alloc: Global,
-    calls: &[Call],
-) -> Result<Option<usize>, NoMemory> {
-    'calls: for (place, call) in calls.iter().enumerate() {
-        if !holds(rt, alloc, call, &ShowsB)? {
-            return Ok(Some(place));
-        }
+impl ThreadedRow for Call {
+    fn differs<T: Threads + Wait + Sync>(
+        &self,
+        rt: &T,
+        alloc: Global,
+    ) -> Result<Option<String>, NoMemory> {
+        call_differs(rt, alloc, self, &ShowsB)
     }
-    Ok(None)
 }
 
-/// Notes how many partials it was told of: one for each, and a thousand more if it has the one row of
-/// the group `b`, with as many records as the border says.
+/// How many partials an observer was told of, and how many of them have the one row of the group `b`,
+/// with as many records as the border says.
+#[derive(Drop)]
+struct Noted {
+    told: AtomicU64,
+    right: AtomicU64,
+}
+
+/// Notes the partials that it is told of.
 #[derive(Drop)]
 struct Counter {
-    told: Arc<AtomicU64>,
+    noted: Arc<Noted>,
     last: Option<u64>,
 }
 
@@ -354,11 +344,13 @@ impl Observer for Counter {
     ghost last = { λ o. o.last };
 
     fn tell(&mut self, _alloc: Global, partial: &Partial) -> Result<(), NoMemory> {
-        let more = match partial.rows.as_slice() {
-            [row] if is_of_b(row, partial.upto) => 1_001,
-            _ => 1,
-        };
-        let _before = self.told.fetch_add(more, Ordering::SeqCst);
+        let _told = self.noted.told.fetch_add(1, Ordering::SeqCst);
+        match partial.rows.as_slice() {
+            [row] if is_of_b(row, partial.upto) => {
+                let _right = self.noted.right.fetch_add(1, Ordering::SeqCst);
+            }
+            _ => {}
+        }
         self.last = Some(partial.upto);
         Ok(())
     }
@@ -368,35 +360,47 @@ impl Observer for Counter {
     }
 }
 
-// Whether a call comes to what is said of it, and what its observer was told of.
-fn watched<T: Threads + Wait + Sync>(
+// What a call comes to in place of what is said of it, or what its observer was told of in place of
+// one partial.
+fn watched_differs<T: Threads + Wait + Sync>(
     rt: &T,
     alloc: Global,
     call: &Call,
-) -> Result<(bool, u64), NoMemory> {
-    let told = Arc::new(alloc, AtomicU64::new(0))?;
+) -> Result<Option<String>, NoMemory> {
+    let noted = Arc::new(
+        alloc,
+        Noted {
+            told: AtomicU64::new(0),
+            right: AtomicU64::new(0),
+        },
+    )?;
     let observer: Box<dyn Observer + Send> = Box::new(
         alloc,
         Counter {
-            told: Arc::clone(&told)?,
+            noted: Arc::clone(&noted)?,
             last: None,
         },
     )?;
     let mut observers = Vec::from_array(alloc, [observer])?;
-    let words = words_of(alloc, call)?;
+    let words = words_of(alloc, call.words)?;
     let mut store = store_of(alloc, call)?;
-    let is_so = ends(rt, alloc, &words, &mut store, call, &mut observers, &ShowsB)?;
-    Ok((is_so, told.load(Ordering::SeqCst)))
+    let told = differs_by(rt, alloc, &words, &mut store, call, &mut observers, &ShowsB)?;
+    if told.is_some() {
+        return Ok(told);
+    }
+    let found = (
+        noted.told.load(Ordering::SeqCst),
+        noted.right.load(Ordering::SeqCst),
+    );
+    difference(alloc, &found, &(1, 1))
 }
 
 #[test]
 fn partials_are_of_the_rows_that_the_gate_shows(rt: HostRuntime) -> Result<(), Fail> {
-    assert_eq!(rt; watched(&rt, rt.alloc(), &WATCHED)?, (true, 1_001));
-    Ok(())
+    all_hold(watched_differs(&rt, rt.alloc(), &WATCHED))
 }
 
 #[test]
 fn reports_are_of_the_rows_that_the_gate_shows(rt: HostRuntime) -> Result<(), Fail> {
-    assert_eq!(rt; first_wrong(&rt, rt.alloc(), &SHOWN)?, None);
-    Ok(())
+    check_threaded_rows(&rt, rt.alloc(), &SHOWN)
 }
