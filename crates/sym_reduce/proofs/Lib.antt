@@ -6,3 +6,4 @@ pub mod JoiningFiles
 pub mod LawfulFound
 pub mod Led
 pub mod Once
+pub mod OnePass

@@ -1,10 +1,15 @@
 //! Laws of the definitions that contracts cite.
-ghost use Rattle.std.specs.Prelude.{◌≡◌, ◌<◌, ◌⊎◌, ◌^◌, ℕ, List};
+ghost use Rattle.std.specs.Prelude.{◌≡◌, ◌<◌, ◌⊎◌, ◌^◌, ◌++◌, [], ℕ, List};
+ghost use Rattle.std.specs.List.{All};
+ghost use Rattle.sym_base.specs.declared.values.record.Record.{Record as OneRecord};
+ghost use Rattle.sym_check.specs.Meaning.Groups.{pass};
+ghost use Rattle.sym_check.specs.Meaning.Validity.{IsRecord};
 ghost use Rattle.sym_check.specs.Plan.ScriptPlans.{ScriptPlan};
 ghost use Rattle.sym_check.specs.Plan.WellFormed.{IsWellFormed};
 ghost use Rattle.sym_run.specs.declared.saved.Saved.{Saved as OneSaved};
 ghost use Rattle.sym_reduce.specs.Joining.{AreRunFiles, FirstJoinProblem};
 ghost use Rattle.sym_reduce.specs.Reducing.{AreReduced, FirstRunProblem, Pairs};
+ghost use Rattle.sym_reduce.specs.Standing.{StandInOrder};
 ghost use Rattle.sym_reduce.specs.declared.error.ReduceErr.{ReduceErr as OneErr};
 
 /// Files of saved runs have one list of totals or one first problem, and never both.
@@ -53,4 +58,24 @@ pub fn files_have_runs_or_a_problem()
         IsWellFormed p → max_bytes < 2 ^ 64 →
         AreRunFiles script p max_bytes files runs →
         FirstJoinProblem script p max_bytes files why → ⊥ }
+{}
+
+/// Run files in order are one pass: where each is the file of a saved run that stands for its own
+/// records, the totals after all files are the groups of one sequential pass over all records, and
+/// no others. From the pass over some records they lead to that over these and all theirs.
+pub fn run_files_are_one_pass()
+    ensures pass { (script : List ℕ) (p : ScriptPlan) (max_bytes next : ℕ) (files : List (List ℕ))
+        (end : ℕ) (records : List OneRecord) →
+        IsWellFormed p → StandInOrder script p max_bytes next files end records →
+        AreReduced script p max_bytes next [] files end (pass p records) }
+    ensures only { (script : List ℕ) (p : ScriptPlan) (max_bytes next : ℕ) (files : List (List ℕ))
+        (end last : ℕ) (records : List OneRecord) (totals : Pairs) →
+        IsWellFormed p → max_bytes < 2 ^ 64 →
+        StandInOrder script p max_bytes next files end records →
+        AreReduced script p max_bytes next [] files last totals → totals ≡ pass p records }
+    ensures more { (script : List ℕ) (p : ScriptPlan) (max_bytes next : ℕ) (files : List (List ℕ))
+        (end : ℕ) (before records : List OneRecord) →
+        IsWellFormed p → All (IsRecord p) before →
+        StandInOrder script p max_bytes next files end records →
+        AreReduced script p max_bytes next (pass p before) files end (pass p (before ++ records)) }
 {}

@@ -69,6 +69,8 @@ pub fn reduce_files<F: Store>(
         let p = checked_plan checked.now in
         let names = map string_bytes names.now in
         IfOk result (ReducedAll script p max_bytes (F.holds files.old) names) }
+    ensures keys { let p = checked_plan checked.now in
+        IfOk result (λ totals. All (λ pair. IsKey p pair.0) totals) }
     ensures stopped { let script = printed checked.now in
         let p = checked_plan checked.now in
         let names = map string_bytes names.now in

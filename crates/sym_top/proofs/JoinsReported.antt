@@ -1,5 +1,5 @@
 -- Why a report on texts that were joined is that of the texts.
-use Rattle.std.proofs.Common.{◌≡◌, ◌∙◌, refl, sym, ap, ap₂, subst, ℕ, ◌+◌, ◌≤◌, ◌<◌, ◌^◌, arith, append_assoc, append-nil, List, [], ◌∷◌, ◌++◌, length, Some}
+use Rattle.std.proofs.Common.{◌≡◌, ◌∙◌, refl, sym, ap, ap₂, subst, ℕ, ◌+◌, ◌≤◌, ◌<◌, ◌^◌, arith, List, [], ◌∷◌, ◌++◌, length, Some}
 use Rattle.std.proofs.lemmas.Grind.{flat_map-append}
 use Rattle.std.proofs.lemmas.List.Elements.{All-append, All-cons, All-head, All-nil, All-tail}
 use Rattle.std.specs.List.{All, AllZip, flat_map}
@@ -8,20 +8,18 @@ use Rattle.sym_check.specs.Meaning.Groups.{pass}
 use Rattle.sym_check.specs.Meaning.Validity.{IsRecord}
 use Rattle.sym_check.specs.Plan.ScriptPlans.{ScriptPlan}
 use Rattle.sym_check.specs.Plan.WellFormed.{IsWellFormed}
-use Rattle.sym_check.proofs.GroupLaws.{pass_outcomes}
-use Rattle.sym_check.proofs.ValidSteps.{initial_valid}
 use Rattle.sym_files.specs.FileRecords.{rules_of}
 use Rattle.sym_files.specs.FirstProblems.{AllFine}
-use Rattle.sym_file.proofs.Taking.{lawful_closed, taken_records}
-use Rattle.sym_file.specs.declared.totals.Taken.TheVariants as taking
 use Rattle.sym_file.specs.Texts.{saved_text}
 use Rattle.sym_parse.specs.Printed.{script_text}
-use Rattle.sym_plain.proofs.Apart.{pass_more}
 use Rattle.sym_reduce.specs.Joining.{AreFollowing, AreRunFiles, IsFirstOf, IsNextOf, IsOnlyOf, StandForParts}
 use Rattle.sym_reduce.specs.Joining as joining
 use Rattle.sym_reduce.specs.Reducing.{AreReduced, IsRunFile, Pairs}
 use Rattle.sym_reduce.specs.Reducing as runs
+use Rattle.sym_reduce.specs.Standing.{StandInOrder}
+use Rattle.sym_reduce.specs.Standing as standing
 use Rattle.sym_reduce.proofs.Once.{same, totals_once}
+use Rattle.sym_reduce.proofs.OnePass.{first_pass}
 use Rattle.sym_report.specs.Forms.{FormTexts}
 use Rattle.sym_run.specs.SavedRuns.{SavedStandsFor}
 use Rattle.sym_run.specs.declared.saved.Saved.{Saved}
@@ -249,25 +247,20 @@ module _ (program : Program) (formed : IsWellFormed program.plan) where
       let later = stand_of size bound saved.next more texts end all records rest z.1 in
       (z.0.saved, z.0.file, z.0.stands, sym (ap (λ (s : Saved). s.first) like) ∙ is.follows, z.0.are, subst (λ (s : Saved). Stand s.next texts records end) like later)
 
-  reduced_of : (size first : ℕ) (texts : List (List ℕ)) (all : List (List Record)) (stop : ℕ) (before : List Record) → Stand first texts all stop → All (λ (text : List ℕ). length text ≤ size) texts → All (IsRecord program.plan) before
-      → AreReduced (script_text program.tree) program.plan size first (pass program.plan before) texts stop (pass program.plan (before ++ records_of_all all))
+  in_order : (size first : ℕ) (texts : List (List ℕ)) (all : List (List Record)) (stop : ℕ) → Stand first texts all stop → All (λ (text : List ℕ). length text ≤ size) texts
+      → StandInOrder (script_text program.tree) program.plan size first texts stop (records_of_all all)
   unfolding Stand
-  reduced_of size first [] [] stop before h few own =
-      let P : List Record → Type 0 = λ rs. AreReduced (script_text program.tree) program.plan size first (pass program.plan before) [] stop (pass program.plan rs) in
-      let Q : ℕ → Type 0 = λ n. AreReduced (script_text program.tree) program.plan size first (pass program.plan before) [] n (pass program.plan before) in
-      subst P (sym (append-nil before)) (subst Q h (runs.no_file first (pass program.plan before)))
-  reduced_of size first [] (part ∷ all) stop before h few own = absurd h
-  reduced_of size first (text ∷ texts) [] stop before h few own = absurd h
-  reduced_of size first (text ∷ texts) (part ∷ all) stop before h few own =
-      let p = program.plan in
-      let saved = h.0 in
-      let closed = lawful_closed p saved.first saved.next saved.groups h.1.is.lawful.each in
-      let led = taken_records p part saved.groups (pass p before) (initial_valid p formed) (pass_outcomes p before formed own) closed h.2.groups in
-      let later = reduced_of size saved.next texts all stop (before ++ part) h.5 (All-tail (λ (text : List ℕ). length text ≤ size) text texts few) (All-append (IsRecord p) before part own h.4) in
-      let B : List Record → Type 0 = λ rs. AreReduced (script_text program.tree) p size first (pass p before) (text ∷ texts) stop (pass p rs) in
-      subst B (append_assoc before part (records_of_all all))
-      (runs.one_more first (pass p before) text texts saved (pass p (before ++ part)) stop (pass p ((before ++ part) ++ records_of_all all)) (All-head (λ (text : List ℕ). length text ≤ size) text texts few)
-      (record { file = h.1; follows = h.3; led = led ∙ ap taking.Done (pass_more p before part) }) later)
+  in_order size first [] [] stop h few = subst (λ (n : ℕ). StandInOrder (script_text program.tree) program.plan size first [] n []) h (standing.no_file first)
+  in_order size first [] (part ∷ all) stop h few = absurd h
+  in_order size first (text ∷ texts) [] stop h few = absurd h
+  in_order size first (text ∷ texts) (part ∷ all) stop h few =
+      standing.one_more first text texts h.0 part stop (records_of_all all) (All-head (λ (text : List ℕ). length text ≤ size) text texts few) h.1 h.3 h.2 h.4
+      (in_order size h.0.next texts all stop h.5 (All-tail (λ (text : List ℕ). length text ≤ size) text texts few))
+
+  reduced_of : (size first : ℕ) (texts : List (List ℕ)) (all : List (List Record)) (stop : ℕ) → Stand first texts all stop → All (λ (text : List ℕ). length text ≤ size) texts
+      → AreReduced (script_text program.tree) program.plan size first [] texts stop (pass program.plan (records_of_all all))
+  reduced_of size first texts all stop h few =
+      first_pass (script_text program.tree) program.plan formed size first texts stop (records_of_all all) (in_order size first texts all stop h few)
 
 -- ---- the reports
 module _ (asked : Asked) (texts : Held) (other : Asked) (saved : Held) (is : IsReportedJoined asked texts other saved) where
@@ -287,10 +280,10 @@ module _ (asked : Asked) (texts : Held) (other : Asked) (saved : Held) (is : IsR
       let S : Reduce → Type 0 = λ r. AreReduced (script_text program.tree) p r.max_bytes 1 [] texts.files stop totals in
       let own = subst S (sym one) (subst A like are) in
       let stand = stand_of program formed size bound 1 [] texts.files stop totals is.records own is.stand in
-      let all = reduced_of program formed size 1 texts.files is.records stop [] stand (few_of program formed size 1 [] texts.files stop totals own) (All-nil (IsRecord p)) in
+      let all = reduced_of program formed size 1 texts.files is.records stop stand (few_of program formed size 1 [] texts.files stop totals own) in
       let passed : totals ≡ pass p (records_of_all is.records) = totals_once (script_text program.tree) p formed size bound 1 [] texts.files stop stop totals (pass p (records_of_all is.records)) own all in
       let grouped = regroup program formed 1 texts.files saved.files is.records stop is.joins stand in
-      let again = reduced_of program formed is.other.max_bytes 1 saved.files grouped.0 stop [] grouped.1 is.few (All-nil (IsRecord p)) in
+      let again = reduced_of program formed is.other.max_bytes 1 saved.files grouped.0 stop grouped.1 is.few in
       let T : Pairs → Type 0 = λ ts. AreReduced (script_text program.tree) p is.other.max_bytes 1 [] saved.files stop ts in
       let made = subst T (ap (pass p) grouped.2 ∙ sym passed) again in
       let E : Program → Type 0 = λ v. IsEnd other saved (groups_end (texts_of asked.forms reduce.form) v totals) in
@@ -352,7 +345,7 @@ module _ (whole : Asked) (held : Held) (other : Asked) (saved : Held) (is : IsRe
       let P : Program → Type 0 = λ v. AllFine v.plan (file_rules whole (Runs is.run)) 1 held.files records in
       let stand = parts_stand program formed whole.shown is.run.options.max_bytes 1 held.files is.texts records is.parts (subst P like fine) in
       let grouped = regroup program formed 1 is.texts saved.files stand.0 stand.1 is.joins stand.2 in
-      let again = reduced_of program formed is.reduce.max_bytes 1 saved.files grouped.0 stand.1 [] grouped.1 is.few (All-nil (IsRecord p)) in
+      let again = reduced_of program formed is.reduce.max_bytes 1 saved.files grouped.0 stand.1 grouped.1 is.few in
       let T : List Record → Type 0 = λ rs. AreReduced (script_text program.tree) p is.reduce.max_bytes 1 [] saved.files stand.1 (pass p rs) in
       let made = subst T (grouped.2 ∙ stand.3) again in
       let E : Program → Type 0 = λ v. IsEnd other saved (groups_end (texts_of whole.forms is.run.form) v (pass v.plan records)) in

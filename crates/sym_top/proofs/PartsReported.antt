@@ -1,24 +1,20 @@
 -- Why a report on the saved runs of parts is that of the whole.
-use Rattle.std.proofs.Common.{◌≡◌, ◌∙◌, refl, sym, ap, subst, ℕ, suc, ◌+◌, ◌≤◌, arith, append_assoc, append-nil, length-append, List, [], ◌∷◌, ◌++◌, All, length, Some, Ok}
-use Rattle.std.proofs.lemmas.List.Elements.{All-nil, All-append, All-head, All-tail}
+use Rattle.std.proofs.Common.{◌≡◌, ◌∙◌, refl, sym, ap, subst, ℕ, suc, ◌+◌, ◌≤◌, arith, append_assoc, length-append, List, [], ◌∷◌, ◌++◌, All, length, Some, Ok}
+use Rattle.std.proofs.lemmas.List.Elements.{All-head, All-tail}
 use Rattle.sym_base.specs.declared.values.record.Record.{Record}
 use Rattle.sym_check.specs.Meaning.Groups.{pass}
-use Rattle.sym_check.specs.Meaning.Validity.{IsRecord}
 use Rattle.sym_check.specs.Plan.ScriptPlans.{ScriptPlan}
 use Rattle.sym_check.specs.Plan.WellFormed.{IsWellFormed}
-use Rattle.sym_check.proofs.GroupLaws.{pass_outcomes}
-use Rattle.sym_check.proofs.ValidSteps.{initial_valid}
 use Rattle.sym_files.specs.FileRecords.{FileRules, IsFine, rules_of}
 use Rattle.sym_files.specs.FileRecords as fine
 use Rattle.sym_files.specs.FirstProblems.{AllFine}
 use Rattle.sym_files.specs.FirstProblems as all_fine
 use Rattle.sym_files.proofs.FilesAgree.{files_records}
-use Rattle.sym_file.proofs.Taking.{lawful_closed, taken_records}
-use Rattle.sym_file.specs.declared.totals.Taken.TheVariants as taking
 use Rattle.sym_parse.specs.Printed.{script_text}
-use Rattle.sym_plain.proofs.Apart.{pass_more}
-use Rattle.sym_reduce.specs.Reducing.{AreReduced, Pairs}
-use Rattle.sym_reduce.specs.Reducing as runs
+use Rattle.sym_reduce.specs.Reducing.{AreReduced}
+use Rattle.sym_reduce.specs.Standing.{StandInOrder}
+use Rattle.sym_reduce.specs.Standing as standing
+use Rattle.sym_reduce.proofs.OnePass.{first_pass}
 use Rattle.sym_run.specs.SavedRuns.{AreNumbered}
 use Rattle.sym_table.specs.Reading.{Row}
 use Rattle.sym_report.specs.Forms.{FormTexts}
@@ -147,52 +143,51 @@ module _ (asked : Asked) (held : Held) (program : Program) (part : Map) (asks : 
 
 -- ---- all parts
 module _ (program : Program) (formed : IsWellFormed program.plan) (shown : Row → Row) (max_bytes size : ℕ) where
-  Reduces_to : ℕ → List Record → List Record → List (List ℕ) → Type 0
-  Reduces_to first before records texts =
-      (stop : ℕ) × AreReduced (script_text program.tree) program.plan size first (pass program.plan before) texts stop (pass program.plan (before ++ records))
+  -- The texts are run files in order, which stand for these records.
+  Stand : ℕ → List Record → List (List ℕ) → Type 0
+  Stand first records texts = (stop : ℕ) × StandInOrder (script_text program.tree) program.plan size first texts stop records
 
-  one_part : (first : ℕ) (files : List (List ℕ)) (records before : List Record) (text : List ℕ) (rest : List Record) (texts : List (List ℕ))
-      → IsPart program shown first files records text → length text ≤ size → All (IsRecord program.plan) before
-      → Reduces_to (first + length records) (before ++ records) rest texts → Reduces_to first before (records ++ rest) (text ∷ texts)
-  unfolding Reduces_to
-  one_part first files records before text rest texts is few kinds later =
+  one_part : (first : ℕ) (files : List (List ℕ)) (records : List Record) (text : List ℕ) (rest : List Record) (texts : List (List ℕ))
+      → IsPart program shown first files records text → length text ≤ size
+      → Stand (first + length records) rest texts → Stand first (records ++ rest) (text ∷ texts)
+  unfolding Stand
+  one_part first files records text rest texts is few later =
       let p = program.plan in
-      let F : List (List ℕ) → Type 0 = λ fs. AllFine p (file_rules is.asked (Maps is.part)) first fs records in
-      let N : ℕ → Type 0 = λ n. AllFine p (file_rules is.asked (Maps is.part)) n is.held.files records in
+      let rules = file_rules is.asked (Maps is.part) in
+      let F : List (List ℕ) → Type 0 = λ fs. AllFine p rules first fs records in
+      let N : ℕ → Type 0 = λ n. AllFine p rules n is.held.files records in
       let all = subst N (sym is.first_is) (subst F (sym is.files_are) is.fine) in
       let m = wrote_mapped is.asked is.held program is.part is.asks is.is_program is.wrote.end text records is.wrote.is_end is.wrote.whole is.wrote.text_is all in
-      let saved = m.saved in
-      let own : saved.first ≡ first = m.first_is ∙ is.first_is in
-      let next : saved.next ≡ first + length records = next_is saved.first saved.next records m.stands.numbered ∙ ap (λ (n : ℕ). n + length records) own in
-      let closed = lawful_closed p saved.first saved.next saved.groups m.file.is.lawful.each in
-      let led = taken_records p records saved.groups (pass p before) (initial_valid p formed) (pass_outcomes p before formed kinds) closed m.stands.groups in
-      let A : ℕ → Type 0 = λ n. AreReduced (script_text program.tree) p size n (pass p (before ++ records)) texts later.0 (pass p (before ++ records ++ rest)) in
-      let B : List Record → Type 0 = λ rs. AreReduced (script_text program.tree) p size first (pass p before) (text ∷ texts) later.0 (pass p rs) in (
-        later.0,
-        subst B (append_assoc before records rest)
-            (runs.one_more first (pass p before) text texts saved (pass p (before ++ records)) later.0 (pass p (before ++ records ++ rest)) few
-            (record { file = m.file; follows = own; led = led ∙ ap taking.Done (pass_more p before records) })
-            (subst A (sym next) later.1)),
-      )
+      let own : m.saved.first ≡ first = m.first_is ∙ is.first_is in
+      let next : m.saved.next ≡ first + length records = next_is m.saved.first m.saved.next records m.stands.numbered ∙ ap (λ (n : ℕ). n + length records) own in
+      let A : ℕ → Type 0 = λ n. StandInOrder (script_text program.tree) p size n texts later.0 rest in
+      (later.0, standing.one_more first text texts m.saved records later.0 rest few m.file own m.stands (fine-records p rules first files records formed is.fine) (subst A (sym next) later.1))
 
-  reduces : (first : ℕ) (files texts : List (List ℕ)) (before records : List Record) → AreParts program shown first files texts → All (λ text. length text ≤ size) texts
-      → All (IsRecord program.plan) before → AllFine program.plan (rules_of max_bytes shown) first files records → Reduces_to first before records texts
-  unfolding Reduces_to
-  reduces _ _ _ before records (parts.no_part first) few kinds fine =
+  stands : (first : ℕ) (files texts : List (List ℕ)) (records : List Record) → AreParts program shown first files texts → All (λ text. length text ≤ size) texts
+      → AllFine program.plan (rules_of max_bytes shown) first files records → Stand first records texts
+  unfolding Stand
+  stands _ _ _ records (parts.no_part first) few fine =
       let none = none_left program.plan (rules_of max_bytes shown) first [] records refl fine in
-      let P : List Record → Type 0 = λ rs. AreReduced (script_text program.tree) program.plan size first (pass program.plan before) [] first (pass program.plan rs) in
-      (first, subst P (sym (append-nil before) ∙ ap (λ (rs : List Record). before ++ rs) none) (runs.no_file first (pass program.plan before)))
-  reduces _ _ _ before records (parts.one_more first files others texts own text is rest) few kinds fine =
+      (first, subst (λ (rs : List Record). StandInOrder (script_text program.tree) program.plan size first [] first rs) none (standing.no_file first))
+  stands _ _ _ records (parts.one_more first files others texts own text is rest) few fine =
       let rules = rules_of max_bytes shown in
       let cut = cut_at program.plan rules first (files ++ others) files others records refl fine in
       let P : (Row → Row) → Type 0 = λ show. AllFine program.plan (rules_of is.part.options.max_bytes show) first files own in
       let same : cut.front ≡ own = fine_once program.plan shown max_bytes is.part.options.max_bytes first files cut.front own cut.fine (subst P is.likewise is.fine) in
       let Q : List Record → Type 0 = λ rs. AllFine program.plan rules (first + length rs) others cut.rest in
-      let more = All-append (IsRecord program.plan) before own kinds (fine-records program.plan (file_rules is.asked (Maps is.part)) first files own formed is.fine) in
-      let later = reduces (first + length own) others texts (before ++ own) cut.rest rest (All-tail (λ text. length text ≤ size) text texts few) more (subst Q same cut.later) in
-      let R : List Record → Type 0 = λ rs. Reduces_to first before rs (text ∷ texts) in
+      let later = stands (first + length own) others texts cut.rest rest (All-tail (λ text. length text ≤ size) text texts few) (subst Q same cut.later) in
+      let R : List Record → Type 0 = λ rs. Stand first rs (text ∷ texts) in
       subst R (sym (cut.are ∙ ap (λ (rs : List Record). rs ++ cut.rest) same))
-      (one_part first files own before text cut.rest texts is (All-head (λ text. length text ≤ size) text texts few) kinds later)
+      (one_part first files own text cut.rest texts is (All-head (λ text. length text ≤ size) text texts few) later)
+
+  -- So they are reduced to the pass over these.
+  reduces : (first : ℕ) (files texts : List (List ℕ)) (records : List Record) → AreParts program shown first files texts → All (λ text. length text ≤ size) texts
+      → AllFine program.plan (rules_of max_bytes shown) first files records
+      → (stop : ℕ) × AreReduced (script_text program.tree) program.plan size first [] texts stop (pass program.plan records)
+  unfolding Stand
+  reduces first files texts records are few fine =
+      let s = stands first files texts records are few fine in
+      (s.0, first_pass (script_text program.tree) program.plan formed size first texts s.0 records s.1)
 
 -- ---- the whole
 module _ (whole : Asked) (held : Held) (apart : Asked) (saved : Held) (is : IsReportedApart whole held apart saved) where
@@ -201,12 +196,11 @@ module _ (whole : Asked) (held : Held) (apart : Asked) (saved : Held) (is : IsRe
 
   report_apart : (w : Program) (records : List Record) → w ≡ is.program → AllFine w.plan (file_rules whole (Runs is.run)) 1 held.files records
       → IsEnd apart saved (groups_end (texts_of whole.forms is.run.form) w (pass w.plan records))
-  unfolding Reduces_to
   report_apart w records same fine =
       let program = is.program in
       let P : Program → Type 0 = λ v. AllFine v.plan (file_rules whole (Runs is.run)) 1 held.files records in
       let E : Program → Type 0 = λ v. IsEnd apart saved (groups_end (texts_of whole.forms is.run.form) v (pass v.plan records)) in
-      let to = reduces program (program-formed held.script program is.of_run) whole.shown is.run.options.max_bytes is.reduce.max_bytes 1 held.files saved.files [] records is.parts is.few (All-nil _) (subst P same fine) in
+      let to = reduces program (program-formed held.script program is.of_run) whole.shown is.run.options.max_bytes is.reduce.max_bytes 1 held.files saved.files records is.parts is.few (subst P same fine) in
       let F = λ (form : FormTexts). IsEnd apart saved (groups_end form program (pass program.plan records)) in
       subst E (sym same) (subst F (sym is.form) (reduced is.reduce program to.0 (pass program.plan records) is.asks_reduce is.of_reduce to.1))
 

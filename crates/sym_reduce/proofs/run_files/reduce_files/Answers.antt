@@ -1,4 +1,4 @@
-use Rattle.std.proofs.Common.{◌∙◌, ◌≤◌, refl, sym, subst, arith, map, length, Result}
+use Rattle.std.proofs.Common.{◌∙◌, ◌≤◌, [], refl, sym, subst, arith, map, length, Result}
 use Rattle.std.specs.Result.{IfErr}
 use Rattle.std.specs.String.{string_bytes}
 use Rattle.std.proofs.lemmas.List.{length-map}
@@ -10,6 +10,7 @@ use Rattle.sym_run.specs.Applying.{AreValid}
 use Rattle.sym_reduce.specs.declared.error.ReduceErr.{ReduceErr}
 use Rattle.sym_reduce.specs.Reducing.{Pairs, StopsReduce}
 use Rattle.sym_reduce.proofs.Files.{begins, ends, fails_as, goes_on, unread_as, unread_stops, untaken_stops}
+use Rattle.sym_reduce.proofs.Led.{reduced_kinds}
 use Rattle.sym_reduce.proofs.run_files.reduce_files.Goals as goal
 
 pub files-init : goal.files-init
@@ -85,3 +86,13 @@ returns-clause-reduced g c =
     let few : length (map string_bytes c.args.names.now) ≤ c.files.file = simp length-map (omega arith) in
     ends (printed c.args.checked.now) (checked_plan c.args.checked.now) c.args.max_bytes (g.F.Store.holds c.args.files.now) (map string_bytes c.args.names.now) c.files.file
     c.files.next c.files.totals c.files.invariant.reducing few
+
+pub returns-clause-keys : goal.returns-clause-keys
+returns-clause-keys g c =
+    let p = checked_plan c.args.checked.now in
+    let script = printed c.args.checked.now in
+    let few : length (map string_bytes c.args.names.now) ≤ c.files.file = simp length-map (omega arith) in
+    let all =
+    ends script p c.args.max_bytes (g.F.Store.holds c.args.files.now) (map string_bytes c.args.names.now) c.files.file c.files.next c.files.totals
+    c.files.invariant.reducing few in
+    reduced_kinds p script c.args.max_bytes 1 [] all.files all.end c.files.totals (All-nil _) all.reduced

@@ -1,12 +1,9 @@
-use Rattle.std.proofs.Common.{sym, subst, map, []}
+use Rattle.std.proofs.Common.{sym, subst, map}
 use Rattle.std.specs.List.{All}
 use Rattle.std.specs.String.{string_bytes}
-use Rattle.std.proofs.lemmas.List.Elements.{All-nil}
 use Rattle.sym_check.specs.Checking.CheckedScripts.{checked_plan}
 use Rattle.sym_check.specs.Meaning.Validity.{IsKey}
-use Rattle.sym_file.specs.SavedTexts.{printed}
 use Rattle.sym_reduce.specs.declared.error.ReduceErr.TheVariants as reduce_error
-use Rattle.sym_reduce.proofs.Led.{reduced_kinds}
 use Rattle.sym_top.specs.Loading.{StopsRuns, stops_runs}
 use Rattle.sym_top.specs.Programs.{checked_program}
 use Rattle.sym_top.specs.Promises.{IsReported}
@@ -16,10 +13,7 @@ use Rattle.sym_top.proofs.reduce.report_runs.Goals as goal
 
 pub write_report-requires : goal.write_report-requires
 write_report-requires g c =
-    let all = c.in-Ok.ensures.reduced in
-    let p = checked_plan c.args.checked.now in
-    subst (All (λ pair. IsKey p pair.0)) (sym c.groups.ensures)
-    (reduced_kinds p (printed c.args.checked.now) c.args.max_bytes 1 [] all.files all.end c.in-Ok.totals (All-nil _) all.reduced)
+    let p = checked_plan c.args.checked.now in subst (All (λ pair. IsKey p pair.0)) (sym c.groups.ensures) c.in-Ok.ensures.keys
 
 pub returns-in-Ok-write_report-clause-reported : goal.returns-in-Ok-write_report-clause-reported
 returns-in-Ok-write_report-clause-reported g c =
