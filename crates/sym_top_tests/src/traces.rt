@@ -81,7 +81,7 @@ const TRACE: Run = Run {
 };
 
 /// Scripts, the files that they are traced over, and the reports.
-const TRACES: [Trace; 22] = [
+const TRACES: [Trace; 13] = [
     Trace(Run {
         script: COUNTER,
         files: &["x\n5\n5\n5\n5\n5\n"],
@@ -110,73 +110,6 @@ const TRACES: [Trace; 22] = [
         script: COUNTER,
         files: &["x\n5\n5\n5\n5\n5\n"],
         out: "record | n\n--\n",
-        ..TRACE
-    }),
-    Trace(Run {
-        words: &["trace", "count.symple", "log.csv", "--every=50"],
-        script: COUNTS,
-        files: &[TWO_HUNDRED],
-        out: "record | n\n50 | 50\n100 | 100\n150 | 150\n200 | 200\n--\n",
-        ..TRACE
-    }),
-    Trace(Run {
-        words: &["trace", "count.symple", "log.csv", "--every=70"],
-        script: COUNTS,
-        files: &[TWO_HUNDRED],
-        out: "record | n\n70 | 70\n140 | 140\n--\n",
-        ..TRACE
-    }),
-    Trace(Run {
-        words: &["trace", "count.symple", "log.csv", "--every=64"],
-        script: COUNTS,
-        files: &[TWO_HUNDRED],
-        out: "record | n\n64 | 64\n128 | 128\n192 | 192\n--\n",
-        ..TRACE
-    }),
-    Trace(Run {
-        words: &["trace", "count.symple", "log.csv", "--every=65"],
-        script: TOGGLE,
-        files: &[TWO_HUNDRED],
-        out: "record | phase\n65 | busy\n130 | idle\n195 | busy\n--\n",
-        ..TRACE
-    }),
-    Trace(Run {
-        words: &["trace", "count.symple", "log.csv", "--every=97"],
-        script: COUNTS,
-        files: &[TWO_HUNDRED],
-        out: "record | n\n97 | 97\n194 | 194\n--\n",
-        ..TRACE
-    }),
-    Trace(Run {
-        words: &["trace", "count.symple", "log.csv", "--every=25"],
-        script: TOGGLE,
-        files: &[TWO_HUNDRED],
-        out: "record | phase\n25 | busy\n50 | idle\n75 | busy\n100 | idle\n125 | busy\n\
-            150 | idle\n175 | busy\n200 | idle\n--\n",
-        ..TRACE
-    }),
-    Trace(Run {
-        words: &["trace", "count.symple", "log.csv", "--every=60"],
-        script: COUNTS,
-        files: &[FIFTIETH],
-        status: Status::Input,
-        err: "symple: log.csv: record 50: 2 fields\n",
-        ..TRACE
-    }),
-    Trace(Run {
-        words: &["trace", "count.symple", "log.csv", "--every=40"],
-        script: COUNTS,
-        files: &[FIFTIETH],
-        status: Status::Input,
-        err: "symple: log.csv: record 50: 2 fields\n",
-        ..TRACE
-    }),
-    Trace(Run {
-        words: &["trace", "count.symple", "log.csv", "--every=20"],
-        script: COUNTS,
-        files: &[FIFTIETH],
-        status: Status::Input,
-        err: "symple: log.csv: record 50: 2 fields\n",
         ..TRACE
     }),
     Trace(Run {
@@ -255,9 +188,85 @@ const TRACES: [Trace; 22] = [
     }),
 ];
 
+/// The same over longer logs, of which few records have a row.
+const LONG_TRACES: [Trace; 9] = [
+    Trace(Run {
+        words: &["trace", "count.symple", "log.csv", "--every=50"],
+        script: COUNTS,
+        files: &[TWO_HUNDRED],
+        out: "record | n\n50 | 50\n100 | 100\n150 | 150\n200 | 200\n--\n",
+        ..TRACE
+    }),
+    Trace(Run {
+        words: &["trace", "count.symple", "log.csv", "--every=70"],
+        script: COUNTS,
+        files: &[TWO_HUNDRED],
+        out: "record | n\n70 | 70\n140 | 140\n--\n",
+        ..TRACE
+    }),
+    Trace(Run {
+        words: &["trace", "count.symple", "log.csv", "--every=64"],
+        script: COUNTS,
+        files: &[TWO_HUNDRED],
+        out: "record | n\n64 | 64\n128 | 128\n192 | 192\n--\n",
+        ..TRACE
+    }),
+    Trace(Run {
+        words: &["trace", "count.symple", "log.csv", "--every=65"],
+        script: TOGGLE,
+        files: &[TWO_HUNDRED],
+        out: "record | phase\n65 | busy\n130 | idle\n195 | busy\n--\n",
+        ..TRACE
+    }),
+    Trace(Run {
+        words: &["trace", "count.symple", "log.csv", "--every=97"],
+        script: COUNTS,
+        files: &[TWO_HUNDRED],
+        out: "record | n\n97 | 97\n194 | 194\n--\n",
+        ..TRACE
+    }),
+    Trace(Run {
+        words: &["trace", "count.symple", "log.csv", "--every=25"],
+        script: TOGGLE,
+        files: &[TWO_HUNDRED],
+        out: "record | phase\n25 | busy\n50 | idle\n75 | busy\n100 | idle\n125 | busy\n\
+            150 | idle\n175 | busy\n200 | idle\n--\n",
+        ..TRACE
+    }),
+    Trace(Run {
+        words: &["trace", "count.symple", "log.csv", "--every=60"],
+        script: COUNTS,
+        files: &[FIFTIETH],
+        status: Status::Input,
+        err: "symple: log.csv: record 50: 2 fields\n",
+        ..TRACE
+    }),
+    Trace(Run {
+        words: &["trace", "count.symple", "log.csv", "--every=40"],
+        script: COUNTS,
+        files: &[FIFTIETH],
+        status: Status::Input,
+        err: "symple: log.csv: record 50: 2 fields\n",
+        ..TRACE
+    }),
+    Trace(Run {
+        words: &["trace", "count.symple", "log.csv", "--every=20"],
+        script: COUNTS,
+        files: &[FIFTIETH],
+        status: Status::Input,
+        err: "symple: log.csv: record 50: 2 fields\n",
+        ..TRACE
+    }),
+];
+
 #[test]
 fn a_trace_is_the_same_however_it_is_worked(rt: HostRuntime) -> Result<(), Fail> {
     check_threaded_rows(&rt, rt.alloc(), &TRACES)
+}
+
+#[test]
+fn a_long_trace_is_the_same_however_it_is_worked(rt: HostRuntime) -> Result<(), Fail> {
+    check_threaded_rows(&rt, rt.alloc(), &LONG_TRACES)
 }
 
 /// Traces that are refused, or cut.
