@@ -23,7 +23,7 @@ use Rattle.sym_run.proofs.GroupPuts.{all_split}
 use Rattle.sym_file.specs.JoinedTexts.{AreGroupsJoined, Chains, IsBodyJoined, IsJoinedOnce, IsOwnJoined, IsTextJoined, JoinsBody, JoinsOwn}
 use Rattle.sym_file.specs.Marks.{AreMarks}
 use Rattle.sym_file.specs.Reading.{Fails, ◌>>=◌, after, at_end, body_at, group_at, groups_at, head_at, script_at}
-use Rattle.sym_file.specs.TakenTexts.{IsTextOf, Stops}
+use Rattle.sym_file.specs.TakenTexts.{IsRunFile, Stops}
 use Rattle.sym_file.specs.declared.saved_err.SavedErr.{SavedErr}
 use Rattle.sym_file.specs.declared.saved_err.SavedErr.TheVariants as error
 use Rattle.sym_file.proofs.Codecs.{some_is}

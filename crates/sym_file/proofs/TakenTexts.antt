@@ -20,7 +20,7 @@ use Rattle.sym_run.specs.declared.saved.Saved.{Saved}
 use Rattle.sym_run.proofs.GroupPuts.{all_split}
 use Rattle.sym_file.specs.Marks.{AreMarks, IsTakenOnce}
 use Rattle.sym_file.specs.Reading.{Fails, ◌>>=◌, after, at_end, body_at, group_at, groups_at, head_at, script_at}
-use Rattle.sym_file.specs.TakenTexts.{AreGroupsLed, IsBodyLed, IsTextOf, LeadsBody, LeadsText, Pairs, Stops}
+use Rattle.sym_file.specs.TakenTexts.{AreGroupsLed, IsBodyLed, IsRunFile, LeadsBody, LeadsText, Pairs, Stops}
 use Rattle.sym_file.specs.Totals.{IsTaken, led_through, taken, taken_on}
 use Rattle.sym_file.specs.declared.led_groups.Led.{Led}
 use Rattle.sym_file.specs.declared.led_groups.Led.TheVariants as led
@@ -287,13 +287,13 @@ module _ (p : ScriptPlan) where
 
 -- ---- the whole text
 module _ (own : List ℕ) (p : ScriptPlan) (formed : IsWellFormed p) (bytes : List ℕ) (few : length bytes < 2 ^ 64) (wanted : ℕ) where
-  pub no_text : (e : SavedErr) → Fails e (script_at bytes) → Stops e ((saved : Saved) → IsTextOf own p bytes saved → saved.first ≢ wanted)
+  pub no_text : (e : SavedErr) → Fails e (script_at bytes) → Stops e ((saved : Saved) → IsRunFile own p bytes saved → saved.first ≢ wanted)
   no_text error.OtherScript f = absurd f
   no_text error.Malformed f = λ saved t e. let is = saved_read own p formed bytes few saved t.is in absurd (cc (f, is))
   no_text error.NoMemory f = tt
 
   module _ (script rest : List ℕ) (is : script_at bytes ≡ Some (script, rest)) where
-    pub other_text : script ≢ own → (saved : Saved) → IsTextOf own p bytes saved → saved.first ≢ wanted
+    pub other_text : script ≢ own → (saved : Saved) → IsRunFile own p bytes saved → saved.first ≢ wanted
     other_text apart saved t e = absurd (apart (script_is own p formed bytes few script rest is saved t.is))
 
     pub text_led : (old new : Pairs) (r : Result Led SavedErr) → script ≡ own → LeadsBody p rest wanted old new r → LeadsText own p bytes wanted old new r

@@ -26,7 +26,7 @@ use Rattle.sym_file.specs.JoinedTexts.{Chains, IsTextJoined}
 use Rattle.sym_file.specs.Places as placing
 use Rattle.sym_file.specs.Places.{AreEntries, AreInOrder, AreJoinedByKey, AreJoinedInTurn, AreScanned, AreTextsJoined, ChainPlace, IsChainThere, IsJoinOfPlaces, IsScanned, Span, placed, placed_all, places_of}
 use Rattle.sym_file.specs.Reading.{◌>>=◌, after, at_end, body_at, chain_at, group_at, groups_at, key_at, script_at}
-use Rattle.sym_file.specs.TakenTexts.{IsTextOf}
+use Rattle.sym_file.specs.TakenTexts.{IsRunFile}
 use Rattle.sym_file.proofs.Codecs.{some_is}
 use Rattle.sym_file.proofs.Groups.{Group}
 use Rattle.sym_file.proofs.JoinedTexts.{lawful_fits}
@@ -464,7 +464,7 @@ module _ (p : ScriptPlan) (limit : ℕ) where
       IsShort bytes = length bytes < 2 ^ 64
 
       module _ (formed : IsWellFormed p) where
-        text_of : (bytes : List ℕ) (span : Span) (taken : Chains) → IsShort bytes → 1 ≤ span.first → span.first ≤ span.next → IsTextRead bytes span taken → IsTextOf script p bytes (saved_of span taken)
+        text_of : (bytes : List ℕ) (span : Span) (taken : Chains) → IsShort bytes → 1 ≤ span.first → span.first ≤ span.next → IsTextRead bytes span taken → IsRunFile script p bytes (saved_of span taken)
         text_of bytes span taken few from order is = record {
           is = lawful_one script p formed bytes few script is.rest is.scripted (saved_of span taken) refl is.read (record { from = from; order = order; distinct = is.distinct; each = is.each });
           stored = stored_one script p formed bytes few script is.rest is.scripted (saved_of span taken) is.read;
@@ -521,7 +521,7 @@ module _ (p : ScriptPlan) (limit : ℕ) where
               fits = All-weaker (IsLawfulGroup p span.first span.next) (λ (group : Group). ChainFits p group.1) (lawful_fits p span.first span.next) taken read.each;
               closed = lawful_closed p span.first span.next taken read.each;
             } in
-            let text : IsTextOf script p bytes made = text_of bytes span taken (All-head IsShort bytes texts few) ordered.0 ordered.1 read in
+            let text : IsRunFile script p bytes made = text_of bytes span taken (All-head IsShort bytes texts few) ordered.0 ordered.1 read in
             let one : AreInOne (bytes ∷ texts) span.first (last_next span.next others) after =
             more_joined mid texts others after more (bytes ∷ []) made (All-tail IsShort bytes texts few) ordered.2 (placing.first_text bytes made text able) able (sym same) in
             let start : span.first ≡ first.first = ap (λ (s : Span). s.first) (some_is span first is_first) in

@@ -12,7 +12,7 @@ use Rattle.sym_run.specs.declared.saved.Saved.{Saved}
 use Rattle.sym_file.specs.Marks.{AreMarks}
 use Rattle.sym_file.specs.Reading.{body_at, groups_at}
 use Rattle.sym_file.specs.SavedTexts.{IsReadTo}
-use Rattle.sym_file.specs.TakenTexts.{IsTextApart, IsTextOf, Stops}
+use Rattle.sym_file.specs.TakenTexts.{IsTextApart, IsRunFile, Stops}
 use Rattle.sym_file.specs.declared.joined_groups.JoinedText.{JoinedText}
 use Rattle.sym_file.specs.declared.joined_groups.JoinedText.TheVariants as text
 use Rattle.sym_file.specs.declared.saved_err.SavedErr.{SavedErr}
@@ -25,7 +25,7 @@ Chains = List (Key × Chained)
 pub record IsTextJoined (script : List ℕ) (p : ScriptPlan) (bytes : List ℕ) (limit : ℕ)
     (before joined : Saved) : Type 0 where
   pub saved : Saved
-  pub text : IsTextOf script p bytes saved
+  pub text : IsRunFile script p bytes saved
   pub follows : saved.first ≡ before.next
   pub joins : IsSavedJoin p limit before saved joined
 
@@ -90,7 +90,7 @@ JoinsBody p bytes first limit old new (Err e) =
 pub record IsOwnJoined (script : List ℕ) (p : ScriptPlan) (bytes : List ℕ) (first limit : ℕ)
     (old new : Chains) (next : ℕ) : Type 0 where
   pub saved : Saved
-  pub text : IsTextOf script p bytes saved
+  pub text : IsRunFile script p bytes saved
   pub follows : saved.first ≡ first
   pub next_is : next ≡ saved.next
   pub joins : AreClosedJoin p limit old saved.groups new
@@ -100,7 +100,7 @@ abbrev pub JoinsOwn : List ℕ → ScriptPlan → List ℕ → ℕ → ℕ → C
 JoinsOwn script p bytes first limit old new (Ok next) =
     IsOwnJoined script p bytes first limit old new next
 JoinsOwn script p bytes first limit old new (Err e) =
-    Stops e ((saved : Saved) → IsTextOf script p bytes saved → saved.first ≢ first)
+    Stops e ((saved : Saved) → IsRunFile script p bytes saved → saved.first ≢ first)
 
 -- The same, where it is said why nothing is joined.
 abbrev pub JoinsUnlessApart : List ℕ → ScriptPlan → List ℕ → ℕ → ℕ → Chains → Chains

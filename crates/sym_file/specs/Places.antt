@@ -13,7 +13,7 @@ use Rattle.sym_run.specs.SavedRuns.{IsLawfulGroup}
 use Rattle.sym_run.specs.declared.saved.Saved.{Saved}
 use Rattle.sym_file.specs.JoinedTexts.{IsTextJoined}
 use Rattle.sym_file.specs.Reading.{chain_at, head_at, key_at, script_at}
-use Rattle.sym_file.specs.TakenTexts.{IsTextOf}
+use Rattle.sym_file.specs.TakenTexts.{IsRunFile}
 
 -- A chain stands in the text of this number: it begins with these bytes, which go on to the end of
 -- the text, and so many of them come after it.
@@ -126,7 +126,7 @@ pub record AreJoinedByKey (script : List ℕ) (p : ScriptPlan) (limit : ℕ) (te
 pub data AreTextsJoined (script : List ℕ) (p : ScriptPlan) (limit : ℕ)
     : List (List ℕ) → Saved → Type 0 where
   first_text : (bytes : List ℕ) (saved : Saved)
-      → IsTextOf script p bytes saved
+      → IsRunFile script p bytes saved
       → IsJoinable p saved
       → AreTextsJoined script p limit (bytes ∷ []) saved
   next_text : (texts : List (List ℕ)) (bytes : List ℕ) (before joined : Saved)

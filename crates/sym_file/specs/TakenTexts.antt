@@ -25,8 +25,8 @@ abbrev pub Pairs : Type 0
 Pairs = List (Key × Outcome)
 
 -- The bytes are the text of this lawful saved run of the script, which is one that the program's
--- types hold.
-pub record IsTextOf (script : List ℕ) (p : ScriptPlan) (bytes : List ℕ)
+-- types hold. `script` is the script as it is printed, and `p` its plan.
+pub record IsRunFile (script : List ℕ) (p : ScriptPlan) (bytes : List ℕ)
     (saved : Saved) : Type 0 where
   pub is : IsSaved script p bytes saved
   pub stored : IsStored saved
@@ -36,7 +36,7 @@ pub record IsTextOf (script : List ℕ) (p : ScriptPlan) (bytes : List ℕ)
 pub record IsTextTaken (script : List ℕ) (p : ScriptPlan) (bytes : List ℕ) (first : ℕ)
     (totals : Pairs) (next : ℕ) (more : Pairs) : Type 0 where
   pub saved : Saved
-  pub text : IsTextOf script p bytes saved
+  pub text : IsRunFile script p bytes saved
   pub follows : saved.first ≡ first
   pub next_is : next ≡ saved.next
   pub led : taken p 0 saved.groups totals ≡ taking.Done more
@@ -45,14 +45,14 @@ pub record IsTextTaken (script : List ℕ) (p : ScriptPlan) (bytes : List ℕ) (
 pub record IsTextApart (script : List ℕ) (p : ScriptPlan) (bytes : List ℕ)
     (first : ℕ) : Type 0 where
   pub saved : Saved
-  pub text : IsTextOf script p bytes saved
+  pub text : IsRunFile script p bytes saved
   pub apart : saved.first ≢ first
 
 -- The chain of this group, the first one, has no path for how the group stands.
 pub record IsTextGap (script : List ℕ) (p : ScriptPlan) (bytes : List ℕ) (first : ℕ)
     (totals : Pairs) (group : ℕ) : Type 0 where
   pub saved : Saved
-  pub text : IsTextOf script p bytes saved
+  pub text : IsRunFile script p bytes saved
   pub follows : saved.first ≡ first
   pub gap : taken p 0 saved.groups totals ≡ taking.Gap group
 
@@ -130,7 +130,7 @@ abbrev pub LeadsText : List ℕ → ScriptPlan → List ℕ → ℕ → Pairs �
 LeadsText script p bytes first old new (Ok (led.Done next)) =
     IsTextTaken script p bytes first old next new
 LeadsText script p bytes first old new (Ok (led.Gap gap)) =
-    (saved : Saved) → IsTextOf script p bytes saved
+    (saved : Saved) → IsRunFile script p bytes saved
     → (saved.first ≡ first) × (taken p 0 saved.groups old ≡ taking.Gap gap)
 LeadsText script p bytes first old new (Err e) =
-    Stops e ((saved : Saved) → IsTextOf script p bytes saved → saved.first ≢ first)
+    Stops e ((saved : Saved) → IsRunFile script p bytes saved → saved.first ≢ first)

@@ -11,7 +11,8 @@ use Rattle.sym_files.specs.Passing.{Counts, Holds, May, MayAll}
 use Rattle.sym_run.specs.declared.saved.Saved.{Saved}
 use Rattle.sym_reduce.specs.declared.error.ReduceErr.{ReduceErr}
 use Rattle.sym_reduce.specs.declared.error.ReduceErr.TheVariants as reduce_err
-use Rattle.sym_reduce.specs.Reducing.{AreReduced, FailsAt, FirstRunProblem, HasFault, HasFirstRunProblem, HasRunProblem, IsTakenFile, IsUnread, Pairs, ReducedAll, StopsReduce, TakesFile}
+use Rattle.sym_file.specs.TakenTexts.{Pairs}
+use Rattle.sym_reduce.specs.Reducing.{AreReduced, FailsAt, FirstRunProblem, HasFault, HasFirstRunProblem, HasRunProblem, IsTakenFile, IsUnread, ReducedAll, StopsReduce, TakesFile}
 use Rattle.sym_reduce.specs.Reducing as runs
 
 -- ---- bytes that files may hold

@@ -8,7 +8,7 @@ use Rattle.sym_reduce.specs.declared.error.ReduceErr.{ReduceErr}
 use Rattle.sym_reduce.specs.declared.error.ReduceErr.TheVariants as reduce_err
 use Rattle.sym_reduce.specs.Joining.{AreFollowing, AreRunFiles, Begins, FirstFileProblem, FirstJoinProblem, HasRunFault}
 use Rattle.sym_reduce.specs.Joining as joins
-use Rattle.sym_reduce.specs.Reducing.{IsRunFile}
+use Rattle.sym_file.specs.TakenTexts.{IsRunFile}
 use Rattle.sym_reduce.proofs.Found.{Is, is}
 use Rattle.sym_reduce.proofs.Found as file
 use Rattle.sym_reduce.proofs.Once.{no_other, same, whole}

@@ -14,7 +14,8 @@ use Rattle.sym_file.specs.declared.totals.Taken.TheVariants as taking
 use Rattle.sym_file.proofs.Read.{lawful_one, no_body, no_script, other_script, stored_one, unlawful}
 use Rattle.sym_reduce.specs.declared.error.ReduceErr.{ReduceErr}
 use Rattle.sym_reduce.specs.declared.error.ReduceErr.TheVariants as reduce_err
-use Rattle.sym_reduce.specs.Reducing.{AreReduced, FirstRunProblem, HasFault, IsRunFile, IsTakenFile, Pairs}
+use Rattle.sym_file.specs.TakenTexts.{IsRunFile, Pairs}
+use Rattle.sym_reduce.specs.Reducing.{AreReduced, FirstRunProblem, HasFault, IsTakenFile}
 use Rattle.sym_reduce.specs.Reducing as runs
 use Rattle.sym_reduce.proofs.Decisions.{by_test}
 use Rattle.sym_reduce.proofs.LawfulFound.{lawful_found}

@@ -19,7 +19,7 @@ use Rattle.sym_files.specs.Passing.{Counts, Holds, May, MayAll}
 use Rattle.sym_file.proofs.Taking.{lawful_closed}
 use Rattle.sym_file.specs.Places.{AreTextsJoined}
 use Rattle.sym_file.specs.Places as places
-use Rattle.sym_file.specs.TakenTexts.{IsTextOf}
+use Rattle.sym_file.specs.TakenTexts.{IsRunFile}
 use Rattle.sym_run.specs.Chained.{Chained}
 use Rattle.sym_run.specs.ClosedJoins.{IsJoinable, IsSavedJoin}
 use Rattle.sym_run.specs.Growing.{AreBoth}
@@ -32,7 +32,7 @@ use Rattle.sym_reduce.specs.declared.error.ReduceErr.{ReduceErr}
 use Rattle.sym_reduce.specs.declared.error.ReduceErr.TheVariants as reduce_err
 use Rattle.sym_reduce.specs.Joining.{AreFilesJoined, AreFollowing, AreRunFiles, Begins, FirstFileProblem, FirstJoinProblem, Follows, HasFaultAfter, HasJoinProblem, HasRunFault, IsFaultyAt, IsFileJoined, IsJoinOf, IsJoining, IsNextOf, IsOnlyOf, IsUnreadAt, JoinFailsAt, JoinedAll, JoinsNext, SoFar, StandForParts, StopsFiles, StopsJoin, next_of}
 use Rattle.sym_reduce.specs.Joining as joins
-use Rattle.sym_reduce.specs.Reducing.{IsRunFile, IsUnread}
+use Rattle.sym_reduce.specs.Reducing.{IsUnread}
 use Rattle.sym_reduce.proofs.Files.{drop_at, larger, may_both, may_some, may_whole, rose_later, some_files, take_at, told_count}
 use Rattle.sym_reduce.proofs.FollowingFiles.{first_at}
 use Rattle.sym_reduce.proofs.Once.{same}

@@ -15,7 +15,8 @@ use Rattle.sym_run.specs.SavedRuns.{IsLawfulSaved}
 use Rattle.sym_file.specs.Totals.{led_through, taken, taken_on}
 use Rattle.sym_file.specs.declared.totals.Taken.{Taken}
 use Rattle.sym_file.specs.declared.totals.Taken.TheVariants as taking
-use Rattle.sym_reduce.specs.Reducing.{AreReduced, IsTakenFile, Pairs}
+use Rattle.sym_file.specs.TakenTexts.{Pairs}
+use Rattle.sym_reduce.specs.Reducing.{AreReduced, IsTakenFile}
 use Rattle.sym_reduce.specs.Reducing as runs
 
 abbrev Chains : Type 0

@@ -9,7 +9,8 @@ use Rattle.sym_file.specs.declared.totals.Taken.TheVariants as taking
 use Rattle.sym_file.proofs.Read.{one_saved, one_script}
 use Rattle.sym_reduce.specs.declared.error.ReduceErr.{ReduceErr}
 use Rattle.sym_reduce.specs.declared.error.ReduceErr.TheVariants as reduce_err
-use Rattle.sym_reduce.specs.Reducing.{AreReduced, FirstRunProblem, HasFault, HasRunProblem, IsRunFile, IsTakenFile, Pairs}
+use Rattle.sym_file.specs.TakenTexts.{IsRunFile, Pairs}
+use Rattle.sym_reduce.specs.Reducing.{AreReduced, FirstRunProblem, HasFault, HasRunProblem, IsTakenFile}
 use Rattle.sym_reduce.specs.Reducing as runs
 
 module _ (script : List ℕ) (p : ScriptPlan) (formed : IsWellFormed p) where

@@ -13,7 +13,8 @@ use Rattle.sym_file.specs.declared.totals.Taken.TheVariants as taking
 use Rattle.sym_plain.proofs.Apart.{pass_more}
 use Rattle.sym_run.specs.SavedRuns.{SavedStandsFor}
 use Rattle.sym_run.specs.declared.saved.Saved.{Saved}
-use Rattle.sym_reduce.specs.Reducing.{AreReduced, IsRunFile, IsTakenFile, Pairs}
+use Rattle.sym_file.specs.TakenTexts.{IsRunFile, Pairs}
+use Rattle.sym_reduce.specs.Reducing.{AreReduced, IsTakenFile}
 use Rattle.sym_reduce.specs.Reducing as runs
 use Rattle.sym_reduce.specs.Standing.{StandInOrder}
 use Rattle.sym_reduce.specs.Standing as stand

@@ -11,7 +11,8 @@ use Rattle.sym_run.specs.Runs.{AreTight}
 use Rattle.sym_run.specs.SavedRuns.{IsLawfulSaved, SavedStandsFor}
 use Rattle.sym_run.specs.declared.saved.Saved.{Saved}
 use Rattle.sym_file.specs.SavedTexts.{IsMalformed, IsOfOtherScript}
-use Rattle.sym_reduce.specs.Reducing.{IsRunFile, IsUnread}
+use Rattle.sym_file.specs.TakenTexts.{IsRunFile}
+use Rattle.sym_reduce.specs.Reducing.{IsUnread}
 use Rattle.sym_reduce.specs.declared.error.ReduceErr.{ReduceErr}
 use Rattle.sym_reduce.specs.declared.error.ReduceErr.TheVariants as reduce_err
 

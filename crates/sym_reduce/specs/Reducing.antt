@@ -2,29 +2,16 @@
 -- causes and their order are this project's profile.
 use Rattle.std.specs.Prelude.{◌≡◌, ◌≢◌, ◌⊎◌, ℕ, ◌+◌, ◌<◌, ◌≤◌, List, [], ◌∷◌, length, take, Option, Some, IfSome, Result, Ok, Err, slice_get}
 use Rattle.sym_base.specs.Counts.{Rose}
-use Rattle.sym_base.specs.declared.values.value.Key.{Key}
-use Rattle.sym_base.specs.declared.values.state.Outcome.{Outcome}
 use Rattle.sym_check.specs.Plan.ScriptPlans.{ScriptPlan}
 use Rattle.sym_files.specs.Passing.{Counts, Holds, MayAll}
 use Rattle.sym_run.specs.declared.saved.Saved.{Saved}
-use Rattle.sym_file.specs.SavedTexts.{IsMalformed, IsOfOtherScript, IsSaved}
-use Rattle.sym_file.specs.Stored.{IsStored}
+use Rattle.sym_file.specs.SavedTexts.{IsMalformed, IsOfOtherScript}
+use Rattle.sym_file.specs.TakenTexts.{IsRunFile, Pairs}
 use Rattle.sym_file.specs.Totals.{taken}
 use Rattle.sym_file.specs.declared.totals.Taken.TheVariants as taking
 use Rattle.sym_reduce.specs.declared.error.ReduceErr.{ReduceErr}
 use Rattle.sym_reduce.specs.declared.error.ReduceErr.TheVariants as reduce_err
 use Rattle.sym_reduce.specs.declared.one_file.Step.{Step}
-
--- How each group stands.
-abbrev pub Pairs : Type 0
-Pairs = List (Key × Outcome)
-
--- The bytes are the text of this lawful saved run of the script, which is one that the program's
--- types hold. `script` is the script as it is printed, and `p` its plan.
-pub record IsRunFile (script : List ℕ) (p : ScriptPlan) (bytes : List ℕ)
-    (saved : Saved) : Type 0 where
-  pub is : IsSaved script p bytes saved
-  pub stored : IsStored saved
 
 -- The file is that of a saved run whose first record has the number `next`, and its chains lead these
 -- totals on to more.

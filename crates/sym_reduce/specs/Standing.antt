@@ -6,7 +6,7 @@ use Rattle.sym_check.specs.Meaning.Validity.{IsRecord}
 use Rattle.sym_check.specs.Plan.ScriptPlans.{ScriptPlan}
 use Rattle.sym_run.specs.declared.saved.Saved.{Saved}
 use Rattle.sym_run.specs.SavedRuns.{SavedStandsFor}
-use Rattle.sym_reduce.specs.Reducing.{IsRunFile}
+use Rattle.sym_file.specs.TakenTexts.{IsRunFile}
 
 -- Files in order, each that of a saved run which stands for its own records, and the records of all
 -- of them. The first record of the first file has the number `next`, that of each other one follows

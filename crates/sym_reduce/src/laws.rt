@@ -8,7 +8,8 @@ ghost use Rattle.sym_check.specs.Plan.ScriptPlans.{ScriptPlan};
 ghost use Rattle.sym_check.specs.Plan.WellFormed.{IsWellFormed};
 ghost use Rattle.sym_run.specs.declared.saved.Saved.{Saved as OneSaved};
 ghost use Rattle.sym_reduce.specs.Joining.{AreRunFiles, FirstJoinProblem};
-ghost use Rattle.sym_reduce.specs.Reducing.{AreReduced, FirstRunProblem, Pairs};
+ghost use Rattle.sym_file.specs.TakenTexts.{Pairs};
+ghost use Rattle.sym_reduce.specs.Reducing.{AreReduced, FirstRunProblem};
 ghost use Rattle.sym_reduce.specs.Standing.{StandInOrder};
 ghost use Rattle.sym_reduce.specs.declared.error.ReduceErr.{ReduceErr as OneErr};
 

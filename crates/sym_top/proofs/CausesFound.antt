@@ -24,7 +24,8 @@ use Rattle.sym_reduce.specs.declared.error.ReduceErr.{ReduceErr}
 use Rattle.sym_reduce.specs.declared.error.ReduceErr.TheVariants as reduce_error
 use Rattle.sym_reduce.specs.Joining.{FirstFileProblem, FirstJoinProblem, HasRunFault}
 use Rattle.sym_reduce.specs.Joining as of_joins
-use Rattle.sym_reduce.specs.Reducing.{FirstRunProblem, HasFault, HasRunProblem, Pairs}
+use Rattle.sym_file.specs.TakenTexts.{Pairs}
+use Rattle.sym_reduce.specs.Reducing.{FirstRunProblem, HasFault, HasRunProblem}
 use Rattle.sym_reduce.specs.Reducing as of_runs
 use Rattle.sym_command.specs.declared.place.Place.TheVariants as place
 use Rattle.sym_command.specs.Commands.{Command, Join, Reduce, Runs, Traces, Checks, Makes, Maps, Reduces, Joins, command_of, file_rules, first_no}

@@ -46,7 +46,8 @@ use Rattle.sym_file.specs.Stored.{IsStored}
 use Rattle.sym_file.specs.Texts.{head_text, body_text, saved_text}
 use Rattle.sym_reduce.specs.declared.error.ReduceErr.TheVariants as reduce_error
 use Rattle.sym_reduce.specs.Joining as joins
-use Rattle.sym_reduce.specs.Reducing.{IsRunFile, IsTakenFile}
+use Rattle.sym_file.specs.TakenTexts.{IsRunFile}
+use Rattle.sym_reduce.specs.Reducing.{IsTakenFile}
 use Rattle.sym_reduce.specs.Reducing as runs
 use Rattle.sym_reduce.proofs.Once.{same}
 use Rattle.sym_report.specs.Tables.{table_form}

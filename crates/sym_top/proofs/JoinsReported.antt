@@ -14,7 +14,8 @@ use Rattle.sym_file.specs.Texts.{saved_text}
 use Rattle.sym_parse.specs.Printed.{script_text}
 use Rattle.sym_reduce.specs.Joining.{AreFollowing, AreRunFiles, IsFirstOf, IsNextOf, IsOnlyOf, StandForParts}
 use Rattle.sym_reduce.specs.Joining as joining
-use Rattle.sym_reduce.specs.Reducing.{AreReduced, IsRunFile, Pairs}
+use Rattle.sym_file.specs.TakenTexts.{IsRunFile, Pairs}
+use Rattle.sym_reduce.specs.Reducing.{AreReduced}
 use Rattle.sym_reduce.specs.Reducing as runs
 use Rattle.sym_reduce.specs.Standing.{StandInOrder}
 use Rattle.sym_reduce.specs.Standing as standing

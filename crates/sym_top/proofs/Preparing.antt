@@ -28,7 +28,8 @@ use Rattle.sym_parse.specs.Printed.{script_text}
 use Rattle.sym_reduce.specs.declared.error.ReduceErr.{ReduceErr}
 use Rattle.sym_reduce.specs.declared.error.ReduceErr.TheVariants as reduce_error
 use Rattle.sym_reduce.specs.Joining.{HasJoinProblem, StopsJoin}
-use Rattle.sym_reduce.specs.Reducing.{HasFirstRunProblem, Pairs, ReducedAll, StopsReduce}
+use Rattle.sym_file.specs.TakenTexts.{Pairs}
+use Rattle.sym_reduce.specs.Reducing.{HasFirstRunProblem, ReducedAll, StopsReduce}
 use Rattle.sym_report.specs.Forms.{FormTexts, report_text}
 use Rattle.sym_report.specs.ReportRows.{heads_of, row_of, some_faulty}
 use Rattle.sym_table.specs.Reading.{Row}

@@ -10,7 +10,8 @@ use Rattle.sym_files.specs.FirstProblems as first
 use Rattle.sym_parse.specs.Printed.{script_text}
 use Rattle.sym_parse.proofs.Answering.{text-lawful}
 use Rattle.sym_reduce.specs.declared.error.ReduceErr.{ReduceErr}
-use Rattle.sym_reduce.specs.Reducing.{AreReduced, FirstRunProblem, Pairs}
+use Rattle.sym_file.specs.TakenTexts.{Pairs}
+use Rattle.sym_reduce.specs.Reducing.{AreReduced, FirstRunProblem}
 use Rattle.sym_reduce.proofs.Found.{found as files_found}
 use Rattle.sym_reduce.proofs.Once.{first_once, no_problem, totals_once}
 use Rattle.sym_command.specs.Commands.{Asked, Command, Joins, ReadsRecords, Reduce, Reduces, command_of, file_rules, first_no, texts_of}

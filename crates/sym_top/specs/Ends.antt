@@ -8,7 +8,8 @@ use Rattle.sym_files.specs.declared.error.PassErr.{PassErr}
 use Rattle.sym_files.specs.FirstProblems.{AllFine, FirstProblem}
 use Rattle.sym_reduce.specs.declared.error.ReduceErr.{ReduceErr}
 use Rattle.sym_reduce.specs.Joining.{AreRunFiles, FirstJoinProblem}
-use Rattle.sym_reduce.specs.Reducing.{AreReduced, FirstRunProblem, Pairs}
+use Rattle.sym_file.specs.TakenTexts.{Pairs}
+use Rattle.sym_reduce.specs.Reducing.{AreReduced, FirstRunProblem}
 use Rattle.sym_report.specs.declared.rows.Heads.{Heads}
 use Rattle.sym_report.specs.declared.rows.Row.{Row}
 use Rattle.sym_report.specs.ReportRows.{heads_of, row_of, some_faulty}

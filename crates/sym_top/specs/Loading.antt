@@ -15,7 +15,8 @@ use Rattle.sym_files.specs.Passing.{AllRead, Holds, Counts, May, MayAll, StopsFr
 use Rattle.sym_parse.specs.Printed.{script_text}
 use Rattle.sym_reduce.specs.declared.error.ReduceErr.{ReduceErr}
 use Rattle.sym_reduce.specs.Joining.{AreRunFiles, StopsJoin}
-use Rattle.sym_reduce.specs.Reducing.{AreReduced, Pairs, StopsReduce}
+use Rattle.sym_file.specs.TakenTexts.{Pairs}
+use Rattle.sym_reduce.specs.Reducing.{AreReduced, StopsReduce}
 use Rattle.sym_run.specs.declared.saved.Saved.{Saved}
 use Rattle.sym_report.specs.Forms.{FormTexts}
 use Rattle.sym_command.specs.declared.place.Place.TheVariants as place

@@ -5,7 +5,7 @@ use Rattle.sym_base.specs.declared.values.record.Record.{Record}
 use Rattle.sym_check.specs.Meaning.Validity.{IsRecord}
 use Rattle.sym_files.specs.FirstProblems.{AllFine}
 use Rattle.sym_parse.specs.Printed.{script_text}
-use Rattle.sym_reduce.specs.Reducing.{IsRunFile}
+use Rattle.sym_file.specs.TakenTexts.{IsRunFile}
 use Rattle.sym_run.specs.SavedRuns.{SavedStandsFor}
 use Rattle.sym_run.specs.declared.saved.Saved.{Saved}
 use Rattle.sym_table.specs.Reading.{Row}

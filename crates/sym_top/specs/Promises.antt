@@ -6,7 +6,8 @@ use Rattle.sym_base.specs.declared.values.record.Record.{Record}
 use Rattle.sym_files.specs.FirstProblems.{AllFine}
 use Rattle.sym_parse.specs.Printed.{script_text}
 use Rattle.sym_reduce.specs.Joining.{AreRunFiles}
-use Rattle.sym_reduce.specs.Reducing.{AreReduced, Pairs}
+use Rattle.sym_file.specs.TakenTexts.{Pairs}
+use Rattle.sym_reduce.specs.Reducing.{AreReduced}
 use Rattle.sym_run.specs.declared.saved.Saved.{Saved}
 use Rattle.sym_files.specs.Passing.{Holds, Counts, May, MayAll}
 use Rattle.sym_report.specs.Forms.{FormTexts}

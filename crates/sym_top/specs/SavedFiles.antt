@@ -9,7 +9,7 @@ use Rattle.sym_run.specs.SavedRuns.{SavedStandsFor}
 use Rattle.sym_file.specs.Stored.{IsStored}
 use Rattle.sym_file.specs.Texts.{saved_text}
 use Rattle.sym_reduce.specs.Joining.{IsJoinOf}
-use Rattle.sym_reduce.specs.Reducing.{IsRunFile}
+use Rattle.sym_file.specs.TakenTexts.{IsRunFile}
 use Rattle.sym_top.specs.Programs.{Program}
 
 -- The bytes are the text of a lawful saved run of these records, the first of which has the number

@@ -8,7 +8,8 @@ use Rattle.sym_files.proofs.FileByFile.{may_as, name_at}
 use Rattle.sym_file.specs.SavedTexts.{printed}
 use Rattle.sym_run.specs.Applying.{AreValid}
 use Rattle.sym_reduce.specs.declared.error.ReduceErr.{ReduceErr}
-use Rattle.sym_reduce.specs.Reducing.{Pairs, StopsReduce}
+use Rattle.sym_file.specs.TakenTexts.{Pairs}
+use Rattle.sym_reduce.specs.Reducing.{StopsReduce}
 use Rattle.sym_reduce.proofs.Files.{begins, ends, fails_as, goes_on, unread_as, unread_stops, untaken_stops}
 use Rattle.sym_reduce.proofs.Led.{reduced_kinds}
 use Rattle.sym_reduce.proofs.run_files.reduce_files.Goals as goal
