@@ -8,6 +8,7 @@ pub mod ClosedJoins
 pub mod ClosingGroups
 pub mod CutRecords
 pub mod EmptyWords
+mod Examples
 pub mod FoundRecords
 pub mod GroupPuts
 pub mod JoinedGroups

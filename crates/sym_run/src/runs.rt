@@ -1,11 +1,12 @@
 //! Runs of chunks: their groups, or the first of their rows that is no record.
 ghost use Rattle.std.specs.Prelude.{◌≡◌, ◌<◌, ◌+◌, [], List, None, Some, IfErr, IfOk, OnOk, slice_get};
+ghost use Rattle.std.specs.Option.{option_or};
 ghost use Rattle.sym_base.specs.declared.values.record.Record.{Record as OneRecord};
 ghost use Rattle.sym_check.specs.Checking.CheckedScripts.{checked_plan};
 ghost use Rattle.sym_plain.specs.Pairs.{after_records};
 ghost use Rattle.sym_table.specs.declared.chunk.Chunk.{Chunk as OneChunk};
 ghost use Rattle.sym_table.specs.Rows.{FitsChunk};
-ghost use Rattle.sym_run.specs.Applying.{AreValid, IfDone, bad_of};
+ghost use Rattle.sym_run.specs.Applying.{AreValid, IfDone, IsApplied, bad_of};
 ghost use Rattle.sym_run.specs.Runs.{AreClosed, AreTight, GroupsFit, GroupsStandFor, IsFromTo, StandsForChunks};
 
 use crate::applied_groups::apply_all;
@@ -114,7 +115,10 @@ impl Run {
             AreTight (checked_plan checked.now) limit self.groups
             × AreTight (checked_plan checked.now) limit right.groups }
         ensures chunks { IfOk result (IsFromTo self.lo right.hi) }
+        ensures bad { IfOk result (λ run. run.bad ≡ option_or self.bad right.bad) }
         ensures fits { IfOk result (λ run. GroupsFit (checked_plan checked.now) run.groups) }
+        ensures tight { self.bad ≡ None → right.bad ≡ None →
+            IfOk result (λ run. AreTight (checked_plan checked.now) limit run.groups) }
         ensures stands { (chunks : List OneChunk) →
             StandsForChunks (checked_plan checked.now) limit chunks self →
             StandsForChunks (checked_plan checked.now) limit chunks right →
@@ -227,6 +231,7 @@ impl Run {
             GroupsStandFor (checked_plan checked.now) records self.groups →
             IfOk result (λ applied. IfDone applied (λ g.
             g ≡ after_records (checked_plan checked.now) records groups)) }
+        ensures applied { IfOk result (IsApplied (checked_plan checked.now) self groups) }
     {
         let chains = match self.chains_or_bad() {
             Ok(chains) => chains,
@@ -257,6 +262,7 @@ impl Run {
             GroupsStandFor (checked_plan checked.now) records self.groups →
             IfOk result (λ applied. IfDone applied (λ g.
             g ≡ after_records (checked_plan checked.now) records groups)) }
+        ensures applied { IfOk result (IsApplied (checked_plan checked.now) self groups) }
     {
         let chains = match self.chains_or_bad() {
             Ok(chains) => chains,

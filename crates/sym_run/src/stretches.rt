@@ -1,5 +1,5 @@
 //! Runs that grow chunk by chunk.
-ghost use Rattle.std.specs.Prelude.{◌≡◌, ◌<◌, ◌≤◌, ◌+◌, ℕ, List, None, Some, IfOk, OnOk, length, slice_get};
+ghost use Rattle.std.specs.Prelude.{◌≡◌, ◌<◌, ◌≤◌, ◌+◌, ◌*◌, ℕ, List, None, Some, IfOk, OnOk, length, max, slice_get};
 ghost use Rattle.sym_check.specs.Checking.CheckedScripts.{checked_plan};
 ghost use Rattle.sym_check.specs.Plan.ScriptPlans.{ScriptPlan};
 ghost use Rattle.sym_table.specs.declared.chunk.Chunk.{Chunk as OneChunk};
@@ -28,7 +28,9 @@ const KEPT_LEAST: u32 = 32;
 /// They are twice as many as a segment may have paths: a script that has a path more for every
 /// second record then is over the limit before a segment covers them, so that its records aren't
 /// explored.
-pub fn kept_most(limit: u32) -> u32 {
+pub fn kept_most(limit: u32) -> u32
+    ensures { limit ≤ 256 → result ≡ max 32 (limit * 2) }
+{
     limit.saturating_mul(2).max(KEPT_LEAST)
 }
 
