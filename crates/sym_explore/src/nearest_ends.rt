@@ -14,7 +14,7 @@ ghost use Rattle.sym_explore.specs.Placing.{IsConstant, IsConstantIn, IsPartStor
 ghost use Rattle.sym_explore.specs.Ranging.{NumberFitsOn};
 ghost use Rattle.sym_explore.specs.Terms.{HasSpan};
 
-use crate::places::{Target, put};
+use crate::places::{TargetLine, put};
 use crate::ranges::narrow_within;
 use crate::terms::span_of;
 use std::alloc::Global;
@@ -43,26 +43,24 @@ fn greatest(ends: &Span) -> IntForm
 /// target, after the other paths.
 fn push_stored(
     alloc: Global,
-    plan: &Plan,
-    cell: u16,
+    line: &TargetLine,
     span: &Span,
-    target: &Target,
     end: IntForm,
     path: &Path,
     out: &mut Vec<Path>,
 ) -> Result<(), NoMemory>
-    requires known { IsWellFormed (script_plan plan.now) }
-    requires target { TargetFits (script_plan plan.now) target.now }
-    requires end { IsConstantIn target.now.ends end }
-    requires fits { PathFits (script_plan plan.now) path.now }
+    requires known { IsWellFormed (script_plan line.now.plan.now) }
+    requires target { TargetFits (script_plan line.now.plan.now) line.now.target.now }
+    requires end { IsConstantIn line.now.target.now.ends end }
+    requires fits { PathFits (script_plan line.now.plan.now) path.now }
     requires goes_on { GoesOn path.now.end }
-    requires narrower { NarrowsNumbers span.now (slice_get path.now.when cell) }
-    ensures { OnOk result (IsStoredPushed (script_plan plan.now) cell span.now target.now.place end
-        path.now out.old.items out.new.items) }
+    requires narrower { NarrowsNumbers span.now (slice_get path.now.when line.now.cell) }
+    ensures { OnOk result (IsStoredPushed (script_plan line.now.plan.now) line.now.cell
+        span.now line.now.target.now.place end path.now out.old.items out.new.items) }
 {
     let mut copy = path.copy(alloc)?;
-    copy.narrow_numbers(plan, cell, span);
-    put(alloc, plan, target.place, end, &mut copy)?;
+    copy.narrow_numbers(line.plan, line.cell, span);
+    put(alloc, line.plan, line.target.place, end, &mut copy)?;
     out.push(copy)?;
     Ok(())
 }
@@ -70,26 +68,24 @@ fn push_stored(
 /// The same of a part of the cell's span. Where there is no such part, nothing changes.
 fn push_part(
     alloc: Global,
-    plan: &Plan,
-    cell: u16,
+    line: &TargetLine,
     part: Option<Span>,
-    target: &Target,
     end: IntForm,
     path: &Path,
     out: &mut Vec<Path>,
 ) -> Result<(), NoMemory>
-    requires known { IsWellFormed (script_plan plan.now) }
-    requires target { TargetFits (script_plan plan.now) target.now }
-    requires end { IsConstantIn target.now.ends end }
-    requires fits { PathFits (script_plan plan.now) path.now }
+    requires known { IsWellFormed (script_plan line.now.plan.now) }
+    requires target { TargetFits (script_plan line.now.plan.now) line.now.target.now }
+    requires end { IsConstantIn line.now.target.now.ends end }
+    requires fits { PathFits (script_plan line.now.plan.now) path.now }
     requires goes_on { GoesOn path.now.end }
     requires narrower { IfSome part (λ span.
-        NarrowsNumbers span (slice_get path.now.when cell)) }
-    ensures { OnOk result (IsPartStored (script_plan plan.now) cell part target.now.place end
-        path.now out.old.items out.new.items) }
+        NarrowsNumbers span (slice_get path.now.when line.now.cell)) }
+    ensures { OnOk result (IsPartStored (script_plan line.now.plan.now) line.now.cell
+        part line.now.target.now.place end path.now out.old.items out.new.items) }
 {
     if let Some(span) = part {
-        push_stored(alloc, plan, cell, &span, target, end, path, out)?;
+        push_stored(alloc, line, &span, end, path, out)?;
     }
     Ok(())
 }
@@ -98,51 +94,47 @@ fn push_part(
 /// the numbers above the range, if there are any; the answer is the end that it gets.
 fn clamp_outside(
     alloc: Global,
-    plan: &Plan,
-    cell: u16,
-    _wide: &Wide,
+    line: &TargetLine,
     own: &Span,
     fitted: &Fitted,
-    target: &Target,
     path: &mut Path,
     out: &mut Vec<Path>,
 ) -> Result<IntForm, NoMemory>
-    requires known { IsWellFormed (script_plan plan.now) }
-    requires target { TargetFits (script_plan plan.now) target.now }
-    requires clamps { target.now.clamps ≡ true }
-    requires fits { PathFits (script_plan plan.now) path.old }
-    requires others { SegmentFits (script_plan plan.now) out.old.items }
+    requires known { IsWellFormed (script_plan line.now.plan.now) }
+    requires target { TargetFits (script_plan line.now.plan.now) line.now.target.now }
+    requires clamps { line.now.target.now.clamps ≡ true }
+    requires fits { PathFits (script_plan line.now.plan.now) path.old }
+    requires others { SegmentFits (script_plan line.now.plan.now) out.old.items }
     requires goes_on { GoesOn path.old.end }
-    requires cell { wide_cell _wide.now ≡ Some cell }
-    requires own { slice_get path.old.when cell ≡ Some (part.Span own.now) }
-    requires fitted { IsFitted own.now _wide.now target.now.ends fitted.now }
+    requires cell { wide_cell line.now.wide.now ≡ Some line.now.cell }
+    requires own { slice_get path.old.when line.now.cell ≡ Some (part.Span own.now) }
+    requires fitted { IsFitted own.now line.now.wide.now line.now.target.now.ends fitted.now }
     requires outside { fitted.now.inside ≡ None }
-    ensures exact { IfOk result (λ number. TargetRanges (script_plan plan.now) target.now _wide.now
+    ensures exact { IfOk result (λ number. TargetRanges (script_plan line.now.plan.now)
+        line.now.target.now line.now.wide.now
         path.old out.old.items path.new out.new.items (Some number)) }
-    ensures fits { OnOk result (PathFits (script_plan plan.now) path.new) }
-    ensures others { OnOk result (SegmentFits (script_plan plan.now) out.new.items) }
-    ensures number { IfOk result
-        (NumberFitsOn target.now.ends.lo target.now.ends.hi path.new) }
+    ensures fits { OnOk result (PathFits (script_plan line.now.plan.now) path.new) }
+    ensures others { OnOk result (SegmentFits (script_plan line.now.plan.now) out.new.items) }
+    ensures number { let ends = line.now.target.now.ends in
+        IfOk result (NumberFitsOn ends.lo ends.hi path.new) }
     ensures few { OnOk result (length out.new.items ≤ length out.old.items + 2) }
-    ensures faults { OnOk result (FaultsCameAt target.now.fault.no
+    ensures faults { OnOk result (FaultsCameAt line.now.target.now.fault.no
         path.old out.old.items path.new out.new.items) }
     ensures next { AllGoOn out.old.items → OnOk result (AllGoOn out.new.items) }
 {
     let Some(above) = fitted.above else {
-        return Ok(least(&target.ends));
+        return Ok(least(&line.target.ends));
     };
     push_part(
         alloc,
-        plan,
-        cell,
+        line,
         fitted.below,
-        target,
-        least(&target.ends),
+        least(&line.target.ends),
         path,
         out,
     )?;
-    narrow_within(plan, cell, own, &above, path);
-    Ok(greatest(&target.ends))
+    narrow_within(line.plan, line.cell, own, &above, path);
+    Ok(greatest(&line.target.ends))
 }
 
 /// Parts the path by whether a number over the span of the cell is below the target's range, in it
@@ -151,59 +143,53 @@ fn clamp_outside(
 #[inline(never)]
 pub(crate) fn clamp_line(
     alloc: Global,
-    plan: &Plan,
-    cell: u16,
-    wide: &Wide,
-    target: &Target,
+    line: &TargetLine,
     path: &mut Path,
     out: &mut Vec<Path>,
 ) -> Result<IntForm, NoMemory>
-    requires known { IsWellFormed (script_plan plan.now) }
-    requires target { TargetFits (script_plan plan.now) target.now }
-    requires clamps { target.now.clamps ≡ true }
-    requires fits { PathFits (script_plan plan.now) path.old }
-    requires others { SegmentFits (script_plan plan.now) out.old.items }
+    requires known { IsWellFormed (script_plan line.now.plan.now) }
+    requires target { TargetFits (script_plan line.now.plan.now) line.now.target.now }
+    requires clamps { line.now.target.now.clamps ≡ true }
+    requires fits { PathFits (script_plan line.now.plan.now) path.old }
+    requires others { SegmentFits (script_plan line.now.plan.now) out.old.items }
     requires goes_on { GoesOn path.old.end }
-    requires cell { wide_cell wide.now ≡ Some cell }
-    requires span { HasSpan path.old (Some cell) }
-    ensures exact { IfOk result (λ number. TargetRanges (script_plan plan.now) target.now wide.now
+    requires cell { wide_cell line.now.wide.now ≡ Some line.now.cell }
+    requires span { HasSpan path.old (Some line.now.cell) }
+    ensures exact { IfOk result (λ number. TargetRanges (script_plan line.now.plan.now)
+        line.now.target.now line.now.wide.now
         path.old out.old.items path.new out.new.items (Some number)) }
-    ensures fits { OnOk result (PathFits (script_plan plan.now) path.new) }
-    ensures others { OnOk result (SegmentFits (script_plan plan.now) out.new.items) }
-    ensures number { IfOk result
-        (NumberFitsOn target.now.ends.lo target.now.ends.hi path.new) }
+    ensures fits { OnOk result (PathFits (script_plan line.now.plan.now) path.new) }
+    ensures others { OnOk result (SegmentFits (script_plan line.now.plan.now) out.new.items) }
+    ensures number { let ends = line.now.target.now.ends in
+        IfOk result (NumberFitsOn ends.lo ends.hi path.new) }
     ensures few { OnOk result (length out.new.items ≤ length out.old.items + 2) }
-    ensures faults { OnOk result (FaultsCameAt target.now.fault.no
+    ensures faults { OnOk result (FaultsCameAt line.now.target.now.fault.no
         path.old out.old.items path.new out.new.items) }
     ensures next { AllGoOn out.old.items → OnOk result (AllGoOn out.new.items) }
 {
-    let Some(span) = span_of(path, cell) else {
+    let Some(span) = span_of(path, line.cell) else {
         unreachable!()
     };
-    let fitted = fit(&span, wide, &target.ends);
+    let fitted = fit(&span, line.wide, &line.target.ends);
     let Some(inside) = fitted.inside else {
-        return clamp_outside(alloc, plan, cell, wide, &span, &fitted, target, path, out);
+        return clamp_outside(alloc, line, &span, &fitted, path, out);
     };
     push_part(
         alloc,
-        plan,
-        cell,
+        line,
         fitted.below,
-        target,
-        least(&target.ends),
+        least(&line.target.ends),
         path,
         out,
     )?;
     push_part(
         alloc,
-        plan,
-        cell,
+        line,
         fitted.above,
-        target,
-        greatest(&target.ends),
+        greatest(&line.target.ends),
         path,
         out,
     )?;
-    narrow_within(plan, cell, &span, &inside.span, path);
+    narrow_within(line.plan, line.cell, &span, &inside.span, path);
     Ok(inside.form)
 }

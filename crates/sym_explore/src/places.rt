@@ -12,7 +12,7 @@ use crate::forms::{add_number, put_number};
 use std::alloc::Global;
 use sym_base::{Fault, NoMemory};
 use sym_check::Plan;
-use sym_int::{IntForm, Span};
+use sym_int::{IntForm, Span, Wide};
 use sym_path::Path;
 
 /// Where a number is stored.
@@ -34,6 +34,16 @@ pub struct Target {
     pub clamps: bool,
     /// The fault of such a number where the range doesn't clamp.
     pub fault: Fault,
+}
+
+/// A number over the span of a cell, and the target at which it is to be stored.
+#[derive(Clone, Copy)]
+pub(crate) struct TargetLine<'a> {
+    pub plan: &'a Plan,
+    /// The cell over whose span the number is.
+    pub cell: u16,
+    pub wide: &'a Wide,
+    pub target: &'a Target,
 }
 
 impl Place {

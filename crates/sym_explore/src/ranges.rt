@@ -18,7 +18,7 @@ ghost use Rattle.sym_explore.specs.Storing.{ReadyStores};
 ghost use Rattle.sym_explore.specs.Terms.{HasSpan, ReadyFits};
 
 use crate::nearest_ends::clamp_line;
-use crate::places::Target;
+use crate::places::{Target, TargetLine};
 use crate::terms::{Ready, ready_form, span_of};
 use std::alloc::Global;
 use sym_base::{Fault, NoMemory};
@@ -62,22 +62,20 @@ fn narrow_ended(_plan: &Plan, cell: u16, span: &Span, path: &mut Path)
 /// Puts the part of the path on this span of the cell, ended by the fault, after the other paths.
 fn push_failed(
     alloc: Global,
-    plan: &Plan,
-    cell: u16,
+    line: &TargetLine,
     span: &Span,
-    fault: Fault,
     path: &Path,
     out: &mut Vec<Path>,
 ) -> Result<(), NoMemory>
-    requires known { IsWellFormed (script_plan plan.now) }
-    requires fits { PathFits (script_plan plan.now) path.now }
-    requires fault { FitsFault (script_plan plan.now) fault.kind }
-    requires narrower { NarrowsNumbers span.now (slice_get path.now.when cell) }
-    ensures { OnOk result (IsFailedPushed (script_plan plan.now) cell span.now fault path.now
-        out.old.items out.new.items) }
+    requires known { IsWellFormed (script_plan line.now.plan.now) }
+    requires fits { PathFits (script_plan line.now.plan.now) path.now }
+    requires fault { FitsFault (script_plan line.now.plan.now) line.now.target.now.fault.kind }
+    requires narrower { NarrowsNumbers span.now (slice_get path.now.when line.now.cell) }
+    ensures { OnOk result (IsFailedPushed (script_plan line.now.plan.now) line.now.cell
+        span.now line.now.target.now.fault path.now out.old.items out.new.items) }
 {
-    let mut copy = path.failed(alloc, fault)?;
-    narrow_ended(plan, cell, span, &mut copy);
+    let mut copy = path.failed(alloc, line.target.fault)?;
+    narrow_ended(line.plan, line.cell, span, &mut copy);
     out.push(copy)?;
     Ok(())
 }
@@ -86,23 +84,21 @@ fn push_failed(
 /// paths. Where there is no such part, nothing changes.
 fn push_part(
     alloc: Global,
-    plan: &Plan,
-    cell: u16,
+    line: &TargetLine,
     part: Option<Span>,
-    fault: Fault,
     path: &Path,
     out: &mut Vec<Path>,
 ) -> Result<(), NoMemory>
-    requires known { IsWellFormed (script_plan plan.now) }
-    requires fits { PathFits (script_plan plan.now) path.now }
-    requires fault { FitsFault (script_plan plan.now) fault.kind }
+    requires known { IsWellFormed (script_plan line.now.plan.now) }
+    requires fits { PathFits (script_plan line.now.plan.now) path.now }
+    requires fault { FitsFault (script_plan line.now.plan.now) line.now.target.now.fault.kind }
     requires narrower { IfSome part (λ span.
-        NarrowsNumbers span (slice_get path.now.when cell)) }
-    ensures { OnOk result (IsPartPushed (script_plan plan.now) cell part fault path.now
-        out.old.items out.new.items) }
+        NarrowsNumbers span (slice_get path.now.when line.now.cell)) }
+    ensures { OnOk result (IsPartPushed (script_plan line.now.plan.now) line.now.cell
+        part line.now.target.now.fault path.now out.old.items out.new.items) }
 {
     if let Some(span) = part {
-        push_failed(alloc, plan, cell, &span, fault, path, out)?;
+        push_failed(alloc, line, &span, path, out)?;
     }
     Ok(())
 }
@@ -128,79 +124,73 @@ pub(crate) fn narrow_within(plan: &Plan, cell: u16, own: &Span, span: &Span, pat
 #[inline(never)]
 fn end_line(
     alloc: Global,
-    plan: &Plan,
-    cell: u16,
-    wide: &Wide,
-    target: &Target,
+    line: &TargetLine,
     path: &mut Path,
     out: &mut Vec<Path>,
 ) -> Result<Option<IntForm>, NoMemory>
-    requires known { IsWellFormed (script_plan plan.now) }
-    requires fits { PathFits (script_plan plan.now) path.old }
-    requires others { SegmentFits (script_plan plan.now) out.old.items }
+    requires known { IsWellFormed (script_plan line.now.plan.now) }
+    requires fits { PathFits (script_plan line.now.plan.now) path.old }
+    requires others { SegmentFits (script_plan line.now.plan.now) out.old.items }
     requires goes_on { GoesOn path.old.end }
-    requires fault { FitsFault (script_plan plan.now) target.now.fault.kind }
-    requires ends { target.now.clamps ≡ false }
-    requires cell { wide_cell wide.now ≡ Some cell }
-    requires span { HasSpan path.old (Some cell) }
-    ensures exact { IfOk result (TargetRanges (script_plan plan.now) target.now wide.now
-        path.old out.old.items path.new out.new.items) }
-    ensures fits { OnOk result (PathFits (script_plan plan.now) path.new) }
-    ensures others { OnOk result (SegmentFits (script_plan plan.now) out.new.items) }
-    ensures number { IfOk result (λ number. IfSome number
-        (NumberFitsOn target.now.ends.lo target.now.ends.hi path.new)) }
+    requires fault { FitsFault (script_plan line.now.plan.now) line.now.target.now.fault.kind }
+    requires ends { line.now.target.now.clamps ≡ false }
+    requires cell { wide_cell line.now.wide.now ≡ Some line.now.cell }
+    requires span { HasSpan path.old (Some line.now.cell) }
+    ensures exact { IfOk result (TargetRanges (script_plan line.now.plan.now)
+        line.now.target.now line.now.wide.now path.old out.old.items path.new out.new.items) }
+    ensures fits { OnOk result (PathFits (script_plan line.now.plan.now) path.new) }
+    ensures others { OnOk result (SegmentFits (script_plan line.now.plan.now) out.new.items) }
+    ensures number { let ends = line.now.target.now.ends in
+        IfOk result (λ number. IfSome number (NumberFitsOn ends.lo ends.hi path.new)) }
     ensures few { OnOk result (length out.new.items ≤ length out.old.items + 2) }
-    ensures faults { OnOk result (FaultsCameAt target.now.fault.no
+    ensures faults { OnOk result (FaultsCameAt line.now.target.now.fault.no
         path.old out.old.items path.new out.new.items) }
 {
-    let Some(span) = span_of(path, cell) else {
+    let Some(span) = span_of(path, line.cell) else {
         unreachable!()
     };
-    let fitted = fit(&span, wide, &target.ends);
+    let fitted = fit(&span, line.wide, &line.target.ends);
     let Some(inside) = fitted.inside else {
-        path.fail(target.fault);
+        path.fail(line.target.fault);
         return Ok(None);
     };
-    push_part(alloc, plan, cell, fitted.below, target.fault, path, out)?;
-    push_part(alloc, plan, cell, fitted.above, target.fault, path, out)?;
-    narrow_within(plan, cell, &span, &inside.span, path);
+    push_part(alloc, line, fitted.below, path, out)?;
+    push_part(alloc, line, fitted.above, path, out)?;
+    narrow_within(line.plan, line.cell, &span, &inside.span, path);
     Ok(Some(inside.form))
 }
 
 /// Parts the path by whether a number over the span of the cell is in the target's range.
 fn part_line(
     alloc: Global,
-    plan: &Plan,
-    cell: u16,
-    wide: &Wide,
-    target: &Target,
+    line: &TargetLine,
     path: &mut Path,
     out: &mut Vec<Path>,
 ) -> Result<Option<IntForm>, NoMemory>
-    requires known { IsWellFormed (script_plan plan.now) }
-    requires target { TargetFits (script_plan plan.now) target.now }
-    requires fits { PathFits (script_plan plan.now) path.old }
-    requires others { SegmentFits (script_plan plan.now) out.old.items }
+    requires known { IsWellFormed (script_plan line.now.plan.now) }
+    requires target { TargetFits (script_plan line.now.plan.now) line.now.target.now }
+    requires fits { PathFits (script_plan line.now.plan.now) path.old }
+    requires others { SegmentFits (script_plan line.now.plan.now) out.old.items }
     requires goes_on { GoesOn path.old.end }
-    requires cell { wide_cell wide.now ≡ Some cell }
-    requires span { HasSpan path.old (Some cell) }
-    ensures exact { IfOk result (TargetRanges (script_plan plan.now) target.now wide.now
-        path.old out.old.items path.new out.new.items) }
-    ensures fits { OnOk result (PathFits (script_plan plan.now) path.new) }
-    ensures others { OnOk result (SegmentFits (script_plan plan.now) out.new.items) }
-    ensures number { IfOk result (λ number. IfSome number
-        (NumberFitsOn target.now.ends.lo target.now.ends.hi path.new)) }
+    requires cell { wide_cell line.now.wide.now ≡ Some line.now.cell }
+    requires span { HasSpan path.old (Some line.now.cell) }
+    ensures exact { IfOk result (TargetRanges (script_plan line.now.plan.now)
+        line.now.target.now line.now.wide.now path.old out.old.items path.new out.new.items) }
+    ensures fits { OnOk result (PathFits (script_plan line.now.plan.now) path.new) }
+    ensures others { OnOk result (SegmentFits (script_plan line.now.plan.now) out.new.items) }
+    ensures number { let ends = line.now.target.now.ends in
+        IfOk result (λ number. IfSome number (NumberFitsOn ends.lo ends.hi path.new)) }
     ensures few { OnOk result (length out.new.items ≤ length out.old.items + 2) }
-    ensures faults { OnOk result (FaultsCameAt target.now.fault.no
+    ensures faults { OnOk result (FaultsCameAt line.now.target.now.fault.no
         path.old out.old.items path.new out.new.items) }
-    ensures stored { IfOk result (λ number. AllAreStored target.now.clamps number
+    ensures stored { IfOk result (λ number. AllAreStored line.now.target.now.clamps number
         out.old.items out.new.items) }
 {
-    if target.clamps {
-        let form = clamp_line(alloc, plan, cell, wide, target, path, out)?;
+    if line.target.clamps {
+        let form = clamp_line(alloc, line, path, out)?;
         Ok(Some(form))
     } else {
-        end_line(alloc, plan, cell, wide, target, path, out)
+        end_line(alloc, line, path, out)
     }
 }
 
@@ -275,7 +265,16 @@ fn range_wide(
         Wide::Const(number) => Ok(range_known(target, number, path)),
         Wide::Line(line) => match whole_form(wide, line, &target.ends, path) {
             Some(form) => Ok(Some(form)),
-            None => part_line(alloc, plan, line.cell, wide, target, path, out),
+            None => {
+                let cell = line.cell;
+                let line = TargetLine {
+                    plan,
+                    cell,
+                    wide,
+                    target,
+                };
+                part_line(alloc, &line, path, out)
+            }
         },
     }
 }

@@ -13,6 +13,6 @@ returns c =
       fits = c.in_ok-put.ensures.fits;
       goes_on = c.in_ok-put.ensures.next;
       narrowed = c.narrow_numbers.new.self;
-      gives = subst (λ (q : Path). GivesWhere q c.args.cell (part.Span c.args.span.now) c.narrow_numbers.new.self) same c.narrow_numbers.ensures.gives;
+      gives = subst (λ (q : Path). GivesWhere q c.args.line.now.cell (part.Span c.args.span.now) c.narrow_numbers.new.self) same c.narrow_numbers.ensures.gives;
       put = c.in_ok-put.ensures.gives;
     }
