@@ -7,7 +7,7 @@ ghost use Rattle.sym_check.specs.Plan.FixedPlans.{fixed_plan, num_plan};
 ghost use Rattle.sym_check.specs.Meaning.FixedValues.{word_of};
 ghost use Rattle.sym_check.specs.Checking.KnownValues.{known_values};
 ghost use Rattle.sym_check.specs.Plan.LinePlans.{term_plan};
-ghost use Rattle.sym_check.specs.Plan.ScriptPlans.{script_plan};
+ghost use Rattle.sym_check.specs.Plan.ScriptPlans.{ScriptPlan, script_plan};
 ghost use Rattle.sym_check.specs.Plan.WellFormed.{IsWellFormed};
 ghost use Rattle.sym_explore.specs.Evaluating.{IsEvaluated, IsUnconnected};
 ghost use Rattle.sym_explore.specs.Knowing.{CondIsKnown};
@@ -58,17 +58,16 @@ fn compared(_plan: &Plan, known: &Known, compare: Compare, term: &Term, right: &
 /// Evaluates the arguments of a test, over the memory of `args`.
 fn called(
     alloc: Global,
-    _plan: &Plan,
     known: &Known,
     test: u16,
     cell: u16,
     expressions: &FixedList,
     args: &mut Values,
 ) -> Result<Evaluated, NoMemory>
-    requires cond { CondIsKnown (script_plan _plan.now) (known_values known.now)
-        (Test test cell (map fixed_plan expressions.now)) }
-    ensures { let c = Test test cell (map fixed_plan expressions.now) in
-        IfOk result (IsEvaluated (script_plan _plan.now) (known_values known.now) c args.new) }
+    ensures { (p : ScriptPlan) →
+        let k = known_values known.now in
+        let c = Test test cell (map fixed_plan expressions.now) in
+        CondIsKnown p k c → IfOk result (IsEvaluated p k c args.new) }
 {
     match set_values(alloc, known, expressions, args) {
         Ok(()) => Ok(Evaluated::Open(CellCondition::Call(test, cell))),
@@ -103,7 +102,7 @@ pub(crate) fn evaluate(
             test,
             cell,
             args: expressions,
-        } => called(alloc, plan, known, *test, *cell, expressions, args),
+        } => called(alloc, known, *test, *cell, expressions, args),
         _ => unreachable!(),
     }
 }

@@ -14,6 +14,17 @@ use sym_check::{Plan, answer_at};
 use sym_path::{Form, Part, Path};
 use sym_pred::{HoldForm, Literal};
 
+/// A test that is called on a hold cell.
+#[derive(Clone, Copy)]
+pub(crate) struct TestCall<'a> {
+    /// The number of the test.
+    pub test: u16,
+    /// The number of the cell.
+    pub cell: u16,
+    /// The arguments after the parts of the cell.
+    pub args: &'a Values,
+}
+
 /// The outcome that is known of a test on the hold cell with this number.
 fn known_outcome(path: &Path, cell: u16, test: u16, args: &Values) -> Option<bool>
     ensures { result ≡ known_outcome path.now cell (test, args.now) }
@@ -41,19 +52,20 @@ fn literal(alloc: Global, test: u16, args: &Values, outcome: bool) -> Result<Lit
 fn split_test(
     alloc: Global,
     plan: &Plan,
-    test: u16,
-    cell: u16,
-    args: &Values,
+    called: &TestCall,
     path: &mut Path,
     out: &mut Vec<Branch>,
 ) -> Result<bool, NoMemory>
-    requires suits { TestSuits (script_plan plan.now) cell test args.now }
+    requires suits { TestSuits (script_plan plan.now)
+        called.now.cell called.now.test called.now.args.now }
     requires split { CanSplit (script_plan plan.now) path.old out.old.items }
-    ensures exact { IfOk result (WasTested (script_plan plan.now) cell test args.now
+    ensures exact { IfOk result (WasTested (script_plan plan.now)
+        called.now.cell called.now.test called.now.args.now
         path.old out.old.items path.new out.new.items) }
     ensures next { OnOk result (CanSplit (script_plan plan.now) path.new out.new.items) }
     ensures few { IfOk result (AreFewBranches (λ x. 1) out.old.items out.new.items) }
 {
+    let TestCall { test, cell, args } = *called;
     if let Some(outcome) = known_outcome(path, cell, test, args) {
         return Ok(outcome);
     }
@@ -99,25 +111,32 @@ pub(crate) fn test_on(plan: &Plan, test: u16, cell: u16, args: &Values, path: &P
 pub(crate) fn call(
     alloc: Global,
     plan: &Plan,
-    test: u16,
-    cell: u16,
-    args: &Values,
+    called: &TestCall,
     path: &mut Path,
     out: &mut Vec<Branch>,
 ) -> Result<bool, NoMemory>
     requires known { IsWellFormed (script_plan plan.now) }
-    requires suits { TestSuits (script_plan plan.now) cell test args.now }
+    requires suits { TestSuits (script_plan plan.now)
+        called.now.cell called.now.test called.now.args.now }
     requires split { CanSplit (script_plan plan.now) path.old out.old.items }
     ensures exact { (n : ℕ) →
-        let meaning = answered n (test_holds (script_plan plan.now) cell test args.now) in
-        IfOk result (Splits (script_plan plan.now) meaning
+        let holds = test_holds (script_plan plan.now)
+            called.now.cell called.now.test called.now.args.now in
+        IfOk result (Splits (script_plan plan.now) (answered n holds)
         path.old out.old.items path.new out.new.items) }
     ensures next { OnOk result (CanSplit (script_plan plan.now) path.new out.new.items) }
     ensures few { IfOk result (AreFewBranches (λ x. 1) out.old.items out.new.items) }
 {
-    match test_on(plan, test, cell, args, path) {
+    match test_on(plan, called.test, called.cell, called.args, path) {
         Tested::Known(answer) => Ok(answer),
-        Tested::Held(from) => split_test(alloc, plan, test, from, args, path, out),
+        Tested::Held(from) => {
+            let held = TestCall {
+                test: called.test,
+                cell: from,
+                args: called.args,
+            };
+            split_test(alloc, plan, &held, path, out)
+        }
         Tested::Ended => unreachable!(),
     }
 }

@@ -11,7 +11,7 @@ ghost use Rattle.sym_explore.specs.Trying.{EvaluatedWasTried};
 use crate::branch::{Branch, put_all};
 use crate::comparisons::{Bound, compare_ready};
 use crate::ended_paths::{arith, fail_all};
-use crate::hold_tests::call;
+use crate::hold_tests::{TestCall, call};
 use crate::labels::cell_is;
 use crate::moves::{move_all, move_from};
 use crate::terms::Ready;
@@ -66,7 +66,14 @@ fn split(
     match condition {
         CellCondition::Compare(ready, bound) => compare_ready(alloc, plan, ready, bound, path, out),
         CellCondition::Label(cell, label) => cell_is(alloc, plan, *cell, *label, path, out),
-        CellCondition::Call(test, cell) => call(alloc, plan, *test, *cell, args, path, out),
+        CellCondition::Call(test, cell) => {
+            let called = TestCall {
+                test: *test,
+                cell: *cell,
+                args,
+            };
+            call(alloc, plan, &called, path, out)
+        }
     }
 }
 

@@ -15,21 +15,21 @@ use Rattle.sym_explore.proofs.hold_tests.split_test.Goals as goal
 
 pub returns-in-Some-clause-exact : goal.returns-in-Some-clause-exact
 returns-in-Some-clause-exact c =
-    let told : known_outcome c.args.path.now c.args.cell (c.args.test, c.args.args.now) ≡ Some c.in-Some.outcome = sym c.known_outcome.ensures ∙ c.in-Some.is in
-    known_tested (script_plan c.args.plan.now) c.args.path.now c.args.out.now.items c.args.cell c.args.test c.args.args.now c.in-Some.outcome c.requires.suits c.requires.split.fits told
+    let told : known_outcome c.args.path.now c.args.called.now.cell (c.args.called.now.test, c.args.called.now.args.now) ≡ Some c.in-Some.outcome = sym c.known_outcome.ensures ∙ c.in-Some.is in
+    known_tested (script_plan c.args.plan.now) c.args.path.now c.args.out.now.items c.args.called.now.cell c.args.called.now.test c.args.called.now.args.now c.in-Some.outcome c.requires.suits c.requires.split.fits told
 
 pub add_literal-requires-clause-open : goal.add_literal-requires-clause-open
 add_literal-requires-clause-open c =
-    let none : known_outcome c.args.path.now c.args.cell (c.args.test, c.args.args.now) ≡ None = sym c.known_outcome.ensures ∙ c.in_default.is in
-    let here = open_outcome (script_plan c.args.plan.now) c.args.path.now c.args.cell c.args.test c.args.args.now c.requires.suits c.requires.split.fits none in
-    subst (λ (l : Literal). IsOpenOf (atom_of l) (slice_get c.in_ok-copy.copy.when c.args.cell)) (sym c.in_ok-literal.ensures)
-    (subst (λ (x : Path). IsOpenOf (c.args.test, c.args.args.now) (slice_get x.when c.args.cell)) (sym c.in_ok-copy.ensures) here)
+    let none : known_outcome c.args.path.now c.args.called.now.cell (c.args.called.now.test, c.args.called.now.args.now) ≡ None = sym c.known_outcome.ensures ∙ c.in_default.is in
+    let here = open_outcome (script_plan c.args.plan.now) c.args.path.now c.args.called.now.cell c.args.called.now.test c.args.called.now.args.now c.requires.suits c.requires.split.fits none in
+    subst (λ (l : Literal). IsOpenOf (atom_of l) (slice_get c.in_ok-copy.copy.when c.args.called.now.cell)) (sym c.in_ok-literal.ensures)
+    (subst (λ (x : Path). IsOpenOf (c.args.called.now.test, c.args.called.now.args.now) (slice_get x.when c.args.called.now.cell)) (sym c.in_ok-copy.ensures) here)
 
 pub add_literal-requires-2-clause-open : goal.add_literal-requires-2-clause-open
 add_literal-requires-2-clause-open c =
-    let none : known_outcome c.args.path.now c.args.cell (c.args.test, c.args.args.now) ≡ None = sym c.known_outcome.ensures ∙ c.in_default.is in
-    let here = open_outcome (script_plan c.args.plan.now) c.args.path.now c.args.cell c.args.test c.args.args.now c.requires.suits c.requires.split.fits none in
-    subst (λ (l : Literal). IsOpenOf (atom_of l) (slice_get c.args.path.now.when c.args.cell)) (sym c.in_ok-literal-2.ensures) here
+    let none : known_outcome c.args.path.now c.args.called.now.cell (c.args.called.now.test, c.args.called.now.args.now) ≡ None = sym c.known_outcome.ensures ∙ c.in_default.is in
+    let here = open_outcome (script_plan c.args.plan.now) c.args.path.now c.args.called.now.cell c.args.called.now.test c.args.called.now.args.now c.requires.suits c.requires.split.fits none in
+    subst (λ (l : Literal). IsOpenOf (atom_of l) (slice_get c.args.path.now.when c.args.called.now.cell)) (sym c.in_ok-literal-2.ensures) here
 
 pub returns-clause-exact : goal.returns-clause-exact
 returns-clause-exact c =
@@ -37,9 +37,9 @@ returns-clause-exact c =
     let path = c.add_literal-2.new.self in
     let first = c.in_ok-literal.field-0 in
     let last = c.in_ok-literal-2.field-0 in
-    let one : GivesWhereLiteral c.args.path.now c.args.cell first copy = subst (λ (x : Path). GivesWhereLiteral x c.args.cell c.in_ok-literal.field-0 c.add_literal.new.self) c.in_ok-copy.ensures c.in_ok-add_literal.ensures.gives in
-    let both = both_tested (script_plan c.args.plan.now) c.args.path.now copy path c.args.out.now.items c.args.cell c.args.test c.args.args.now first last c.in_ok-literal.ensures c.in_ok-literal-2.ensures one c.in_ok-add_literal-2.ensures.gives in
-    subst (λ (after : List Branch). WasTested (script_plan c.args.plan.now) c.args.cell c.args.test c.args.args.now c.args.path.now c.args.out.now.items c.add_literal-2.new.self after false) (sym c.in_ok-push.ensures.items) both
+    let one : GivesWhereLiteral c.args.path.now c.args.called.now.cell first copy = subst (λ (x : Path). GivesWhereLiteral x c.args.called.now.cell c.in_ok-literal.field-0 c.add_literal.new.self) c.in_ok-copy.ensures c.in_ok-add_literal.ensures.gives in
+    let both = both_tested (script_plan c.args.plan.now) c.args.path.now copy path c.args.out.now.items c.args.called.now.cell c.args.called.now.test c.args.called.now.args.now first last c.in_ok-literal.ensures c.in_ok-literal-2.ensures one c.in_ok-add_literal-2.ensures.gives in
+    subst (λ (after : List Branch). WasTested (script_plan c.args.plan.now) c.args.called.now.cell c.args.called.now.test c.args.called.now.args.now c.args.path.now c.args.out.now.items c.add_literal-2.new.self after false) (sym c.in_ok-push.ensures.items) both
 
 pub returns-clause-next : goal.returns-clause-next
 returns-clause-next c =
