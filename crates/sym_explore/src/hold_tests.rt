@@ -121,7 +121,7 @@ pub(crate) fn call(
     requires split { CanSplit (script_plan plan.now) path.old out.old.items }
     ensures exact { (n : ℕ) →
         let holds = test_holds (script_plan plan.now)
-            called.now.cell called.now.test called.now.args.now in
+        called.now.cell called.now.test called.now.args.now in
         IfOk result (Splits (script_plan plan.now) (answered n holds)
         path.old out.old.items path.new out.new.items) }
     ensures next { OnOk result (CanSplit (script_plan plan.now) path.new out.new.items) }

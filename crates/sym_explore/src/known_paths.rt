@@ -8,7 +8,7 @@ ghost use Rattle.sym_check.specs.Plan.DoPlans.{If, Keep, Let, do_plan, dos_plan}
 ghost use Rattle.sym_check.specs.Plan.CondPlans.{cond_plan};
 ghost use Rattle.sym_check.specs.Plan.FixedPlans.{fixed_plan};
 ghost use Rattle.sym_check.specs.Plan.LinePlans.{term_plan};
-ghost use Rattle.sym_check.specs.Plan.ScriptPlans.{script_plan};
+ghost use Rattle.sym_check.specs.Plan.ScriptPlans.{ScriptPlan, script_plan};
 ghost use Rattle.sym_check.specs.Plan.WellFormed.{IsWellFormed};
 ghost use Rattle.sym_int.specs.Lines.{form_cell};
 ghost use Rattle.sym_path.specs.Fitting.{PathFits, SegmentFits};
@@ -23,6 +23,7 @@ ghost use Rattle.sym_explore.specs.Sure.{EndsAt, IsNamedOn, IsStepped, IsStepped
 ghost use Rattle.sym_explore.specs.Terms.{ReadyFits};
 
 use crate::assignments::change;
+use crate::context::{Choice, Context};
 use crate::ended_paths::arith;
 use crate::forms::put_parts;
 use crate::places::{Place, Target, put};
@@ -81,53 +82,53 @@ fn store_at(
 /// Stores the number of a term at a place of the path; arithmetic that fails ends it.
 fn store_on(
     alloc: Global,
-    plan: &Plan,
-    known: &Known,
-    no: u64,
+    context: &Context,
     place: Place,
     term: &Term,
     path: &mut Path,
 ) -> Result<(), NoMemory>
-    requires known { IsWellFormed (script_plan plan.now) }
-    requires well { DoIsKnown (script_plan plan.now) (known_values known.now)
+    requires known { IsWellFormed (script_plan context.now.plan.now) }
+    requires well { let c = context.now in
+        DoIsKnown (script_plan c.plan.now) (known_values c.known.now)
         (store_do place (term_plan term.now)) }
-    requires sure { IsSurePath (script_plan plan.now) path.old }
-    ensures { let d = store_do place (term_plan term.now) in
-        OnOk result (IsStepped (script_plan plan.now)
-        (after_do (script_plan plan.now) (known_values known.now) no d) no path.old path.new) }
+    requires sure { IsSurePath (script_plan context.now.plan.now) path.old }
+    ensures { let c = context.now in
+        let d = store_do place (term_plan term.now) in
+        let step = after_do (script_plan c.plan.now) (known_values c.known.now) c.no d in
+        OnOk result (IsStepped (script_plan c.plan.now) step c.no path.old path.new) }
 {
-    let Ok(ready) = ready_of(known, term) else {
-        path.fail(arith(no));
+    let Ok(ready) = ready_of(context.known, term) else {
+        path.fail(arith(context.no));
         return Ok(());
     };
-    let target = target_of(plan, no, place);
-    store_at(alloc, plan, &target, &ready, path)
+    let target = target_of(context.plan, context.no, place);
+    store_at(alloc, context.plan, &target, &ready, path)
 }
 
 /// Gives the parts of a hold cell new values. They are evaluated over the memory of `spare`, which
 /// gets that of the old parts.
 fn keep_in(
     alloc: Global,
-    _plan: &Plan,
-    known: &Known,
-    no: u64,
+    context: &Context,
     cell: u16,
     values: &FixedList,
     spare: &mut Values,
     path: &mut Path,
 ) -> Result<(), NoMemory>
-    requires known { IsWellFormed (script_plan _plan.now) }
-    requires well { DoIsKnown (script_plan _plan.now) (known_values known.now)
+    requires known { IsWellFormed (script_plan context.now.plan.now) }
+    requires well { let c = context.now in
+        DoIsKnown (script_plan c.plan.now) (known_values c.known.now)
         (Keep cell (map fixed_plan values.now)) }
-    requires sure { IsSurePath (script_plan _plan.now) path.old }
-    ensures { let d = Keep cell (map fixed_plan values.now) in
-        OnOk result (IsStepped (script_plan _plan.now)
-        (after_do (script_plan _plan.now) (known_values known.now) no d) no path.old path.new) }
+    requires sure { IsSurePath (script_plan context.now.plan.now) path.old }
+    ensures { let c = context.now in
+        let d = Keep cell (map fixed_plan values.now) in
+        let step = after_do (script_plan c.plan.now) (known_values c.known.now) c.no d in
+        OnOk result (IsStepped (script_plan c.plan.now) step c.no path.old path.new) }
 {
-    match set_values(alloc, known, values, spare) {
+    match set_values(alloc, context.known, values, spare) {
         Ok(()) => put_parts(alloc, path, cell, spare),
         Err(Stop::Fault(_)) => {
-            path.fail(arith(no));
+            path.fail(arith(context.no));
             Ok(())
         }
         Err(Stop::NoMemory) => Err(NoMemory),
@@ -137,49 +138,42 @@ fn keep_in(
 /// An assignment.
 fn assign_on(
     alloc: Global,
-    plan: &Plan,
-    known: &Known,
-    no: u64,
+    context: &Context,
     statement: &Do,
     spare: &mut Values,
     path: &mut Path,
 ) -> Result<(), NoMemory>
-    requires known { IsWellFormed (script_plan plan.now) }
+    requires known { IsWellFormed (script_plan context.now.plan.now) }
     requires assignment { IsAssignment (do_plan statement.now) }
-    requires well { DoIsKnown (script_plan plan.now) (known_values known.now)
-        (do_plan statement.now) }
-    requires sure { IsSurePath (script_plan plan.now) path.old }
-    ensures { let d = do_plan statement.now in
-        OnOk result (IsStepped (script_plan plan.now)
-        (after_do (script_plan plan.now) (known_values known.now) no d) no path.old path.new) }
+    requires well { let c = context.now in
+        DoIsKnown (script_plan c.plan.now) (known_values c.known.now) (do_plan statement.now) }
+    requires sure { IsSurePath (script_plan context.now.plan.now) path.old }
+    ensures { let c = context.now in
+        let d = do_plan statement.now in
+        let step = after_do (script_plan c.plan.now) (known_values c.known.now) c.no d in
+        OnOk result (IsStepped (script_plan c.plan.now) step c.no path.old path.new) }
 {
     match statement {
-        Do::SetInt(cell, term) => {
-            store_on(alloc, plan, known, no, Place::Cell(*cell), term, path)
-        }
-        Do::PushNum(cell, term) => {
-            store_on(alloc, plan, known, no, Place::End(*cell), term, path)
-        }
-        Do::Keep(cell, values) => { keep_in(alloc, plan, known, no, *cell, values, spare, path) }
-        _ => change(alloc, plan, known, statement, path),
+        Do::SetInt(cell, term) => { store_on(alloc, context, Place::Cell(*cell), term, path) }
+        Do::PushNum(cell, term) => { store_on(alloc, context, Place::End(*cell), term, path) }
+        Do::Keep(cell, values) => { keep_in(alloc, context, *cell, values, spare, path) }
+        _ => change(alloc, context.plan, context.known, statement, path),
     }
 }
 
 /// Gives a local its value; arithmetic that fails ends the path.
 fn name_on(
     alloc: Global,
-    _plan: &Plan,
     rec: &Record,
     local: u16,
     value: &Fixed,
     scratch: &mut Scratch,
     path: &mut Path,
 ) -> Result<(), NoMemory>
-    requires sure { IsSurePath (script_plan _plan.now) path.old }
-    ensures stepped { let k = environment rec.now scratch.old.locals in
+    ensures stepped { (p : ScriptPlan) → IsSurePath p path.old →
         let d = Let local (fixed_plan value.now) in
-        OnOk result (IsStepped (script_plan _plan.now)
-        (after_do (script_plan _plan.now) k rec.now.no d) rec.now.no path.old path.new) }
+        let step = after_do p (environment rec.now scratch.old.locals) rec.now.no d in
+        OnOk result (IsStepped p step rec.now.no path.old path.new) }
     ensures named { let k = environment rec.now scratch.old.locals in
         OnOk result (IsNamedOn rec.now k (Let local (fixed_plan value.now))
         scratch.new.locals path.new) }
@@ -281,21 +275,23 @@ fn step(
         OnOk result (take count scratch.new.locals ≡ scratch.old.locals) }
 {
     match statement {
-        Do::Let(local, value) => name_on(alloc, plan, rec, *local, value, scratch, path),
+        Do::Let(local, value) => name_on(alloc, rec, *local, value, scratch, path),
         Do::If(condition, then, otherwise) => {
-            choose(alloc, plan, rec, condition, then, otherwise, scratch, path)
+            let choice = Choice {
+                condition,
+                then,
+                otherwise,
+            };
+            choose(alloc, plan, rec, &choice, scratch, path)
         }
         _ => {
             let known = known_in(rec, &scratch.locals);
-            assign_on(
-                alloc,
+            let context = Context {
                 plan,
-                &known,
-                rec.no,
-                statement,
-                &mut scratch.args,
-                path,
-            )
+                known: &known,
+                no: rec.no,
+            };
+            assign_on(alloc, &context, statement, &mut scratch.args, path)
         }
     }
 }
@@ -306,26 +302,33 @@ fn choose(
     alloc: Global,
     plan: &Plan,
     rec: &Record,
-    condition: &Cond,
-    then: &Dos,
-    otherwise: &Dos,
+    choice: &Choice,
     scratch: &mut Scratch,
     path: &mut Path,
 ) -> Result<(), NoMemory>
     requires known { IsWellFormed (script_plan plan.now) }
     requires well { DoIsKnown (script_plan plan.now) (environment rec.now scratch.old.locals)
-        (If (cond_plan condition.now) (dos_plan then.now) (dos_plan otherwise.now)) }
+        (If (cond_plan choice.now.condition.now)
+        (dos_plan choice.now.then.now) (dos_plan choice.now.otherwise.now)) }
     requires sure { IsSurePath (script_plan plan.now) path.old }
     ensures stepped { let k = environment rec.now scratch.old.locals in
-        let d = If (cond_plan condition.now) (dos_plan then.now) (dos_plan otherwise.now) in
+        let d = If (cond_plan choice.now.condition.now)
+        (dos_plan choice.now.then.now) (dos_plan choice.now.otherwise.now) in
         OnOk result (IsStepped (script_plan plan.now)
         (after_do (script_plan plan.now) k rec.now.no d) rec.now.no path.old path.new) }
     ensures locals { OnOk result (scratch.new.locals ≡ scratch.old.locals) }
 {
     let known = known_in(rec, &scratch.locals);
-    match truth_on(alloc, plan, &known, condition, &mut scratch.args, path) {
-        Ok(true) => step_block(alloc, plan, rec, then, scratch, path),
-        Ok(false) => step_block(alloc, plan, rec, otherwise, scratch, path),
+    match truth_on(
+        alloc,
+        plan,
+        &known,
+        choice.condition,
+        &mut scratch.args,
+        path,
+    ) {
+        Ok(true) => step_block(alloc, plan, rec, choice.then, scratch, path),
+        Ok(false) => step_block(alloc, plan, rec, choice.otherwise, scratch, path),
         Err(Stop::Fault(_)) => {
             path.fail(arith(rec.no));
             Ok(())

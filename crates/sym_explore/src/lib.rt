@@ -5,6 +5,7 @@ mod assignments;
 mod branch;
 mod comparisons;
 mod conditions;
+mod context;
 mod ended_paths;
 mod extensions;
 mod forms;

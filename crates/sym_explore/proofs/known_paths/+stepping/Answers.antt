@@ -1,11 +1,13 @@
 use Rattle.std.proofs.Common.{◌≡◌, ℕ, ◌+◌, ◌∙◌, Bool, true, Result, Err, arith, rules, sym, ap, subst}
+use Rattle.std.specs.Prelude.{OnOk}
 use Rattle.sym_base.specs.Tests.{Truth}
 use Rattle.sym_check.specs.Checking.KnownValues.{known_values}
 use Rattle.sym_check.specs.Meaning.Conditions.{test_truth, truth}
 use Rattle.sym_check.specs.Meaning.FixedValues.{Environment}
 use Rattle.sym_check.specs.Meaning.Updates.{environment, or_fault}
 use Rattle.sym_check.specs.Plan.CondPlans.{CondPlan, cond_plan}
-use Rattle.sym_check.specs.Plan.DoPlans.{DoPlan, DosPlan, Then, do_plan, dos_plan}
+use Rattle.sym_check.specs.Plan.DoPlans.{DoPlan, DosPlan, Let, Then, do_plan, dos_plan}
+use Rattle.sym_check.specs.Plan.FixedPlans.{fixed_plan}
 use Rattle.sym_check.specs.Plan.ScriptPlans.{ScriptPlan, script_plan}
 use Rattle.sym_path.specs.declared.path.Path.{Path}
 use Rattle.sym_path.specs.Changing.{GoesOn}
@@ -13,7 +15,7 @@ use Rattle.sym_plain.specs.Running.{Gives}
 use Rattle.sym_plain.specs.declared.update.stop.Stop.{Stop}
 use Rattle.sym_plain.specs.declared.update.stop.Stop.TheVariants as stop
 use Rattle.sym_explore.specs.Knowing.{DosAreKnown}
-use Rattle.sym_explore.specs.Stepping.{after_dos}
+use Rattle.sym_explore.specs.Stepping.{after_do, after_dos}
 use Rattle.sym_explore.specs.Sure.{HoldsAfter, IsStepped, IsSurePath}
 use Rattle.sym_explore.proofs.AssignedLists.{on_ok}
 use Rattle.sym_explore.proofs.KnownParts.{rest_known}
@@ -71,10 +73,18 @@ choose-returns-in-Err-Fault-clause-stepped t c =
     let p : ScriptPlan = script_plan c.args.plan.now in
     let T : Truth = test_truth p.tests in
     let k : Environment = environment c.args.rec.now c.args.scratch.now.locals in
-    let q : CondPlan = cond_plan c.args.condition.now in
+    let q : CondPlan = cond_plan c.args.choice.now.condition.now in
     let is : c.truth_on.result ≡ Err (stop.Fault c.in-Err-Fault.field-0-0) = c.in-Err-Fault.is ∙ ap Err c.in-Err-Fault.field-0-is in
     let fails : HoldsAfter p c.args.path.now (λ s. or_fault (truth T k q s) ≡ Err c.in-Err-Fault.field-0-0) =
     λ s later e.
     let got : Gives (Err (stop.Fault c.in-Err-Fault.field-0-0)) (or_fault (truth T (known_values c.known_in-known.result) q later)) = subst (λ (r : Result Bool Stop). Gives r (or_fault (truth T (known_values c.known_in-known.result) q later))) is (c.truth_on.ensures s later e) in
     subst (λ (v : Environment). or_fault (truth T v q later) ≡ Err c.in-Err-Fault.field-0-0) c.known_in-known.ensures got in
-    if_failing p k c.args.rec.now.no c.args.path.now c.fail.new.self c.requires.sure q (dos_plan c.args.then.now) (dos_plan c.args.otherwise.now) c.in-Err-Fault.field-0-0 c.arith.result fails c.fail.ensures c.arith.ensures.kind c.arith.ensures.no
+    if_failing p k c.args.rec.now.no c.args.path.now c.fail.new.self c.requires.sure q (dos_plan c.args.choice.now.then.now) (dos_plan c.args.choice.now.otherwise.now) c.in-Err-Fault.field-0-0 c.arith.result fails c.fail.ensures c.arith.ensures.kind c.arith.ensures.no
+
+pub step-returns-in-Let-clause-stepped : goal.step-returns-in-Let-clause-stepped
+step-returns-in-Let-clause-stepped t c =
+    let p : ScriptPlan = script_plan c.args.plan.now in
+    let k : Environment = environment c.args.rec.now c.args.scratch.now.locals in
+    let n : ℕ = c.args.rec.now.no in
+    let is : do_plan c.args.statement.now ≡ Let c.in-Let.local (fixed_plan c.in-Let.value) = ap do_plan c.in-Let.is in
+    subst (λ (d : DoPlan). OnOk c.name_on.result (IsStepped p (after_do p k n d) n c.args.path.now c.name_on.new.path)) (sym is) (c.name_on.ensures.stepped p c.requires.sure)
