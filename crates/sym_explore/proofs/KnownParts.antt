@@ -1,7 +1,8 @@
 -- The parts of conditions and statements that are known are known too.
 use Rattle.std.proofs.Common.{◌≡◌, []}
 use Rattle.sym_base.specs.declared.values.record.Record.{Record}
-use Rattle.sym_check.specs.Plan.DoPlans.{DoPlan, DosPlan, Then}
+use Rattle.sym_check.specs.Plan.CondPlans.{CondPlan}
+use Rattle.sym_check.specs.Plan.DoPlans.{DoPlan, DosPlan, If, Then}
 use Rattle.sym_check.specs.Meaning.FixedValues.{Environment}
 use Rattle.sym_check.specs.Plan.ScriptPlans.{ScriptPlan}
 use Rattle.sym_check.specs.Meaning.Updates.{environment, environment_after}
@@ -21,6 +22,12 @@ first_is p k _ _ _ h (well.followed kinds later d rest t r) = record { kinds = k
 
 pub first_known : (p : ScriptPlan) (k : Environment) (d : DoPlan) (rest : DosPlan) → DosAreKnown p k (Then d rest) → DoIsKnown p k d
 first_known p k d rest h = first_is p k h.kinds d rest h.known h.well
+
+otherwise_is : (p : ScriptPlan) (k : Environment) (kinds later : Kinds) (c : CondPlan) (a b : DosPlan) → IsKnown p.enums kinds k → IsDo p kinds (If c a b) later → DosAreKnown p k b
+otherwise_is p k _ _ _ _ _ h (well.branch kinds c a b t ta tb) = record { kinds = kinds; known = h; well = tb }
+
+pub otherwise_known : (p : ScriptPlan) (k : Environment) (c : CondPlan) (a b : DosPlan) → DoIsKnown p k (If c a b) → DosAreKnown p k b
+otherwise_known p k c a b h = otherwise_is p k h.kinds h.later c a b h.known h.well
 
 named_known : (p : ScriptPlan) (k : Environment) (kinds later : Kinds) (d : DoPlan) → IsDo p kinds d later → IsKnown p.enums kinds k → HasValue k d → IsKnown p.enums later (environment_after k d)
 named_known p k _ _ _ (well.let_value kinds n last e free t) h (v, is) = rw is (more_known p.enums kinds k n last v h (fixed_is p.enums kinds k h last e v t is))

@@ -22,9 +22,11 @@ ghost use Rattle.sym_explore.specs.Running.{CanRun, DoWasRun};
 ghost use Rattle.sym_explore.specs.Stepping.{Becomes, after_do};
 ghost use Rattle.sym_explore.specs.Sure.{IsSureEnd};
 
+use crate::context::Context;
 use crate::ended_paths::fail_all;
 use crate::forms::{add_word, put_label, put_parts};
 use crate::labels::label_form;
+use crate::path_lists::PathLists;
 use crate::places::Place;
 use crate::stores::store_all;
 use std::alloc::Global;
@@ -215,63 +217,75 @@ fn keep_all(
 /// memory of `spare`. Arithmetic that fails ends the paths.
 fn keep_on(
     alloc: Global,
-    _plan: &Plan,
-    known: &Known,
-    no: u64,
+    context: &Context,
     cell: u16,
     values: &FixedList,
     spare: &mut Values,
-    paths: &mut Vec<Path>,
-    ended: &mut Vec<Path>,
+    lists: &mut PathLists,
 ) -> Result<(), NoMemory>
-    requires known { IsWellFormed (script_plan _plan.now) }
-    requires well { DoIsKnown (script_plan _plan.now) (known_values known.now)
+    requires known { IsWellFormed (script_plan context.now.plan.now) }
+    requires well { let c = context.now in
+        DoIsKnown (script_plan c.plan.now) (known_values c.known.now)
         (Keep cell (map fixed_plan values.now)) }
-    requires paths { CanRun (script_plan _plan.now) paths.old.items ended.old.items }
-    ensures { let d = Keep cell (map fixed_plan values.now) in
-        OnOk result (DoWasRun (script_plan _plan.now) (known_values known.now) no d
-        paths.old.items paths.new.items ended.old.items ended.new.items) }
+    requires paths { CanRun (script_plan context.now.plan.now)
+        lists.old.paths.items lists.old.ended.items }
+    ensures { let c = context.now in
+        let d = Keep cell (map fixed_plan values.now) in
+        OnOk result (DoWasRun (script_plan c.plan.now) (known_values c.known.now) c.no d
+        lists.old.paths.items lists.new.paths.items
+        lists.old.ended.items lists.new.ended.items) }
 {
-    match set_values(alloc, known, values, spare) {
-        Ok(()) => keep_all(alloc, cell, spare, paths),
-        Err(Stop::Fault(kind)) => fail_all(Fault { kind, no }, paths, ended),
+    match set_values(alloc, context.known, values, spare) {
+        Ok(()) => keep_all(alloc, cell, spare, &mut lists.paths),
+        Err(Stop::Fault(kind)) => {
+            let fault = Fault {
+                kind,
+                no: context.no,
+            };
+            fail_all(fault, &mut lists.paths, &mut lists.ended)
+        }
         Err(Stop::NoMemory) => Err(NoMemory),
     }
 }
 
-/// An assignment, run on all of the paths: paths that go on stay in `paths`, those that end go into
-/// `ended`. What names no cell is evaluated once.
+/// An assignment, run on all of the paths: paths that go on stay in `lists.paths`, those that end go
+/// into `lists.ended`. What names no cell is evaluated once.
 pub(crate) fn assign_all(
     alloc: Global,
-    plan: &Plan,
-    known: &Known,
-    no: u64,
+    context: &Context,
     statement: &Do,
     spare: &mut Values,
-    paths: &mut Vec<Path>,
-    ended: &mut Vec<Path>,
+    lists: &mut PathLists,
 ) -> Result<(), NoMemory>
-    requires known { IsWellFormed (script_plan plan.now) }
+    requires known { IsWellFormed (script_plan context.now.plan.now) }
     requires assignment { IsAssignment (do_plan statement.now) }
-    requires well { DoIsKnown (script_plan plan.now) (known_values known.now)
+    requires well { let c = context.now in
+        DoIsKnown (script_plan c.plan.now) (known_values c.known.now)
         (do_plan statement.now) }
-    requires paths { CanRun (script_plan plan.now) paths.old.items ended.old.items }
-    ensures { let d = do_plan statement.now in
-        OnOk result (DoWasRun (script_plan plan.now) (known_values known.now) no d
-        paths.old.items paths.new.items ended.old.items ended.new.items) }
+    requires paths { CanRun (script_plan context.now.plan.now)
+        lists.old.paths.items lists.old.ended.items }
+    ensures { let c = context.now in
+        let d = do_plan statement.now in
+        OnOk result (DoWasRun (script_plan c.plan.now) (known_values c.known.now) c.no d
+        lists.old.paths.items lists.new.paths.items
+        lists.old.ended.items lists.new.ended.items) }
 {
     match statement {
         Do::SetInt(cell, term) => {
             let place = Place::Cell(*cell);
-            store_all(alloc, plan, known, no, place, term, paths, ended)
+            store_all(alloc, context, place, term, lists)
         }
         Do::PushNum(cell, term) => {
             let place = Place::End(*cell);
-            store_all(alloc, plan, known, no, place, term, paths, ended)
+            store_all(alloc, context, place, term, lists)
         }
-        Do::Keep(cell, values) => {
-            keep_on(alloc, plan, known, no, *cell, values, spare, paths, ended)
-        }
-        _ => change_each(alloc, plan, known, statement, paths),
+        Do::Keep(cell, values) => { keep_on(alloc, context, *cell, values, spare, lists) }
+        _ => change_each(
+            alloc,
+            context.plan,
+            context.known,
+            statement,
+            &mut lists.paths,
+        ),
     }
 }

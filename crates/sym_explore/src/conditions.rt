@@ -15,10 +15,11 @@ ghost use Rattle.sym_explore.specs.Parting.{AreOfOneTruth};
 ghost use Rattle.sym_explore.specs.Running.{CanRun};
 ghost use Rattle.sym_explore.specs.Trying.{CondWasTried};
 
-use crate::branch::Branch;
 use crate::comparisons::Bound;
+use crate::context::Context;
 use crate::moves::move_all;
 use crate::parted_lists::{CellCondition, Evaluated, part_evaluated};
+use crate::path_lists::PathLists;
 use crate::terms::{Ready, ready_of};
 use std::alloc::Global;
 use std::mem;
@@ -107,72 +108,63 @@ pub(crate) fn evaluate(
     }
 }
 
-/// Parts paths by a condition. Those on which it is true stay in `paths`; those on which it is
-/// false are put into `falses`, and those on which its arithmetic fails, ended, into `ended`. Each
-/// expression without cells is evaluated once. `args` is memory for the arguments of tests, and
-/// `pieces` for what a split adds.
+/// Parts paths by a condition. Those on which it is true stay in `lists.paths`; those on which it
+/// is false are put into `falses`, and those on which its arithmetic fails, ended, into
+/// `lists.ended`. Each expression without cells is evaluated once. `args` is memory for the
+/// arguments of tests.
 #[cycle(parting)]
 pub(crate) fn part(
     alloc: Global,
-    plan: &Plan,
-    known: &Known,
-    no: u64,
+    context: &Context,
     condition: &Cond,
     args: &mut Values,
-    paths: &mut Vec<Path>,
+    lists: &mut PathLists,
     falses: &mut Vec<Path>,
-    ended: &mut Vec<Path>,
-    pieces: &mut Vec<Branch>,
 ) -> Result<(), NoMemory>
-    requires known { IsWellFormed (script_plan plan.now) }
-    requires cond { CondIsKnown (script_plan plan.now) (known_values known.now)
+    requires known { IsWellFormed (script_plan context.now.plan.now) }
+    requires cond { let c = context.now in
+        CondIsKnown (script_plan c.plan.now) (known_values c.known.now)
         (cond_plan condition.now) }
-    requires paths { CanRun (script_plan plan.now) paths.old.items ended.old.items }
-    requires falses { CanRun (script_plan plan.now) falses.old.items ended.old.items }
-    ensures tried { let c = cond_plan condition.now in
-        OnOk result (CondWasTried (script_plan plan.now) (known_values known.now) no c
-        paths.old.items paths.new.items falses.old.items falses.new.items
-        ended.old.items ended.new.items) }
+    requires paths { CanRun (script_plan context.now.plan.now)
+        lists.old.paths.items lists.old.ended.items }
+    requires falses { CanRun (script_plan context.now.plan.now)
+        falses.old.items lists.old.ended.items }
+    ensures tried { let c = context.now in
+        let d = cond_plan condition.now in
+        OnOk result (CondWasTried (script_plan c.plan.now) (known_values c.known.now) c.no d
+        lists.old.paths.items lists.new.paths.items falses.old.items falses.new.items
+        lists.old.ended.items lists.new.ended.items) }
     ensures fixed { IsTrue (is_fixed (cond_plan condition.now)) → OnOk result (AreOfOneTruth
-        paths.old.items paths.new.items falses.old.items falses.new.items
-        ended.old.items ended.new.items) }
-    ensures none { paths.old.items ≡ [] → OnOk result (falses.new.items ≡ falses.old.items) }
+        lists.old.paths.items lists.new.paths.items falses.old.items falses.new.items
+        lists.old.ended.items lists.new.ended.items) }
+    ensures none { lists.old.paths.items ≡ [] →
+        OnOk result (falses.new.items ≡ falses.old.items) }
 {
-    if paths.is_empty() {
+    if lists.paths.is_empty() {
         return Ok(());
     }
     match condition {
         Cond::Not(condition) => {
             let mut rest = Vec::new(alloc);
-            part(
-                alloc, plan, known, no, condition, args, paths, &mut rest, ended, pieces,
-            )?;
-            mem::swap(paths, &mut rest);
+            part(alloc, context, condition, args, lists, &mut rest)?;
+            mem::swap(&mut lists.paths, &mut rest);
             move_all(&mut rest, falses)
         }
         Cond::And(left, right) => {
-            part(
-                alloc, plan, known, no, left, args, paths, falses, ended, pieces,
-            )?;
-            part(
-                alloc, plan, known, no, right, args, paths, falses, ended, pieces,
-            )
+            part(alloc, context, left, args, lists, falses)?;
+            part(alloc, context, right, args, lists, falses)
         }
         Cond::Or(left, right) => {
             let mut rest = Vec::new(alloc);
-            part(
-                alloc, plan, known, no, left, args, paths, &mut rest, ended, pieces,
-            )?;
-            part(
-                alloc, plan, known, no, right, args, &mut rest, falses, ended, pieces,
-            )?;
-            move_all(&mut rest, paths)
+            part(alloc, context, left, args, lists, &mut rest)?;
+            mem::swap(&mut lists.paths, &mut rest);
+            part(alloc, context, right, args, lists, falses)?;
+            mem::swap(&mut lists.paths, &mut rest);
+            move_all(&mut rest, &mut lists.paths)
         }
         _ => {
-            let evaluated = evaluate(alloc, plan, known, condition, args)?;
-            part_evaluated(
-                alloc, plan, no, &evaluated, args, paths, falses, ended, pieces,
-            )
+            let evaluated = evaluate(alloc, context.plan, context.known, condition, args)?;
+            part_evaluated(alloc, context, &evaluated, args, lists, falses)
         }
     }
 }

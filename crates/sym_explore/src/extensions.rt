@@ -57,22 +57,12 @@ pub(crate) fn explore_going(
     ensures each_few { let most = made_paths (script_plan plan.now) in
         IfOk result (λ new. length new.items ≤ most_grown most paths.items) }
 {
-    let mut ended = paths;
-    let mut going = scratch.take_going(alloc);
-    take_going(&mut ended, &mut going)?;
+    let mut lists = scratch.take_lists(alloc, paths);
+    take_going(&mut lists.ended, &mut lists.paths)?;
     scratch.locals.truncate(0);
-    run_block(
-        alloc,
-        plan,
-        rec,
-        &plan.update,
-        scratch,
-        &mut going,
-        &mut ended,
-    )?;
-    move_all(&mut going, &mut ended)?;
-    scratch.keep_going(going);
-    Ok(ended)
+    run_block(alloc, plan, rec, &plan.update, scratch, &mut lists)?;
+    move_all(&mut lists.paths, &mut lists.ended)?;
+    Ok(scratch.keep_lists(lists))
 }
 
 /// The same. Where the cells of all paths that go on are known, each makes the step of a group where

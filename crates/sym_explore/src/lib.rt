@@ -17,6 +17,7 @@ mod moves;
 mod nearest_ends;
 mod parted_lists;
 mod path_limits;
+mod path_lists;
 mod places;
 mod ranges;
 mod scratch;

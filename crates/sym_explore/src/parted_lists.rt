@@ -10,10 +10,12 @@ ghost use Rattle.sym_explore.specs.Trying.{EvaluatedWasTried};
 
 use crate::branch::{Branch, put_all};
 use crate::comparisons::{Bound, compare_ready};
+use crate::context::Context;
 use crate::ended_paths::{arith, fail_all};
 use crate::hold_tests::{TestCall, call};
 use crate::labels::cell_is;
 use crate::moves::{move_all, move_from};
+use crate::path_lists::PathLists;
 use crate::terms::Ready;
 use std::alloc::Global;
 use sym_base::{NoMemory, Values};
@@ -117,33 +119,40 @@ fn split_each(
 
 /// Parts paths by a condition on a cell: their branches on which it is true take their place, and
 /// the others are put into `falses`. Where `falses` is empty, paths that aren't split and on which
-/// it has one truth take no memory. `pieces` is memory for what a split adds.
+/// it has one truth take no memory.
 fn part_each(
     alloc: Global,
     plan: &Plan,
     condition: &CellCondition,
     args: &Values,
-    paths: &mut Vec<Path>,
+    lists: &mut PathLists,
     falses: &mut Vec<Path>,
-    pieces: &mut Vec<Branch>,
 ) -> Result<(), NoMemory>
     requires known { IsWellFormed (script_plan plan.now) }
     requires condition { CellConditionFits (script_plan plan.now) args.now condition.now }
-    requires going { AreGoing (script_plan plan.now) paths.old.items }
+    requires going { AreGoing (script_plan plan.now) lists.old.paths.items }
     requires falses { AreGoing (script_plan plan.now) falses.old.items }
     ensures exact { (n : ℕ) →
         let meaning = tried_on_cell (script_plan plan.now) args.now condition.now n in
         OnOk result (AreParts (script_plan plan.now) meaning
-        paths.old.items paths.new.items falses.old.items falses.new.items [] []) }
+        lists.old.paths.items lists.new.paths.items falses.old.items falses.new.items [] []) }
     ensures few { OnOk result (AreFewParts (cell_branches condition.now)
-        paths.old.items paths.new.items falses.old.items falses.new.items [] []) }
-    ensures going { OnOk result (AreGoing (script_plan plan.now) paths.new.items) }
+        lists.old.paths.items lists.new.paths.items falses.old.items falses.new.items [] []) }
+    ensures going { OnOk result (AreGoing (script_plan plan.now) lists.new.paths.items) }
     ensures falses { OnOk result (AreGoing (script_plan plan.now) falses.new.items) }
+    ensures ended { lists.new.ended.items ≡ lists.old.ended.items }
 {
-    pieces.clear();
-    let count = split_each(alloc, plan, condition, args, paths, pieces)?;
-    move_from(paths, count, falses)?;
-    put_all(pieces, paths, falses)
+    lists.pieces.clear();
+    let count = split_each(
+        alloc,
+        plan,
+        condition,
+        args,
+        &mut lists.paths,
+        &mut lists.pieces,
+    )?;
+    move_from(&mut lists.paths, count, falses)?;
+    put_all(&mut lists.pieces, &mut lists.paths, falses)
 }
 
 /// Parts paths by one truth.
@@ -163,32 +172,31 @@ fn part_known(truth: bool, paths: &mut Vec<Path>, falses: &mut Vec<Path>) -> Res
 /// Parts paths by a condition with its expressions evaluated.
 pub(crate) fn part_evaluated(
     alloc: Global,
-    plan: &Plan,
-    no: u64,
+    context: &Context,
     evaluated: &Evaluated,
     args: &Values,
-    paths: &mut Vec<Path>,
+    lists: &mut PathLists,
     falses: &mut Vec<Path>,
-    ended: &mut Vec<Path>,
-    pieces: &mut Vec<Branch>,
 ) -> Result<(), NoMemory>
-    requires known { IsWellFormed (script_plan plan.now) }
-    requires evaluated { EvaluatedFits (script_plan plan.now) args.now evaluated.now }
-    requires paths { CanRun (script_plan plan.now) paths.old.items ended.old.items }
-    requires falses { CanRun (script_plan plan.now) falses.old.items ended.old.items }
-    ensures tried { OnOk result (EvaluatedWasTried (script_plan plan.now)
-        args.now no evaluated.now
-        paths.old.items paths.new.items falses.old.items falses.new.items
-        ended.old.items ended.new.items) }
+    requires known { IsWellFormed (script_plan context.now.plan.now) }
+    requires evaluated { EvaluatedFits (script_plan context.now.plan.now) args.now evaluated.now }
+    requires paths { CanRun (script_plan context.now.plan.now)
+        lists.old.paths.items lists.old.ended.items }
+    requires falses { CanRun (script_plan context.now.plan.now)
+        falses.old.items lists.old.ended.items }
+    ensures tried { OnOk result (EvaluatedWasTried (script_plan context.now.plan.now)
+        args.now context.now.no evaluated.now
+        lists.old.paths.items lists.new.paths.items falses.old.items falses.new.items
+        lists.old.ended.items lists.new.ended.items) }
     ensures fixed { IsTrue (is_known evaluated.now) → OnOk result (AreOfOneTruth
-        paths.old.items paths.new.items falses.old.items falses.new.items
-        ended.old.items ended.new.items) }
+        lists.old.paths.items lists.new.paths.items falses.old.items falses.new.items
+        lists.old.ended.items lists.new.ended.items) }
 {
     match evaluated {
-        Evaluated::Known(truth) => part_known(*truth, paths, falses),
-        Evaluated::Failed => fail_all(arith(no), paths, ended),
+        Evaluated::Known(truth) => part_known(*truth, &mut lists.paths, falses),
+        Evaluated::Failed => fail_all(arith(context.no), &mut lists.paths, &mut lists.ended),
         Evaluated::Open(condition) => {
-            part_each(alloc, plan, condition, args, paths, falses, pieces)
+            part_each(alloc, context.plan, condition, args, lists, falses)
         }
     }
 }

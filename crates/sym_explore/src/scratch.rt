@@ -2,6 +2,7 @@
 ghost use Rattle.std.specs.Prelude.{◌≡◌, []};
 
 use crate::branch::Branch;
+use crate::path_lists::PathLists;
 use std::alloc::Global;
 use std::mem;
 use sym_base::Values;
@@ -49,22 +50,37 @@ impl Scratch {
         }
     }
 
-    /// The memory for paths that go on, without any.
-    pub(crate) fn take_going(&mut self, alloc: Global) -> Vec<Path>
-        ensures none { result.items ≡ [] }
+    /// These paths as those that have ended, with empty lists over the memory of earlier ones.
+    pub(crate) fn take_lists(&mut self, alloc: Global, ended: Vec<Path>) -> PathLists
+        ensures none { result.paths.items ≡ [] }
+        ensures ended { result.ended.items ≡ ended.items }
         ensures locals { self.new.locals ≡ self.old.locals }
     {
-        let mut going = mem::replace(&mut self.going, Vec::new(alloc));
-        going.truncate(0);
-        going
+        let mut paths = mem::replace(&mut self.going, Vec::new(alloc));
+        paths.truncate(0);
+        let pieces = mem::replace(&mut self.pieces, Vec::new(alloc));
+        PathLists {
+            paths,
+            ended,
+            pieces,
+        }
     }
 
-    /// Keeps the memory of a list of paths, if it is small: it may become the list of a segment.
-    pub(crate) fn keep_going(&mut self, going: Vec<Path>)
-        ensures { self.new.locals ≡ self.old.locals }
+    /// Keeps the memory of lists, and gives the paths that have ended. That of the other paths is
+    /// kept if it is small: it may become the list of a segment.
+    pub(crate) fn keep_lists(&mut self, lists: PathLists) -> Vec<Path>
+        ensures ended { result.items ≡ lists.ended.items }
+        ensures locals { self.new.locals ≡ self.old.locals }
     {
-        if going.capacity() <= SMALL {
-            self.going = going;
+        let PathLists {
+            paths,
+            ended,
+            pieces,
+        } = lists;
+        if paths.capacity() <= SMALL {
+            self.going = paths;
         }
+        self.pieces = pieces;
+        ended
     }
 }

@@ -4,7 +4,7 @@ ghost use Rattle.std.specs.Prelude.{◌≡◌, OnOk, length, take};
 ghost use Rattle.sym_check.specs.Plan.CondPlans.{cond_plan};
 ghost use Rattle.sym_check.specs.Plan.DoPlans.{do_plan, dos_plan, If, Let};
 ghost use Rattle.sym_check.specs.Plan.FixedPlans.{fixed_plan};
-ghost use Rattle.sym_check.specs.Plan.ScriptPlans.{script_plan};
+ghost use Rattle.sym_check.specs.Plan.ScriptPlans.{ScriptPlan, script_plan};
 ghost use Rattle.sym_check.specs.Meaning.Updates.{environment};
 ghost use Rattle.sym_check.specs.Plan.WellFormed.{IsWellFormed};
 ghost use Rattle.sym_explore.specs.Knowing.{DoIsKnown, DosAreKnown};
@@ -12,34 +12,34 @@ ghost use Rattle.sym_explore.specs.Running.{CanRun, DoWasRun, DosWereRun, IsName
 
 use crate::assignments::assign_all;
 use crate::conditions::part;
+use crate::context::{Choice, Context};
 use crate::ended_paths::fail_all;
 use crate::moves::move_all;
+use crate::path_lists::PathLists;
 use crate::scratch::Scratch;
 use std::alloc::Global;
+use std::mem;
 use sym_base::{Fault, NoMemory, Record};
-use sym_check::{Cond, Do, Dos, Fixed, Plan, known_in};
-use sym_path::Path;
+use sym_check::{Do, Dos, Fixed, Plan, known_in};
 use sym_plain::{Stop, fixed_value, name_local};
 
 /// Gives a local its value, which is evaluated once; arithmetic that fails ends all of the paths.
 fn name(
     alloc: Global,
-    _plan: &Plan,
     rec: &Record,
     local: u16,
     value: &Fixed,
     scratch: &mut Scratch,
-    paths: &mut Vec<Path>,
-    ended: &mut Vec<Path>,
+    lists: &mut PathLists,
 ) -> Result<(), NoMemory>
-    requires paths { CanRun (script_plan _plan.now) paths.old.items ended.old.items }
-    ensures run { let k = environment rec.now scratch.old.locals in
+    ensures run { (p : ScriptPlan) → CanRun p lists.old.paths.items lists.old.ended.items →
+        let k = environment rec.now scratch.old.locals in
         let d = Let local (fixed_plan value.now) in
-        OnOk result (DoWasRun (script_plan _plan.now) k rec.now.no d
-        paths.old.items paths.new.items ended.old.items ended.new.items) }
+        OnOk result (DoWasRun p k rec.now.no d lists.old.paths.items lists.new.paths.items
+        lists.old.ended.items lists.new.ended.items) }
     ensures named { let k = environment rec.now scratch.old.locals in
         let d = Let local (fixed_plan value.now) in
-        OnOk result (IsNamed rec.now k d scratch.new.locals paths.new.items) }
+        OnOk result (IsNamed rec.now k d scratch.new.locals lists.new.paths.items) }
     ensures locals { let count = length scratch.old.locals in
         OnOk result (take count scratch.new.locals ≡ scratch.old.locals) }
 {
@@ -47,14 +47,14 @@ fn name(
         Ok(value) => name_local(&mut scratch.locals, local, value),
         Err(Stop::Fault(kind)) => {
             let fault = Fault { kind, no: rec.no };
-            fail_all(fault, paths, ended)
+            fail_all(fault, &mut lists.paths, &mut lists.ended)
         }
         Err(Stop::NoMemory) => Err(NoMemory),
     }
 }
 
-/// Runs the statements of a block on all of the paths: those that go on stay in `paths`, and those
-/// that end are put into `ended`. Locals that were there before are there after it.
+/// Runs the statements of a block on all of the paths: those that go on stay in `lists.paths`, and
+/// those that end are put into `lists.ended`. Locals that were there before are there after it.
 #[cycle(exploring)]
 fn run_all(
     alloc: Global,
@@ -62,27 +62,27 @@ fn run_all(
     rec: &Record,
     statements: &Dos,
     scratch: &mut Scratch,
-    paths: &mut Vec<Path>,
-    ended: &mut Vec<Path>,
+    lists: &mut PathLists,
 ) -> Result<(), NoMemory>
     requires known { IsWellFormed (script_plan plan.now) }
     requires well { DosAreKnown (script_plan plan.now) (environment rec.now scratch.old.locals)
         (dos_plan statements.now) }
-    requires paths { CanRun (script_plan plan.now) paths.old.items ended.old.items }
+    requires paths { CanRun (script_plan plan.now) lists.old.paths.items lists.old.ended.items }
     ensures run { let k = environment rec.now scratch.old.locals in
         OnOk result (DosWereRun (script_plan plan.now) k rec.now.no (dos_plan statements.now)
-        paths.old.items paths.new.items ended.old.items ended.new.items) }
+        lists.old.paths.items lists.new.paths.items
+        lists.old.ended.items lists.new.ended.items) }
     ensures locals { let count = length scratch.old.locals in
         OnOk result (take count scratch.new.locals ≡ scratch.old.locals) }
 {
     match statements {
         Dos::End => Ok(()),
         Dos::More(first, rest) => {
-            run(alloc, plan, rec, first, scratch, paths, ended)?;
-            if paths.is_empty() {
+            run(alloc, plan, rec, first, scratch, lists)?;
+            if lists.paths.is_empty() {
                 return Ok(());
             }
-            run_all(alloc, plan, rec, rest, scratch, paths, ended)
+            run_all(alloc, plan, rec, rest, scratch, lists)
         }
     }
 }
@@ -95,23 +95,23 @@ pub(crate) fn run_block(
     rec: &Record,
     statements: &Dos,
     scratch: &mut Scratch,
-    paths: &mut Vec<Path>,
-    ended: &mut Vec<Path>,
+    lists: &mut PathLists,
 ) -> Result<(), NoMemory>
     requires known { IsWellFormed (script_plan plan.now) }
     requires well { DosAreKnown (script_plan plan.now) (environment rec.now scratch.old.locals)
         (dos_plan statements.now) }
-    requires paths { CanRun (script_plan plan.now) paths.old.items ended.old.items }
+    requires paths { CanRun (script_plan plan.now) lists.old.paths.items lists.old.ended.items }
     ensures run { let k = environment rec.now scratch.old.locals in
         OnOk result (DosWereRun (script_plan plan.now) k rec.now.no (dos_plan statements.now)
-        paths.old.items paths.new.items ended.old.items ended.new.items) }
+        lists.old.paths.items lists.new.paths.items
+        lists.old.ended.items lists.new.ended.items) }
     ensures locals { OnOk result (scratch.new.locals ≡ scratch.old.locals) }
 {
-    if paths.is_empty() {
+    if lists.paths.is_empty() {
         return Ok(());
     }
     let count = scratch.locals.len();
-    run_all(alloc, plan, rec, statements, scratch, paths, ended)?;
+    run_all(alloc, plan, rec, statements, scratch, lists)?;
     if count < scratch.locals.len() {
         scratch.locals.truncate(count);
     }
@@ -126,33 +126,40 @@ fn run(
     rec: &Record,
     statement: &Do,
     scratch: &mut Scratch,
-    paths: &mut Vec<Path>,
-    ended: &mut Vec<Path>,
+    lists: &mut PathLists,
 ) -> Result<(), NoMemory>
     requires known { IsWellFormed (script_plan plan.now) }
     requires well { DoIsKnown (script_plan plan.now) (environment rec.now scratch.old.locals)
         (do_plan statement.now) }
-    requires paths { CanRun (script_plan plan.now) paths.old.items ended.old.items }
+    requires paths { CanRun (script_plan plan.now) lists.old.paths.items lists.old.ended.items }
     ensures run { let k = environment rec.now scratch.old.locals in
         OnOk result (DoWasRun (script_plan plan.now) k rec.now.no (do_plan statement.now)
-        paths.old.items paths.new.items ended.old.items ended.new.items) }
+        lists.old.paths.items lists.new.paths.items
+        lists.old.ended.items lists.new.ended.items) }
     ensures named { let k = environment rec.now scratch.old.locals in
         OnOk result (IsNamed rec.now k (do_plan statement.now)
-        scratch.new.locals paths.new.items) }
+        scratch.new.locals lists.new.paths.items) }
     ensures locals { let count = length scratch.old.locals in
         OnOk result (take count scratch.new.locals ≡ scratch.old.locals) }
 {
     match statement {
-        Do::Let(local, value) => name(alloc, plan, rec, *local, value, scratch, paths, ended),
+        Do::Let(local, value) => name(alloc, rec, *local, value, scratch, lists),
         Do::If(condition, then, otherwise) => {
-            choose(
-                alloc, plan, rec, condition, then, otherwise, scratch, paths, ended,
-            )
+            let choice = Choice {
+                condition,
+                then,
+                otherwise,
+            };
+            choose(alloc, plan, rec, &choice, scratch, lists)
         }
         _ => {
             let known = known_in(rec, &scratch.locals);
-            let spare = &mut scratch.args;
-            assign_all(alloc, plan, &known, rec.no, statement, spare, paths, ended)
+            let context = Context {
+                plan,
+                known: &known,
+                no: rec.no,
+            };
+            assign_all(alloc, &context, statement, &mut scratch.args, lists)
         }
     }
 }
@@ -164,39 +171,35 @@ fn choose(
     alloc: Global,
     plan: &Plan,
     rec: &Record,
-    condition: &Cond,
-    then: &Dos,
-    otherwise: &Dos,
+    choice: &Choice,
     scratch: &mut Scratch,
-    paths: &mut Vec<Path>,
-    ended: &mut Vec<Path>,
+    lists: &mut PathLists,
 ) -> Result<(), NoMemory>
     requires known { IsWellFormed (script_plan plan.now) }
     requires well { DoIsKnown (script_plan plan.now) (environment rec.now scratch.old.locals)
-        (If (cond_plan condition.now) (dos_plan then.now) (dos_plan otherwise.now)) }
-    requires paths { CanRun (script_plan plan.now) paths.old.items ended.old.items }
+        (If (cond_plan choice.now.condition.now)
+        (dos_plan choice.now.then.now) (dos_plan choice.now.otherwise.now)) }
+    requires paths { CanRun (script_plan plan.now) lists.old.paths.items lists.old.ended.items }
     ensures run { let k = environment rec.now scratch.old.locals in
-        let d = If (cond_plan condition.now) (dos_plan then.now) (dos_plan otherwise.now) in
+        let d = If (cond_plan choice.now.condition.now)
+        (dos_plan choice.now.then.now) (dos_plan choice.now.otherwise.now) in
         OnOk result (DoWasRun (script_plan plan.now) k rec.now.no d
-        paths.old.items paths.new.items ended.old.items ended.new.items) }
+        lists.old.paths.items lists.new.paths.items
+        lists.old.ended.items lists.new.ended.items) }
     ensures locals { OnOk result (scratch.new.locals ≡ scratch.old.locals) }
 {
     let mut falses = Vec::new(alloc);
     let known = known_in(rec, &scratch.locals);
-    let args = &mut scratch.args;
-    part(
-        alloc,
+    let context = Context {
         plan,
-        &known,
-        rec.no,
-        condition,
-        args,
-        paths,
-        &mut falses,
-        ended,
-        &mut scratch.pieces,
-    )?;
-    run_block(alloc, plan, rec, then, scratch, paths, ended)?;
-    run_block(alloc, plan, rec, otherwise, scratch, &mut falses, ended)?;
-    move_all(&mut falses, paths)
+        known: &known,
+        no: rec.no,
+    };
+    let args = &mut scratch.args;
+    part(alloc, &context, choice.condition, args, lists, &mut falses)?;
+    run_block(alloc, plan, rec, choice.then, scratch, lists)?;
+    mem::swap(&mut lists.paths, &mut falses);
+    run_block(alloc, plan, rec, choice.otherwise, scratch, lists)?;
+    mem::swap(&mut lists.paths, &mut falses);
+    move_all(&mut falses, &mut lists.paths)
 }

@@ -19,14 +19,16 @@ ghost use Rattle.sym_explore.specs.Running.{CanRun, DoWasRun, WereRun};
 ghost use Rattle.sym_explore.specs.Storing.{IsParted, StoresAll, after_store, store_do};
 ghost use Rattle.sym_explore.specs.Terms.{ReadyFits};
 
+use crate::context::Context;
 use crate::ended_paths::{arith, fail_all, move_ended};
 use crate::moves::move_all;
+use crate::path_lists::PathLists;
 use crate::places::{Place, Target, put};
 use crate::ranges::range_ready;
 use crate::terms::{Ready, ready_of};
 use std::alloc::Global;
 use sym_base::{Fault, FaultKind, NoMemory};
-use sym_check::{Known, Plan, Range, Term};
+use sym_check::{Plan, Range, Term};
 use sym_int::Span;
 use sym_path::Path;
 
@@ -196,33 +198,41 @@ fn end_each(
     move_ended(paths, ended)
 }
 
-/// Stores the number of a term at a place of all of the paths: those that go on stay in `paths`,
-/// and those that end go into `ended`. What names no cell is evaluated once.
+/// Stores the number of a term at a place of all of the paths: those that go on stay in
+/// `lists.paths`, and those that end go into `lists.ended`. What names no cell is evaluated once.
 pub(crate) fn store_all(
     alloc: Global,
-    plan: &Plan,
-    known: &Known,
-    no: u64,
+    context: &Context,
     place: Place,
     term: &Term,
-    paths: &mut Vec<Path>,
-    ended: &mut Vec<Path>,
+    lists: &mut PathLists,
 ) -> Result<(), NoMemory>
-    requires known { IsWellFormed (script_plan plan.now) }
-    requires well { DoIsKnown (script_plan plan.now) (known_values known.now)
+    requires known { IsWellFormed (script_plan context.now.plan.now) }
+    requires well { let c = context.now in
+        DoIsKnown (script_plan c.plan.now) (known_values c.known.now)
         (store_do place (term_plan term.now)) }
-    requires paths { CanRun (script_plan plan.now) paths.old.items ended.old.items }
-    ensures { let d = store_do place (term_plan term.now) in
-        OnOk result (DoWasRun (script_plan plan.now) (known_values known.now) no d
-        paths.old.items paths.new.items ended.old.items ended.new.items) }
+    requires paths { CanRun (script_plan context.now.plan.now)
+        lists.old.paths.items lists.old.ended.items }
+    ensures { let c = context.now in
+        let d = store_do place (term_plan term.now) in
+        OnOk result (DoWasRun (script_plan c.plan.now) (known_values c.known.now) c.no d
+        lists.old.paths.items lists.new.paths.items
+        lists.old.ended.items lists.new.ended.items) }
 {
-    let Ok(ready) = ready_of(known, term) else {
-        return fail_all(arith(no), paths, ended);
+    let Ok(ready) = ready_of(context.known, term) else {
+        return fail_all(arith(context.no), &mut lists.paths, &mut lists.ended);
     };
-    let target = target_of(plan, no, place);
+    let target = target_of(context.plan, context.no, place);
     if target.clamps {
-        clamp_each(alloc, plan, &target, &ready, paths)
+        clamp_each(alloc, context.plan, &target, &ready, &mut lists.paths)
     } else {
-        end_each(alloc, plan, &target, &ready, paths, ended)
+        end_each(
+            alloc,
+            context.plan,
+            &target,
+            &ready,
+            &mut lists.paths,
+            &mut lists.ended,
+        )
     }
 }

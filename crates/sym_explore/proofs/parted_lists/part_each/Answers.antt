@@ -12,7 +12,7 @@ pub returns-clause-exact : goal.returns-clause-exact
 returns-clause-exact c = λ n.
     let p = script_plan c.args.plan.now in
     let q = c.args.condition.now in
-    let old : List Path = c.args.paths.now.items in
+    let old : List Path = c.args.lists.now.paths.items in
     let count = c.in_ok-count.count in
     let paths : List Path = c.split_each.new.paths.items in
     let pieces = c.split_each.new.pieces.items in
@@ -29,7 +29,7 @@ returns-clause-exact c = λ n.
 pub returns-clause-few : goal.returns-clause-few
 returns-clause-few c =
     let q = c.args.condition.now in
-    let old : List Path = c.args.paths.now.items in
+    let old : List Path = c.args.lists.now.paths.items in
     let count = c.in_ok-count.count in
     let paths : List Path = c.split_each.new.paths.items in
     let pieces = c.split_each.new.pieces.items in

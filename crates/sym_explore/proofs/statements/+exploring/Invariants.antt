@@ -14,4 +14,4 @@ abbrev pub decreases-run : goal.decreases-run
 decreases-run l = 4 * do_size (do_plan l.statement.now) + 3
 
 abbrev pub decreases-choose : goal.decreases-choose
-decreases-choose l = 4 * (dos_size (dos_plan l.then.now) + dos_size (dos_plan l.otherwise.now) + 1) + 2
+decreases-choose l = 4 * (dos_size (dos_plan l.choice.now.then.now) + dos_size (dos_plan l.choice.now.otherwise.now) + 1) + 2
