@@ -30,6 +30,7 @@ use Rattle.sym_check.specs.Plan.Ranges.{is_clamped}
 use Rattle.sym_check.specs.Plan.ScriptPlans.{ScriptPlan}
 use Rattle.sym_check.specs.Meaning.Updates.{at_record, do_step, or_fault, stored, with_int, with_pushed}
 use Rattle.sym_pred.specs.declared.form.HoldForm.TheVariants as hold
+use Rattle.sym_path.specs.Composing.{HaveFaultsAmong}
 use Rattle.sym_path.proofs.Changed.{faults_fit, faults_give}
 use Rattle.sym_path.proofs.Lists.{zip_all, zip_length}
 use Rattle.sym_path.specs.declared.form.Form.TheVariants as form
@@ -43,7 +44,7 @@ use Rattle.sym_path.specs.Standing.{EndsAmong}
 use Rattle.sym_explore.specs.Assigning.{EndsNone, with_parts}
 use Rattle.sym_explore.specs.Counting.{do_ended, do_going, store_ended, store_going}
 use Rattle.sym_explore.specs.Ending.{AreMoved, AreParted, IsChanged}
-use Rattle.sym_explore.specs.Faulting.{EndAmong, EndsSo, HasNumber}
+use Rattle.sym_explore.specs.Faulting.{EndsSo, HasNumber}
 use Rattle.sym_explore.specs.Knowing.{DoIsKnown, TermIsKnown}
 use Rattle.sym_explore.specs.Parting.{AllGoOn}
 use Rattle.sym_explore.specs.Running.{DoWasRun, WereRun}
@@ -70,7 +71,7 @@ still_goes (Next fs) (Next gs) h g = tt
 still_goes (Next fs) (Ended b) h g = absurd h
 still_goes (Ended a) new h g = absurd g
 
-all_among : (records : List Record) (paths : List Path) → AllGoOn paths → EndAmong records paths
+all_among : (records : List Record) (paths : List Path) → AllGoOn paths → HaveFaultsAmong records paths
 all_among records [] h = All-nil (λ (q : Path). EndsAmong records q.end)
 all_among records (x ∷ paths) h =
     All-cons (λ (q : Path). EndsAmong records q.end) x paths
@@ -125,7 +126,7 @@ module _ (p : ScriptPlan) (fault : Fault) where
   failed_fit [] kind h = All-nil (PathFits p)
   failed_fit (x ∷ old) kind h = All-cons (PathFits p) (failing x) (map failing old) (faults_fit p x fault (All-head (PathFits p) x old h) kind) (failed_fit old kind (All-tail (PathFits p) x old h))
 
-  failed_among : (records : List Record) (old : List Path) → HasNumber fault.no records → AllGoOn old → EndAmong records (map failing old)
+  failed_among : (records : List Record) (old : List Path) → HasNumber fault.no records → AllGoOn old → HaveFaultsAmong records (map failing old)
   failed_among records [] here h = All-nil (λ (q : Path). EndsAmong records q.end)
   failed_among records (x ∷ old) here h =
       All-cons (λ (q : Path). EndsAmong records q.end) (failing x) (map failing old)

@@ -21,6 +21,7 @@ use Rattle.sym_check.specs.Meaning.Updates.{after, environment}
 use Rattle.sym_check.specs.Meaning.Validity.{IsRecord, IsValid}
 use Rattle.sym_check.specs.Plan.WellFormed.{IsWellFormed}
 use Rattle.sym_check.proofs.PlanLaws.{after_more}
+use Rattle.sym_path.specs.Composing.{HaveFaultsAmong}
 use Rattle.sym_path.specs.declared.part.Part.{Part}
 use Rattle.sym_path.specs.declared.path.Path.{Path}
 use Rattle.sym_path.specs.declared.path.PathEnd.{PathEnd}
@@ -37,7 +38,7 @@ use Rattle.sym_path.proofs.OnlyOutcomes.{only_outcome}
 use Rattle.sym_path.proofs.SettlingStands.{settled_stand}
 use Rattle.sym_explore.specs.Counting.{dos_ended, dos_going, made_paths}
 use Rattle.sym_explore.specs.Ending.{AreMoved, AreParted}
-use Rattle.sym_explore.specs.Faulting.{EndAmong, HasNumber}
+use Rattle.sym_explore.specs.Faulting.{HasNumber}
 use Rattle.sym_explore.specs.Growing.{GivesAfter, IsExplored, IsSegmentOf}
 use Rattle.sym_explore.specs.Knowing.{DosAreKnown}
 use Rattle.sym_explore.specs.Parting.{AllGoOn, AreFewRun, AreRun, at_state, those_ended, those_going}
@@ -107,11 +108,11 @@ module _ (p : ScriptPlan) (rec : Record) (old going none ended new after now : L
           let q : (g + e) * most ≡ o * most = ap (λ k. k * most) sum in
           omega (arith, m, q, h)
 
-  explored_faults : (records : List Record) → AllGoOn new → EndAmong records after → EndAmong records now
+  explored_faults : (records : List Record) → AllGoOn new → HaveFaultsAmong records after → HaveFaultsAmong records now
   explored_faults records goes ends =
       let P : Path → Type 0 = λ path. EndsAmong records path.end in
       let G : Path → Type 0 = λ path. GoesOn path.end in
-      subst (λ (ps : List Path). EndAmong records ps) (sym is)
+      subst (λ (ps : List Path). HaveFaultsAmong records ps) (sym is)
       (All-append P after new ends (All-weaker G P (λ path h. goes_among path.end h) new goes))
     where
       goes_among : (end : PathEnd) → GoesOn end → EndsAmong records end
@@ -126,10 +127,10 @@ module _ (p : ScriptPlan) (old going none ended : List Path) (empty : none ≡ [
   pub ended_fit : SegmentFits p old → SegmentFits p ended
   ended_fit h = moved_away (PathFits p) old going none ended moves h (subst (λ (ps : List Path). SegmentFits p ps) (sym empty) (All-nil (PathFits p)))
 
-  ended_came : (records : List Record) → EndAmong records old → EndAmong records ended
+  ended_came : (records : List Record) → HaveFaultsAmong records old → HaveFaultsAmong records ended
   ended_came records h =
       let P : Path → Type 0 = λ path. EndsAmong records path.end in
-      moved_away P old going none ended moves h (subst (λ (ps : List Path). EndAmong records ps) (sym empty) (All-nil P))
+      moved_away P old going none ended moves h (subst (λ (ps : List Path). HaveFaultsAmong records ps) (sym empty) (All-nil P))
 
 -- What those that go on become, and those that have ended.
 pub explored_run : (p : ScriptPlan) (rec : Record) (old going none ended new after now : List Path) → none ≡ [] → AreMoved old going none ended → AllGoOn going → now ≡ after ++ new → (locals : List Value) → locals ≡ [] → DosWereRun p (environment rec locals) rec.no p.update going new ended after → IsExplored p rec old now
@@ -150,7 +151,7 @@ end_longer : (records : List Record) (rec : Record) (end : PathEnd) → EndsAmon
 end_longer records rec (Next forms) h = tt
 end_longer records rec (Ended fault) h = any_longer (λ (r : Record). r.no ≡ fault.no) records (rec ∷ []) h
 
-ends_longer : (records : List Record) (rec : Record) (paths : List Path) → EndAmong records paths → EndAmong (records ++ rec ∷ []) paths
+ends_longer : (records : List Record) (rec : Record) (paths : List Path) → HaveFaultsAmong records paths → HaveFaultsAmong (records ++ rec ∷ []) paths
 ends_longer records rec paths h =
     let P : Path → Type 0 = λ path. EndsAmong records path.end in
     let Q : Path → Type 0 = λ path. EndsAmong (records ++ rec ∷ []) path.end in

@@ -14,6 +14,7 @@ use Rattle.sym_check.specs.declared.evaluate.arithmetic.Arith.{Arith}
 use Rattle.sym_check.specs.Meaning.Conditions.{test_truth}
 use Rattle.sym_check.specs.Plan.ScriptPlans.{ScriptPlan}
 use Rattle.sym_check.specs.Meaning.Fitting.{FitsFault}
+use Rattle.sym_path.specs.Composing.{HaveFaultsAmong}
 use Rattle.sym_path.proofs.Changed.{faults_fit, faults_give}
 use Rattle.sym_path.specs.Admitting.{admits}
 use Rattle.sym_path.specs.Changing.{GoesOn, end_by, ended_by, with_fault}
@@ -25,7 +26,7 @@ use Rattle.sym_path.specs.declared.path.PathEnd.{PathEnd}
 use Rattle.sym_path.specs.declared.path.PathEnd.TheVariants as path
 use Rattle.sym_explore.specs.declared.branch.Branch.{Branch}
 use Rattle.sym_explore.specs.Branches.{answered, AreGoing, BranchesGo, IsGoing, judged, paths_false, paths_true, with_answer, with_truth}
-use Rattle.sym_explore.specs.Faulting.{EndAmong, HasNumber}
+use Rattle.sym_explore.specs.Faulting.{HasNumber}
 use Rattle.sym_explore.specs.Parting.{AllGoOn, AreParts, at_state, those_failed, those_false, those_true}
 
 abbrev pub Judged : Type 0
@@ -293,11 +294,11 @@ end_came : (records : List Record) (fault : Fault) (end : PathEnd) → Any (λ (
 end_came records fault (path.Next forms) h goes = h
 end_came records fault (path.Ended old) h goes = absurd goes
 
-pub failed_came : (n : ℕ) (fault : Fault) (old before after : List Path) → fault.no ≡ n → AllGoOn old → after ≡ before ++ map (λ (x : Path). with_fault x fault) old → (records : List Record) → HasNumber n records → EndAmong records before → EndAmong records after
+pub failed_came : (n : ℕ) (fault : Fault) (old before after : List Path) → fault.no ≡ n → AllGoOn old → after ≡ before ++ map (λ (x : Path). with_fault x fault) old → (records : List Record) → HasNumber n records → HaveFaultsAmong records before → HaveFaultsAmong records after
 failed_came n fault old before after is going e records has h =
     let P : Path → Type 0 = λ (x : Path). EndsAmong records x.end in
     let here : Any (λ (rec : Record). rec.no ≡ fault.no) records = subst (λ (m : ℕ). Any (λ (rec : Record). rec.no ≡ m) records) (sym is) has in
-    subst (EndAmong records) (sym e)
+    subst (HaveFaultsAmong records) (sym e)
     (All-append P before (map (λ (x : Path). with_fault x fault) old) h
     (All-map P (λ (x : Path). with_fault x fault) old (All-weaker (λ (x : Path). GoesOn x.end) (λ (x : Path). EndsAmong records (end_by fault x.end)) (λ x g. end_came records fault x.end here g) old going)))
 

@@ -28,6 +28,7 @@ use Rattle.sym_int.specs.declared.form.IntForm.{IntForm}
 use Rattle.sym_int.specs.declared.form.IntForm.TheVariants as form
 use Rattle.sym_int.specs.declared.span.Span.{Span}
 use Rattle.sym_int.specs.declared.wide.Wide.{Wide}
+use Rattle.sym_path.specs.Composing.{HaveFaultsAmong}
 use Rattle.sym_path.proofs.Changed.{faults_give}
 use Rattle.sym_path.specs.Admitting.{admits}
 use Rattle.sym_path.specs.Changing.{GoesOn, changed, end_by, ended_by, with_fault}
@@ -42,7 +43,7 @@ use Rattle.sym_path.specs.declared.path.Path.{Path}
 use Rattle.sym_path.specs.declared.path.PathEnd.{PathEnd}
 use Rattle.sym_path.specs.declared.path.PathEnd.TheVariants.{Next, Ended}
 use Rattle.sym_explore.proofs.PathNumbers.{number_is_held, given_none, given_in, given_out, wide_at}
-use Rattle.sym_explore.specs.Faulting.{EndAmong, FaultsCameAt, HasNumber}
+use Rattle.sym_explore.specs.Faulting.{FaultsCameAt, HasNumber}
 use Rattle.sym_explore.specs.Parting.{those_going}
 use Rattle.sym_explore.specs.Ranging.{IsPartPushed, IsPartedAt, IsWholeOn, NumberFitsOn, form_stored, kept_stored, ranged}
 use Rattle.sym_explore.specs.Placing.{TargetRanges, put_at, target_stored}
@@ -113,10 +114,10 @@ module _ (p : ScriptPlan) (c : ℕ) (fault : Fault) (old : Path) where
   part_length None before after h = let e = ap length h in omega (arith, e)
   part_length (Some span) before after h = let e = ap length h.is in let f = length-append before (h.pushed ∷ []) in omega (arith, e, f)
 
-  part_faults : (records : List Record) (o : Option Span) (before after : List Path) → GoesOn old.end → HasNumber fault.no records → IsPartPushed p c o fault old before after → EndAmong records before → EndAmong records after
-  part_faults records None before after goes here h others = subst (EndAmong records) (sym h) others
+  part_faults : (records : List Record) (o : Option Span) (before after : List Path) → GoesOn old.end → HasNumber fault.no records → IsPartPushed p c o fault old before after → HaveFaultsAmong records before → HaveFaultsAmong records after
+  part_faults records None before after goes here h others = subst (HaveFaultsAmong records) (sym h) others
   part_faults records (Some span) before after goes here h others =
-      subst (EndAmong records) (sym h.is)
+      subst (HaveFaultsAmong records) (sym h.is)
       (All-push (λ (q : Path). EndsAmong records q.end) before h.pushed others (subst (EndsAmong records) (sym h.end) (came old.end goes)))
     where
       came : (end : PathEnd) → GoesOn end → EndsAmong records (end_by fault end)

@@ -18,6 +18,7 @@ use Rattle.sym_check.specs.Plan.LinePlans.{TermPlan}
 use Rattle.sym_check.specs.Plan.ScriptPlans.{ScriptPlan}
 use Rattle.sym_check.specs.Meaning.Updates.{at_record, or_fault, stored, with_int, with_pushed}
 use Rattle.sym_int.specs.declared.form.IntForm.{IntForm}
+use Rattle.sym_path.specs.Composing.{HaveFaultsAmong}
 use Rattle.sym_path.proofs.Changed.{forms_give}
 use Rattle.sym_path.specs.declared.form.Form.TheVariants as form
 use Rattle.sym_path.specs.declared.path.Path.{Path}
@@ -27,7 +28,7 @@ use Rattle.sym_path.specs.Giving.{given, outcomes}
 use Rattle.sym_path.specs.Standing.{EndsAmong}
 use Rattle.sym_explore.specs.Assigning.{added_numbers}
 use Rattle.sym_explore.specs.Ending.{AreMoved, AreParted}
-use Rattle.sym_explore.specs.Faulting.{EndAmong, FaultsCameAt, HasNumber}
+use Rattle.sym_explore.specs.Faulting.{FaultsCameAt, HasNumber}
 use Rattle.sym_explore.specs.Parting.{AllGoOn, AreRun, those_ended, those_going}
 use Rattle.sym_explore.specs.Placing.{IsPut}
 use Rattle.sym_explore.specs.Running.{WereRun}
@@ -120,8 +121,8 @@ module _ (p : ScriptPlan) (n : ℕ) (clamps : Bool) (step : Outcome → Outcome)
   stored_few (x ∷ old) before (y ∷ new) after h =
       omega (arith, h.1.few, stored_few old h.0 new after h.2)
 
-  pub stored_faults : (old : List Path) (before : List Path) (new : List Path) (after : List Path) → AllThreaded (IsStored p n clamps step) old before new after → (records : List Record) → HasNumber n records → EndAmong records before → EndAmong records new × EndAmong records after
-  stored_faults [] before [] after h records here ends = (All-nil (λ (q : Path). EndsAmong records q.end), subst (EndAmong records) (sym h) ends)
+  pub stored_faults : (old : List Path) (before : List Path) (new : List Path) (after : List Path) → AllThreaded (IsStored p n clamps step) old before new after → (records : List Record) → HasNumber n records → HaveFaultsAmong records before → HaveFaultsAmong records new × HaveFaultsAmong records after
+  stored_faults [] before [] after h records here ends = (All-nil (λ (q : Path). EndsAmong records q.end), subst (HaveFaultsAmong records) (sym h) ends)
   stored_faults [] before (y ∷ new) after h records here ends = absurd h
   stored_faults (x ∷ old) before [] after h records here ends = absurd h
   stored_faults (x ∷ old) before (y ∷ new) after h records here ends =
@@ -142,7 +143,7 @@ module _ (p : ScriptPlan) (n : ℕ) (clamps : Bool) (step : Outcome → Outcome)
 
 module _ (p : ScriptPlan) (step : Outcome → Outcome) (n ended : ℕ) (old mid new before between after : List Path) where
   -- The paths were changed where they stand, and then those that ended moved.
-  pub were_run : AreParted p false step old mid before between → SegmentFits p mid → SegmentFits p between → length mid ≡ length old → length between ≤ length before + length old * ended → ((records : List Record) → HasNumber n records → EndAmong records before → EndAmong records mid × EndAmong records between) → AreMoved mid new between after → AllGoOn new → WereRun p step n 1 ended old new before after
+  pub were_run : AreParted p false step old mid before between → SegmentFits p mid → SegmentFits p between → length mid ≡ length old → length between ≤ length before + length old * ended → ((records : List Record) → HasNumber n records → HaveFaultsAmong records before → HaveFaultsAmong records mid × HaveFaultsAmong records between) → AreMoved mid new between after → AllGoOn new → WereRun p step n 1 ended old new before after
   were_run parted fits others same few faults moves goes = record {
     exact = run_exact p step old mid new before between after parted moves goes;
     next = record {

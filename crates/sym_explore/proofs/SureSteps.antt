@@ -35,6 +35,7 @@ use Rattle.sym_int.specs.declared.form.IntForm.{IntForm}
 use Rattle.sym_int.specs.declared.wide.Wide.TheVariants as wide
 use Rattle.sym_int.specs.declared.wide.WideNumber.{WideNumber}
 use Rattle.sym_pred.specs.declared.form.HoldForm.TheVariants as hold
+use Rattle.sym_path.specs.Composing.{HaveFaultsAmong}
 use Rattle.sym_path.proofs.Changed.{faults_fit, faults_give}
 use Rattle.sym_path.proofs.Lists.{zip_length}
 use Rattle.sym_path.specs.declared.form.Form.{Form}
@@ -58,7 +59,7 @@ use Rattle.sym_explore.proofs.StoredPaths.{store_is}
 use Rattle.sym_explore.proofs.TermRanges.{known_ranges, ready_ranges}
 use Rattle.sym_explore.specs.Counting.{made_paths, most_grown, most_paths}
 use Rattle.sym_explore.specs.Ending.{IsChanged}
-use Rattle.sym_explore.specs.Faulting.{EndAmong, EndsSo, HasNumber}
+use Rattle.sym_explore.specs.Faulting.{EndsSo, HasNumber}
 use Rattle.sym_explore.specs.Growing.{IsExplored}
 use Rattle.sym_explore.specs.Knowing.{DoIsKnown}
 use Rattle.sym_explore.specs.Parting.{at_state}
@@ -301,7 +302,7 @@ all_fit p rec [] (y ∷ new) h = absurd h
 all_fit p rec (x ∷ old) [] h = absurd h
 all_fit p rec (x ∷ old) (y ∷ new) h = All-cons (PathFits p) y new h.0.fits (all_fit p rec old new h.1)
 
-pub all_came : (p : ScriptPlan) (rec : Record) (records : List Record) → HasNumber rec.no records → (old new : List Path) → AllZip (IsSteppedOn p rec) old new → EndAmong records old → EndAmong records new
+pub all_came : (p : ScriptPlan) (rec : Record) (records : List Record) → HasNumber rec.no records → (old new : List Path) → AllZip (IsSteppedOn p rec) old new → HaveFaultsAmong records old → HaveFaultsAmong records new
 all_came p rec records has [] [] h ends = ends
 all_came p rec records has [] (y ∷ new) h ends = absurd h
 all_came p rec records has (x ∷ old) [] h ends = absurd h

@@ -1,7 +1,8 @@
 -- The records at which the faults of paths came.
 use Rattle.std.specs.Prelude.{◌≡◌, ℕ, List}
-use Rattle.std.specs.List.{All, Any}
+use Rattle.std.specs.List.{Any}
 use Rattle.sym_base.specs.declared.values.record.Record.{Record}
+use Rattle.sym_path.specs.Composing.{HaveFaultsAmong}
 use Rattle.sym_path.specs.declared.path.PathEnd.{PathEnd}
 use Rattle.sym_path.specs.declared.path.PathEnd.TheVariants.{Next, Ended}
 use Rattle.sym_path.specs.declared.path.Path.{Path}
@@ -11,16 +12,12 @@ use Rattle.sym_path.specs.Standing.{EndsAmong}
 abbrev pub HasNumber : ℕ → List Record → Type 0
 HasNumber n records = Any (λ (rec : Record). rec.no ≡ n) records
 
--- The faults of the paths came at some of the records.
-abbrev pub EndAmong : List Record → List Path → Type 0
-EndAmong records paths = All (λ (path : Path). EndsAmong records path.end) paths
-
 -- A path and other paths, before and after: whatever the records are, if one of them has this number
 -- and the faults before came at them, so did those after.
 abbrev pub FaultsCameAt : ℕ → Path → List Path → Path → List Path → Type 0
 FaultsCameAt n old before path after = (records : List Record) → HasNumber n records →
-    EndsAmong records old.end → EndAmong records before →
-    EndsAmong records path.end × EndAmong records after
+    EndsAmong records old.end → HaveFaultsAmong records before →
+    EndsAmong records path.end × HaveFaultsAmong records after
 
 -- Both ends go on, or are the same fault.
 abbrev pub EndsSo : PathEnd → PathEnd → Type 0

@@ -5,13 +5,14 @@ use Rattle.sym_base.specs.declared.values.state.State.{State}
 use Rattle.sym_check.specs.Meaning.Conditions.{test_truth}
 use Rattle.sym_check.specs.Meaning.PathBounds.{path_bound}
 use Rattle.sym_check.specs.Plan.ScriptPlans.{ScriptPlan}
+use Rattle.sym_path.specs.Composing.{HaveFaultsAmong}
 use Rattle.sym_path.specs.declared.path.Path.{Path}
 use Rattle.sym_path.specs.Fitting.{SegmentFits}
 use Rattle.sym_path.specs.Giving.{outcomes}
 use Rattle.sym_path.specs.Joining.{IsSettled}
 use Rattle.sym_path.specs.Standing.{StandsFor}
 use Rattle.sym_explore.specs.Counting.{made_paths}
-use Rattle.sym_explore.specs.Faulting.{EndAmong, HasNumber}
+use Rattle.sym_explore.specs.Faulting.{HasNumber}
 use Rattle.sym_explore.specs.Stepping.{step_by}
 use Rattle.sym_explore.specs.declared.extensions.Grown.{Grown}
 use Rattle.sym_explore.specs.declared.extensions.Grown.TheVariants.{Fits, Over}
@@ -38,8 +39,8 @@ pub record IsExplored (p : ScriptPlan) (rec : Record) (old new : List Path) : Ty
   pub exact : GivesAfter p rec old new
   pub fits : SegmentFits p new
   pub few : length new ≤ length old * made_paths p
-  pub faults : (records : List Record) → HasNumber rec.no records → EndAmong records old →
-      EndAmong records new
+  pub faults : (records : List Record) → HasNumber rec.no records → HaveFaultsAmong records old →
+      HaveFaultsAmong records new
 
 -- The segment of one record.
 pub record IsSegmentOf (p : ScriptPlan) (rec : Record) (segment : List Path) : Type 0 where

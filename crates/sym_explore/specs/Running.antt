@@ -8,11 +8,12 @@ use Rattle.sym_check.specs.Plan.DoPlans.{DoPlan, DosPlan, Let, SetInt, SetEnum, 
 use Rattle.sym_check.specs.Meaning.FixedValues.{Environment, fixed_value}
 use Rattle.sym_check.specs.Meaning.Updates.{environment, environment_after}
 use Rattle.sym_check.specs.Plan.ScriptPlans.{ScriptPlan}
+use Rattle.sym_path.specs.Composing.{HaveFaultsAmong}
 use Rattle.sym_path.specs.declared.path.Path.{Path}
 use Rattle.sym_path.specs.Changing.{with_fault}
 use Rattle.sym_path.specs.Fitting.{SegmentFits}
 use Rattle.sym_explore.specs.Counting.{do_ended, do_going, dos_ended, dos_going}
-use Rattle.sym_explore.specs.Faulting.{EndAmong, HasNumber}
+use Rattle.sym_explore.specs.Faulting.{HasNumber}
 use Rattle.sym_explore.specs.Parting.{AllGoOn, AreFewRun, AreRun}
 use Rattle.sym_explore.specs.Stepping.{after_do, after_dos}
 
@@ -50,8 +51,8 @@ pub record WereRun (p : ScriptPlan) (step : Outcome → Outcome) (n most_going m
   pub exact : AreRun p step old new before after
   pub next : CanRun p new after
   pub few : AreFewRun most_going most_ended old new before after
-  pub faults : (records : List Record) → HasNumber n records → EndAmong records before →
-      EndAmong records after
+  pub faults : (records : List Record) → HasNumber n records → HaveFaultsAmong records before →
+      HaveFaultsAmong records after
 
 -- A statement was run on the old paths at the record with this number.
 abbrev pub DoWasRun :

@@ -6,11 +6,12 @@ use Rattle.sym_base.specs.declared.values.value.Value.{Value}
 use Rattle.sym_check.specs.Plan.CondPlans.{CondPlan}
 use Rattle.sym_check.specs.Meaning.FixedValues.{Environment}
 use Rattle.sym_check.specs.Plan.ScriptPlans.{ScriptPlan}
+use Rattle.sym_path.specs.Composing.{HaveFaultsAmong}
 use Rattle.sym_path.specs.declared.path.Path.{Path}
 use Rattle.sym_explore.specs.Branches.{answered, tried}
 use Rattle.sym_explore.specs.Counting.{branches_of}
 use Rattle.sym_explore.specs.Evaluating.{evaluated_branches, evaluated_truth}
-use Rattle.sym_explore.specs.Faulting.{EndAmong, HasNumber}
+use Rattle.sym_explore.specs.Faulting.{HasNumber}
 use Rattle.sym_explore.specs.Parting.{AreFewParts, AreParts}
 use Rattle.sym_explore.specs.Running.{CanRun}
 use Rattle.sym_explore.specs.declared.parted_lists.Evaluated.{Evaluated}
@@ -25,8 +26,8 @@ pub record WereTried (p : ScriptPlan) (meaning : Outcome → Outcome × Option B
   pub trues : CanRun p new ended_after
   pub falses : CanRun p falses_after ended_after
   pub few : AreFewParts most old new falses_before falses_after ended_before ended_after
-  pub faults : (records : List Record) → HasNumber n records → EndAmong records ended_before →
-      EndAmong records ended_after
+  pub faults : (records : List Record) → HasNumber n records → HaveFaultsAmong records ended_before →
+      HaveFaultsAmong records ended_after
 
 -- A condition of the script was tried on the old paths.
 abbrev pub CondWasTried :

@@ -7,11 +7,12 @@ ghost use Rattle.sym_check.specs.Plan.Ranges.{is_clamped};
 ghost use Rattle.sym_check.specs.Plan.ScriptPlans.{script_plan};
 ghost use Rattle.sym_check.specs.Plan.WellFormed.{IsWellFormed};
 ghost use Rattle.sym_int.specs.Points.{AreEnds};
+ghost use Rattle.sym_path.specs.Composing.{HaveFaultsAmong};
 ghost use Rattle.sym_path.specs.Changing.{GoesOn};
 ghost use Rattle.sym_path.specs.Fitting.{PathFits, SegmentFits};
 ghost use Rattle.sym_path.specs.declared.path.Path.{Path as OnePath};
 ghost use Rattle.sym_explore.specs.Ending.{AreParted};
-ghost use Rattle.sym_explore.specs.Faulting.{EndAmong, FaultsCameAt, HasNumber};
+ghost use Rattle.sym_explore.specs.Faulting.{FaultsCameAt, HasNumber};
 ghost use Rattle.sym_explore.specs.Knowing.{DoIsKnown};
 ghost use Rattle.sym_explore.specs.Parting.{AllGoOn};
 ghost use Rattle.sym_explore.specs.Placing.{PlaceFits, TargetFits, place_cell};
@@ -134,8 +135,8 @@ pub(crate) fn store_each(
     ensures few { OnOk result
         (length out.new.items ≤ length out.old.items + length paths.old * 2) }
     ensures faults { (records : List OneRecord) → HasNumber target.now.fault.no records →
-        EndAmong records out.old.items →
-        OnOk result (EndAmong records paths.new × EndAmong records out.new.items) }
+        HaveFaultsAmong records out.old.items →
+        OnOk result (HaveFaultsAmong records paths.new × HaveFaultsAmong records out.new.items) }
     ensures stored { target.now.clamps ≡ true → AllGoOn out.old.items →
         OnOk result (AllGoOn paths.new × AllGoOn out.new.items) }
 {
