@@ -149,6 +149,13 @@ fn join_part(alloc: Global, checked: &Checked, limit: u32, joining: &mut [Joinin
     }
 }
 
+// How many threads join the first half of some groups, and how many the second one.
+#[derive(Clone, Copy)]
+struct Halves {
+    low: usize,
+    high: usize,
+}
+
 // Joins groups by so many threads, at most, about as many by each: they are halved at each step, and
 // one half goes to other threads. The slice is the last parameter, since a closure lends it last.
 #[cycle(halves)]
@@ -171,7 +178,8 @@ fn join_each<T: Threads + Sync, S: LendsScript + Sync>(
     let high = threads - low;
     let middle = joining.len() / threads * low;
     let (front, back) = joining.split_at_mut(middle);
-    join_both(rt, alloc, lender, low, high, limit, front, back);
+    let halves = Halves { low, high };
+    join_both(rt, alloc, lender, halves, limit, front, back);
 }
 
 // A function beside `join_each`, so that what the closures need is what this one is given.
@@ -180,14 +188,13 @@ fn join_both<T: Threads + Sync, S: LendsScript + Sync>(
     rt: &T,
     alloc: Global,
     lender: &S,
-    low: usize,
-    high: usize,
+    threads: Halves,
     limit: u32,
     front: &mut [Joining],
     back: &mut [Joining],
 )
-    requires low { 0 < low }
-    requires high { 0 < high }
+    requires low { 0 < threads.low }
+    requires high { 0 < threads.high }
     requires front { All (CanJoin (checked_plan (S.by lender.now)) limit) front.old }
     requires back { All (CanJoin (checked_plan (S.by lender.now)) limit) back.old }
     ensures front { AreJoinedTo (checked_plan (S.by lender.now)) limit front.old front.new }
@@ -198,13 +205,13 @@ fn join_both<T: Threads + Sync, S: LendsScript + Sync>(
             × All (CanJoin (checked_plan (S.by lender.now)) limit) front.now }
         ensures { AreJoinedTo (checked_plan (S.by lender.entry.now)) limit
             front.entry.now front.exit.now }
-    { join_each(rt, alloc, lender, low, limit, front) };
+    { join_each(rt, alloc, lender, threads.low, limit, front) };
     let mut second = ||
         requires { IsSync T.row × IsSync S.row
             × All (CanJoin (checked_plan (S.by lender.now)) limit) back.now }
         ensures { AreJoinedTo (checked_plan (S.by lender.entry.now)) limit
             back.entry.now back.exit.now }
-    { join_each(rt, alloc, lender, high, limit, back) };
+    { join_each(rt, alloc, lender, threads.high, limit, back) };
     join_mut(rt, &mut first, &mut second);
 }
 

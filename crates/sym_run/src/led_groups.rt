@@ -342,6 +342,13 @@ fn middle_of(chains: &RunGroups, start: usize, count: usize, low: usize, high: u
     front
 }
 
+// A part of the groups of a run: how many threads lead it, and the index of its first group.
+#[derive(Clone, Copy)]
+struct Part {
+    threads: usize,
+    start: usize,
+}
+
 // Leads each group on by the chain of its key, of which the first is at this index. So many
 // threads, at most, have about as much to lead each: the groups are halved at each step, and one
 // half goes to other threads. The slice is the last parameter, since a closure lends it last.
@@ -368,17 +375,15 @@ fn lead_all<T: Threads + Sync, S: LendsChains + Sync>(
     let high = threads - low;
     let middle = middle_of(lender.chains(), start, taken.len(), low, high);
     let (front, back) = taken.split_at_mut(middle);
-    lead_both(
-        rt,
-        alloc,
-        lender,
-        low,
+    let low = Part {
+        threads: low,
         start,
-        front,
-        high,
-        start + middle,
-        back,
-    );
+    };
+    let high = Part {
+        threads: high,
+        start: start + middle,
+    };
+    lead_both(rt, alloc, lender, low, front, high, back);
 }
 
 // A function beside `lead_all`, so that what the closures need is what this one is given.
@@ -387,39 +392,37 @@ fn lead_both<T: Threads + Sync, S: LendsChains + Sync>(
     rt: &T,
     alloc: Global,
     lender: &S,
-    low: usize,
-    start: usize,
+    low: Part,
     front: &mut [Taken],
-    high: usize,
-    next: usize,
+    high: Part,
     back: &mut [Taken],
 )
-    requires low { 0 < low }
-    requires high { 0 < high }
-    requires front_room { start + length front.old < 2 ^ 64 }
-    requires back_room { next + length back.old < 2 ^ 64 }
+    requires low { 0 < low.threads }
+    requires high { 0 < high.threads }
+    requires front_room { low.start + length front.old < 2 ^ 64 }
+    requires back_room { high.start + length back.old < 2 ^ 64 }
     requires fits { GroupsFit (checked_plan (S.by lender.now)) (S.lent lender.now) }
     requires front_valid { AreReady (checked_plan (S.by lender.now)) front.old }
     requires back_valid { AreReady (checked_plan (S.by lender.now)) back.old }
     ensures front { let p = checked_plan (S.by lender.now) in
-        AreLedBy p (S.lent lender.now) start front.old front.new }
+        AreLedBy p (S.lent lender.now) low.start front.old front.new }
     ensures back { let p = checked_plan (S.by lender.now) in
-        AreLedBy p (S.lent lender.now) next back.old back.new }
+        AreLedBy p (S.lent lender.now) high.start back.old back.new }
 {
     let mut first = ||
         requires { let p = checked_plan (S.by lender.now) in IsSync T.row × IsSync S.row
-            × (start + length front.now < 2 ^ 64) × GroupsFit p (S.lent lender.now)
+            × (low.start + length front.now < 2 ^ 64) × GroupsFit p (S.lent lender.now)
             × AreReady p front.now }
         ensures { let p = checked_plan (S.by lender.entry.now) in
-            AreLedBy p (S.lent lender.entry.now) start front.entry.now front.exit.now }
-    { lead_all(rt, alloc, lender, low, start, front) };
+            AreLedBy p (S.lent lender.entry.now) low.start front.entry.now front.exit.now }
+    { lead_all(rt, alloc, lender, low.threads, low.start, front) };
     let mut second = ||
         requires { let p = checked_plan (S.by lender.now) in IsSync T.row × IsSync S.row
-            × (next + length back.now < 2 ^ 64) × GroupsFit p (S.lent lender.now)
+            × (high.start + length back.now < 2 ^ 64) × GroupsFit p (S.lent lender.now)
             × AreReady p back.now }
         ensures { let p = checked_plan (S.by lender.entry.now) in
-            AreLedBy p (S.lent lender.entry.now) next back.entry.now back.exit.now }
-    { lead_all(rt, alloc, lender, high, next, back) };
+            AreLedBy p (S.lent lender.entry.now) high.start back.entry.now back.exit.now }
+    { lead_all(rt, alloc, lender, high.threads, high.start, back) };
     join_mut(rt, &mut first, &mut second);
 }
 

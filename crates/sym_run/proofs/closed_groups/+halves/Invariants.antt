@@ -5,10 +5,10 @@ abbrev pub decreases-join_each : goal.decreases-join_each
 decreases-join_each g l = 4 * l.threads
 
 abbrev pub decreases-join_both : goal.decreases-join_both
-decreases-join_both g l = 4 * (l.low + l.high) - 1
+decreases-join_both g l = 4 * (l.threads.low + l.threads.high) - 1
 
 abbrev pub decreases-join_both-first : goal.decreases-join_both-first
-decreases-join_both-first g l = 4 * l.low + 1
+decreases-join_both-first g l = 4 * l.threads-low + 1
 
 abbrev pub decreases-join_both-second : goal.decreases-join_both-second
-decreases-join_both-second g l = 4 * l.high + 1
+decreases-join_both-second g l = 4 * l.threads-high + 1

@@ -5,10 +5,10 @@ abbrev pub decreases-lead_all : goal.decreases-lead_all
 decreases-lead_all g l = 4 * l.threads
 
 abbrev pub decreases-lead_both : goal.decreases-lead_both
-decreases-lead_both g l = 4 * (l.low + l.high) - 1
+decreases-lead_both g l = 4 * (l.low.threads + l.high.threads) - 1
 
 abbrev pub decreases-lead_both-first : goal.decreases-lead_both-first
-decreases-lead_both-first g l = 4 * l.low + 1
+decreases-lead_both-first g l = 4 * l.low-threads + 1
 
 abbrev pub decreases-lead_both-second : goal.decreases-lead_both-second
-decreases-lead_both-second g l = 4 * l.high + 1
+decreases-lead_both-second g l = 4 * l.high-threads + 1
