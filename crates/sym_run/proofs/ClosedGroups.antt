@@ -15,8 +15,9 @@ use Rattle.sym_plain.specs.Pairs.{HaveDistinctKeys}
 use Rattle.sym_plain.proofs.Pairs.{insert-next}
 use Rattle.sym_run.specs.Chained.{Chained}
 use Rattle.sym_run.specs.Chains.{ChainFits, ChainStandsFor, IsClosed, IsTight}
-use Rattle.sym_run.specs.Kinds.{EachIsClosed, EachStandsFor, Kind}
-use Rattle.sym_run.specs.Runs.{AreClosed, AreTight, GroupsFit, GroupsStandFor}
+use Rattle.sym_run.specs.Extended.{ChainIsExtended}
+use Rattle.sym_run.specs.Kinds.{EachIsClosed, EachIsExtended, EachStandsFor, Kind}
+use Rattle.sym_run.specs.Runs.{AreClosed, AreTight, GroupsAreExtended, GroupsFit, GroupsStandFor}
 use Rattle.sym_run.proofs.GroupPuts.{all_split}
 
 keys-both : {V : Type 0} (xs ys : List (Key × V)) → keys_of (xs ++ ys) ≡ keys_of xs ++ keys_of ys
@@ -33,16 +34,17 @@ all_units {A} (x ∷ xs) = All-cons (λ (x : A). Unit {0}) x xs tt (all_units xs
 
 -- Chains as they stand, which closing leaves without kept records whatever they keep.
 abbrev pub kept_kind : Kind Chained
-kept_kind = record { fits = ChainFits; tight = IsTight; stands = ChainStandsFor; closed = λ chain. Unit {0} }
+kept_kind = record { fits = ChainFits; tight = IsTight; stands = ChainStandsFor; closed = λ chain. Unit {0}; extended = ChainIsExtended }
 
--- A group with its chain closed: the key is the same, and the chain fits, is tight, and stands for the
--- records for which the old one stood.
+-- A group with its chain closed: the key is the same, and the chain fits, is tight, stands for the
+-- records for which the old one stood, and is extended by those by which the old one was.
 pub record IsClosedTo {C : Type 0} (kind : Kind C) (p : ScriptPlan) (limit : ℕ) (old : Key × C) (new : Key × Chained) : Type 0 where
   pub key : new.0 ≡ old.0
   pub fits : ChainFits p new.1
   pub tight : IsTight p limit new.1
   pub closed : kind.closed old.1 → IsClosed new.1
   pub stands : (records : List Record) → kind.stands p records old.1 → ChainStandsFor p records new.1
+  pub extends : (records : List Record) → kind.extended p limit records old.1 → ChainIsExtended p limit records new.1
 
 -- The first groups are closed; the others are left.
 pub record AreClosing {C : Type 0} (kind : Kind C) (p : ScriptPlan) (limit : ℕ) (old left : List (Key × C)) (new : List (Key × Chained)) : Type 0 where
@@ -110,4 +112,11 @@ module _ {C : Type 0} (kind : Kind C) (p : ScriptPlan) (limit : ℕ) where
     keys_are = closing_keys old new h ∙ stand.keys_are;
     each = zip_all To (λ (group : Key × C). kind.stands p (records_of p group.0 records) group.1) (λ (group : Key × Chained). ChainStandsFor p (records_of p group.0 records) group.1) old new
         (λ x y to one. subst (λ (k : Key). ChainStandsFor p (records_of p k records) y.1) (sym to.key) (to.stands (records_of p x.0 records) one)) h stand.each;
+  }
+
+  pub closed_extended : (records : List Record) (old : List (Key × C)) (new : List (Key × Chained)) → AllZip To old new → EachIsExtended kind p limit records old → GroupsAreExtended p limit records new
+  closed_extended records old new h stand = record {
+    keys_are = closing_keys old new h ∙ stand.keys_are;
+    each = zip_all To (λ (group : Key × C). kind.extended p limit (records_of p group.0 records) group.1) (λ (group : Key × Chained). ChainIsExtended p limit (records_of p group.0 records) group.1) old new
+        (λ x y to one. subst (λ (k : Key). ChainIsExtended p limit (records_of p k records) y.1) (sym to.key) (to.extends (records_of p x.0 records) one)) h stand.each;
   }

@@ -14,6 +14,7 @@ use Rattle.sym_plain.specs.Pairs.{put}
 use Rattle.sym_run.specs.Chained.{Chained}
 use Rattle.sym_run.specs.Chains.{ChainFits, ChainStandsFor, IsClosed, IsTight}
 use Rattle.sym_run.specs.ClosedJoins.{AreClosedJoin, FoundIsTight, GrowsByClosed, IsChainJoin, IsSavedJoin}
+use Rattle.sym_run.specs.Extended.{ChainIsExtended}
 use Rattle.sym_run.specs.Growing.{AreJoined, FoundStands, FoundStandsFor, Grows}
 use Rattle.sym_run.specs.Kinds.{Kind}
 use Rattle.sym_run.specs.SavedRuns.{AreNumbered}
@@ -29,6 +30,7 @@ free_kind = record {
   tight = λ p limit chain. Unit {0};
   stands = ChainStandsFor;
   closed = IsClosed;
+  extended = ChainIsExtended;
 }
 
 abbrev Adds : ScriptPlan → Chained → List Record → Type 0

@@ -17,7 +17,7 @@ use Rattle.sym_table.specs.declared.header.Header.{Header}
 use Rattle.sym_table.specs.ChunkRecords.{RunOn, all_records, all_rows, chunk_records}
 use Rattle.sym_table.specs.RowRecords.{in_turn, records_or_bad}
 use Rattle.sym_table.proofs.RecordsAgree.{rows_append}
-use Rattle.sym_path.proofs.Lists.{drop_get}
+use Rattle.sym_path.proofs.Lists.{drop_get, take_get}
 use Rattle.sym_run.specs.declared.runs.Run.{Run}
 use Rattle.sym_run.specs.declared.opened.Open.{Open}
 use Rattle.sym_run.specs.Growing.{TakesOn}
@@ -190,3 +190,24 @@ run_tight p limit chunks run h none = of (all_records p (slice_range chunks run.
 pub taken_tight : (p : ScriptPlan) (limit : ℕ) (found : Result (List Record) Bad) (bad : Option Bad) (old new : List (Key × Open)) → TakesOn p limit found old bad new → bad ≡ None → OpenGroupsAreTight p limit new
 taken_tight p limit (Ok records) bad old new h none = h.1
 taken_tight p limit (Err first) bad old new h none = let other : Some first ≡ None = sym h ∙ none in absurd (cc)
+
+-- ---- chunks whose rows are all records
+pub in_turn_ok : (x y : Found) (records : List Record) → in_turn x y ≡ Ok records → (first : List Record) × (rest : List Record) × (x ≡ Ok first) × (y ≡ Ok rest) × (records ≡ first ++ rest)
+in_turn_ok (Ok first) (Ok rest) records e = (first, rest, refl, refl, let same : first ++ rest ≡ records = cc in sym same)
+in_turn_ok (Ok first) (Err bad) records e = absurd (cc)
+in_turn_ok (Err bad) y records e = absurd (cc)
+
+pub records_more : (p : ScriptPlan) (chunks : List Chunk) (n : ℕ) (c : Chunk) → slice_get chunks n ≡ Some c → all_records p (take (n + 1) chunks) ≡ in_turn (all_records p (take n chunks)) (chunk_records p c)
+records_more p chunks n c at =
+    ap (all_records p) (take_get chunks n c at) ∙ all_records-append p (take n chunks) (c ∷ [])
+    ∙ ap (in_turn (all_records p (take n chunks))) (none_after (chunk_records p c))
+
+-- Their run has no bad row.
+pub run_good : (p : ScriptPlan) (limit : ℕ) (chunks : List Chunk) (n : ℕ) (run : Run) (records : List Record) → StandsForChunks p limit chunks run → IsFromTo 0 n run → all_records p (take n chunks) ≡ Ok records → run.bad ≡ None
+run_good p limit chunks n run records h ends all =
+    let whole : n - 0 ≡ n = omega arith in
+    let part : slice_range chunks 0 n ≡ take n chunks = ap (λ (m : ℕ). take m (drop 0 chunks)) whole in
+    let same : all_records p (slice_range chunks run.lo run.hi) ≡ Ok records =
+    ap₂ (λ (lo hi : ℕ). all_records p (slice_range chunks lo hi)) ends.from ends.to ∙ ap (all_records p) part ∙ all in
+    let found : HasFound p limit (Ok records) run.bad run.groups = subst (λ (r : Found). HasFound p limit r run.bad run.groups) same h.found in
+    found.0

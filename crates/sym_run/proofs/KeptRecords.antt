@@ -40,7 +40,7 @@ zip_append R (x ∷ xs) others (y ∷ ys) more h k = (h.0, zip_append R xs other
 same_record : (p : ScriptPlan) (rec : Record) → IsKeptAs p rec rec
 same_record p rec = record { number = refl; steps = λ o. refl }
 
-same_records : (p : ScriptPlan) (records : List Record) → AreKeptAs p records records
+pub same_records : (p : ScriptPlan) (records : List Record) → AreKeptAs p records records
 same_records p [] = tt
 same_records p (rec ∷ records) = (same_record p rec, same_records p records)
 
@@ -78,14 +78,14 @@ kept_stand p records kept paths h s = record {
 }
 
 -- The records of which two lists are kept, cut where these meet.
-record AreCut (p : ScriptPlan) (records left right : List Record) : Type 0 where
-  first : List Record
-  rest : List Record
-  all : records ≡ first ++ rest
-  left_kept : AreKeptAs p first left
-  right_kept : AreKeptAs p rest right
+pub record AreCut (p : ScriptPlan) (records left right : List Record) : Type 0 where
+  pub first : List Record
+  pub rest : List Record
+  pub all : records ≡ first ++ rest
+  pub left_kept : AreKeptAs p first left
+  pub right_kept : AreKeptAs p rest right
 
-kept_cut : (p : ScriptPlan) (records left right : List Record) → AreKeptAs p records (left ++ right) → AreCut p records left right
+pub kept_cut : (p : ScriptPlan) (records left right : List Record) → AreKeptAs p records (left ++ right) → AreCut p records left right
 kept_cut p records [] right h = record { first = []; rest = records; all = refl; left_kept = tt; right_kept = h }
 kept_cut p [] (k ∷ left) right h = absurd h
 kept_cut p (rec ∷ records) (k ∷ left) right h =
@@ -136,7 +136,7 @@ kept_outcome : (p : ScriptPlan) (records kept : List Record) (o : Outcome) → A
 kept_outcome p records kept (Going s) h e = tt
 kept_outcome p records kept (outcome.Ended fault) h e = kept_any p fault.no records kept h e
 
-known_kept : (p : ScriptPlan) (records kept : List Record) (known : List KnownPath) → AreKeptAs p records kept → KnownStandsFor p kept known → KnownStandsFor p records known
+pub known_kept : (p : ScriptPlan) (records kept : List Record) (known : List KnownPath) → AreKeptAs p records kept → KnownStandsFor p kept known → KnownStandsFor p records known
 known_kept p records kept known h s = record {
   faults = All-weaker (λ (k : KnownPath). EndedAmong kept k.outcome) (λ (k : KnownPath). EndedAmong records k.outcome) (λ k e. kept_outcome p records kept k.outcome h e) known s.faults;
   exact = λ state valid. s.exact state valid ∙ ap (λ (o : Outcome). o ∷ []) (kept_after p records kept (Going state) h);
@@ -210,6 +210,7 @@ kept_longer p limit rec old new is fits tight some segments kept = record {
         (zip_append (IsKeptAs p) h.rest (rec ∷ []) old.kept (rec ∷ []) h.kept (same_record p rec, tt));
   };
   closed = λ none. absurd (omega (arith, ap length none, some));
+  extends = λ records h. absurd (omega (arith, ap length h.closed, some));
 }
 
 -- The chain that keeps one record.

@@ -9,6 +9,8 @@ pub mod ClosingGroups
 pub mod CutRecords
 pub mod EmptyWords
 mod Examples
+pub mod ExtendedGroups
+pub mod Extensions
 pub mod FoundRecords
 pub mod GroupPuts
 pub mod JoinedGroups

@@ -9,8 +9,8 @@ use Rattle.sym_check.specs.Meaning.Groups.{is_key, records_of}
 use Rattle.sym_check.specs.Plan.ScriptPlans.{ScriptPlan}
 use Rattle.sym_plain.specs.Pairs.{HaveDistinctKeys}
 use Rattle.sym_run.specs.Chained.{Chained}
-use Rattle.sym_run.specs.Opened.{KeepsNone, OpenFits, OpenGroupsAreTight, OpenGroupsFit, OpenGroupsKeepNone, OpenGroupsStandFor, OpenIsTight, OpenStandsFor, opened_group}
-use Rattle.sym_run.specs.Runs.{AreClosed, AreTight, GroupsFit, GroupsStandFor}
+use Rattle.sym_run.specs.Opened.{KeepsNone, OpenFits, OpenGroupsAreExtended, OpenGroupsAreTight, OpenGroupsFit, OpenGroupsKeepNone, OpenGroupsStandFor, OpenIsExtended, OpenIsTight, OpenStandsFor, opened_group}
+use Rattle.sym_run.specs.Runs.{AreClosed, AreTight, GroupsAreExtended, GroupsFit, GroupsStandFor}
 use Rattle.sym_run.specs.declared.opened.Open.{Open}
 
 opened_keys : (groups : List (Key × Chained)) → keys_of (map opened_group groups) ≡ keys_of groups
@@ -33,4 +33,10 @@ pub opened_stand : (p : ScriptPlan) (records : List Record) (groups : List (Key 
 opened_stand p records groups h = record {
   keys_are = opened_keys groups ∙ h.keys_are;
   each = All-map (λ (group : Key × Open). OpenStandsFor p (records_of p group.0 records) group.1) opened_group groups h.each;
+}
+
+pub opened_extended : (p : ScriptPlan) (limit : ℕ) (records : List Record) (groups : List (Key × Chained)) → GroupsAreExtended p limit records groups → OpenGroupsAreExtended p limit records (map opened_group groups)
+opened_extended p limit records groups h = record {
+  keys_are = opened_keys groups ∙ h.keys_are;
+  each = All-map (λ (group : Key × Open). OpenIsExtended p limit (records_of p group.0 records) group.1) opened_group groups h.each;
 }

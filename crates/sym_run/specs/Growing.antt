@@ -10,8 +10,8 @@ use Rattle.sym_run.specs.Chained.{Chained}
 use Rattle.sym_plain.specs.Pairs.{put}
 use Rattle.sym_table.specs.declared.bad.Bad.{Bad}
 use Rattle.sym_run.specs.Chains.{ChainStandsFor, IsClosed}
-use Rattle.sym_run.specs.Kinds.{Kind}
-use Rattle.sym_run.specs.Opened.{KeepsNone, OpenFits, OpenGroupsAreTight, OpenGroupsStandFor, OpenIsTight, OpenStandsFor, open_kind}
+use Rattle.sym_run.specs.Kinds.{Kind, by_extension}
+use Rattle.sym_run.specs.Opened.{KeepsNone, OpenFits, OpenGroupsAreTight, OpenGroupsStandFor, OpenIsExtended, OpenIsTight, OpenStandsFor, open_kind}
 use Rattle.sym_run.specs.Runs.{chain_kind}
 use Rattle.sym_run.specs.declared.opened.Open.{Open}
 
@@ -26,13 +26,16 @@ placed None chain = chain
 placed (Some next) chain = next
 
 -- A chain takes on one record: it fits and is tight, and stands for the records for which the old
--- one stood, whatever these are, and then this one. Where the old one kept no record, it keeps none.
+-- one stood, whatever these are, and then this one. Where the old one kept no record, it keeps
+-- none, and where it was extended by records, it is by these and then this one.
 pub record TakesOne (p : ScriptPlan) (limit : ℕ) (rec : Record) (old new : Open) : Type 0 where
   pub fits : OpenFits p new
   pub tight : OpenIsTight p limit new
   pub stands : (records : List Record) → OpenStandsFor p records old →
       OpenStandsFor p (records ++ rec ∷ []) new
   pub closed : KeepsNone old → KeepsNone new
+  pub extends : (records : List Record) → OpenIsExtended p limit records old →
+      OpenIsExtended p limit (records ++ rec ∷ []) new
 
 -- What was found for a key stands for its records: a chain, or no group where there are none.
 abbrev pub FoundStands : {C : Type 0} → Kind C → ScriptPlan → List Record → Option C → Type 0
@@ -72,7 +75,13 @@ abbrev pub GrowsByOne : ScriptPlan → ℕ → ℕ → Key → Record
 GrowsByOne p limit most key rec old new =
     Grows open_kind p limit key (λ rest. rest ≡ rec ∷ []) (most ≡ 0) old new
 
--- The same where the key is there; where it isn't, the groups stay.
+-- The same, where the chain of a key was extended by the records before, and is by this one.
+abbrev pub ExtendsByOne : ScriptPlan → ℕ → ℕ → Key → Record
+    → List (Key × Open) → List (Key × Open) → Type 0
+ExtendsByOne p limit most key rec old new =
+    Grows (by_extension limit open_kind) p limit key (λ rest. rest ≡ rec ∷ []) (most ≡ 0) old new
+
+-- One record more where the key is there; where it isn't, the groups stay.
 abbrev pub GrowsIf : ScriptPlan → ℕ → ℕ → Key → Record
     → List (Key × Open) → Bool → List (Key × Open) → Type 0
 GrowsIf p limit most key rec old true new = GrowsByOne p limit most key rec old new

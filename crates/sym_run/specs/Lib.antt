@@ -4,6 +4,7 @@ pub mod Chains
 pub mod ClosedJoins
 pub mod Closing
 pub mod Covering
+pub mod Extended
 pub mod Growing
 pub mod Holding
 pub mod Keeping

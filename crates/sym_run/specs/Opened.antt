@@ -10,7 +10,8 @@ use Rattle.sym_known.specs.Knowing.{AreKnown}
 use Rattle.sym_path.specs.declared.path.Path.{Path}
 use Rattle.sym_run.specs.Chained.{Chained}
 use Rattle.sym_run.specs.Chains.{ChainFits, ChainStandsFor, IsClosed, IsTight, SegmentsAreTight, SegmentsFit, SegmentsStandFor}
-use Rattle.sym_run.specs.Kinds.{EachFits, EachIsClosed, EachIsTight, EachStandsFor, Kind}
+use Rattle.sym_run.specs.Extended.{AreExtendedBefore, ChainIsExtended}
+use Rattle.sym_run.specs.Kinds.{EachFits, EachIsClosed, EachIsExtended, EachIsTight, EachStandsFor, Kind}
 use Rattle.sym_run.specs.declared.opened.Open.{Open}
 use Rattle.sym_run.specs.declared.opened.Open.TheVariants as opened
 
@@ -64,6 +65,23 @@ abbrev pub KeepsNone : Open → Type 0
 KeepsNone (opened.Chain chain) = IsClosed chain
 KeepsNone (opened.Known segments known) = Unit {0}
 
+-- Segments and known paths after them are extended by records: the segments by the first ones, up
+-- to those for which the known paths stand, of which there is one or more.
+pub record KnownChainIsExtended (p : ScriptPlan) (limit : ℕ) (records : List Record)
+    (segments : List (List Path)) (known : List KnownPath) : Type 0 where
+  pub first : List Record
+  pub rest : List Record
+  pub cut : records ≡ first ++ rest
+  pub some : 1 ≤ length rest
+  pub before : AreExtendedBefore p limit first rest segments
+  pub after : KnownStandsFor p rest known
+
+-- An open chain is extended by records.
+abbrev pub OpenIsExtended : ScriptPlan → ℕ → List Record → Open → Type 0
+OpenIsExtended p limit records (opened.Chain chain) = ChainIsExtended p limit records chain
+OpenIsExtended p limit records (opened.Known segments known) =
+    KnownChainIsExtended p limit records segments known
+
 -- What is said of open chains.
 abbrev pub open_kind : Kind Open
 open_kind = record {
@@ -71,6 +89,7 @@ open_kind = record {
   tight = OpenIsTight;
   stands = OpenStandsFor;
   closed = KeepsNone;
+  extended = OpenIsExtended;
 }
 
 -- ---- groups
@@ -90,6 +109,11 @@ OpenGroupsKeepNone groups = EachIsClosed open_kind groups
 -- the open chain of each key stands for the records with it.
 abbrev pub OpenGroupsStandFor : ScriptPlan → List Record → List (Key × Open) → Type 0
 OpenGroupsStandFor p records groups = EachStandsFor open_kind p records groups
+
+-- The groups are extended by records: their keys are the records' keys in order of first
+-- appearance, and the open chain of each key is extended by the records with it.
+abbrev pub OpenGroupsAreExtended : ScriptPlan → ℕ → List Record → List (Key × Open) → Type 0
+OpenGroupsAreExtended p limit records groups = EachIsExtended open_kind p limit records groups
 
 -- The group with its chain as it stands.
 abbrev pub opened_group : Key × Chained → Key × Open

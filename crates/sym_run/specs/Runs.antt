@@ -9,7 +9,8 @@ use Rattle.sym_table.specs.declared.bad.Bad.{Bad}
 use Rattle.sym_table.specs.declared.chunk.Chunk.{Chunk}
 use Rattle.sym_table.specs.ChunkRecords.{all_records}
 use Rattle.sym_run.specs.Chains.{ChainFits, ChainStandsFor, IsClosed, IsTight}
-use Rattle.sym_run.specs.Kinds.{EachFits, EachIsClosed, EachIsTight, EachStandsFor, Kind}
+use Rattle.sym_run.specs.Extended.{ChainIsExtended}
+use Rattle.sym_run.specs.Kinds.{EachFits, EachIsClosed, EachIsExtended, EachIsTight, EachStandsFor, Kind}
 use Rattle.sym_run.specs.declared.runs.Run.{Run}
 
 -- What is said of chains as they stand.
@@ -19,6 +20,7 @@ chain_kind = record {
   tight = IsTight;
   stands = ChainStandsFor;
   closed = IsClosed;
+  extended = ChainIsExtended;
 }
 
 -- All paths of the groups' chains fit the script.
@@ -45,6 +47,12 @@ pub record IsClosing (p : ScriptPlan) (old new : Key × Chained) : Type 0 where
 -- the chain of each key stands for the records with it.
 abbrev pub GroupsStandFor : ScriptPlan → List Record → List (Key × Chained) → Type 0
 GroupsStandFor p records groups = EachStandsFor chain_kind p records groups
+
+-- The groups are extended by records: their keys are the records' keys in order of first
+-- appearance, and the chain of each key is extended by the records with it, as far as the limit
+-- allows it.
+abbrev pub GroupsAreExtended : ScriptPlan → ℕ → List Record → List (Key × Chained) → Type 0
+GroupsAreExtended p limit records groups = EachIsExtended chain_kind p limit records groups
 
 -- A group more, which goes last; none where its key is there.
 abbrev pub added : List (Key × Chained) → Key → Chained

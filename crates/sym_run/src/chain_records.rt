@@ -1,5 +1,5 @@
 //! Records that are taken into the chains of their keys.
-ghost use Rattle.std.specs.Prelude.{◌≡◌, ◌≤◌, ◌∷◌, [], None, IfOk, IfSome, OnOk, length};
+ghost use Rattle.std.specs.Prelude.{◌≡◌, ◌≤◌, ◌∷◌, [], None, IfOk, IfSome, IsTrue, OnOk, length};
 ghost use Rattle.std.specs.Map.{lookup};
 ghost use Rattle.sym_check.specs.Checking.CheckedScripts.{checked_plan};
 ghost use Rattle.sym_check.specs.Meaning.Groups.{is_key, key_of};
@@ -8,7 +8,8 @@ ghost use Rattle.sym_plain.specs.Pairs.{HaveDistinctKeys};
 ghost use Rattle.sym_reads.specs.Agreement.{HasReadMarked};
 ghost use Rattle.sym_run.specs.Chains.{ChainFits, ChainStandsFor, IsClosed, IsTight};
 ghost use Rattle.sym_run.specs.Covering.{Covers};
-ghost use Rattle.sym_run.specs.Growing.{GrowsByOne, GrowsIf, TakesOne, placed};
+ghost use Rattle.sym_run.specs.Extended.{ChainIsExtended};
+ghost use Rattle.sym_run.specs.Growing.{ExtendsByOne, GrowsByOne, GrowsIf, TakesOne, placed};
 ghost use Rattle.sym_run.specs.Opened.{OpenFits, OpenGroupsAreTight, OpenGroupsFit, OpenIsTight};
 ghost use Rattle.sym_run.specs.declared.opened.Open.TheVariants as opened;
 
@@ -49,6 +50,7 @@ fn take_covered(
     requires rec { IsRecord (checked_plan settings.now.checked.now) rec.now }
     requires fits { ChainFits (checked_plan settings.now.checked.now) chain }
     requires tight { IsTight (checked_plan settings.now.checked.now) settings.now.limit chain }
+    requires some { 1 ≤ length chain.kept }
     requires covers { Covers (checked_plan settings.now.checked.now) settings.now.limit
         chain.kept segment }
     ensures { IfOk result
@@ -232,6 +234,9 @@ fn lengthen(
     ensures grows { IfOk result (λ there.
         GrowsIf (checked_plan settings.now.checked.now) settings.now.limit settings.now.most
         key.now rec.now map.old.entries there map.new.entries) }
+    ensures extends { IfOk result (λ there. IsTrue there →
+        ExtendsByOne (checked_plan settings.now.checked.now) settings.now.limit settings.now.most
+        key.now rec.now map.old.entries map.new.entries) }
     ensures distinct { HaveDistinctKeys map.new.entries }
 {
     taking.groups = map.len();
@@ -258,6 +263,9 @@ fn first_chain(
     ensures stands { IfOk result
         (ChainStandsFor (checked_plan settings.now.checked.now) (rec.now ∷ [])) }
     ensures closed { settings.now.most ≡ 0 → IfOk result IsClosed }
+    ensures extends { settings.now.most ≡ 0 → IfOk result
+        (ChainIsExtended (checked_plan settings.now.checked.now) settings.now.limit
+        (rec.now ∷ [])) }
 {
     if settings.most != 0 {
         return Chain::of_record(alloc, rec);
@@ -280,6 +288,9 @@ fn begin(
     requires distinct { HaveDistinctKeys map.old.entries }
     ensures grows { OnOk result
         (GrowsByOne (checked_plan settings.now.checked.now) settings.now.limit settings.now.most
+        key.now rec.now map.old.entries map.new.entries) }
+    ensures extends { settings.now.most ≡ 0 → OnOk result
+        (ExtendsByOne (checked_plan settings.now.checked.now) settings.now.limit settings.now.most
         key.now rec.now map.old.entries map.new.entries) }
     ensures distinct { HaveDistinctKeys map.new.entries }
 {
@@ -308,6 +319,9 @@ pub(crate) fn take_record(
     ensures grows { let p = checked_plan settings.now.checked.now in
         OnOk result (GrowsByOne p settings.now.limit settings.now.most (key_of p memory.old.rec)
         memory.old.rec map.old.entries map.new.entries) }
+    ensures extends { let p = checked_plan settings.now.checked.now in settings.now.most ≡ 0 →
+        OnOk result (ExtendsByOne p settings.now.limit settings.now.most
+        (key_of p memory.old.rec) memory.old.rec map.old.entries map.new.entries) }
     ensures distinct { HaveDistinctKeys map.new.entries }
 {
     let Memory { key, rec, taking } = memory;

@@ -1,14 +1,15 @@
 //! Runs that take on the rows of a chunk.
-ghost use Rattle.std.specs.Prelude.{◌≡◌, ◌<◌, ◌≤◌, ◌+◌, All, List, None, Some, IfNone, IfOk, length, slice_get};
+ghost use Rattle.std.specs.Prelude.{◌≡◌, ◌<◌, ◌≤◌, ◌+◌, ◌++◌, All, List, None, Some, Ok, IfNone, IfOk, length, slice_get};
+ghost use Rattle.sym_base.specs.declared.values.record.Record.{Record as OneRecord};
 ghost use Rattle.sym_check.specs.Checking.CheckedScripts.{checked_plan};
 ghost use Rattle.sym_plain.specs.Pairs.{HaveDistinctKeys};
-ghost use Rattle.sym_table.specs.ChunkRecords.{chunk_records};
+ghost use Rattle.sym_table.specs.ChunkRecords.{all_records, chunk_records};
 ghost use Rattle.sym_table.specs.Reading.{HasNext, Passes};
 ghost use Rattle.sym_table.specs.Rows.{FitsChunk};
 ghost use Rattle.sym_table.specs.declared.chunk.Chunk.{Chunk as OneChunk};
 ghost use Rattle.sym_run.specs.Growing.{TakesOn};
-ghost use Rattle.sym_run.specs.Opened.{OpenGroupsAreTight, OpenGroupsFit, OpenGroupsKeepNone};
-ghost use Rattle.sym_run.specs.Runs.{AreClosed, GroupsFit, IsFromTo, StandsForChunks};
+ghost use Rattle.sym_run.specs.Opened.{OpenGroupsAreExtended, OpenGroupsAreTight, OpenGroupsFit, OpenGroupsKeepNone};
+ghost use Rattle.sym_run.specs.Runs.{AreClosed, GroupsAreExtended, GroupsFit, IsFromTo, StandsForChunks};
 
 use crate::chain_records::take_record;
 use crate::memory::Memory;
@@ -46,6 +47,12 @@ pub(crate) fn take_rows(
         OpenGroupsFit (checked_plan settings.now.checked.now) map.new.entries) }
     ensures closed { settings.now.most ≡ 0 → OpenGroupsKeepNone map.old.entries →
         IfOk result (λ bad. OpenGroupsKeepNone map.new.entries) }
+    ensures extends { let p = checked_plan settings.now.checked.now in
+        (before records : List OneRecord) → settings.now.most ≡ 0 →
+        chunk_records p chunk.now ≡ Ok records →
+        OpenGroupsAreExtended p settings.now.limit before map.old.entries →
+        IfOk result (λ bad.
+        OpenGroupsAreExtended p settings.now.limit (before ++ records) map.new.entries) }
     ensures distinct { HaveDistinctKeys map.new.entries }
     ensures passes { IfOk result (λ bad.
         IfNone bad (Passes chunk.now.rows cursor.old cursor.new)) }
@@ -91,6 +98,10 @@ pub fn of_chunk(
     ensures stands { (chunks : List OneChunk) → slice_get chunks number ≡ Some chunk.now →
         IfOk result (StandsForChunks (checked_plan checked.now) limit chunks) }
     ensures closed { IfOk result (λ run. AreClosed run.groups) }
+    ensures extends { (records : List OneRecord) →
+        chunk_records (checked_plan checked.now) chunk.now ≡ Ok records →
+        IfOk result (λ run.
+        GroupsAreExtended (checked_plan checked.now) limit records run.groups) }
 {
     Run::none(alloc, number).extend(alloc, checked, chunk, limit)
 }
@@ -109,6 +120,10 @@ pub fn of_chunks(
     ensures chunks { IfOk result (IsFromTo 0 (length chunks.now)) }
     ensures stands { IfOk result (StandsForChunks (checked_plan checked.now) limit chunks.now) }
     ensures closed { IfOk result (λ run. AreClosed run.groups) }
+    ensures extends { (records : List OneRecord) →
+        all_records (checked_plan checked.now) chunks.now ≡ Ok records →
+        IfOk result (λ run.
+        GroupsAreExtended (checked_plan checked.now) limit records run.groups) }
 {
     let mut run = of_chunk(alloc, checked, &chunks[0], 0, limit)?;
     'chunks: for number in 1..chunks.len() {

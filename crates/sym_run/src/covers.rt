@@ -5,6 +5,7 @@ ghost use Rattle.sym_check.specs.Checking.CheckedScripts.{checked_plan};
 ghost use Rattle.sym_check.specs.Meaning.Validity.{IsRecord};
 ghost use Rattle.sym_run.specs.Chains.{SegmentsAreTight, SegmentsFit, SegmentsStandFor};
 ghost use Rattle.sym_run.specs.Covering.{Covers};
+ghost use Rattle.sym_run.specs.Extended.{AreExtended};
 
 use crate::kept::Kept;
 use crate::pushed::push_onto;
@@ -61,6 +62,12 @@ fn extend_last(
         (segments.items ++ last ∷ []) →
         IfOk result
         (SegmentsStandFor (checked_plan settings.now.checked.now) (records ++ rec.now ∷ [])) }
+    ensures extends { (records : List OneRecord) →
+        AreExtended (checked_plan settings.now.checked.now) settings.now.limit records
+        (segments.items ++ last ∷ []) →
+        IfOk result
+        (AreExtended (checked_plan settings.now.checked.now) settings.now.limit
+        (records ++ rec.now ∷ [])) }
 {
     let mut segments = segments;
     match extend_within(alloc, settings.checked, last, rec, settings.limit, scratch)? {
@@ -89,6 +96,8 @@ fn begin(
         (SegmentsAreTight (checked_plan settings.now.checked.now) settings.now.limit) }
     ensures stands { IfOk result
         (SegmentsStandFor (checked_plan settings.now.checked.now) (rec.now ∷ [])) }
+    ensures extends { IfOk result
+        (AreExtended (checked_plan settings.now.checked.now) settings.now.limit (rec.now ∷ [])) }
 {
     let own = fresh_with(alloc, settings.checked, rec, scratch)?;
     Ok(Segments::of_one(own))
@@ -114,6 +123,11 @@ pub(crate) fn take_on(
         SegmentsStandFor (checked_plan settings.now.checked.now) records segments →
         IfOk result
         (SegmentsStandFor (checked_plan settings.now.checked.now) (records ++ rec.now ∷ [])) }
+    ensures extends { (records : List OneRecord) →
+        AreExtended (checked_plan settings.now.checked.now) settings.now.limit records segments →
+        IfOk result
+        (AreExtended (checked_plan settings.now.checked.now) settings.now.limit
+        (records ++ rec.now ∷ [])) }
 {
     match segments.into_held() {
         Held::One(last) => {

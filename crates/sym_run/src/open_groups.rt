@@ -4,8 +4,8 @@ ghost use Rattle.std.specs.List.{AllZip};
 ghost use Rattle.sym_base.specs.declared.values.record.Record.{Record as OneRecord};
 ghost use Rattle.sym_check.specs.Checking.CheckedScripts.{checked_plan};
 ghost use Rattle.sym_plain.specs.Pairs.{HaveDistinctKeys};
-ghost use Rattle.sym_run.specs.Opened.{IsClosingOpen, OpenGroupsAreTight, OpenGroupsFit, OpenGroupsKeepNone, OpenGroupsStandFor, opened_group};
-ghost use Rattle.sym_run.specs.Runs.{AreClosed, AreTight, GroupsFit, GroupsStandFor};
+ghost use Rattle.sym_run.specs.Opened.{IsClosingOpen, OpenGroupsAreExtended, OpenGroupsAreTight, OpenGroupsFit, OpenGroupsKeepNone, OpenGroupsStandFor, opened_group};
+ghost use Rattle.sym_run.specs.Runs.{AreClosed, AreTight, GroupsAreExtended, GroupsFit, GroupsStandFor};
 
 use crate::opened::Open;
 use crate::run_groups::RunGroups;
@@ -44,6 +44,9 @@ pub(crate) fn close_all(
     ensures stands { (records : List OneRecord) →
         OpenGroupsStandFor (checked_plan checked.now) records map.entries →
         IfOk result (GroupsStandFor (checked_plan checked.now) records) }
+    ensures extends { (records : List OneRecord) →
+        OpenGroupsAreExtended (checked_plan checked.now) limit records map.entries →
+        IfOk result (GroupsAreExtended (checked_plan checked.now) limit records) }
 {
     let mut closed = IndexMap::with_capacity(alloc, map.len())?;
     'groups: for (key, chain) in map {

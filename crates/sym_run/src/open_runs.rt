@@ -1,12 +1,14 @@
 //! Runs to which chunks are added.
-ghost use Rattle.std.specs.Prelude.{◌≡◌, ◌<◌, ◌+◌, List, None, Some, IfOk, slice_get};
+ghost use Rattle.std.specs.Prelude.{◌≡◌, ◌<◌, ◌+◌, ◌++◌, List, None, Some, Ok, IfOk, slice_get};
+ghost use Rattle.sym_base.specs.declared.values.record.Record.{Record as OneRecord};
 ghost use Rattle.sym_check.specs.Checking.CheckedScripts.{checked_plan};
 ghost use Rattle.sym_table.specs.declared.chunk.Chunk.{Chunk as OneChunk};
+ghost use Rattle.sym_table.specs.ChunkRecords.{chunk_records};
 ghost use Rattle.sym_table.specs.Reading.{HasNext, Passes};
 ghost use Rattle.sym_table.specs.Rows.{FitsChunk};
 ghost use Rattle.sym_run.specs.OpenRuns.{IsOpenFromTo, OpenStandsForChunks, no_chunks, opened_run};
-ghost use Rattle.sym_run.specs.Opened.{OpenGroupsAreTight, OpenGroupsFit, OpenGroupsKeepNone};
-ghost use Rattle.sym_run.specs.Runs.{AreClosed, AreTight, GroupsFit, IsFromTo, StandsForChunks};
+ghost use Rattle.sym_run.specs.Opened.{OpenGroupsAreExtended, OpenGroupsAreTight, OpenGroupsFit, OpenGroupsKeepNone};
+ghost use Rattle.sym_run.specs.Runs.{AreClosed, AreTight, GroupsAreExtended, GroupsFit, IsFromTo, StandsForChunks};
 
 use crate::chunks::take_rows;
 use crate::memory::Memory;
@@ -122,6 +124,12 @@ impl OpenRun {
             chunks) }
         ensures closed { settings.now.most ≡ 0 → OpenGroupsKeepNone self.groups →
             IfOk result (λ run. OpenGroupsKeepNone run.groups) }
+        ensures extends { let p = checked_plan settings.now.checked.now in
+            (before records : List OneRecord) → settings.now.most ≡ 0 → self.bad ≡ None →
+            chunk_records p chunk.now ≡ Ok records →
+            OpenGroupsAreExtended p settings.now.limit before self.groups →
+            IfOk result (λ run. (run.bad ≡ None)
+            × OpenGroupsAreExtended p settings.now.limit (before ++ records) run.groups) }
         ensures passes { IfOk result (λ run. run.bad ≡ None →
             (self.bad ≡ None) × Passes chunk.now.rows cursor.old cursor.new) }
     {
@@ -163,6 +171,10 @@ impl OpenRun {
             IfOk result (StandsForChunks (checked_plan checked.now) limit chunks) }
         ensures closed { OpenGroupsKeepNone self.groups →
             IfOk result (λ run. AreClosed run.groups) }
+        ensures extends { (records : List OneRecord) → self.bad ≡ None →
+            OpenGroupsAreExtended (checked_plan checked.now) limit records self.groups →
+            IfOk result (λ run.
+            GroupsAreExtended (checked_plan checked.now) limit records run.groups) }
     {
         let OpenRun {
             lo,

@@ -6,7 +6,8 @@ ghost use Rattle.sym_known.specs.Knowing.{AreKnown};
 ghost use Rattle.sym_path.specs.Fitting.{SegmentFits};
 ghost use Rattle.sym_path.specs.Standing.{StandsFor};
 ghost use Rattle.sym_run.specs.Chains.{ChainFits, ChainStandsFor, HasFewPaths, IsClosed, IsTight, SegmentsAreTight, SegmentsFit, SegmentsStandFor};
-ghost use Rattle.sym_run.specs.Opened.{EndsKnown, KeepsNone, OpenFits, OpenIsTight, OpenStandsFor};
+ghost use Rattle.sym_run.specs.Extended.{AreExtended, AreExtendedBefore, ChainIsExtended};
+ghost use Rattle.sym_run.specs.Opened.{EndsKnown, KeepsNone, OpenFits, OpenIsExtended, OpenIsTight, OpenStandsFor};
 
 use crate::chains::Chain;
 use crate::pushed::push_segment;
@@ -58,6 +59,10 @@ fn known_after(
         SegmentsStandFor (checked_plan checked.now) first before →
         StandsFor (checked_plan checked.now) rest last →
         IfOk result (OpenStandsFor (checked_plan checked.now) (first ++ rest)) }
+    ensures extends { (first rest : List OneRecord) → 1 ≤ length rest →
+        AreExtendedBefore (checked_plan checked.now) _limit first rest before →
+        StandsFor (checked_plan checked.now) rest last →
+        IfOk result (OpenIsExtended (checked_plan checked.now) _limit (first ++ rest)) }
     ensures none { IfOk result KeepsNone }
 {
     Ok(Open::Known(before, Known::of(alloc, checked, last)?))
@@ -79,6 +84,9 @@ pub(crate) fn open_last(
     ensures stands { (records : List OneRecord) →
         SegmentsStandFor (checked_plan checked.now) records segments →
         IfOk result (OpenStandsFor (checked_plan checked.now) records) }
+    ensures extends { (records : List OneRecord) →
+        AreExtended (checked_plan checked.now) limit records segments →
+        IfOk result (OpenIsExtended (checked_plan checked.now) limit records) }
     ensures none { IfOk result KeepsNone }
 {
     if !ends_known(&segments, limit) {
@@ -111,6 +119,9 @@ impl Open {
         ensures stands { (records : List OneRecord) →
             OpenStandsFor (checked_plan checked.now) records self →
             IfOk result (ChainStandsFor (checked_plan checked.now) records) }
+        ensures extends { (records : List OneRecord) →
+            OpenIsExtended (checked_plan checked.now) limit records self →
+            IfOk result (ChainIsExtended (checked_plan checked.now) limit records) }
         ensures closed { KeepsNone self → IfOk result IsClosed }
     {
         match self {

@@ -1,13 +1,14 @@
 //! Runs of chunks: their groups, or the first of their rows that is no record.
-ghost use Rattle.std.specs.Prelude.{◌≡◌, ◌<◌, ◌+◌, [], List, None, Some, IfErr, IfOk, OnOk, slice_get};
+ghost use Rattle.std.specs.Prelude.{◌≡◌, ◌<◌, ◌+◌, ◌++◌, [], List, None, Some, Ok, IfErr, IfOk, OnOk, slice_get};
 ghost use Rattle.std.specs.Option.{option_or};
 ghost use Rattle.sym_base.specs.declared.values.record.Record.{Record as OneRecord};
 ghost use Rattle.sym_check.specs.Checking.CheckedScripts.{checked_plan};
 ghost use Rattle.sym_plain.specs.Pairs.{after_records};
 ghost use Rattle.sym_table.specs.declared.chunk.Chunk.{Chunk as OneChunk};
+ghost use Rattle.sym_table.specs.ChunkRecords.{chunk_records};
 ghost use Rattle.sym_table.specs.Rows.{FitsChunk};
 ghost use Rattle.sym_run.specs.Applying.{AreValid, IfDone, IsApplied, bad_of};
-ghost use Rattle.sym_run.specs.Runs.{AreClosed, AreTight, GroupsFit, GroupsStandFor, IsFromTo, StandsForChunks};
+ghost use Rattle.sym_run.specs.Runs.{AreClosed, AreTight, GroupsAreExtended, GroupsFit, GroupsStandFor, IsFromTo, StandsForChunks};
 
 use crate::applied_groups::apply_all;
 use crate::joined_groups::join_groups;
@@ -177,6 +178,11 @@ impl Run {
             slice_get chunks self.hi ≡ Some chunk.now →
             IfOk result (StandsForChunks (checked_plan checked.now) limit chunks) }
         ensures closed { AreClosed self.groups → IfOk result (λ run. AreClosed run.groups) }
+        ensures extends { (before records : List OneRecord) → self.bad ≡ None →
+            chunk_records (checked_plan checked.now) chunk.now ≡ Ok records →
+            GroupsAreExtended (checked_plan checked.now) limit before self.groups →
+            IfOk result (λ run.
+            GroupsAreExtended (checked_plan checked.now) limit (before ++ records) run.groups) }
     {
         let Run {
             lo,

@@ -5,7 +5,7 @@ ghost use Rattle.sym_check.specs.Checking.CheckedScripts.{checked_plan};
 ghost use Rattle.sym_path.specs.Fitting.{SegmentFits};
 ghost use Rattle.sym_table.specs.Rows.{FitsChunk};
 
-use crate::logs::{ASKED, SESSIONS, TOGGLE};
+use crate::logs::{ASKED, NOTES, RESETS, SESSIONS, TOGGLE};
 use crate::setting::{Case, check_cases, chunks_of, same_groups};
 use std::alloc::Global;
 use std::test::Fail;
@@ -180,6 +180,45 @@ fn segments_stay_apart_over_the_limit(rt: HostRuntime) -> Result<(), Fail> {
             limit: 4,
             paths: &[4],
             pairs: None,
+        },
+    ];
+    check_cases(&rt, rt.alloc(), &cases)
+}
+
+// The first record of a toggle has two paths, and the one after it that makes the group idle joins
+// them: its extension has one path, though it and the first record's segment have two pairs.
+#[test]
+fn a_record_that_fits_is_in_the_last_segment(rt: HostRuntime) -> Result<(), Fail> {
+    let notes = "x\n1\n1\n1\n";
+    let resets = "x\n1\n0\n1\n";
+    let cases = [
+        OneChain {
+            script: NOTES,
+            log: notes,
+            limit: 1,
+            paths: &[1],
+            pairs: None,
+        },
+        OneChain {
+            script: NOTES,
+            log: notes,
+            limit: 0,
+            paths: &[1, 1, 1],
+            pairs: Some(1),
+        },
+        OneChain {
+            script: RESETS,
+            log: resets,
+            limit: 1,
+            paths: &[1],
+            pairs: None,
+        },
+        OneChain {
+            script: RESETS,
+            log: resets,
+            limit: 0,
+            paths: &[2, 1, 2],
+            pairs: Some(2),
         },
     ];
     check_cases(&rt, rt.alloc(), &cases)

@@ -23,6 +23,15 @@ pub(crate) const ACTIONS: &str =
 pub(crate) const TOGGLE: &str = "enum mode { idle, busy } field x: num; state phase: mode = idle; \
     update { if phase is idle { phase = busy; } else { phase = idle; } } report { phase = phase; }";
 
+/// The same group, which is idle after a record with a 0, whatever it was before.
+pub(crate) const RESETS: &str = "enum mode { idle, busy } field x: num; state phase: mode = idle; \
+    update { if x > 0 { if phase is idle { phase = busy; } else { phase = idle; } } \
+    else { phase = idle; } } report { phase = phase; }";
+
+/// A word for each record, which has one path.
+pub(crate) const NOTES: &str = "field x: num; state notes: words; \
+    update { push notes \"a\"; } report { notes = count(notes); }";
+
 /// So many tests of a cell that each of them may be true or false of it: a record has 1,024 paths.
 pub(crate) const ASKED: &str = "field x: num; state h: hold(num = 0); state w: words; \
     test t(p: num, k: num) = p % k == 0; \

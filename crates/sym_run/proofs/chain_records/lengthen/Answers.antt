@@ -5,6 +5,7 @@ use Rattle.sym_plain.proofs.Pairs.{set-put}
 use Rattle.sym_run.specs.Opened.{OpenFits, OpenIsTight}
 use Rattle.sym_run.specs.declared.opened.Open.{Open}
 use Rattle.sym_run.proofs.Beginning.{grown_longer}
+use Rattle.sym_run.proofs.ExtendedGroups.{longer_extended}
 use Rattle.sym_run.proofs.GroupPuts.{all_found}
 use Rattle.sym_run.proofs.chain_records.lengthen.Goals as goal
 
@@ -23,5 +24,13 @@ returns-in_ok-take_into-in-Some-clause-grows c =
     let chain : Open = c.take_into.new.chain in
     let there = sym c.in-Some.ensures.value in
     grown_longer (checked_plan c.args.settings.now.checked.now) c.args.settings.now.limit c.args.settings.now.most c.args.key.now c.args.rec.now c.args.map.now.entries (c.get_mut.follows.lender chain).entries c.in-Some.chain.now chain
+    ((c.get_mut.follows.holds chain).0 ∙ set-put c.args.map.now.entries c.args.key.now c.in-Some.chain.now chain c.in-Some.ensures.unique there)
+    there c.in_ok-take_into-in-Some.ensures
+
+pub returns-in_ok-take_into-in-Some-clause-extends : goal.returns-in_ok-take_into-in-Some-clause-extends
+returns-in_ok-take_into-in-Some-clause-extends c = λ t.
+    let chain : Open = c.take_into.new.chain in
+    let there = sym c.in-Some.ensures.value in
+    longer_extended (checked_plan c.args.settings.now.checked.now) c.args.settings.now.limit c.args.settings.now.most c.args.key.now c.args.rec.now c.args.map.now.entries (c.get_mut.follows.lender chain).entries c.in-Some.chain.now chain
     ((c.get_mut.follows.holds chain).0 ∙ set-put c.args.map.now.entries c.args.key.now c.in-Some.chain.now chain c.in-Some.ensures.unique there)
     there c.in_ok-take_into-in-Some.ensures

@@ -1,4 +1,4 @@
-use Rattle.std.proofs.Common.{subst, sym}
+use Rattle.std.proofs.Common.{ap, arith, length, subst, sym}
 use Rattle.sym_check.specs.Checking.CheckedScripts.{checked_plan}
 use Rattle.sym_run.specs.Chains.{SegmentsStandFor}
 use Rattle.sym_run.specs.declared.opened.Open.TheVariants as opened
@@ -15,4 +15,5 @@ returns c =
     (covered_stands p c.args.chain c.in_ok-segments.segments
     (λ first s. c.in_ok-segments.ensures.stands first c.args.chain.kept (subst (SegmentsStandFor p first) (sym c.into_parts-segments.ensures.segments) s) c.requires.covers.stands)
     records h))
-    c.open_last.ensures.fits c.open_last.ensures.tight c.open_last.ensures.stands c.open_last.ensures.none
+    (λ records h. absurd (omega (arith, ap length h.closed, c.requires.some)))
+    c.open_last.ensures.fits c.open_last.ensures.tight c.open_last.ensures.stands c.open_last.ensures.extends c.open_last.ensures.none

@@ -1,4 +1,4 @@
-use Rattle.std.proofs.Common.{sym, subst}
+use Rattle.std.proofs.Common.{◌≤◌, length, sym, subst}
 use Rattle.sym_check.specs.Checking.CheckedScripts.{checked_plan}
 use Rattle.sym_run.specs.Chained.{Chained}
 use Rattle.sym_run.specs.Chains.{ChainFits, IsTight}
@@ -13,6 +13,9 @@ take_covered-requires-clause-fits c = subst (ChainFits (checked_plan c.args.sett
 
 pub take_covered-requires-clause-tight : goal.take_covered-requires-clause-tight
 take_covered-requires-clause-tight c = subst (IsTight (checked_plan c.args.settings.now.checked.now) c.args.settings.now.limit) (sym c.replace-old.ensures.value) c.requires.tight
+
+pub take_covered-requires-clause-some : goal.take_covered-requires-clause-some
+take_covered-requires-clause-some c = subst (λ (old : Chained). 1 ≤ length old.kept) (sym c.replace-old.ensures.value) c.requires.some
 
 pub keep-requires : goal.keep-requires
 keep-requires c = as_wide (checked_plan c.args.settings.now.checked.now) c.args.rec.now c.args.chain.now.kept c.requires.rec c.requires.fits.kept

@@ -4,9 +4,9 @@ use Rattle.sym_base.specs.declared.values.value.Key.{Key}
 use Rattle.sym_check.specs.Checking.CheckedScripts.{checked_plan}
 use Rattle.sym_path.proofs.Lists.{zip_weak}
 use Rattle.sym_run.specs.Opened.{IsClosingOpen, OpenFits, OpenIsTight, open_kind}
-use Rattle.sym_run.specs.Runs.{AreClosed, AreTight, GroupsFit, GroupsStandFor}
+use Rattle.sym_run.specs.Runs.{AreClosed, AreTight, GroupsAreExtended, GroupsFit, GroupsStandFor}
 use Rattle.sym_run.specs.declared.opened.Open.{Open}
-use Rattle.sym_run.proofs.ClosedGroups.{IsClosedTo, closed_close, closed_distinct, closed_fit, closed_stand, closed_tight, closing_all, closing_on, left_has}
+use Rattle.sym_run.proofs.ClosedGroups.{IsClosedTo, closed_close, closed_distinct, closed_extended, closed_fit, closed_stand, closed_tight, closing_all, closing_on, left_has}
 use Rattle.sym_run.proofs.open_groups.close_all.Goals as goal
 
 pub close-requires-clause-fits : goal.close-requires-clause-fits
@@ -26,7 +26,7 @@ groups-preserved c =
     let made = c.in_ok-close.ensures in
     closing_on open_kind (checked_plan c.args.checked.now) c.args.limit c.args.map.entries c.groups.key-iterator c.next.new.self c.groups.closed.entries c.insert.new.self.entries c.in-Some.key c.in-Some.chain c.in_ok-close.field-0
     c.groups.invariant c.in-Some.ensures.steps c.requires.distinct c.in_ok-insert.ensures.entries
-    (record { key = refl; fits = made.fits; tight = made.tight; closed = made.closed; stands = made.stands })
+    (record { key = refl; fits = made.fits; tight = made.tight; closed = made.closed; stands = made.stands; extends = made.extends })
 
 pub of_map-requires : goal.of_map-requires
 of_map-requires c =
@@ -69,3 +69,10 @@ returns-clause-stands c = λ records stand.
     subst (GroupsStandFor p records) (sym c.of_map.ensures)
     (closed_stand open_kind p c.args.limit records c.args.map.entries c.groups.closed.entries
     (closing_all open_kind p c.args.limit c.args.map.entries c.groups.key-iterator c.groups.closed.entries c.groups.invariant c.in-None.ensures.steps.0) stand)
+
+pub returns-clause-extends : goal.returns-clause-extends
+returns-clause-extends c = λ records extended.
+    let p = checked_plan c.args.checked.now in
+    subst (GroupsAreExtended p c.args.limit records) (sym c.of_map.ensures)
+    (closed_extended open_kind p c.args.limit records c.args.map.entries c.groups.closed.entries
+    (closing_all open_kind p c.args.limit c.args.map.entries c.groups.key-iterator c.groups.closed.entries c.groups.invariant c.in-None.ensures.steps.0) extended)

@@ -4,7 +4,7 @@ use Rattle.sym_base.specs.declared.values.value.Key.{Key}
 use Rattle.sym_check.specs.Checking.CheckedScripts.{checked_plan}
 use Rattle.sym_table.specs.declared.bad.Bad.{Bad}
 use Rattle.sym_run.specs.OpenRuns.{OpenStandsForChunks, OpenedRun}
-use Rattle.sym_run.specs.Opened.{OpenGroupsAreTight, OpenGroupsFit, OpenGroupsKeepNone, open_kind}
+use Rattle.sym_run.specs.Opened.{OpenGroupsAreExtended, OpenGroupsAreTight, OpenGroupsFit, OpenGroupsKeepNone, open_kind}
 use Rattle.sym_run.specs.Chained.{Chained}
 use Rattle.sym_run.specs.Chains.{ChainFits}
 use Rattle.sym_run.specs.Runs.{StandForChunks, chain_kind}
@@ -57,3 +57,11 @@ returns-clause-stands c = λ chunks h.
 
 pub returns-clause-closed : goal.returns-clause-closed
 returns-clause-closed c = λ before. c.in_ok-close_all.ensures.closed (subst (λ (run : OpenedRun). OpenGroupsKeepNone run.groups) (sym c.self.view_is) before)
+
+pub returns-then-is_some-clause-extends : goal.returns-then-is_some-clause-extends
+returns-then-is_some-clause-extends c = λ records good extended.
+    absurd (none_here c.self.inside.bad (sym c.is_some.ensures ∙ c.if-is_some.true) (subst (λ (run : OpenedRun). run.bad ≡ None) (sym c.self.view_is) good))
+
+pub returns-clause-extends : goal.returns-clause-extends
+returns-clause-extends c = λ records good extended.
+    c.in_ok-close_all.ensures.extends records (subst (λ (run : OpenedRun). OpenGroupsAreExtended (checked_plan c.args.checked.now) c.args.limit records run.groups) (sym c.self.view_is) extended)

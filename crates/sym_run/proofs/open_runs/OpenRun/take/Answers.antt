@@ -1,11 +1,15 @@
-use Rattle.std.proofs.Common.{◌≡◌, ◌∙◌, ◌+◌, true, false, Option, None, Some, ap, sym, refl, subst, is_some}
+use Rattle.std.proofs.Common.{◌≡◌, ◌∙◌, ◌+◌, true, false, List, Option, None, Some, Result, Ok, ap, sym, refl, subst, is_some}
 use Rattle.std.specs.Prelude.{IfNone, slice_get}
+use Rattle.sym_base.specs.declared.values.value.Key.{Key}
+use Rattle.sym_base.specs.declared.values.record.Record.{Record}
 use Rattle.sym_check.specs.Checking.CheckedScripts.{checked_plan}
 use Rattle.sym_table.specs.ChunkRecords.{chunk_records}
 use Rattle.sym_table.specs.declared.bad.Bad.{Bad}
 use Rattle.sym_table.specs.Reading.{HasNext}
+use Rattle.sym_run.specs.Growing.{TakesOn}
+use Rattle.sym_run.specs.declared.opened.Open.{Open}
 use Rattle.sym_run.specs.OpenRuns.{OpenStandsForChunks, OpenedRun}
-use Rattle.sym_run.specs.Opened.{OpenGroupsAreTight, OpenGroupsFit, OpenGroupsKeepNone}
+use Rattle.sym_run.specs.Opened.{OpenGroupsAreExtended, OpenGroupsAreTight, OpenGroupsFit, OpenGroupsKeepNone}
 use Rattle.sym_run.proofs.FoundRecords.{found_extended, taken_tight}
 use Rattle.sym_run.proofs.open_runs.OpenRun.take.Goals as goal
 
@@ -95,3 +99,16 @@ returns-clause-passes c = λ none. (
   subst (λ (run : OpenedRun). run.bad ≡ None) c.self.view_is (no_bad c.self.inside.bad (sym c.is_some.ensures ∙ c.if-is_some.false)),
   passed c.in_ok-bad.bad none c.in_ok-bad.ensures.passes,
 )
+
+pub returns-then-is_some-clause-extends : goal.returns-then-is_some-clause-extends
+returns-then-is_some-clause-extends c = λ before records none good all extended.
+    absurd (none_here c.self.inside.bad (sym c.is_some.ensures ∙ c.if-is_some.true) (subst (λ (run : OpenedRun). run.bad ≡ None) (sym c.self.view_is) good))
+
+pub returns-clause-extends : goal.returns-clause-extends
+returns-clause-extends c = λ before records none good all extended.
+    let p = checked_plan c.args.settings.now.checked.now in
+    let limit = c.args.settings.now.limit in
+    let old : List (Key × Open) = c.self.inside.groups.entries in
+    let new : List (Key × Open) = c.take_rows.new.map.entries in
+    let found : TakesOn p limit (Ok records) old c.in_ok-bad.bad new = subst (λ (rows : Result (List Record) Bad). TakesOn p limit rows old c.in_ok-bad.bad new) all c.in_ok-bad.ensures.found in
+    (found.0, c.in_ok-bad.ensures.extends before records none all (subst (λ (run : OpenedRun). OpenGroupsAreExtended p limit before run.groups) (sym c.self.view_is) extended))

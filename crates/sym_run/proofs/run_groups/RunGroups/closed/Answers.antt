@@ -6,6 +6,7 @@ use Rattle.sym_path.proofs.Lists.{zip_weak}
 use Rattle.sym_plain.specs.Pairs.{HaveDistinctKeys}
 use Rattle.sym_run.specs.Chained.{Chained}
 use Rattle.sym_run.specs.Chains.{ChainFits, IsTight}
+use Rattle.sym_run.specs.Extended.{ChainIsExtended}
 use Rattle.sym_run.specs.Runs.{AreClosed, AreTight, GroupsFit, GroupsStandFor, IsClosing}
 use Rattle.sym_run.proofs.ClosedGroups.{IsClosedTo, all_units, closed_close, closed_distinct, closed_fit, closed_stand, closed_tight, closing_all, closing_none, closing_on, kept_kind, left_has}
 use Rattle.sym_run.proofs.run_groups.RunGroups.closed.Goals as goal
@@ -29,10 +30,18 @@ closed-requires-clause-tight c =
 
 pub groups-preserved : goal.groups-preserved
 groups-preserved c =
+    let p = checked_plan c.args.checked.now in
     let made = c.in_ok-closed-2.ensures in
-    closing_on kept_kind (checked_plan c.args.checked.now) c.args.limit c.args.self c.groups.key-iterator c.next.new.self c.groups.closed.entries c.insert.new.self.entries c.in-Some.key c.in-Some.chain c.in_ok-closed-2.field-0
+    closing_on kept_kind p c.args.limit c.args.self c.groups.key-iterator c.next.new.self c.groups.closed.entries c.insert.new.self.entries c.in-Some.key c.in-Some.chain c.in_ok-closed-2.field-0
     c.groups.invariant c.in-Some.ensures.steps (subst HaveDistinctKeys c.into_map-map.ensures.same c.into_map-map.ensures.distinct) c.in_ok-insert.ensures.entries
-    (record { key = refl; fits = made.fits; tight = made.tight; closed = λ u. made.closed; stands = made.stands })
+    (record {
+      key = refl;
+      fits = made.fits;
+      tight = made.tight;
+      closed = λ u. made.closed;
+      stands = made.stands;
+      extends = λ records h. subst (ChainIsExtended p c.args.limit records) (sym (made.same h.closed)) h;
+    })
 
 pub of_map-requires : goal.of_map-requires
 of_map-requires c =

@@ -1,15 +1,15 @@
-use Rattle.std.proofs.Common.{◌≡◌, ◌<◌, ◌∙◌, ◌+◌, List, None, Some, ap, map, refl, sym, subst}
+use Rattle.std.proofs.Common.{◌≡◌, ◌<◌, ◌∙◌, ◌+◌, ◌++◌, List, None, Some, ap, map, refl, sym, subst}
 use Rattle.std.proofs.lemmas.Result.{IfOk-weaker}
 use Rattle.std.specs.Prelude.{slice_get}
 use Rattle.sym_base.specs.declared.values.value.Key.{Key}
 use Rattle.sym_check.specs.Checking.CheckedScripts.{checked_plan}
 use Rattle.sym_table.proofs.Stepping.{one_chunk}
 use Rattle.sym_run.specs.OpenRuns.{OpenStandsForChunks, OpenedRun}
-use Rattle.sym_run.specs.Opened.{OpenGroupsAreTight, OpenGroupsFit, OpenGroupsKeepNone, open_kind, opened_group}
+use Rattle.sym_run.specs.Opened.{OpenGroupsAreExtended, OpenGroupsAreTight, OpenGroupsFit, OpenGroupsKeepNone, open_kind, opened_group}
 use Rattle.sym_run.specs.Runs.{chain_kind}
 use Rattle.sym_run.specs.declared.opened.Open.{Open}
 use Rattle.sym_run.proofs.FoundRecords.{stand_as}
-use Rattle.sym_run.proofs.OpenGroups.{opened_fit, opened_keep_none, opened_stand, opened_tight}
+use Rattle.sym_run.proofs.OpenGroups.{opened_extended, opened_fit, opened_keep_none, opened_stand, opened_tight}
 use Rattle.sym_run.proofs.runs.Run.extend.Goals as goal
 
 pub take-requires-clause-rows : goal.take-requires-clause-rows
@@ -51,3 +51,13 @@ returns-clause-stands c = λ chunks h at.
 pub returns-clause-closed : goal.returns-clause-closed
 returns-clause-closed c = λ before.
     c.close.ensures.closed (c.in_ok-take.ensures.closed refl (subst (λ (run : OpenedRun). OpenGroupsKeepNone run.groups) (sym c.in_ok-of.ensures) (opened_keep_none c.args.self.groups before)))
+
+pub returns-clause-extends : goal.returns-clause-extends
+returns-clause-extends c = λ before records good all extended.
+    let p = checked_plan c.args.checked.now in
+    let limit = c.args.limit in
+    let groups = c.args.self.groups in
+    let start : OpenGroupsAreExtended p limit before c.in_ok-of.field-0.groups =
+    subst (λ (run : OpenedRun). OpenGroupsAreExtended p limit before run.groups) (sym c.in_ok-of.ensures) (opened_extended p limit before groups extended) in
+    let taken = c.in_ok-take.ensures.extends before records refl (subst (λ (run : OpenedRun). run.bad ≡ None) (sym c.in_ok-of.ensures) good) all start in
+    c.close.ensures.extends (before ++ records) taken.0 taken.1
