@@ -3,7 +3,7 @@
 #![tactic(auto)]
 
 pub use sym_files::{
-    CHUNK_DEFAULT, LIMIT_DEFAULT, LIMIT_MAX, Options, PassErr, Rounds, SequentialRounds, Took,
+    CHUNK_DEFAULT, LIMIT_DEFAULT, LIMIT_MAX, Log, Options, PassErr, Rounds, SequentialRounds, Took,
     WORKERS_DEFAULT, Work, each_round, each_round_in_turn, laws,
 };
 pub use sym_passes::{pass, sequential_pass, summarise};

@@ -24,6 +24,17 @@ use sym_base::{ReadErr, Store, read_all};
 use sym_check::Checked;
 use sym_table::{Chunks, Spare};
 
+/// Files that are taken as one log.
+#[derive(Clone, Copy)]
+pub struct Log<'a> {
+    /// The names of the files, which are taken in this order.
+    pub names: &'a [String],
+    /// How they are cut and worked on.
+    pub options: &'a Options,
+    /// The number of the first record. The others follow it, over all files.
+    pub first: u64,
+}
+
 // All bytes of the file with the number `file`.
 fn read_file<F: Store>(
     alloc: Global,
@@ -55,38 +66,39 @@ pub(crate) fn take_files<F: Store, R, W: Way<R>>(
     alloc: Global,
     checked: &Checked,
     files: &mut F,
-    names: &[String],
-    options: &Options,
-    first: u64,
+    log: &Log<'_>,
     rounds: &mut R,
 ) -> Result<u64, PassErr>
     requires ready { W.ready }
-    requires options { InRange options.now }
-    requires few { length names.now ≤ limit.FILES_MAX }
-    requires first { first ≤ 2 ^ 61 }
+    requires options { InRange log.now.options.now }
+    requires few { length log.now.names.now ≤ limit.FILES_MAX }
+    requires first { log.now.first ≤ 2 ^ 61 }
     requires stands { let p = checked_plan checked.now in
-        (records : List OneRecord) × W.stands rounds.old p options.now.limit records }
+        (records : List OneRecord) × W.stands rounds.old p log.now.options.now.limit records }
     ensures taken { let p = checked_plan checked.now in
-        let names = map string_bytes names.now in
-        let rules = rules_of options.now.max_bytes (W.shown rounds.old) in
-        let stood = stands_by W.stands p options.now.limit in
+        let names = map string_bytes log.now.names.now in
+        let rules = rules_of log.now.options.now.max_bytes (W.shown rounds.old) in
+        let stood = stands_by W.stands p log.now.options.now.limit in
+        let first = log.now.first in
         IfOk result (TakenAll stood p rules (F.holds files.old) names first rounds.old rounds.new) }
     ensures stopped { let p = checked_plan checked.now in
-        let names = map string_bytes names.now in
-        let rules = rules_of options.now.max_bytes (W.shown rounds.old) in
+        let names = map string_bytes log.now.names.now in
+        let rules = rules_of log.now.options.now.max_bytes (W.shown rounds.old) in
         let before = F.faults files.old in
         let after = F.faults files.new in
-        IfErr result (StopsFrom first p rules (F.holds files.old) names before after) }
+        IfErr result (StopsFrom log.now.first p rules (F.holds files.old) names before after) }
     ensures told { let p = checked_plan checked.now in
-        let rules = rules_of options.now.max_bytes (W.shown rounds.old) in
-        let names = map string_bytes names.now in
-        let named = named_files p rules options.now.chunk (F.holds files.old) names first in
+        let rules = rules_of log.now.options.now.max_bytes (W.shown rounds.old) in
+        let names = map string_bytes log.now.names.now in
+        let chunk = log.now.options.now.chunk in
+        let named = named_files p rules chunk (F.holds files.old) names log.now.first in
         (start : R) → W.told start rounds.old p Point.between [] →
         OnOk result (OfFiles named (length names) (W.told start rounds.new p Point.between)) }
     ensures told_until { let p = checked_plan checked.now in
-        let rules = rules_of options.now.max_bytes (W.shown rounds.old) in
-        let names = map string_bytes names.now in
-        let named = named_files p rules options.now.chunk (F.holds files.old) names first in
+        let rules = rules_of log.now.options.now.max_bytes (W.shown rounds.old) in
+        let names = map string_bytes log.now.names.now in
+        let chunk = log.now.options.now.chunk in
+        let named = named_files p rules chunk (F.holds files.old) names log.now.first in
         (start : R) → W.told start rounds.old p Point.between [] →
         IfErr result (UntilStop named (W.told start rounds.new p Point.between)
         (W.told start rounds.new p Point.at_bad)
@@ -98,18 +110,21 @@ pub(crate) fn take_files<F: Store, R, W: Way<R>>(
     let mut work = Work {
         checked: checked.copy(alloc)?,
         chunks: Chunks::new(alloc),
-        limit: options.limit,
+        limit: log.options.limit,
     };
     let mut course = Course {
-        next_no: first,
-        chunk: options.chunk,
+        file: 0,
+        next_no: log.first,
+        chunk: log.options.chunk,
         spare: Spare::new(alloc),
     };
+    let names = log.names;
+    let max_bytes = log.options.max_bytes;
     'files: for (file, name) in names.iter().enumerate() {
-        let number = file as u64;
-        let bytes = read_file(alloc, files, name.as_str(), number, options.max_bytes)?;
+        course.file = file as u64;
+        let bytes = read_file(alloc, files, name.as_str(), course.file, max_bytes)?;
         let bytes = bytes.as_slice();
-        take_file(way, alloc, &mut work, bytes, number, &mut course, rounds)?;
+        take_file(way, alloc, &mut work, bytes, &mut course, rounds)?;
     }
     Ok(course.next_no)
 }
@@ -180,12 +195,17 @@ pub fn each_round<T: Threads + Wait + Sync, F: Store, R: Rounds>(
         rt,
         workers: options.workers,
     };
-    take_files(&way, alloc, checked, files, names, options, first, rounds)
+    let log = Log {
+        names,
+        options,
+        first,
+    };
+    take_files(&way, alloc, checked, files, &log, rounds)
 }
 
-/// Takes the records of the files of these names as `each_round` does, on one thread, for a value that
-/// takes rounds without a runtime. Each row is read as it is, and the workers and the path limit
-/// change nothing.
+/// Takes the records of a log's files as `each_round` does, on one thread, for a value that takes
+/// rounds without a runtime. Each row is read as it is, and the workers and the path limit change
+/// nothing.
 ///
 /// # Errors
 ///
@@ -194,29 +214,28 @@ pub fn each_round_in_turn<F: Store, R: SequentialRounds>(
     alloc: Global,
     checked: &Checked,
     files: &mut F,
-    names: &[String],
-    options: &Options,
-    first: u64,
+    log: &Log<'_>,
     rounds: &mut R,
 ) -> Result<u64, PassErr>
-    requires options { InRange options.now }
-    requires few { length names.now ≤ limit.FILES_MAX }
-    requires first { first ≤ 2 ^ 61 }
+    requires options { InRange log.now.options.now }
+    requires few { length log.now.names.now ≤ limit.FILES_MAX }
+    requires first { log.now.first ≤ 2 ^ 61 }
     requires stands { (records : List OneRecord) ×
         R.stands rounds.old (checked_plan checked.now) records }
     ensures taken { let p = checked_plan checked.now in
-        let names = map string_bytes names.now in
-        let rules = plain_rules options.now.max_bytes in
+        let names = map string_bytes log.now.names.now in
+        let rules = plain_rules log.now.options.now.max_bytes in
         let stood = stands_in R.stands p in
+        let first = log.now.first in
         IfOk result (TakenAll stood p rules (F.holds files.old) names first rounds.old rounds.new) }
     ensures stopped { let p = checked_plan checked.now in
-        let names = map string_bytes names.now in
-        let rules = plain_rules options.now.max_bytes in
+        let names = map string_bytes log.now.names.now in
+        let rules = plain_rules log.now.options.now.max_bytes in
         let before = F.faults files.old in
         let after = F.faults files.new in
-        IfErr result (StopsFrom first p rules (F.holds files.old) names before after) }
+        IfErr result (StopsFrom log.now.first p rules (F.holds files.old) names before after) }
     ensures same { F.holds files.new ≡ F.holds files.old }
     ensures later { (other : List ℕ) → F.faults files.old other ≤ F.faults files.new other }
 {
-    take_files(&Alone, alloc, checked, files, names, options, first, rounds)
+    take_files(&Alone, alloc, checked, files, log, rounds)
 }

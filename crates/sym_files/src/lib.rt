@@ -12,6 +12,6 @@ mod rounds;
 mod ways;
 
 pub use error::PassErr;
-pub use files::{each_round, each_round_in_turn};
+pub use files::{Log, each_round, each_round_in_turn};
 pub use options::{CHUNK_DEFAULT, LIMIT_DEFAULT, LIMIT_MAX, Options, WORKERS_DEFAULT};
 pub use rounds::{Rounds, SequentialRounds, Took, Work};

@@ -21,10 +21,11 @@ use sym_base::NoMemory;
 use sym_check::Checked;
 use sym_table::{Cutter, HeadErr, Spare};
 
-/// Where the next file begins: the number of its first record, the rows of a full chunk, and the
-/// memory of earlier rows.
+/// Where the next file begins: its number, that of its first record, the rows of a full chunk, and
+/// the memory of earlier rows.
 #[derive(Drop)]
 pub(crate) struct Course {
+    pub(crate) file: u64,
     pub(crate) next_no: u64,
     pub(crate) chunk: u32,
     pub(crate) spare: Spare,
@@ -97,14 +98,13 @@ fn take_rounds<R, W: Way<R>>(
     Ok(Took::Done)
 }
 
-/// Takes the records of the file with the number `file`. Its first one has the number that the
-/// course gives, which becomes that of the first record after the file.
+/// Takes the records of the file whose number the course gives. Its first one has the number that
+/// the course gives too, which becomes that of the first record after the file.
 pub(crate) fn take_file<R, W: Way<R>>(
     way: &W,
     alloc: Global,
     work: &mut Work,
     bytes: &[u8],
-    file: u64,
     course: &mut Course,
     rounds: &mut R,
 ) -> Result<(), PassErr>
@@ -119,7 +119,7 @@ pub(crate) fn take_file<R, W: Way<R>>(
     ensures takes { let p = checked_plan work.old.checked in
         let first = course.old.next_no in
         let rows = shown_rows (W.shown rounds.old) (file_rows bytes.now) in
-        let read = row_records p file first rows in
+        let read = row_records p course.old.file first rows in
         let stood = stands_by W.stands p work.old.limit in
         TakesFile stood read first course.new.next_no rounds.old rounds.new result }
     ensures tells { let p = checked_plan work.old.checked in
@@ -127,7 +127,7 @@ pub(crate) fn take_file<R, W: Way<R>>(
         let per = full_round course.old.chunk in
         (start : R) (before : List (List OneRecord)) →
         W.told start rounds.old p Point.between before →
-        TellsFile (tells_by W.told p start) p per file course.old.next_no rows before
+        TellsFile (tells_by W.told p start) p per course.old.file course.old.next_no rows before
         rounds.new result }
     ensures shown { W.shown rounds.new ≡ W.shown rounds.old }
     ensures checked { checked_plan work.new.checked ≡ checked_plan work.old.checked }
@@ -138,7 +138,7 @@ pub(crate) fn take_file<R, W: Way<R>>(
         alloc,
         &work.checked,
         bytes,
-        file,
+        course.file,
         course.next_no,
         course.chunk,
     )?;
@@ -147,6 +147,9 @@ pub(crate) fn take_file<R, W: Way<R>>(
             course.next_no = cutter.next_no();
             Ok(())
         }
-        Took::Bad(bad) => Err(PassErr::Bad { file, bad }),
+        Took::Bad(bad) => Err(PassErr::Bad {
+            file: course.file,
+            bad,
+        }),
     }
 }

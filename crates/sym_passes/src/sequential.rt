@@ -12,7 +12,7 @@ use crate::folded_rounds::Folded;
 use std::alloc::Global;
 use sym_base::Store;
 use sym_check::Checked;
-use sym_files::{Options, PassErr, each_round_in_turn};
+use sym_files::{Log, Options, PassErr, each_round_in_turn};
 use sym_plain::Groups;
 
 /// What `pass` gives, by one step of its group for each record, in order, and without runs: to
@@ -41,6 +41,11 @@ pub fn sequential_pass<F: Store>(
     ensures later { (other : List ℕ) → F.faults files.old other ≤ F.faults files.new other }
 {
     let mut folded = Folded::new(alloc);
-    each_round_in_turn(alloc, checked, files, names, options, 1, &mut folded)?;
+    let log = Log {
+        names,
+        options,
+        first: 1,
+    };
+    each_round_in_turn(alloc, checked, files, &log, &mut folded)?;
     Ok(folded.groups)
 }

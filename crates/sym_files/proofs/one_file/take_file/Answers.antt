@@ -23,9 +23,9 @@ returns-in_err-cutter-clause-takes g c =
     let rows = file_rows c.args.bytes.now in
     let why = c.in_err-cutter.field-0.0 in
     let now = c.args.rounds.now in
-    let P : Result (Unit {0}) PassErr → Type 0 = λ r. TakesFile stood (row_records p c.args.file first (shown_rows shown rows)) first first now now r in
+    let P : Result (Unit {0}) PassErr → Type 0 = λ r. TakesFile stood (row_records p c.args.course.now.file first (shown_rows shown rows)) first first now now r in
     fails_as c.from_residual.result why P c.from_residual.ensures.1
-    (head_stops stood p shown c.args.file first first rows now now why (c.in_err-cutter.ensures.opens shown))
+    (head_stops stood p shown c.args.course.now.file first first rows now now why (c.in_err-cutter.ensures.opens shown))
 
 pub take_rounds-requires-clause-left : goal.take_rounds-requires-clause-left
 take_rounds-requires-clause-left g c =
@@ -41,7 +41,7 @@ returns-in-Done-clause-takes g c =
     let shown = g.W.Way.shown c.args.rounds.now in
     let cut = c.in_ok-cutter.cutter in
     let is = c.in_ok-cutter.ensures.opens shown in
-    file_taken stood p shown c.args.file c.args.course.now.next_no c.take_rounds.new.cutter.next_no c.next_no-course.result (file_rows c.args.bytes.now) c.in_ok-cutter.cutter
+    file_taken stood p shown c.args.course.now.file c.args.course.now.next_no c.take_rounds.new.cutter.next_no c.next_no-course.result (file_rows c.args.bytes.now) c.in_ok-cutter.cutter
     c.args.rounds.now c.take_rounds.new.rounds c.next_no-course.ensures is
     (rows_as stood p cut.header cut.next_no c.take_rounds.new.cutter.next_no shown (rows_left cut) is.left c.args.rounds.now c.take_rounds.new.rounds c.in_ok-take_rounds.field-0 took.Done
     (left_of cut.left is.left is.has) c.in-Done.is c.in_ok-take_rounds.ensures.takes)
@@ -53,7 +53,7 @@ returns-clause-takes g c =
     let shown = g.W.Way.shown c.args.rounds.now in
     let cut = c.in_ok-cutter.cutter in
     let is = c.in_ok-cutter.ensures.opens shown in
-    file_bad p shown c.args.file c.args.course.now.next_no (file_rows c.args.bytes.now) c.in_ok-cutter.cutter c.in-Bad.bad is
+    file_bad p shown c.args.course.now.file c.args.course.now.next_no (file_rows c.args.bytes.now) c.in_ok-cutter.cutter c.in-Bad.bad is
     (rows_as stood p cut.header cut.next_no c.take_rounds.new.cutter.next_no shown (rows_left cut) is.left c.args.rounds.now c.take_rounds.new.rounds c.in_ok-take_rounds.field-0 (took.Bad c.in-Bad.bad)
     (left_of cut.left is.left is.has) c.in-Bad.is c.in_ok-take_rounds.ensures.takes)
 
@@ -67,9 +67,9 @@ returns-in_err-cutter-clause-tells g c = λ start before at.
     let rows = file_rows c.args.bytes.now in
     let why = c.in_err-cutter.field-0.0 in
     let now = c.args.rounds.now in
-    let P : Result (Unit {0}) PassErr → Type 0 = λ r. TellsFile told p per c.args.file first (shown_rows shown rows) before now r in
+    let P : Result (Unit {0}) PassErr → Type 0 = λ r. TellsFile told p per c.args.course.now.file first (shown_rows shown rows) before now r in
     fails_as c.from_residual.result why P c.from_residual.ensures.1
-    (file_unopened told p shown per c.args.file first rows before now why (c.in_err-cutter.ensures.opens shown) at)
+    (file_unopened told p shown per c.args.course.now.file first rows before now why (c.in_err-cutter.ensures.opens shown) at)
 
 pub returns-in_err-take_rounds-clause-tells : goal.returns-in_err-take_rounds-clause-tells
 returns-in_err-take_rounds-clause-tells g c = λ start before at.
@@ -83,9 +83,9 @@ returns-in_err-take_rounds-clause-tells g c = λ start before at.
     let is = c.in_ok-cutter.ensures.opens shown in
     let e = c.in_err-take_rounds.field-0.0 in
     let new = c.take_rounds.new.rounds in
-    let P : Result (Unit {0}) PassErr → Type 0 = λ r. TellsFile told p per c.args.file first (shown_rows shown rows) before new r in
+    let P : Result (Unit {0}) PassErr → Type 0 = λ r. TellsFile told p per c.args.course.now.file first (shown_rows shown rows) before new r in
     fails_as c.from_residual-in_err-take_rounds.result pass_err.NoMemory P c.from_residual-in_err-take_rounds.ensures.1
-    (file_told_refused told p shown per c.args.file first rows before new cut (rows_left cut) e is (left_of cut.left is.left is.has) (some_per c.args.course.now.chunk c.requires.some)
+    (file_told_refused told p shown per c.args.course.now.file first rows before new cut (rows_left cut) e is (left_of cut.left is.left is.has) (some_per c.args.course.now.chunk c.requires.some)
     (rows_per told p cut.header shown (full_round cut.chunk) per cut.next_no (rows_left cut) before new (Err e) (Err e) (ap full_round c.in_ok-cutter.ensures.chunk) refl
     (c.in_err-take_rounds.ensures.tells start before at)))
 
@@ -98,7 +98,7 @@ returns-in-Done-clause-tells g c = λ start before at.
     let cut = c.in_ok-cutter.cutter in
     let is = c.in_ok-cutter.ensures.opens shown in
     let new = c.take_rounds.new.rounds in
-    file_told told p shown per c.args.file c.args.course.now.next_no (file_rows c.args.bytes.now) before new cut (rows_left cut) is (left_of cut.left is.left is.has)
+    file_told told p shown per c.args.course.now.file c.args.course.now.next_no (file_rows c.args.bytes.now) before new cut (rows_left cut) is (left_of cut.left is.left is.has)
     (rows_per told p cut.header shown (full_round cut.chunk) per cut.next_no (rows_left cut) before new (Ok c.in_ok-take_rounds.field-0) (Ok took.Done)
     (ap full_round c.in_ok-cutter.ensures.chunk) (ap Ok c.in-Done.is) (c.in_ok-take_rounds.ensures.tells start before at))
 
@@ -112,7 +112,7 @@ returns-clause-tells g c = λ start before at.
     let cut = c.in_ok-cutter.cutter in
     let is = c.in_ok-cutter.ensures.opens shown in
     let new = c.take_rounds.new.rounds in
-    file_told_bad told p shown per c.args.file c.args.course.now.next_no (file_rows c.args.bytes.now) before new cut (rows_left cut) c.in-Bad.bad is (left_of cut.left is.left is.has)
+    file_told_bad told p shown per c.args.course.now.file c.args.course.now.next_no (file_rows c.args.bytes.now) before new cut (rows_left cut) c.in-Bad.bad is (left_of cut.left is.left is.has)
     (rows_as stood p cut.header cut.next_no c.take_rounds.new.cutter.next_no shown (rows_left cut) (rows_left cut) c.args.rounds.now new c.in_ok-take_rounds.field-0 (took.Bad c.in-Bad.bad)
     refl c.in-Bad.is c.in_ok-take_rounds.ensures.takes)
     (rows_per told p cut.header shown (full_round cut.chunk) per cut.next_no (rows_left cut) before new (Ok c.in_ok-take_rounds.field-0) (Ok (took.Bad c.in-Bad.bad))
