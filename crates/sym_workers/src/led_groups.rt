@@ -18,7 +18,7 @@ ghost use Rattle.sym_files.specs.Rounds.{AreWorkers, IsLimit, IsRound};
 
 use crate::shares::are_shared_out;
 use crate::stretches::{LendsStretches, Stretches};
-use crate::workers::run_between;
+use crate::workers::{ChunkRange, run_between};
 use std::alloc::Global;
 use std::thread::Threads;
 use sym_base::NoMemory;
@@ -89,7 +89,8 @@ fn run_of<S: LendsStretches, E: Enter>(
     let worker = thread.min(u32::MAX as usize) as u32;
     let first = number as u32 * each;
     let end = chunks.min(first + each);
-    run_between(alloc, work, worker, first, end, kept_most(work.limit), hold)
+    let range = ChunkRange { first, end };
+    run_between(alloc, work, worker, range, kept_most(work.limit), hold)
 }
 
 // The runs of all stretches of a round, made by so many threads.

@@ -23,22 +23,29 @@ use sym_table::RowCursor;
 /// Into how many stretches a round is cut for each worker.
 const STRETCHES: u32 = 1;
 
-/// The run of the chunks from `first` up to but without `end`, which takes them one after the other.
-/// Of a key so many records are kept before they are explored.
+/// Neighbouring chunks of a round: those from `first` up to but without `end`, counted from 0.
+#[derive(Clone, Copy)]
+pub(crate) struct ChunkRange {
+    pub(crate) first: u32,
+    pub(crate) end: u32,
+}
+
+/// The run of the chunks in a range, which takes them one after the other. Of a key so many records
+/// are kept before they are explored.
 pub(crate) fn run_between<E: Enter>(
     alloc: Global,
     work: &Work,
     worker: u32,
-    first: u32,
-    end: u32,
+    range: ChunkRange,
     most: u32,
     hold: &E,
 ) -> Result<Run, NoMemory>
     requires round { IsRound (checked_plan work.now.checked).fields work.now.chunks }
-    requires some { first < end }
-    requires within { end ≤ length work.now.chunks }
-    ensures { IfOk result (StandsFrom work.now first end) }
+    requires some { range.first < range.end }
+    requires within { range.end ≤ length work.now.chunks }
+    ensures { IfOk result (StandsFrom work.now range.first range.end) }
 {
+    let ChunkRange { first, end } = range;
     let chunks = work.chunks.as_slice();
     let mut cursor = RowCursor::over(alloc, work.chunks_between(first as usize, end as usize))?;
     let mut stretch = Stretch::new(alloc, first, most);
@@ -80,7 +87,8 @@ fn work_stretches<S: LendsStretches + Send, E: Enter>(
     'stretches: while let Some(stretch) = board.claim(&mut pass) {
         let first = stretch * each;
         let end = chunks.min(first + each);
-        let Ok(run) = run_between(alloc, work, number, first, end, most, hold) else {
+        let range = ChunkRange { first, end };
+        let Ok(run) = run_between(alloc, work, number, range, most, hold) else {
             return pass;
         };
         let piece = RunPiece {
@@ -215,7 +223,11 @@ pub fn worked<T: Threads + Sync, E: Enter + Sync>(
 {
     let chunks = work.chunks.len() as u32;
     if workers.min(chunks) == 1 {
-        return run_between(alloc, work, 0, 0, chunks, u32::MAX, hold);
+        let whole = ChunkRange {
+            first: 0,
+            end: chunks,
+        };
+        return run_between(alloc, work, 0, whole, u32::MAX, hold);
     }
     let each = chunks.div_ceil(workers * STRETCHES);
     by_workers(rt, alloc, &Stretches { work, each }, workers, hold)

@@ -19,9 +19,9 @@ pub take-requires-clause-rows : goal.take-requires-clause-rows
 take-requires-clause-rows g c = λ none.
     let cuts = c.args.work.now.chunks in
     let items = c.as_slice-chunks.result.now in
-    let within : c.args.end ≤ length cuts = c.requires.within in (
-      all_rows (slice_range cuts (c.chunks.number + 1) c.args.end),
-      next_between c.chunks.cursor cuts items c.chunks.number c.args.end c.index-chunks-number.result c.as_slice-chunks.ensures c.chunks-test.true within c.index-chunks-number.is (c.chunks.invariant.left none),
+    let within : c.args.range.end ≤ length cuts = c.requires.within in (
+      all_rows (slice_range cuts (c.chunks.number + 1) c.args.range.end),
+      next_between c.chunks.cursor cuts items c.chunks.number c.args.range.end c.index-chunks-number.result c.as_slice-chunks.ensures c.chunks-test.true within c.index-chunks-number.is (c.chunks.invariant.left none),
     )
 
 pub chunks-preserved : goal.chunks-preserved
@@ -40,13 +40,13 @@ chunks-preserved g c =
       stands = c.in_ok-take.ensures.stands cuts c.chunks.invariant.stands (ap (slice_get cuts) c.chunks.invariant.ends.to ∙ at);
       left = λ none.
           let passed = c.in_ok-take.ensures.passes none in
-          passed.1 (all_rows (slice_range cuts (c.chunks.number + 1) c.args.end))
-          (next_between c.chunks.cursor cuts items c.chunks.number c.args.end c.index-chunks-number.result c.as_slice-chunks.ensures c.chunks-test.true c.requires.within c.index-chunks-number.is (c.chunks.invariant.left passed.0));
+          passed.1 (all_rows (slice_range cuts (c.chunks.number + 1) c.args.range.end))
+          (next_between c.chunks.cursor cuts items c.chunks.number c.args.range.end c.index-chunks-number.result c.as_slice-chunks.ensures c.chunks-test.true c.requires.within c.index-chunks-number.is (c.chunks.invariant.left passed.0));
     }
 
 pub returns : goal.returns
 returns g c =
     let work = c.args.work.now in
-    let last : c.chunks.number ≡ c.args.end = omega (arith, c.chunks-test.false) in
-    finished work c.args.first c.args.end c.chunks.stretch.lo c.chunks.stretch.hi c.finish.result c.chunks.invariant.ends.from (c.chunks.invariant.ends.to ∙ last)
+    let last : c.chunks.number ≡ c.args.range.end = omega (arith, c.chunks-test.false) in
+    finished work c.args.range.first c.args.range.end c.chunks.stretch.lo c.chunks.stretch.hi c.finish.result c.chunks.invariant.ends.from (c.chunks.invariant.ends.to ∙ last)
     c.finish.ensures.chunks (c.finish.ensures.stands work.chunks c.chunks.invariant.stands)

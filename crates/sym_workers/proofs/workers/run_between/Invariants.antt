@@ -9,8 +9,8 @@ use Rattle.sym_workers.proofs.workers.run_between.Given as goal
 
 abbrev pub invariant-chunks : goal.invariant-chunks
 invariant-chunks g l = record {
-  ends : IsOpenFromTo l.fn.first l.number l.stretch;
+  ends : IsOpenFromTo l.fn.range.first l.number l.stretch;
   tight : l.stretch.bad ≡ None → OpenGroupsAreTight (checked_plan l.fn.work.checked) l.fn.work.limit l.stretch.groups;
   stands : OpenStandsForChunks (checked_plan l.fn.work.checked) l.fn.work.limit l.fn.work.chunks l.stretch;
-  left : l.stretch.bad ≡ None → l.cursor ≡ Some (all_rows (slice_range l.fn.work.chunks l.number l.fn.end));
+  left : l.stretch.bad ≡ None → l.cursor ≡ Some (all_rows (slice_range l.fn.work.chunks l.number l.fn.range.end));
 }
