@@ -37,27 +37,34 @@ struct Beside {
     applied: Result<Applied, NoMemory>,
 }
 
+// A round with the gate that works on it, and by how many workers.
+#[derive(Drop)]
+struct GatedRound<'a, G> {
+    gate: &'a G,
+    work: &'a Work,
+    workers: u32,
+}
+
 // Has groups led on by a round while another thread tells the observers of a partial.
 fn lead_and_tell<T: Threads + Wait + Sync, G: Gate>(
     rt: &T,
     alloc: Global,
-    gate: &G,
-    work: &Work,
-    workers: u32,
+    round: &GatedRound<'_, G>,
     groups: &mut Groups,
     watcher: &mut Watcher,
     observers: &mut Vec<Box<dyn Observer + Send>>,
     copy: &Partial,
 ) -> Beside
     requires sync { IsSync T.row }
-    requires round { IsRound (checked_plan work.now.checked).fields work.now.chunks }
-    requires limit { IsLimit work.now.limit }
-    requires workers { AreWorkers workers }
-    requires valid { AreValid (checked_plan work.now.checked) groups.old }
-    ensures applied { let p = checked_plan work.now.checked in
-        let read = round_records p (G.shown gate.now) work.now.chunks in
+    requires round { let work = round.now.work.now in
+        IsRound (checked_plan work.checked).fields work.chunks }
+    requires limit { IsLimit round.now.work.now.limit }
+    requires workers { AreWorkers round.now.workers }
+    requires valid { AreValid (checked_plan round.now.work.now.checked) groups.old }
+    ensures applied { let p = checked_plan round.now.work.now.checked in
+        let read = round_records p (G.shown round.now.gate.now) round.now.work.now.chunks in
         IfOk result.applied (λ applied. applied ≡ applied_to p read groups.old) }
-    ensures valid { let p = checked_plan work.now.checked in
+    ensures valid { let p = checked_plan round.now.work.now.checked in
         IfOk result.applied (λ applied. IfDone applied (AreValid p)) }
     ensures of { watcher.new.of ≡ watcher.old.of }
     ensures ok { let olds = map (λ o. log o) observers.old.items in
@@ -67,6 +74,9 @@ fn lead_and_tell<T: Threads + Wait + Sync, G: Gate>(
         let news = map (λ o. log o) observers.new.items in
         OnErr result.told (AllGrewPart olds news (copy.now ∷ [])) }
 {
+    let gate = round.gate;
+    let work = round.work;
+    let workers = round.workers;
     let (told, applied) = join_mut(
         rt,
         &mut || -> Result<(), NoMemory>
@@ -152,12 +162,15 @@ impl News {
                 let mut groups = groups;
                 let watcher = &mut self.watcher;
                 let observers = &mut self.observers;
-                let Beside { told, applied } = lead_and_tell(
-                    rt,
-                    alloc,
+                let round = GatedRound {
                     gate,
                     work,
                     workers,
+                };
+                let Beside { told, applied } = lead_and_tell(
+                    rt,
+                    alloc,
+                    &round,
                     &mut groups,
                     watcher,
                     observers,
