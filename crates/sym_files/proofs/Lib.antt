@@ -8,6 +8,7 @@ pub mod PlainRows
 pub mod WorkShared
 pub mod RowsFull
 pub mod RoundLists
+pub mod RoundCounts
 pub mod ToldRows
 pub mod ToldFiles
 pub mod RoundsOnce

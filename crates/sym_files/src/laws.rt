@@ -7,7 +7,8 @@ ghost use Rattle.sym_table.specs.Reading.{Row as OneRow};
 ghost use Rattle.sym_files.specs.declared.error.PassErr.{PassErr as Problem};
 ghost use Rattle.sym_files.specs.Cuts.{AreCutTo};
 ghost use Rattle.sym_files.specs.FileRecords.{FileRules};
-ghost use Rattle.sym_files.specs.FileRounds.{AreFilesRounds, DoneFiles, DoneRounds, NamedFiles, rounds_records};
+ghost use Rattle.sym_files.specs.FileRounds.{AreFilesRounds, AreFull, DoneFiles, DoneRounds};
+ghost use Rattle.sym_files.specs.FileRounds.{IsWithin, NamedFiles, rounds_records};
 ghost use Rattle.sym_files.specs.FirstProblems.{AllFine, FirstProblem, records_in};
 
 /// The records of files, and their first problem, are what the function answers. So any files have
@@ -50,4 +51,15 @@ pub fn files_have_one_list_of_rounds()
         AreFilesRounds w.plan w.rules w.per w.first files all → DoneFiles w file rounds →
         (others ≡ []) ⊎ DoneRounds w file (w.first + length (rounds_records rounds)) others →
         IsPrefix (rounds ++ others) all }
+{}
+
+/// Full rounds before the round that would hold a row are so many, by the number of their first
+/// record, how many records a full round has, and the number of the row. So it is clear how many
+/// rounds were done before a row that is no record.
+pub fn rounds_before_a_row_are_so_many()
+    ensures { (first per number : ℕ) (rounds others : List (List OneRecord)) →
+        AreFull per rounds → AreFull per others →
+        IsWithin (first + length (rounds_records rounds)) per number →
+        IsWithin (first + length (rounds_records others)) per number →
+        length rounds ≡ length others }
 {}
