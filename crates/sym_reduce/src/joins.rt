@@ -141,40 +141,57 @@ fn join_first<R: Threads + Sync>(
     join_turn(alloc, checked, texts, limit)
 }
 
-/// The saved run of the files of these names in one, where those before the file with the number
-/// `from` are joined. The others are read and joined one at a time.
+/// The first files, which are joined: how many, and their saved runs in one, where there are some.
+#[derive(Drop)]
+struct Joined {
+    count: usize,
+    run: Option<Saved>,
+}
+
+/// How files are joined: the most bytes of each, and the path limit.
+#[derive(Clone, Copy)]
+struct JoinOptions {
+    max_bytes: u64,
+    limit: u32,
+}
+
+/// The saved run of the files of these names in one, where the first ones are joined. The others
+/// are read and joined one at a time.
 fn join_rest<F: Store>(
     alloc: Global,
     checked: &Checked,
     files: &mut F,
     names: &[String],
-    from: usize,
-    before: Option<Saved>,
-    max_bytes: u64,
-    limit: u32,
+    first: Joined,
+    options: JoinOptions,
 ) -> Result<Saved, ReduceErr>
-    requires size { max_bytes ≤ limits.FILE_MAX }
+    requires size { options.max_bytes ≤ limits.FILE_MAX }
     requires joining { let script = printed checked.now in
         let p = checked_plan checked.now in
         let names = map string_bytes names.now in
-        IsJoining script p max_bytes limit (F.holds files.old) names from before }
-    requires joinable { CanGoOn (checked_plan checked.now) before }
+        IsJoining script p options.max_bytes options.limit (F.holds files.old) names
+        first.count first.run }
+    requires joinable { CanGoOn (checked_plan checked.now) first.run }
     ensures joined { let script = printed checked.now in
         let p = checked_plan checked.now in
         let names = map string_bytes names.now in
-        IfOk result (JoinedAll script p max_bytes limit (F.holds files.old) names) }
+        let JoinsAll = JoinedAll script p options.max_bytes options.limit in
+        IfOk result (JoinsAll (F.holds files.old) names) }
     ensures stopped { let script = printed checked.now in
         let p = checked_plan checked.now in
         let names = map string_bytes names.now in
         let before = F.faults files.old in
         let after = F.faults files.new in
+        let max_bytes = options.max_bytes in
         IfErr result (StopsJoin script p max_bytes (F.holds files.old) names before after) }
     ensures same { F.holds files.new ≡ F.holds files.old }
     ensures later { (other : List ℕ) → F.faults files.old other ≤ F.faults files.new other }
 {
     let _plan = checked.plan();
-    let mut joined = before;
-    'files: for file in from..names.len() {
+    let Joined { count, run } = first;
+    let JoinOptions { max_bytes, limit } = options;
+    let mut joined = run;
+    'files: for file in count..names.len() {
         let number = file as u64;
         let bytes = read_file(alloc, files, names[file].as_str(), number, max_bytes)?;
         let more = join_file(alloc, checked, joined, bytes.as_slice(), number, limit)?;
@@ -236,7 +253,11 @@ pub fn join_files<R: Threads + Sync, F: Store>(
     if let Some(why) = stop {
         return Err(why);
     }
-    let from = texts.len();
+    let first = Joined {
+        count: texts.len(),
+        run: joined,
+    };
     drop(texts);
-    join_rest(alloc, checked, files, names, from, joined, max_bytes, limit)
+    let options = JoinOptions { max_bytes, limit };
+    join_rest(alloc, checked, files, names, first, options)
 }

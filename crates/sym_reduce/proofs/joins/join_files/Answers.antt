@@ -68,5 +68,5 @@ join_rest-requires-clause-joining g c =
     let fit = subst (All (λ (text : Vec ℕ Global). length text.items ≤ max)) (sym c.as_slice.ensures.value) c.read_first-texts.ensures.fit in
     let joined = c.in_ok-joined.joined in
     let far = joined_far script p max limit holds names (map (λ (text : Vec ℕ Global). text.items) given) (vec_len texts) joined may (c.in_ok-joined.ensures.joined max fit) in
-    subst (λ (n : ℕ). IsJoining script p max limit (g.F.Store.holds c.read_first-texts.new.files) names n joined) (sym c.len-from.ensures)
+    subst (λ (n : ℕ). IsJoining script p max limit (g.F.Store.holds c.read_first-texts.new.files) names n joined) (sym c.len.ensures)
     (subst (λ (h : Holds). IsJoining script p max limit h names (vec_len texts) joined) (sym c.read_first-texts.ensures.same) far)

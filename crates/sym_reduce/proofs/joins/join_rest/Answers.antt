@@ -28,10 +28,10 @@ files-preserved g c =
     let is = c.files.invariant in
     let at = name_at string_bytes c.args.names.now k c.index-names-file.result name c.files-test.true c.index-names-file.is c.as_str.ensures.value in
     let may = may_as (g.F.Store.holds c.files.files) holds name c.in_ok-bytes.bytes.items bytes is.same c.as_slice.ensures.value c.in_ok-bytes.ensures.read in
-    let size : length bytes ≤ c.args.max_bytes = rw c.as_slice.ensures.value c.in_ok-bytes.ensures.fits in
+    let size : length bytes ≤ c.args.options.max_bytes = rw c.as_slice.ensures.value c.in_ok-bytes.ensures.fits in
     let file = c.in_ok-more.ensures.joins in
     record {
-      joining = joining_on (printed c.args.checked.now) p c.args.max_bytes c.args.limit formed holds names k c.files.joined name bytes file.saved c.in_ok-more.more is.joining at may size file.is file.follows
+      joining = joining_on (printed c.args.checked.now) p c.args.options.max_bytes c.args.options.limit formed holds names k c.files.joined name bytes file.saved c.in_ok-more.more is.joining at may size file.is file.follows
           c.in_ok-more.ensures.joinable file.joins;
       able = c.in_ok-more.ensures.joinable;
       same = c.in_ok-bytes.ensures.same ∙ is.same;
@@ -52,11 +52,11 @@ returns-in_err-bytes-clause-stopped g c =
     let name = c.as_str.result.now in
     let at = name_at string_bytes c.args.names.now k c.index-names-file.result name c.files-test.true c.index-names-file.is c.as_str.ensures.value in
     let why = c.in_err-bytes.field-0.0 in
-    let unread = unread_as c.args.max_bytes k (g.F.Store.holds c.files.files) holds name (during name) (after name) why c.files.invariant.same c.in_err-bytes.ensures.unread in
-    let bound : c.args.max_bytes < 2 ^ 64 = let size = c.requires.size in omega (arith, size) in
-    let P : Result Saved ReduceErr → Type 0 = λ r. IfErr r (StopsJoin script p c.args.max_bytes holds names before after) in
+    let unread = unread_as c.args.options.max_bytes k (g.F.Store.holds c.files.files) holds name (during name) (after name) why c.files.invariant.same c.in_err-bytes.ensures.unread in
+    let bound : c.args.options.max_bytes < 2 ^ 64 = let size = c.requires.size in omega (arith, size) in
+    let P : Result Saved ReduceErr → Type 0 = λ r. IfErr r (StopsJoin script p c.args.options.max_bytes holds names before after) in
     fails_as c.from_residual.result why P c.from_residual.ensures.1
-    (unread_stops script p c.args.max_bytes c.args.limit formed bound holds names before during after k c.files.joined name why c.files.invariant.joining at (c.files.invariant.later name) unread)
+    (unread_stops script p c.args.options.max_bytes c.args.options.limit formed bound holds names before during after k c.files.joined name why c.files.invariant.joining at (c.files.invariant.later name) unread)
 
 pub returns-in_err-more-clause-stopped : goal.returns-in_err-more-clause-stopped
 returns-in_err-more-clause-stopped g c =
@@ -74,21 +74,21 @@ returns-in_err-more-clause-stopped g c =
     let why = c.in_err-more.field-0.0 in
     let at = name_at string_bytes c.args.names.now k c.index-names-file.result name c.files-test.true c.index-names-file.is c.as_str.ensures.value in
     let may = may_as (g.F.Store.holds c.files.files) holds name c.in_ok-bytes.bytes.items bytes is.same c.as_slice.ensures.value c.in_ok-bytes.ensures.read in
-    let size : length bytes ≤ c.args.max_bytes = rw c.as_slice.ensures.value c.in_ok-bytes.ensures.fits in
-    let bound : c.args.max_bytes < 2 ^ 64 = let size = c.requires.size in omega (arith, size) in
-    let P : Result Saved ReduceErr → Type 0 = λ r. IfErr r (StopsJoin script p c.args.max_bytes holds names before after) in
+    let size : length bytes ≤ c.args.options.max_bytes = rw c.as_slice.ensures.value c.in_ok-bytes.ensures.fits in
+    let bound : c.args.options.max_bytes < 2 ^ 64 = let size = c.requires.size in omega (arith, size) in
+    let P : Result Saved ReduceErr → Type 0 = λ r. IfErr r (StopsJoin script p c.args.options.max_bytes holds names before after) in
     fails_as c.from_residual-in_err-more.result why P c.from_residual-in_err-more.ensures.1
-    (unjoined_stops script p c.args.max_bytes c.args.limit formed bound holds names before after k c.files.joined name bytes why is.joining at may size c.in_err-more.ensures.joins)
+    (unjoined_stops script p c.args.options.max_bytes c.args.options.limit formed bound holds names before after k c.files.joined name bytes why is.joining at may size c.in_err-more.ensures.joins)
 
 pub returns-in-Some-clause-joined : goal.returns-in-Some-clause-joined
 returns-in-Some-clause-joined g c =
     let p = checked_plan c.args.checked.now in
     let few : length (map string_bytes c.args.names.now) ≤ c.files.file = simp length-map (omega arith) in
-    all_joined (printed c.args.checked.now) p c.args.max_bytes c.args.limit (g.F.Store.holds c.args.files.now) (map string_bytes c.args.names.now) c.files.file c.in-Some.saved (rw c.in-Some.is at c.files.invariant.joining) few
+    all_joined (printed c.args.checked.now) p c.args.options.max_bytes c.args.options.limit (g.F.Store.holds c.args.files.now) (map string_bytes c.args.names.now) c.files.file c.in-Some.saved (rw c.in-Some.is at c.files.invariant.joining) few
 
 pub returns-in-None-clause-joined : goal.returns-in-None-clause-joined
 returns-in-None-clause-joined g c =
     let p = checked_plan c.args.checked.now in
     let few : length (map string_bytes c.args.names.now) ≤ c.files.file = simp length-map (omega arith) in
-    none_at_end (printed c.args.checked.now) p c.args.max_bytes c.args.limit (g.F.Store.holds c.args.files.now) (map string_bytes c.args.names.now) c.files.file _ (rw c.in-None.is at c.files.invariant.joining) few
+    none_at_end (printed c.args.checked.now) p c.args.options.max_bytes c.args.options.limit (g.F.Store.holds c.args.files.now) (map string_bytes c.args.names.now) c.files.file _ (rw c.in-None.is at c.files.invariant.joining) few
     refl refl c.new.ensures

@@ -10,7 +10,7 @@ abbrev pub invariant-files : goal.invariant-files
 invariant-files g l =
     let p = checked_plan l.checked in
     record {
-      joining : IsJoining (printed l.checked) p l.max_bytes l.limit (g.F.Store.holds l.fn.files) (map string_bytes l.names) l.file l.joined;
+      joining : IsJoining (printed l.checked) p l.fn.options.max_bytes l.fn.options.limit (g.F.Store.holds l.fn.files) (map string_bytes l.names) l.file l.joined;
       able : CanGoOn p l.joined;
       same : g.F.Store.holds l.files ≡ g.F.Store.holds l.fn.files;
       later : (other : List ℕ) → g.F.Store.faults l.fn.files other ≤ g.F.Store.faults l.files other;
