@@ -125,6 +125,28 @@ module _ (script : List ℕ) (p : ScriptPlan) (formed : IsWellFormed p) where
         → AreReduced script p max_bytes next totals files end all → AreReduced script p max_bytes next totals files last more → all ≡ more
     totals_once next totals files end last all more a b = totals_by files next totals end last all more (reduces next totals files end all a) (reduces next totals files last more b)
 
+    -- What both come to ends with one number.
+    Ends : ℕ → Pairs → List (List ℕ) → ℕ → Pairs → Type 0
+    Ends next totals [] end all = next ≡ end
+    Ends next totals (bytes ∷ files) end all = Goes next totals bytes (λ after more. AreReduced script p max_bytes after more files end all)
+
+    ends : (next : ℕ) (totals : Pairs) (files : List (List ℕ)) (end : ℕ) (all : Pairs) → AreReduced script p max_bytes next totals files end all → Ends next totals files end all
+    unfolding Ends
+    ends _ _ _ _ _ (runs.no_file next totals) = refl
+    ends _ _ _ _ _ (runs.one_more next totals bytes files saved led end all few is rest) = record { saved = saved; more = led; few = few; is = is; rest = rest }
+
+    ends_by : (files : List (List ℕ)) (next : ℕ) (totals : Pairs) (end last : ℕ) (all more : Pairs) → Ends next totals files end all → Ends next totals files last more → end ≡ last
+    unfolding Ends
+    ends_by [] next totals end last all more a b = sym a ∙ b
+    ends_by (bytes ∷ files) next totals end last all more a b =
+        ends_by files a.saved.next a.more end last all more (ends a.saved.next a.more files end all a.rest)
+        (ends a.saved.next a.more files last more
+        (along next totals bytes (λ after ts. AreReduced script p max_bytes after ts files end all) (λ after ts. AreReduced script p max_bytes after ts files last more) a b))
+
+    pub ends_once : (next : ℕ) (totals : Pairs) (files : List (List ℕ)) (end last : ℕ) (all more : Pairs)
+        → AreReduced script p max_bytes next totals files end all → AreReduced script p max_bytes next totals files last more → end ≡ last
+    ends_once next totals files end last all more a b = ends_by files next totals end last all more (ends next totals files end all a) (ends next totals files last more b)
+
     no_end : (file next : ℕ) (totals : Pairs) (bytes : List ℕ) (saved : Saved) (more : Pairs) (why : ReduceErr) → length bytes ≤ max_bytes
         → IsTakenFile script p next totals bytes saved more → HasRunProblem script p max_bytes next file totals bytes why → ⊥
     no_end file next totals bytes saved more _ few is (runs.too_large large) = omega arith

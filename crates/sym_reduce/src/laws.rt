@@ -13,7 +13,8 @@ ghost use Rattle.sym_reduce.specs.Reducing.{AreReduced, FirstRunProblem};
 ghost use Rattle.sym_reduce.specs.Standing.{StandInOrder};
 ghost use Rattle.sym_reduce.specs.declared.error.ReduceErr.{ReduceErr as OneErr};
 
-/// Files of saved runs have one list of totals or one first problem, and never both.
+/// Files of saved runs have one list of totals, and one number of the record after their last, or
+/// one first problem, and never both.
 pub fn files_have_totals_or_a_problem()
     ensures some { (script : List ℕ) (p : ScriptPlan) (max_bytes file next : ℕ)
         (totals : Pairs) (files : List (List ℕ)) →
@@ -25,6 +26,11 @@ pub fn files_have_totals_or_a_problem()
         IsWellFormed p → max_bytes < 2 ^ 64 →
         AreReduced script p max_bytes next totals files end all →
         AreReduced script p max_bytes next totals files last more → all ≡ more }
+    ensures ends { (script : List ℕ) (p : ScriptPlan) (max_bytes next : ℕ) (totals : Pairs)
+        (files : List (List ℕ)) (end last : ℕ) (all more : Pairs) →
+        IsWellFormed p → max_bytes < 2 ^ 64 →
+        AreReduced script p max_bytes next totals files end all →
+        AreReduced script p max_bytes next totals files last more → end ≡ last }
     ensures problem { (script : List ℕ) (p : ScriptPlan) (max_bytes file next : ℕ)
         (totals : Pairs) (files : List (List ℕ)) (why other : OneErr) →
         IsWellFormed p → max_bytes < 2 ^ 64 →
