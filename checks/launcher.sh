@@ -165,6 +165,8 @@ try_answers() {
     same "progress before a refused log" run --watch "$script" "$log" "$work/absent.csv"
     same "progress of a refused script" run "$examples/reference/slip.symple" "$log" --watch
     explained "progress of a refused script" ':5:21:'
+    same "progress first of a refused script" run --watch "$examples/reference/slip.symple" "$log"
+    explained "progress first of a refused script" ':5:21:'
     same "the text of a script" check --print "$script"
     same "no run file" reduce "$script" "$log"
     run "$shell" "$here/symple" run "$script" "$log" >/dev/full

@@ -19,7 +19,7 @@ look() {
         elif [ -z "$after" ]; then
             case $word in
                 --) after=1 && continue ;;
-                --print | --*=*) continue ;;
+                --print | --watch | --*=*) continue ;;
                 --*) option=1 && continue ;;
             esac
         fi
