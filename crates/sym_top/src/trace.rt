@@ -17,7 +17,7 @@ use sym_base::{Sink, Store};
 use sym_command::{Command, Trace};
 use sym_message::{Refusal, Status, pass_refusal, report_status};
 use sym_report::{ReportForm, choose, report_bytes};
-use sym_trace::trace_files;
+use sym_trace::{TraceForm, trace_files};
 
 // A form with the report of a trace, and the status with which it is written.
 #[derive(Drop)]
@@ -57,6 +57,10 @@ fn prepare_trace<'a, T: Threads + Wait + Sync, F: Store>(
             });
         }
     };
+    let shown = TraceForm {
+        every: trace.every,
+        form,
+    };
     match trace_files(
         rt,
         alloc,
@@ -64,8 +68,7 @@ fn prepare_trace<'a, T: Threads + Wait + Sync, F: Store>(
         files,
         trace.files.as_slice(),
         &trace.options,
-        trace.every,
-        form,
+        shown,
     ) {
         Ok(traced) => Ok(TraceReport {
             form: traced.form,

@@ -9,5 +9,5 @@ mod row_writer;
 mod rows;
 mod shown_chunks;
 
-pub use files::{Traced, trace_files};
+pub use files::{TraceForm, Traced, trace_files};
 pub use rows::{RECORD_NAME, trace_heads, trace_row};

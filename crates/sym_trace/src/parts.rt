@@ -81,13 +81,12 @@ fn scan_work<T: Threads + Sync>(
     )
 }
 
-// The rows of the chunks from `first` up to but without `end`, and the groups after them.
+// The rows of the chunks of a part, and the groups after them.
 fn scan_part<T: Threads + Sync>(
     rt: &T,
     alloc: Global,
     work: &Work,
-    first: usize,
-    end: usize,
+    part: ShownPart,
     workers: u32,
     every: u64,
     groups: Groups,
@@ -95,15 +94,16 @@ fn scan_part<T: Threads + Sync>(
     requires round { IsRound (checked_plan work.now.checked).fields work.now.chunks }
     requires workers { AreWorkers workers }
     requires every { 1 ≤ every }
-    requires some { first ≤ end }
-    requires within { end ≤ length work.now.chunks }
+    requires some { part.first ≤ part.end }
+    requires within { part.end ≤ length work.now.chunks }
     requires valid { AreValid (checked_plan work.now.checked) groups }
     ensures scanned { let p = checked_plan work.now.checked in
-        let read = all_records p (slice_range work.now.chunks first end) in
+        let read = all_records p (slice_range work.now.chunks part.first part.end) in
         IfOk result (λ scanned. scanned ≡ scanned_to p every groups read) }
     ensures valid { let p = checked_plan work.now.checked in
         IfOk result (λ scanned. IfDone scanned (AreValid p)) }
 {
+    let ShownPart { first, end } = part;
     if first == end {
         let rows = TraceRows::new(alloc);
         return Ok(Scanned::Done { rows, groups });
@@ -145,9 +145,9 @@ fn scan_rest<T: Threads + Sync>(
     ensures valid { let p = checked_plan work.now.checked in
         IfOk result (λ scanned. IfDone scanned (AreValid p)) }
 {
-    let ShownPart { first, end } = shown;
+    let end = shown.end;
     let count = work.chunks.len();
-    match scan_part(rt, alloc, work, first, end, workers, every, groups)? {
+    match scan_part(rt, alloc, work, shown, workers, every, groups)? {
         Scanned::Done { rows, groups } => {
             match lead_part(rt, alloc, work, end, count, workers, groups)? {
                 Applied::Done(groups) => Ok(Scanned::Done { rows, groups }),

@@ -11,7 +11,7 @@ returns-clause-traced g c =
       records = all.records;
       fine = all.fine;
       stands =
-          report_by (checked_tree c.args.checked.now) (checked_plan c.args.checked.now) c.args.every c.in_ok-heads.heads _ _ _ _ _ _ _ _ all.records
+          report_by (checked_tree c.args.checked.now) (checked_plan c.args.checked.now) c.args.trace.every c.in_ok-heads.heads _ _ _ _ _ _ _ _ all.records
           c.in_ok-heads.ensures c.in_ok-begin_report.ensures.texts c.in_ok-traced.ensures.texts c.in_ok-begin_report.ensures.ok all.stands
           c.in_ok-end_report.ensures.ok;
     }

@@ -4,12 +4,12 @@ use Rattle.sym_trace.proofs.files.trace_files.Given as goal
 
 abbrev pub ghosts-trace_rounds : goal.ghosts-trace_rounds
 ghosts-trace_rounds g a =
-    let form = (g.dyn-1.0.entry a.form.vtable).1 in
+    let form = (g.dyn-1.0.entry a.trace.form.vtable).1 in
     record {
       by = record {
-        tree = checked_tree a.checked.now;
-        every = a.every;
-        texts = form.texts a.form.value;
-        begun = form.gathered a.form.value;
+        tree = checked_tree a.script.now.checked.now;
+        every = a.trace.every;
+        texts = form.texts a.trace.form.value;
+        begun = form.gathered a.trace.form.value;
       };
     }

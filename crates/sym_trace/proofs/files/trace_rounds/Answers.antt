@@ -8,24 +8,24 @@ pub each_round-requires-clause-stands : goal.each_round-requires-clause-stands
 each_round-requires-clause-stands g c κs within =
     let options = c.requires.options in (
       [],
-      tracing_begins g.S.Traces.by (checked_plan c.args.checked.now) _ c.requires.by refl c.requires.heads c.requires.some
+      tracing_begins g.S.Traces.by (checked_plan c.args.script.now.checked.now) _ c.requires.by refl c.requires.heads c.requires.some
           (record { some = options.some_workers; most = options.most_workers }) c.new.ensures refl,
     )
 
 pub returns-clause-traced : goal.returns-clause-traced
 returns-clause-traced g c =
     let options = c.requires.options in
-    let form = goal.ReportForm-dyn g (c.args.form.vtable, c.args.form.value) in
-    let p = checked_plan c.args.checked.now in
+    let form = goal.ReportForm-dyn g (c.args.trace.form.vtable, c.args.trace.form.value) in
+    let p = checked_plan c.args.script.now.checked.now in
     let begun : Tracer = record {
-      tree = checked_tree c.args.checked.now;
+      tree = checked_tree c.args.script.now.checked.now;
       plan = p;
-      heads = c.args.heads.now;
-      every = c.args.every;
+      heads = c.args.script.now.heads.now;
+      every = c.args.trace.every;
       workers = c.args.options.now.workers;
       groups = c.new.result;
-      texts = form.texts c.args.form.value;
-      gathered = form.gathered c.args.form.value;
+      texts = form.texts c.args.trace.form.value;
+      gathered = form.gathered c.args.trace.form.value;
       faulty = false;
     } in
     let all = c.in_ok-each_round.ensures.taken in
@@ -44,17 +44,17 @@ returns-clause-traced g c =
 pub returns-clause-texts : goal.returns-clause-texts
 returns-clause-texts g c =
     let options = c.requires.options in
-    let form = goal.ReportForm-dyn g (c.args.form.vtable, c.args.form.value) in
-    let p = checked_plan c.args.checked.now in
+    let form = goal.ReportForm-dyn g (c.args.trace.form.vtable, c.args.trace.form.value) in
+    let p = checked_plan c.args.script.now.checked.now in
     let begun : Tracer = record {
-      tree = checked_tree c.args.checked.now;
+      tree = checked_tree c.args.script.now.checked.now;
       plan = p;
-      heads = c.args.heads.now;
-      every = c.args.every;
+      heads = c.args.script.now.heads.now;
+      every = c.args.trace.every;
       workers = c.args.options.now.workers;
       groups = c.new.result;
-      texts = form.texts c.args.form.value;
-      gathered = form.gathered c.args.form.value;
+      texts = form.texts c.args.trace.form.value;
+      gathered = form.gathered c.args.trace.form.value;
       faulty = false;
     } in
     let it =
