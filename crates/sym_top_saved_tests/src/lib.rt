@@ -4,6 +4,8 @@
 #[cfg(test)]
 mod calls;
 #[cfg(test)]
+mod keyed;
+#[cfg(test)]
 mod mapped;
 #[cfg(test)]
 mod parts;

@@ -19,6 +19,13 @@ const SUMS: &str = "field user: word; field x: num else 0; group user; \
 const SHOWN: &str =
     "field user: word; group user; state n: int [0..9] = 7; update { } report { q = n / 0; n = n; }";
 
+/// A count of each user and day, and one of each mode, user and day, which may be 2 at most.
+const BY_DAY: &str = "field user: word; field day: word; group user, day; \
+    state n: int [0..2] = 0; update { n = n + 1; } report { n = n; }";
+
+const BY_ALL: &str = "enum mode { idle, busy } field user: word; field day: num; field what: mode; \
+    group what, user, day; state n: int [0..2] = 0; update { n = n + 1; } report { n = n; }";
+
 /// A part of a log: the number of its first record, and its text.
 type Part = (&'static str, &'static str);
 
@@ -342,6 +349,45 @@ const OF_USERS: [Log; 9] = [
         ..VISITS
     },
 ];
+
+/// The third group leaves its range in the last part, at its third record.
+const BY_MODES: Log = Log {
+    script: BY_ALL,
+    form: "table",
+    parts: &[
+        ("1", "day,user,what\n3,ann,busy\n3,bob,busy\n"),
+        ("3", "what,day,user\nidle,3,ann\nbusy,3,ann\n"),
+        ("5", "user,what,day\nann,idle,3\nann,busy,-3\nann,idle,3\n"),
+    ],
+    status: Status::Faulted,
+    out: "what | user | day | n\nbusy | ann | 3 | 2\nbusy | bob | 3 | 1\n\
+        idle | ann | 3 | fault: n overflows at record 7\nbusy | ann | -3 | 1\n--\n",
+};
+
+const OF_SEVERAL_FIELDS: [Log; 3] = [
+    BY_MODES,
+    Log {
+        form: "csv",
+        out: "what,user,day,n,fault\nbusy,ann,3,2,\nbusy,bob,3,1,\n\
+            idle,ann,3,,n overflows at record 7\nbusy,ann,-3,1,\n",
+        ..BY_MODES
+    },
+    Log {
+        script: BY_DAY,
+        parts: &[
+            ("1", "user,day\na b,c\na,b c\n"),
+            ("3", "day,user\nc,a b\nc,a\n"),
+        ],
+        status: Status::Done,
+        out: "user | day | n\na b | c | 2\na | b c | 1\na | c | 1\n--\n",
+        ..BY_MODES
+    },
+];
+
+#[test]
+fn parts_of_keys_of_several_fields_are_reported_as_a_whole(rt: HostRuntime) -> Result<(), Fail> {
+    check_threaded_rows(&rt, rt.alloc(), &OF_SEVERAL_FIELDS)
+}
 
 #[test]
 fn parts_of_users_are_reported_as_a_whole(rt: HostRuntime) -> Result<(), Fail> {

@@ -1,5 +1,6 @@
 //! Traces over stores and sinks in memory, in chunks of several sizes and by several workers.
 use crate::calls::{DONE, Run, UNREAD, USAGE, differs_by, store_of, words_of};
+use crate::scripts::{BY_ALL, BY_DAY};
 use std::alloc::Global;
 use std::sync::Wait;
 use std::test::Fail;
@@ -17,6 +18,10 @@ const WORKERS: [&str; 3] = ["1", "4", "64"];
 // Counts records up to a thousand.
 const COUNTS: &str =
     "field x: num; state n: int [0..1000] = 0; update { n = n + 1; } report { n = n; }";
+
+// Counts the records of each user and day, of which there may be one.
+const ONCE_A_DAY: &str = "field user: word; field day: num; group user, day; \
+    state n: int [0..1] = 0; update { n = n + 1; } report { n = n; twice = 2 * n; }";
 
 // Seventy rows, of which the fiftieth is no record.
 const FIFTIETH: &str = "x\n\
@@ -188,6 +193,75 @@ const TRACES: [Trace; 13] = [
     }),
 ];
 
+/// The same with keys of two and three fields.
+const KEYED_TRACES: [Trace; 6] = [
+    // Values that are the same text if they are put together.
+    Trace(Run {
+        script: BY_DAY,
+        files: &["user,day\na b,c\na,b c\na b,c\n"],
+        out: "record | user | day | n\n1 | a b | c | 1\n2 | a | b c | 1\n3 | a b | c | 2\n--\n",
+        ..TRACE
+    }),
+    // The order of the group line is that of the names and values.
+    Trace(Run {
+        script: BY_ALL,
+        files: &["day,user,what\n3,ann,busy\n3,bob,busy\n3,ann,idle\n4,ann,busy\n3,ann,busy\n"],
+        out: "record | what | user | day | n\n1 | busy | ann | 3 | 1\n2 | busy | bob | 3 | 1\n\
+            3 | idle | ann | 3 | 1\n4 | busy | ann | 4 | 1\n5 | busy | ann | 3 | 2\n--\n",
+        ..TRACE
+    }),
+    Trace(Run {
+        words: &[
+            "trace",
+            "--every=2",
+            "--form=pairs",
+            "count.symple",
+            "log.csv",
+        ],
+        script: BY_ALL,
+        files: &["day,user,what\n3,ann,busy\n3,bob,busy\n3,ann,idle\n4,ann,busy\n3,ann,busy\n"],
+        out: "record=2 what=\"busy\" user=\"bob\" day=3 n=1\n\
+            record=4 what=\"busy\" user=\"ann\" day=4 n=1\n",
+        ..TRACE
+    }),
+    // Groups end, one in each file.
+    Trace(Run {
+        words: &["trace", "count.symple", "log.csv", "second.csv"],
+        script: ONCE_A_DAY,
+        files: &["user,day\na,1\na,2\na,1\n", "day,user\n1,a\n2,a\n2,b\n"],
+        status: Status::Faulted,
+        out: "record | user | day | n | twice\n1 | a | 1 | 1 | 2\n2 | a | 2 | 1 | 2\n\
+            3 | a | 1 | fault: n overflows at record 3\n\
+            4 | a | 1 | fault: n overflows at record 3\n\
+            5 | a | 2 | fault: n overflows at record 5\n6 | b | 2 | 1 | 2\n--\n",
+        ..TRACE
+    }),
+    Trace(Run {
+        words: &[
+            "trace",
+            "--every",
+            "3",
+            "count.symple",
+            "log.csv",
+            "second.csv",
+        ],
+        script: ONCE_A_DAY,
+        files: &["user,day\na,1\na,2\na,1\n", "day,user\n1,a\n2,a\n2,b\n"],
+        status: Status::Faulted,
+        out: "record | user | day | n | twice\n3 | a | 1 | fault: n overflows at record 3\n\
+            6 | b | 2 | 1 | 2\n--\n",
+        ..TRACE
+    }),
+    Trace(Run {
+        words: &["trace", "--form", "csv", "count.symple", "log.csv"],
+        script: ONCE_A_DAY,
+        files: &["user,day\na,1\na,1\n"],
+        status: Status::Faulted,
+        out: "record,user,day,n,twice,fault\n1,a,1,1,2,\n2,a,1,,,n overflows at record 2\n",
+        ..TRACE
+    }),
+];
+
 /// The same over longer logs, of which few records have a row.
 const LONG_TRACES: [Trace; 9] = [
     Trace(Run {
@@ -262,6 +336,11 @@ const LONG_TRACES: [Trace; 9] = [
 #[test]
 fn a_trace_is_the_same_however_it_is_worked(rt: HostRuntime) -> Result<(), Fail> {
     check_threaded_rows(&rt, rt.alloc(), &TRACES)
+}
+
+#[test]
+fn a_trace_by_several_fields_is_the_same_however_it_is_worked(rt: HostRuntime) -> Result<(), Fail> {
+    check_threaded_rows(&rt, rt.alloc(), &KEYED_TRACES)
 }
 
 #[test]
