@@ -1,9 +1,7 @@
 //! Taking one file of a saved run.
-ghost use Rattle.std.specs.Prelude.{◌≡◌, ◌≤◌, IfOk, length};
-ghost use Rattle.std.specs.List.{All};
+ghost use Rattle.std.specs.Prelude.{◌≤◌, IfOk, length};
 ghost use Rattle.sym_base.specs.declared.limits.TheConstants as limit;
 ghost use Rattle.sym_check.specs.Checking.CheckedScripts.{checked_plan};
-ghost use Rattle.sym_check.specs.Meaning.Validity.{IsKey};
 ghost use Rattle.sym_file.specs.SavedTexts.{printed};
 ghost use Rattle.sym_reduce.specs.Reducing.{TakesFile};
 ghost use Rattle.sym_run.specs.Applying.{AreValid};
