@@ -12,13 +12,27 @@ fn tripled(index: usize) -> usize {
     index.wrapping_mul(3)
 }
 
-// Whether these are what is tripled of 0 on.
-fn are_tripled(results: &[usize]) -> bool {
-    let mut is_so = true;
-    for index in 0..results.len() {
-        is_so = is_so && results[index] == tripled(index);
+/// A result that isn't what is tripled of its index.
+#[derive(Clone, Copy, Debug, PartialEq, Eq)]
+struct Mistake {
+    index: usize,
+    found: usize,
+    wanted: usize,
+}
+
+// The first result that isn't what is tripled of its index.
+fn first_mistake(results: &[usize]) -> Option<Mistake> {
+    'results: for (index, found) in results.iter().enumerate() {
+        let (found, wanted) = (*found, tripled(index));
+        if found != wanted {
+            return Some(Mistake {
+                index,
+                found,
+                wanted,
+            });
+        }
     }
-    is_so
+    None
 }
 
 #[test]
@@ -35,7 +49,7 @@ fn what_calls_return_at_indices_is_in_order(rt: HostRuntime) -> Result<(), Fail>
             },
         )?;
         assert_eq!(rt; results.len(), count);
-        assert!(rt; are_tripled(results.as_slice()));
+        assert_eq!(rt; first_mistake(results.as_slice()), None, "{count} calls");
         assert_eq!(rt; made.load(Ordering::SeqCst), count);
     }
     Ok(())
@@ -55,7 +69,7 @@ fn what_calls_return_at_jobs_is_in_order(rt: HostRuntime) -> Result<(), Fail> {
             &|job: usize| -> usize { tripled(job) },
         )?;
         assert_eq!(rt; results.len(), count);
-        assert!(rt; are_tripled(results.as_slice()));
+        assert_eq!(rt; first_mistake(results.as_slice()), None, "{count} calls");
     }
     Ok(())
 }
@@ -79,10 +93,11 @@ fn each_index_is_taken_once(rt: HostRuntime) -> Result<(), Fail> {
                     tripled(index)
                 },
             )?;
-            assert_eq!(rt; results.len(), count);
-            assert!(rt; are_tripled(results.as_slice()));
-            assert_eq!(rt; made.load(Ordering::SeqCst), count);
-            assert_eq!(rt; others.load(Ordering::SeqCst), 0);
+            let mistake = first_mistake(results.as_slice());
+            assert_eq!(rt; results.len(), count, "by {threads} threads");
+            assert_eq!(rt; mistake, None, "{count} calls by {threads} threads");
+            let calls = (made.load(Ordering::SeqCst), others.load(Ordering::SeqCst));
+            assert_eq!(rt; calls, (count, 0), "calls, and those of other threads");
         }
     }
     Ok(())
