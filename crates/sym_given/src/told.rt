@@ -16,6 +16,27 @@ pub fn difference<T: Debug + PartialEq>(
     Ok(Some(format!(in alloc; "found {found:?}, wanted {wanted:?}")?))
 }
 
+/// What is found in the place of what is wanted, in these words, if it doesn't hold. For values that
+/// have no text.
+pub fn found_unless(alloc: Global, holds: bool, found: &str) -> Result<Option<String>, NoMemory> {
+    if holds {
+        return Ok(None);
+    }
+    Ok(Some(String::from_str(alloc, found)?))
+}
+
+/// What is said of a row that is tried in this way, if anything is.
+pub fn told_by<W: Debug>(
+    alloc: Global,
+    way: &W,
+    told: Option<String>,
+) -> Result<Option<String>, NoMemory> {
+    match told {
+        Some(told) => Ok(Some(format!(in alloc; "{way:?}: {told}")?)),
+        None => Ok(None),
+    }
+}
+
 /// What is said of a text that is refused, in place of its script.
 pub fn refused(alloc: Global, text: &str) -> Result<Option<String>, NoMemory> {
     Ok(Some(format!(in alloc; "found a text that is refused, wanted a script: {text}")?))

@@ -2,7 +2,7 @@
 use Rattle.std.specs.List.{All}
 use Rattle.sym_check.specs.Checking.CheckedScripts.{checked_plan}
 use Rattle.sym_table.specs.Rows.{FitsChunk, FitsHeader}
-use Rattle.sym_shuffle_tests.proofs.setting.cut.Given as goal
+use Rattle.sym_given.proofs.logs.next_chunks.Given as goal
 
 abbrev pub invariant-chunks : goal.invariant-chunks
 invariant-chunks l = record {

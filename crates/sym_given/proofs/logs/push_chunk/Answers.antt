@@ -4,7 +4,7 @@ use Rattle.std.specs.Prelude.{IfSome}
 use Rattle.sym_check.specs.Checking.CheckedScripts.{checked_plan}
 use Rattle.sym_table.specs.declared.chunk.Chunk.{Chunk}
 use Rattle.sym_table.specs.Rows.{FitsChunk}
-use Rattle.sym_scan_tests.proofs.setting.push_chunk.Goals as goal
+use Rattle.sym_given.proofs.logs.push_chunk.Goals as goal
 
 pub returns-in_ok-push-clause-fit : goal.returns-in_ok-push-clause-fit
 returns-in_ok-push-clause-fit c =
