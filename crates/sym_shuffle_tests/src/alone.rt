@@ -2,42 +2,16 @@
 ghost use Rattle.sym_check.specs.Checking.CheckedScripts.{checked_plan};
 ghost use Rattle.sym_table.specs.Rows.{FitsHeader};
 
-use crate::setting::opened;
 use crate::texts::{text_of_bad, text_of_groups};
 use std::alloc::Global;
-use sym_base::{NoMemory, Record};
+use sym_base::NoMemory;
 use sym_check::Checked;
+use sym_given::{next_decoded, opened};
 use sym_plain::{Groups, fold_into};
-use sym_table::{Bad, Cutter, Decoded, Row, decode};
+use sym_table::{Bad, Cutter, Decoded};
 
 /// The most records of a log in these tests.
 const RECORDS: u64 = 100_000;
-
-/// What comes next in a log.
-enum Next {
-    Is(Record),
-    Bad(Bad),
-    Nothing,
-}
-
-fn take_next(
-    alloc: Global,
-    checked: &Checked,
-    cutter: &mut Cutter<'_>,
-    no: u64,
-) -> Result<Next, NoMemory>
-    requires header { FitsHeader (checked_plan checked.now).fields cutter.old.header }
-    ensures header { FitsHeader (checked_plan checked.now).fields cutter.new.header }
-{
-    let mut row = Row::new(alloc);
-    if !cutter.next_row(&mut row)? {
-        return Ok(Next::Nothing);
-    }
-    match decode(alloc, checked, cutter.header(), &row.view(), no)? {
-        Decoded::Is(rec) => Ok(Next::Is(rec)),
-        Decoded::Bad(bad) => Ok(Next::Bad(bad)),
-    }
-}
 
 // Folds the records that a cutter has next, up to the first row that is none.
 fn fold_all(
@@ -50,10 +24,10 @@ fn fold_all(
 {
     let mut cutter = cutter;
     'records: for place in 0..RECORDS {
-        match take_next(alloc, checked, &mut cutter, place + 1)? {
-            Next::Is(rec) => fold_into(alloc, checked, groups, &rec)?,
-            Next::Bad(bad) => return Ok(Some(bad)),
-            Next::Nothing => return Ok(None),
+        match next_decoded(alloc, checked, &mut cutter, place + 1)? {
+            Some(Decoded::Is(rec)) => fold_into(alloc, checked, groups, &rec)?,
+            Some(Decoded::Bad(bad)) => return Ok(Some(bad)),
+            None => return Ok(None),
         }
     }
     Ok(None)

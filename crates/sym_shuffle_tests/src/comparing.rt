@@ -8,21 +8,22 @@ ghost use Rattle.sym_table.specs.Rows.{FitsChunk};
 use crate::alone::text_alone;
 use crate::logs::Log;
 use crate::noted::Noted;
-use crate::setting::chunks_of;
 use crate::texts::{text_of_bad, text_of_groups};
 use std::alloc::Global;
-use std::process::Abort;
-use std::test::Fail;
+use std::sync::Wait;
 use std::thread::Threads;
 use sym_base::NoMemory;
 use sym_check::Checked;
-use sym_given::accepted;
+use sym_given::{ThreadedCase, chunks_of, told_by};
 use sym_plain::Groups;
 use sym_shuffle::{Free, folded, shuffled};
 use sym_table::{Bad, Chunk};
 
 /// The numbers of workers by which small logs are tried.
-pub(crate) const WORKERS: [u32; 5] = [1, 2, 3, 4, 64];
+const WORKERS: [u32; 5] = [1, 2, 3, 4, 64];
+
+/// The most chunks of a log.
+const CHUNKS: usize = 200;
 
 /// A script, a log whose groups are there before, a log, the rows of a chunk, and the text of what
 /// is wanted; `None`: what folding record by record gives.
@@ -44,12 +45,7 @@ enum Way {
 }
 
 // What is said of a text that isn't the one that is wanted: the first lines that differ.
-fn difference(
-    alloc: Global,
-    way: Way,
-    found: &str,
-    wanted: &str,
-) -> Result<Option<String>, NoMemory> {
+fn lines_differ(alloc: Global, found: &str, wanted: &str) -> Result<Option<String>, NoMemory> {
     if found == wanted {
         return Ok(None);
     }
@@ -57,38 +53,31 @@ fn difference(
     'lines: for line in found.lines() {
         let other = wanted_lines.next().unwrap_or("no more");
         if line != other {
-            let said = format!(in alloc; "{way:?}: found '{line}', wanted '{other}'")?;
-            return Ok(Some(said));
+            return Ok(Some(format!(in alloc; "found '{line}', wanted '{other}'")?));
         }
     }
     let other = wanted_lines.next().unwrap_or("no more");
-    let said = format!(in alloc; "{way:?}: found no more, wanted '{other}'")?;
-    Ok(Some(said))
+    Ok(Some(format!(in alloc; "found no more, wanted '{other}'")?))
 }
 
 // What is said of claims of chunks. A round with a bad row may lack some.
-fn claims(
-    alloc: Global,
-    way: Way,
-    noted: &Noted,
-    may_lack: bool,
-) -> Result<Option<String>, NoMemory> {
+fn claims(alloc: Global, noted: &Noted, may_lack: bool) -> Result<Option<String>, NoMemory> {
     if noted.is_strange() {
-        let said = format!(in alloc; "{way:?}: found a chunk or a worker that there isn't")?;
+        let said = String::from_str(alloc, "found a chunk or a worker that there isn't")?;
         return Ok(Some(said));
     }
-    let Some((chunk, times)) = noted.first_wrong(may_lack) else {
-        return Ok(None);
-    };
-    let said = format!(in alloc; "{way:?}: found {times} claims of chunk {chunk}, wanted 1")?;
-    Ok(Some(said))
+    match noted.first_wrong(may_lack) {
+        Some((chunk, times)) => Ok(Some(format!(in alloc;
+            "found {times} claims of chunk {chunk}, wanted 1"
+        )?)),
+        None => Ok(None),
+    }
 }
 
 // What is said of a round of which a line of its text differs, or whose chunks aren't claimed as
 // they have to be.
 fn said_of(
     alloc: Global,
-    way: Way,
     led: &Result<Groups, Bad>,
     noted: &Noted,
     wanted: &str,
@@ -97,9 +86,9 @@ fn said_of(
         Ok(groups) => text_of_groups(alloc, groups)?,
         Err(bad) => text_of_bad(alloc, bad)?,
     };
-    match difference(alloc, way, found.as_str(), wanted)? {
+    match lines_differ(alloc, found.as_str(), wanted)? {
         Some(said) => Ok(Some(said)),
-        None => claims(alloc, way, noted, led.is_err()),
+        None => claims(alloc, noted, led.is_err()),
     }
 }
 
@@ -119,7 +108,8 @@ fn wrong_by<T: Threads + Sync>(
 {
     let noted = Noted::new(alloc, workers, chunks.len())?;
     let led = shuffled(rt, alloc, checked, chunks, before, workers, &noted)?;
-    said_of(alloc, Way::Shuffled(workers), &led, &noted, wanted)
+    let said = said_of(alloc, &led, &noted, wanted)?;
+    told_by(alloc, &Way::Shuffled(workers), said)
 }
 
 // What is wrong with a round on one thread.
@@ -135,7 +125,8 @@ fn wrong_alone(
 {
     let noted = Noted::new(alloc, 1, chunks.len())?;
     let led = folded(alloc, checked, chunks, before, &noted)?;
-    said_of(alloc, Way::OnOneThread, &led, &noted, wanted)
+    let said = said_of(alloc, &led, &noted, wanted)?;
+    told_by(alloc, &Way::OnOneThread, said)
 }
 
 // What is wrong with a round on one thread, or by one of these numbers of workers.
@@ -172,7 +163,7 @@ fn wrong_round<T: Threads + Sync>(
 fn groups_of(alloc: Global, checked: &Checked, log: &str) -> Result<Groups, NoMemory>
     ensures { IfOk result (AreValid (checked_plan checked.now)) }
 {
-    let chunks = chunks_of(alloc, checked, log, 1_024)?;
+    let chunks = chunks_of(alloc, checked, log, 1_024, CHUNKS)?;
     match folded(alloc, checked, chunks.as_slice(), Groups::new(alloc), &Free)? {
         Ok(groups) => Ok(groups),
         Err(_bad) => Ok(Groups::new(alloc)),
@@ -192,12 +183,12 @@ fn wrong_log<T: Threads + Sync>(
     let log = log.text(alloc)?;
     let alone = text_alone(alloc, checked, log.as_str(), before.copy(alloc)?)?;
     if let Some(wanted) = wanted {
-        let said = difference(alloc, Way::RecordByRecord, alone.as_str(), wanted)?;
+        let said = lines_differ(alloc, alone.as_str(), wanted)?;
         if said.is_some() {
-            return Ok(said);
+            return told_by(alloc, &Way::RecordByRecord, said);
         }
     }
-    let chunks = chunks_of(alloc, checked, log.as_str(), *rows)?;
+    let chunks = chunks_of(alloc, checked, log.as_str(), *rows, CHUNKS)?;
     wrong_round(
         rt,
         alloc,
@@ -209,31 +200,36 @@ fn wrong_log<T: Threads + Sync>(
     )
 }
 
-// What is wrong with a case: what was found, and what was wanted.
-fn wrong<T: Threads + Sync>(
-    rt: &T,
-    alloc: Global,
-    case: &Case,
-    tried: &[u32],
-) -> Result<Option<String>, NoMemory> {
-    match accepted(alloc, case.0) {
-        Some(checked) => wrong_log(rt, alloc, &checked, case, tried),
-        None => Ok(Some(String::from_str(alloc, "the script is refused")?)),
+impl ThreadedCase for Case {
+    fn script(&self) -> &str {
+        self.0
+    }
+
+    fn differs<T: Threads + Wait + Sync>(
+        &self,
+        rt: &T,
+        alloc: Global,
+        checked: &Checked,
+    ) -> Result<Option<String>, NoMemory> {
+        wrong_log(rt, alloc, checked, self, &WORKERS)
     }
 }
 
-/// Fails the test at the first case that comes to something else than is wanted, by one of these
-/// numbers of workers.
-pub(crate) fn check_cases<T: Threads + Abort + Sync>(
-    rt: &T,
-    alloc: Global,
-    cases: &[Case],
-    tried: &[u32],
-) -> Result<(), Fail> {
-    'cases: for (place, case) in cases.iter().enumerate() {
-        if let Some(said) = wrong(rt, alloc, case, tried)? {
-            panic!(rt; "case {place}: {said}");
-        }
+/// A case that is tried by 64 workers alone.
+#[derive(Clone, Copy)]
+pub(crate) struct ByMany(pub(crate) Case);
+
+impl ThreadedCase for ByMany {
+    fn script(&self) -> &str {
+        self.0.0
     }
-    Ok(())
+
+    fn differs<T: Threads + Wait + Sync>(
+        &self,
+        rt: &T,
+        alloc: Global,
+        checked: &Checked,
+    ) -> Result<Option<String>, NoMemory> {
+        wrong_log(rt, alloc, checked, &self.0, &[64])
+    }
 }

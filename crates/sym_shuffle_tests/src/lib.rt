@@ -15,8 +15,6 @@ mod noted;
 #[cfg(test)]
 mod scripts;
 #[cfg(test)]
-mod setting;
-#[cfg(test)]
 mod stopped;
 #[cfg(test)]
 mod texts;

@@ -1,6 +1,7 @@
 //! Logs: texts, and records that a fixed generator draws.
 use std::alloc::Global;
 use sym_base::NoMemory;
+use sym_given::Draws;
 
 /// The records of a log that is drawn, with the columns of all scripts.
 #[derive(Clone, Copy)]
@@ -20,17 +21,6 @@ pub(crate) enum Log {
     Drawn(Draw),
     /// So many records with two words each, of which some are empty and some are long.
     Noted(u32),
-}
-
-/// A linear congruential generator of numbers below 2^31, of which the upper 15 bits are used.
-#[derive(Drop)]
-struct Draws(u32);
-
-impl Draws {
-    fn next(&mut self) -> u32 {
-        self.0 = self.0.wrapping_mul(1_103_515_245).wrapping_add(12_345) & 0x7fff_ffff;
-        self.0 / 65_536
-    }
 }
 
 const ENDINGS: [&str; 3] = ["win", "draw", "loss"];
@@ -68,7 +58,7 @@ impl Draw {
     }
 
     fn text(&self, alloc: Global) -> Result<String, NoMemory> {
-        let mut draws = Draws(self.seed);
+        let mut draws = Draws::of(self.seed);
         let mut log = String::from_str(alloc, "user,team,x,end,note,ts\n")?;
         'records: for place in 0..self.records.min(100_000) {
             self.push(alloc, &mut log, place + 1, &mut draws)?;

@@ -4,11 +4,6 @@
 pub(crate) const COUNTS: &str = "field user: word; group user; state n: int [0..100000] = 0; \
     update { n = n + 1; } report { n = n; }";
 
-/// A sum of each user in a range, and a list of what was added.
-pub(crate) const SUMS: &str = "field user: word; field x: num else 0; group user; \
-    state n: int [-20..20] = 0; state xs: nums [-20..20]; \
-    update { n = n + x; push xs x; } report { n = n; }";
-
 /// Quotients of each user, which may fail.
 pub(crate) const QUOTIENTS: &str = "field x: num; field user: word; group user; \
     state quotients: nums [-99..99]; update { push quotients 10 / x; } \
@@ -45,10 +40,6 @@ pub(crate) const NOTES: &str = "enum ending { win, draw, loss } field user: word
     state last: hold(word = \"none\", num = 0, ending = draw, word = \"none\"); \
     update { push seen first; push seen second; keep last(second, x, end, first); } \
     report { n = count(seen); }";
-
-/// One group that counts to 3 and then ends by a fault.
-pub(crate) const COUNTER: &str = "field x: num; state n: int [0..3] = 0; update { n = n + 1; } \
-    report { n = n; }";
 
 /// One group with a list of all numbers.
 pub(crate) const ALL: &str = "field x: num; state xs: nums [-99..99]; update { push xs x; } \

@@ -1,8 +1,9 @@
 //! Words that an update reads: empty, long, equal and of any letters.
-use crate::comparing::{Case, WORKERS, check_cases};
+use crate::comparing::Case;
 use crate::logs::Log;
 use crate::scripts::NOTES;
 use std::test::Fail;
+use sym_given::check_threaded_cases;
 
 const NONE: Log = Log::Text("");
 
@@ -26,11 +27,11 @@ fn words_are_those_of_their_records(rt: HostRuntime) -> Result<(), Fail> {
         Case(NOTES, before, log, 1, Some(led)),
         Case(NOTES, before, log, 4, Some(led)),
     ];
-    check_cases(&rt, rt.alloc(), &cases, &WORKERS)
+    check_threaded_cases(&rt, rt.alloc(), &cases)
 }
 
 #[test]
 fn words_may_be_long(rt: HostRuntime) -> Result<(), Fail> {
     let cases = [Case(NOTES, NONE, Log::Noted(1_100), 50, None)];
-    check_cases(&rt, rt.alloc(), &cases, &WORKERS)
+    check_threaded_cases(&rt, rt.alloc(), &cases)
 }

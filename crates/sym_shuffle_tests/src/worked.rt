@@ -1,8 +1,10 @@
 //! Small logs, whose groups were worked by hand.
-use crate::comparing::{Case, WORKERS, check_cases};
+use crate::comparing::Case;
 use crate::logs::Log;
-use crate::scripts::{ALL, BY_LABEL, BY_NUMBER, COUNTER, COUNTS, GAMES, QUOTIENTS, SESSIONS, SUMS};
+use crate::scripts::{ALL, BY_LABEL, BY_NUMBER, COUNTS, GAMES, QUOTIENTS, SESSIONS};
 use std::test::Fail;
+use sym_given::check_threaded_cases;
+use sym_given::scripts::{COUNTER, SMALL_SUMS};
 
 const NONE: Log = Log::Text("");
 
@@ -18,16 +20,16 @@ fn groups_are_in_order_of_first_appearance(rt: HostRuntime) -> Result<(), Fail> 
     let five = " a: 4 [ 1 3 ]\n b: 7 [ 2 5 ]\n c: 4 [ 4 ]\n";
     let led = " c: 5 [ 1 4 ]\n a: 6 [ 2 1 3 ]\n b: 7 [ 2 5 ]\n";
     let cases = [
-        Case(SUMS, NONE, none, 1, Some("")),
-        Case(SUMS, one, none, 1, Some(" a: 1 [ 1 ]\n")),
-        Case(SUMS, NONE, one, 1, Some(" a: 1 [ 1 ]\n")),
-        Case(SUMS, one, one, 1, Some(" a: 2 [ 1 1 ]\n")),
-        Case(SUMS, NONE, FIVE, 1, Some(five)),
-        Case(SUMS, NONE, FIVE, 2, Some(five)),
-        Case(SUMS, NONE, FIVE, 1_024, Some(five)),
-        Case(SUMS, some, FIVE, 1, Some(led)),
-        Case(SUMS, some, FIVE, 2, Some(led)),
-        Case(SUMS, some, FIVE, 1_024, Some(led)),
+        Case(SMALL_SUMS, NONE, none, 1, Some("")),
+        Case(SMALL_SUMS, one, none, 1, Some(" a: 1 [ 1 ]\n")),
+        Case(SMALL_SUMS, NONE, one, 1, Some(" a: 1 [ 1 ]\n")),
+        Case(SMALL_SUMS, one, one, 1, Some(" a: 2 [ 1 1 ]\n")),
+        Case(SMALL_SUMS, NONE, FIVE, 1, Some(five)),
+        Case(SMALL_SUMS, NONE, FIVE, 2, Some(five)),
+        Case(SMALL_SUMS, NONE, FIVE, 1_024, Some(five)),
+        Case(SMALL_SUMS, some, FIVE, 1, Some(led)),
+        Case(SMALL_SUMS, some, FIVE, 2, Some(led)),
+        Case(SMALL_SUMS, some, FIVE, 1_024, Some(led)),
         Case(
             COUNTS,
             NONE,
@@ -50,7 +52,7 @@ fn groups_are_in_order_of_first_appearance(rt: HostRuntime) -> Result<(), Fail> 
             Some(" d: 5\n c: 4\n b: 3\n a: 3\n"),
         ),
     ];
-    check_cases(&rt, rt.alloc(), &cases, &WORKERS)
+    check_threaded_cases(&rt, rt.alloc(), &cases)
 }
 
 #[test]
@@ -66,11 +68,11 @@ fn keys_may_be_new_in_several_parts(rt: HostRuntime) -> Result<(), Fail> {
     let noted = " #0 Reds: ( #0 Reds ) [ a d g ] #0\n #2 Blues: ( #2 Blues ) [ ] #2\n \
                  #1 Reds: ( #1 Reds ) [ ] #2\n";
     let cases = [
-        Case(SUMS, NONE, letters, 2, Some(begun)),
-        Case(SUMS, before, letters, 2, Some(led)),
+        Case(SMALL_SUMS, NONE, letters, 2, Some(begun)),
+        Case(SMALL_SUMS, before, letters, 2, Some(led)),
         Case(GAMES, NONE, games, 2, Some(noted)),
     ];
-    check_cases(&rt, rt.alloc(), &cases, &WORKERS)
+    check_threaded_cases(&rt, rt.alloc(), &cases)
 }
 
 #[test]
@@ -82,14 +84,14 @@ fn a_fault_ends_a_group_at_its_record(rt: HostRuntime) -> Result<(), Fail> {
     let failed = " a: arithmetic at 3\n b: arithmetic at 2\n c: [ -3 ]\n";
     let fives = Log::Text("x\n5\n5\n5\n5\n5\n");
     let cases = [
-        Case(SUMS, before, sums, 1, Some(ended)),
-        Case(SUMS, before, sums, 2, Some(ended)),
+        Case(SMALL_SUMS, before, sums, 1, Some(ended)),
+        Case(SMALL_SUMS, before, sums, 2, Some(ended)),
         Case(QUOTIENTS, NONE, quotients, 1, Some(failed)),
         Case(QUOTIENTS, NONE, quotients, 4, Some(failed)),
         Case(COUNTER, NONE, fives, 1, Some(": over 0 at 4\n")),
         Case(COUNTER, fives, fives, 1, Some(": over 0 at 4\n")),
     ];
-    check_cases(&rt, rt.alloc(), &cases, &WORKERS)
+    check_threaded_cases(&rt, rt.alloc(), &cases)
 }
 
 #[test]
@@ -128,7 +130,7 @@ fn keys_and_updates_are_of_any_kind(rt: HostRuntime) -> Result<(), Fail> {
         Case(ALL, NONE, all, 1, Some(": [ 3 1 2 1 ]\n")),
         Case(ALL, all, all, 2, Some(": [ 3 1 2 1 3 1 2 1 ]\n")),
     ];
-    check_cases(&rt, rt.alloc(), &cases, &WORKERS)
+    check_threaded_cases(&rt, rt.alloc(), &cases)
 }
 
 #[test]
@@ -139,10 +141,16 @@ fn rows_are_those_of_csv(rt: HostRuntime) -> Result<(), Fail> {
     let sums = " a, \"b\": 4 [ 1 3 ]\n c\nd: 2 [ 2 ]\n c: 0 [ 0 ]\n";
     let others = Log::Text("w,x,v,user\n\"\",1,\"\r\n\",a\n,2,,\"\"\n");
     let cases = [
-        Case(SUMS, NONE, quoted, 1, Some(sums)),
-        Case(SUMS, NONE, quoted, 2, Some(sums)),
-        Case(SUMS, NONE, quoted, 1_024, Some(sums)),
-        Case(SUMS, NONE, others, 1, Some(" a: 1 [ 1 ]\n : 2 [ 2 ]\n")),
+        Case(SMALL_SUMS, NONE, quoted, 1, Some(sums)),
+        Case(SMALL_SUMS, NONE, quoted, 2, Some(sums)),
+        Case(SMALL_SUMS, NONE, quoted, 1_024, Some(sums)),
+        Case(
+            SMALL_SUMS,
+            NONE,
+            others,
+            1,
+            Some(" a: 1 [ 1 ]\n : 2 [ 2 ]\n"),
+        ),
     ];
-    check_cases(&rt, rt.alloc(), &cases, &WORKERS)
+    check_threaded_cases(&rt, rt.alloc(), &cases)
 }
