@@ -3,13 +3,13 @@ ghost use Rattle.sym_check.specs.Checking.CheckedScripts.{checked_plan};
 ghost use Rattle.sym_check.specs.Meaning.Validity.{IsRecord};
 
 use crate::comparing::{fits, record};
-use crate::setting::{all_hold, number, path_of, span};
+use crate::setting::{Stop, has_path, none_told, number, path_of, span, told_of};
 use std::alloc::Global;
 use std::test::Fail;
 use sym_base::{NoMemory, Record};
 use sym_check::Checked;
 use sym_explore::{Grown, extend, fresh};
-use sym_given::accepted;
+use sym_given::{Case, check_cases, difference};
 use sym_path::{Form, Part, Path, Segment};
 
 /// A path of n from the first number to the second one. There n becomes `a * n + b` of the last two
@@ -66,106 +66,74 @@ const ROWS: [Clamping; 4] = [
     },
 ];
 
-fn path(alloc: Global, piece: Piece) -> Result<Path, NoMemory> {
+fn path(alloc: Global, piece: Piece) -> Result<Path, Stop> {
     let Piece(lo, hi, a, b) = piece;
     let mut when = Vec::new(alloc);
-    when.push(Part::Span(span(lo, hi)?))?;
+    when.push(Part::Span(span(alloc, lo, hi)?))?;
     let mut forms = Vec::new(alloc);
-    forms.push(Form::Int(number(0, a, b)?))?;
+    forms.push(Form::Int(number(alloc, 0, a, b)?))?;
     Ok(path_of(when, forms))
 }
 
-fn has_path(alloc: Global, segment: &Segment, piece: Piece) -> Result<bool, NoMemory> {
-    let wanted = path(alloc, piece)?;
-    Ok(segment.paths().iter().any(|path| *path == wanted))
-}
-
-fn has_paths(alloc: Global, segment: &Segment, pieces: &[Piece]) -> Result<bool, NoMemory> {
+fn has_paths(alloc: Global, segment: &Segment, pieces: &[Piece]) -> Result<(), Stop> {
     'pieces: for piece in pieces {
-        if !has_path(alloc, segment, *piece)? {
-            return Ok(false);
-        }
+        has_path(alloc, segment, &path(alloc, *piece)?)?;
     }
-    Ok(segment.paths().len() == pieces.len())
+    none_told(difference(alloc, &segment.paths().len(), &pieces.len()))
 }
 
-/// The segment of one record more; `None` where it has more paths than the limit.
+/// The segment of one record more.
 fn longer(
     alloc: Global,
     checked: &Checked,
     segment: &Segment,
     rec: &Record,
     limit: u32,
-) -> Result<Option<Segment>, NoMemory>
+) -> Result<Segment, Stop>
     requires { IsRecord (checked_plan checked.now) rec.now }
 {
     if !fits(checked, segment) {
-        return Ok(None);
+        return Err(Stop::Differs(String::from_str(
+            alloc,
+            "found a segment that doesn't fit the script",
+        )?));
     }
     match extend(alloc, checked, segment, rec, limit)? {
-        Grown::Fits(segment) => Ok(Some(segment)),
-        Grown::Over(_found) => Ok(None),
+        Grown::Fits(segment) => Ok(segment),
+        Grown::Over(_found) => {
+            Err(Stop::Differs(format!(in alloc; "found more paths than {limit}")?))
+        }
     }
 }
 
 /// The segment of so many records like this one.
-fn explored(
-    alloc: Global,
-    checked: &Checked,
-    rec: &Record,
-    row: &Clamping,
-) -> Result<Option<Segment>, NoMemory>
+fn explored(alloc: Global, checked: &Checked, rec: &Record, row: &Clamping) -> Result<Segment, Stop>
     requires { IsRecord (checked_plan checked.now) rec.now }
 {
     let mut segment = fresh(alloc, checked, rec)?;
     'records: for _ in 1..row.records {
-        match longer(alloc, checked, &segment, rec, row.limit)? {
-            Some(next) => segment = next,
-            None => return Ok(None),
-        }
+        segment = longer(alloc, checked, &segment, rec, row.limit)?;
     }
-    Ok(Some(segment))
+    Ok(segment)
 }
 
-fn holds_of(
-    alloc: Global,
-    checked: &Checked,
-    rec: &Record,
-    row: &Clamping,
-) -> Result<bool, NoMemory>
-    requires { IsRecord (checked_plan checked.now) rec.now }
-{
-    match explored(alloc, checked, rec, row)? {
-        Some(segment) => has_paths(alloc, &segment, row.paths),
-        None => Ok(false),
-    }
+fn is_clamped(alloc: Global, checked: &Checked, row: &Clamping) -> Result<(), Stop> {
+    none_told(difference(alloc, &checked.path_bound(), &row.bound))?;
+    let rec = record(alloc, checked, "x", "1", 1)?;
+    has_paths(alloc, &explored(alloc, checked, &rec, row)?, row.paths)
 }
 
-fn holds(alloc: Global, checked: &Checked, row: &Clamping) -> Result<bool, NoMemory> {
-    match record(alloc, checked, "x", "1", 1)? {
-        Some(rec) => Ok(checked.path_bound() == row.bound && holds_of(alloc, checked, &rec, row)?),
-        None => Ok(false),
+impl Case for Clamping {
+    fn script(&self) -> &str {
+        self.script
     }
-}
 
-fn row_holds(alloc: Global, row: &Clamping) -> Result<bool, NoMemory> {
-    match accepted(alloc, row.script) {
-        Some(checked) => holds(alloc, &checked, row),
-        None => Ok(false),
+    fn differs(&self, alloc: Global, checked: &Checked) -> Result<Option<String>, NoMemory> {
+        told_of(is_clamped(alloc, checked, self))
     }
-}
-
-/// The place of the first row that doesn't hold, counted from 0.
-fn wrong_row(alloc: Global) -> Result<Option<usize>, NoMemory> {
-    'rows: for (place, row) in ROWS.iter().enumerate() {
-        if !row_holds(alloc, row)? {
-            return Ok(Some(place));
-        }
-    }
-    Ok(None)
 }
 
 #[test]
 fn numbers_outside_a_range_become_its_nearest_end(rt: HostRuntime) -> Result<(), Fail> {
-    all_hold(&rt, wrong_row(rt.alloc()))
+    check_cases(rt.alloc(), &ROWS)
 }

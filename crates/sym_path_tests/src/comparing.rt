@@ -5,7 +5,7 @@ ghost use Rattle.sym_check.specs.Meaning.Validity.{IsRecord, IsValid, IsValidOut
 ghost use Rattle.sym_path.specs.Fitting.{SegmentFits};
 ghost use Rattle.sym_table.specs.Rows.{FitsHeader};
 
-use crate::setting::{number, state_by};
+use crate::setting::{Stop, holds, none_told, number, state_by, told_of};
 use std::alloc::Global;
 use sym_base::{
     Cell, Fault, FaultKind, NoMemory, Outcome, Record, Sequence, State, Text, Value, Values,
@@ -15,11 +15,11 @@ use sym_enum::EnumForm;
 use sym_explore::{
     Extension, Grown, Scratch, extend, extend_within, fresh, fresh_with, grow, grow_with,
 };
-use sym_given::accepted;
+use sym_given::{accepted, difference, next_decoded, opened, outcome_text, refused, told_at};
 use sym_path::{Form, Path, PathEnd, Segment};
 use sym_plain::step;
 use sym_pred::HoldForm;
-use sym_table::{Cutter, Decoded, Row, decode};
+use sym_table::{Cutter, Decoded};
 use sym_vector::ListForm;
 
 /// A script with records and states, and what comes of them.
@@ -47,50 +47,40 @@ pub(crate) struct Case {
 }
 
 /// What was found at the states so far.
-#[derive(Clone, Copy, PartialEq, Eq)]
+#[derive(Clone, Copy, Debug, PartialEq, Eq)]
 struct Tally {
     faults: usize,
     pushed: usize,
-}
-
-/// The record of the next row; `None` where there is none.
-fn next_record(
-    alloc: Global,
-    checked: &Checked,
-    cutter: &mut Cutter<'_>,
-    no: u64,
-) -> Result<Option<Record>, NoMemory>
-    requires { FitsHeader (checked_plan checked.now).fields cutter.old.header }
-    ensures { IfOk result (λ found. IfSome found (IsRecord (checked_plan checked.now))) }
-{
-    let mut row = Row::new(alloc);
-    if !cutter.next_row(&mut row)? {
-        return Ok(None);
-    }
-    match decode(alloc, checked, cutter.header(), &row.view(), no)? {
-        Decoded::Is(record) => Ok(Some(record)),
-        Decoded::Bad(_) => Ok(None),
-    }
 }
 
 /// The record of the first row of a file.
 fn first_record(
     alloc: Global,
     checked: &Checked,
-    bytes: &[u8],
+    cutter: Cutter<'_>,
+    no: u64,
+) -> Result<Option<Record>, NoMemory>
+    requires { FitsHeader (checked_plan checked.now).fields cutter.header }
+    ensures { IfOk result (λ found. IfSome found (IsRecord (checked_plan checked.now))) }
+{
+    let mut cutter = cutter;
+    match next_decoded(alloc, checked, &mut cutter, no)? {
+        Some(Decoded::Is(rec)) => Ok(Some(rec)),
+        Some(Decoded::Bad(_)) | None => Ok(None),
+    }
+}
+
+fn record_of(
+    alloc: Global,
+    checked: &Checked,
+    file: &str,
     no: u64,
 ) -> Result<Option<Record>, NoMemory>
     ensures { IfOk result (λ found. IfSome found (IsRecord (checked_plan checked.now))) }
 {
-    if bytes.len() >= 1_000 || no >= 1_000 {
-        return Ok(None);
-    }
-    match Cutter::open(alloc, checked, bytes, no, 1) {
-        Ok(opened) => {
-            let mut cutter = opened;
-            next_record(alloc, checked, &mut cutter, no)
-        }
-        Err(_) => Ok(None),
+    match opened(alloc, checked, file, 1) {
+        Some(cutter) => first_record(alloc, checked, cutter, no),
+        None => Ok(None),
     }
 }
 
@@ -101,11 +91,14 @@ pub(crate) fn record(
     header: &str,
     line: &str,
     no: u64,
-) -> Result<Option<Record>, NoMemory>
-    ensures { IfOk result (λ found. IfSome found (IsRecord (checked_plan checked.now))) }
+) -> Result<Record, Stop>
+    ensures { IfOk result (IsRecord (checked_plan checked.now)) }
 {
-    let text = format!(in alloc; "{header}\n{line}")?;
-    first_record(alloc, checked, text.as_bytes(), no)
+    let file = format!(in alloc; "{header}\n{line}")?;
+    match record_of(alloc, checked, file.as_str(), no)? {
+        Some(rec) => Ok(rec),
+        None => Err(Stop::Differs(format!(in alloc; "found {line}, wanted a record")?)),
+    }
 }
 
 /// Whether each of the segment's paths fits the script.
@@ -115,22 +108,24 @@ pub(crate) fn fits(checked: &Checked, segment: &Segment) -> bool
     segment.paths().iter().all(|path| path.fits(checked))
 }
 
-/// The segment of one record; `None` where it isn't the same over memory that other records and
-/// scripts have used.
+/// The segment of one record, which is the same over memory that other records and scripts have
+/// used.
 fn first(
     alloc: Global,
     checked: &Checked,
     rec: &Record,
     used: &mut Scratch,
-) -> Result<Option<Segment>, NoMemory>
+) -> Result<Segment, Stop>
     requires { IsRecord (checked_plan checked.now) rec.now }
 {
     let segment = fresh(alloc, checked, rec)?;
-    if fresh_with(alloc, checked, rec, used)? == segment {
-        Ok(Some(segment))
-    } else {
-        Ok(None)
-    }
+    let same = fresh_with(alloc, checked, rec, used)? == segment;
+    holds(
+        alloc,
+        same,
+        "found another segment by fresh_with than by fresh",
+    )?;
+    Ok(segment)
 }
 
 /// Whether the call that gives a segment back if the longer one has too many paths does so.
@@ -155,7 +150,7 @@ fn is_extended(
     }
 }
 
-/// Whether the calls that take a segment of their own give the same.
+/// Stops where the calls that take a segment of their own give something else.
 fn is_grown(
     alloc: Global,
     checked: &Checked,
@@ -164,18 +159,27 @@ fn is_grown(
     limit: u32,
     used: &mut Scratch,
     grown: &Grown,
-) -> Result<bool, NoMemory>
+) -> Result<(), Stop>
     requires segment { SegmentFits (checked_plan checked.now) segment.now }
     requires rec { IsRecord (checked_plan checked.now) rec.now }
 {
-    Ok(
-        grow(alloc, checked, segment.copy(alloc)?, rec, limit)? == *grown
-            && grow_with(alloc, checked, segment.copy(alloc)?, rec, limit, used)? == *grown
-            && is_extended(alloc, checked, segment, rec, limit, used, grown)?,
+    let same = grow(alloc, checked, segment.copy(alloc)?, rec, limit)? == *grown;
+    holds(alloc, same, "found another segment by grow than by extend")?;
+    let same = grow_with(alloc, checked, segment.copy(alloc)?, rec, limit, used)? == *grown;
+    holds(
+        alloc,
+        same,
+        "found another segment by grow_with than by extend",
+    )?;
+    let same = is_extended(alloc, checked, segment, rec, limit, used, grown)?;
+    holds(
+        alloc,
+        same,
+        "found another segment by extend_within than by extend",
     )
 }
 
-/// The segment of one record more; `None` where the calls differ.
+/// The segment of one record more.
 fn longer(
     alloc: Global,
     checked: &Checked,
@@ -183,37 +187,32 @@ fn longer(
     rec: &Record,
     limit: u32,
     used: &mut Scratch,
-) -> Result<Option<Grown>, NoMemory>
+) -> Result<Grown, Stop>
     requires { IsRecord (checked_plan checked.now) rec.now }
 {
     if !fits(checked, segment) {
-        return Ok(None);
+        return Err(Stop::Differs(String::from_str(
+            alloc,
+            "found a segment that doesn't fit the script",
+        )?));
     }
     let grown = extend(alloc, checked, segment, rec, limit)?;
-    if is_grown(alloc, checked, segment, rec, limit, used, &grown)? {
-        Ok(Some(grown))
-    } else {
-        Ok(None)
-    }
+    is_grown(alloc, checked, segment, rec, limit, used, &grown)?;
+    Ok(grown)
 }
 
-/// Adds a segment for the record. Whether the calls gave the same.
+/// Adds a segment for the record.
 fn begin(
     alloc: Global,
     checked: &Checked,
     segments: &mut Vec<Segment>,
     rec: &Record,
     used: &mut Scratch,
-) -> Result<bool, NoMemory>
+) -> Result<(), Stop>
     requires { IsRecord (checked_plan checked.now) rec.now }
 {
-    match first(alloc, checked, rec, used)? {
-        Some(segment) => {
-            segments.push(segment)?;
-            Ok(true)
-        }
-        None => Ok(false),
-    }
+    segments.push(first(alloc, checked, rec, used)?)?;
+    Ok(())
 }
 
 /// Takes the longer segment in the place of the last one, or adds one for the record where the
@@ -225,21 +224,21 @@ fn go_on(
     grown: Grown,
     rec: &Record,
     used: &mut Scratch,
-) -> Result<bool, NoMemory>
+) -> Result<(), Stop>
     requires { IsRecord (checked_plan checked.now) rec.now }
 {
     match grown {
         Grown::Fits(segment) => {
             let _last = segments.pop();
             segments.push(segment)?;
-            Ok(true)
+            Ok(())
         }
         Grown::Over(_found) => begin(alloc, checked, segments, rec, used),
     }
 }
 
 /// Adds a record to the last of the segments, or a segment for it where that one would have too
-/// many paths. Whether the calls gave the same.
+/// many paths.
 fn add(
     alloc: Global,
     checked: &Checked,
@@ -247,16 +246,14 @@ fn add(
     rec: &Record,
     limit: u32,
     used: &mut Scratch,
-) -> Result<bool, NoMemory>
+) -> Result<(), Stop>
     requires { IsRecord (checked_plan checked.now) rec.now }
 {
     let Some(last) = segments.last() else {
         return begin(alloc, checked, segments, rec, used);
     };
-    match longer(alloc, checked, last, rec, limit, used)? {
-        Some(grown) => go_on(alloc, checked, segments, grown, rec, used),
-        None => Ok(false),
-    }
+    let grown = longer(alloc, checked, last, rec, limit, used)?;
+    go_on(alloc, checked, segments, grown, rec, used)
 }
 
 /// The records of a script, and the segments that they make.
@@ -274,11 +271,9 @@ fn add_line(
     no: u64,
     used: &mut Scratch,
     explored: &mut Exploration,
-) -> Result<bool, NoMemory> {
-    let Some(rec) = record(alloc, checked, case.header, line, no)? else {
-        return Ok(false);
-    };
-    let added = add(
+) -> Result<(), Stop> {
+    let rec = record(alloc, checked, case.header, line, no)?;
+    add(
         alloc,
         checked,
         &mut explored.segments,
@@ -287,7 +282,7 @@ fn add_line(
         used,
     )?;
     explored.records.push(rec)?;
-    Ok(added)
+    Ok(())
 }
 
 /// Adds the records, which are numbered from 1, and their segments.
@@ -297,15 +292,13 @@ fn add_lines(
     case: &Case,
     used: &mut Scratch,
     explored: &mut Exploration,
-) -> Result<bool, NoMemory> {
+) -> Result<(), Stop> {
     let mut no = 0u64;
     'lines: for line in case.lines.split_whitespace() {
         no = no.saturating_add(1);
-        if !add_line(alloc, checked, case, line, no, used, explored)? {
-            return Ok(false);
-        }
+        add_line(alloc, checked, case, line, no, used, explored)?;
     }
-    Ok(true)
+    Ok(())
 }
 
 /// What a state comes to by the records, one after the other.
@@ -339,59 +332,66 @@ fn only_path<'a>(checked: &Checked, segment: &'a Segment, state: &State) -> Opti
     found
 }
 
-/// What the only path that admits the state gives there; `None` where there isn't one.
+/// What the only path that admits the state gives there.
 fn given(
     alloc: Global,
     checked: &Checked,
     segment: &Segment,
     state: &State,
-) -> Result<Option<Outcome>, NoMemory>
+) -> Result<Outcome, Stop>
     requires { IsValid (checked_plan checked.now) state.now }
-    ensures { IfOk result (λ found. IfSome found (IsValidOutcome (checked_plan checked.now))) }
+    ensures { IfOk result (IsValidOutcome (checked_plan checked.now)) }
 {
-    let Some(path) = only_path(checked, segment, state) else {
-        return Ok(None);
-    };
-    if !path.fits(checked) || !path.admits(checked, state) {
-        return Ok(None);
+    match only_path(checked, segment, state) {
+        Some(path) if path.fits(checked) && path.admits(checked, state) => {
+            Ok(path.gives(alloc, checked, state)?)
+        }
+        _ => Err(Stop::Differs(String::from_str(
+            alloc,
+            "found no path or several of a segment, wanted one for a state",
+        )?)),
     }
-    Ok(Some(path.gives(alloc, checked, state)?))
 }
 
 /// What the segment's records make of a state that is given away.
-fn led(
-    alloc: Global,
-    checked: &Checked,
-    segment: &Segment,
-    state: State,
-) -> Result<Option<Outcome>, NoMemory>
+fn led(alloc: Global, checked: &Checked, segment: &Segment, state: State) -> Result<Outcome, Stop>
     requires { IsValid (checked_plan checked.now) state }
-    ensures { IfOk result (λ found. IfSome found (IsValidOutcome (checked_plan checked.now))) }
+    ensures { IfOk result (IsValidOutcome (checked_plan checked.now)) }
 {
     if !fits(checked, segment) {
-        return Ok(None);
+        return Err(Stop::Differs(String::from_str(
+            alloc,
+            "found a segment that doesn't fit the script",
+        )?));
     }
     let mut outcome = Outcome::Going(state);
     segment.lead(alloc, checked, &mut outcome)?;
-    Ok(Some(outcome))
+    Ok(outcome)
 }
 
-/// What a state comes to by the segment; `None` where the calls differ.
+/// Stops where the outcome isn't the wanted one.
+fn same_outcomes(alloc: Global, found: &Outcome, wanted: &Outcome) -> Result<(), Stop> {
+    if found == wanted {
+        return Ok(());
+    }
+    let found = outcome_text(alloc, found)?;
+    let wanted = outcome_text(alloc, wanted)?;
+    Err(Stop::Differs(format!(in alloc; "found{found}, wanted{wanted}")?))
+}
+
+/// What a state comes to by the segment, by each of the calls.
 fn given_of(
     alloc: Global,
     checked: &Checked,
     segment: &Segment,
     state: State,
-) -> Result<Option<Outcome>, NoMemory>
+) -> Result<Outcome, Stop>
     requires { IsValid (checked_plan checked.now) state }
-    ensures { IfOk result (λ found. IfSome found (IsValidOutcome (checked_plan checked.now))) }
+    ensures { IfOk result (IsValidOutcome (checked_plan checked.now)) }
 {
     let wanted = given(alloc, checked, segment, &state)?;
-    if led(alloc, checked, segment, state)? == wanted {
-        Ok(wanted)
-    } else {
-        Ok(None)
-    }
+    same_outcomes(alloc, &led(alloc, checked, segment, state)?, &wanted)?;
+    Ok(wanted)
 }
 
 /// What an outcome comes to by the segment.
@@ -400,13 +400,13 @@ fn given_next(
     checked: &Checked,
     segment: &Segment,
     outcome: Outcome,
-) -> Result<Option<Outcome>, NoMemory>
+) -> Result<Outcome, Stop>
     requires { IsValidOutcome (checked_plan checked.now) outcome }
-    ensures { IfOk result (λ found. IfSome found (IsValidOutcome (checked_plan checked.now))) }
+    ensures { IfOk result (IsValidOutcome (checked_plan checked.now)) }
 {
     match outcome {
         Outcome::Going(state) => given_of(alloc, checked, segment, state),
-        Outcome::Ended(fault) => Ok(Some(Outcome::Ended(fault))),
+        Outcome::Ended(fault) => Ok(Outcome::Ended(fault)),
     }
 }
 
@@ -416,21 +416,18 @@ fn given_by_all(
     checked: &Checked,
     segments: &[Segment],
     state: State,
-) -> Result<Option<Outcome>, NoMemory>
+) -> Result<Outcome, Stop>
     requires { IsValid (checked_plan checked.now) state }
 {
     let mut outcome = Outcome::Going(state);
     'segments: for segment in segments {
-        match given_next(alloc, checked, segment, outcome)? {
-            Some(next) => outcome = next,
-            None => return Ok(None),
-        }
+        outcome = given_next(alloc, checked, segment, outcome)?;
     }
-    Ok(Some(outcome))
+    Ok(outcome)
 }
 
 /// A state's number, label and part; a cell of each kind that the script has holds one of them.
-#[derive(Clone, Copy)]
+#[derive(Clone, Copy, Debug)]
 struct Held {
     number: i64,
     label: u8,
@@ -444,17 +441,17 @@ fn number_parts(alloc: Global, part: i64) -> Result<Values, NoMemory> {
 }
 
 /// A form that gives a cell what is held, in the place of one of its kind.
-fn constant(alloc: Global, form: &Form, held: Held) -> Result<Form, NoMemory> {
+fn constant(alloc: Global, form: &Form, held: Held) -> Result<Form, Stop> {
     match form {
         Form::Enum(_) => Ok(Form::Enum(EnumForm::Const(held.label))),
-        Form::Int(_) => Ok(Form::Int(number(0, 0, held.number)?)),
+        Form::Int(_) => Ok(Form::Int(number(alloc, 0, 0, held.number)?)),
         Form::Hold(_) => Ok(Form::Hold(HoldForm::Const(number_parts(alloc, held.part)?))),
         Form::Nums(_) => Ok(Form::Nums(ListForm::same(alloc))),
         Form::Words(_) => Ok(Form::Words(ListForm::same(alloc))),
     }
 }
 
-fn constants(alloc: Global, forms: &[Form], held: Held) -> Result<Vec<Form>, NoMemory> {
+fn constants(alloc: Global, forms: &[Form], held: Held) -> Result<Vec<Form>, Stop> {
     let mut constants = Vec::new(alloc);
     'forms: for form in forms {
         constants.push(constant(alloc, form, held)?)?;
@@ -462,7 +459,7 @@ fn constants(alloc: Global, forms: &[Form], held: Held) -> Result<Vec<Form>, NoM
     Ok(constants)
 }
 
-fn constant_end(alloc: Global, end: &PathEnd, held: Held) -> Result<PathEnd, NoMemory> {
+fn constant_end(alloc: Global, end: &PathEnd, held: Held) -> Result<PathEnd, Stop> {
     match end {
         PathEnd::Next(forms) => {
             let constants = constants(alloc, forms.as_slice(), held)?;
@@ -473,7 +470,7 @@ fn constant_end(alloc: Global, end: &PathEnd, held: Held) -> Result<PathEnd, NoM
 }
 
 /// The path for every state after which each cell holds what is held.
-fn holding(alloc: Global, checked: &Checked, held: Held) -> Result<Path, NoMemory> {
+fn holding(alloc: Global, checked: &Checked, held: Held) -> Result<Path, Stop> {
     let mut path = Path::all(alloc, checked)?;
     path.end = constant_end(alloc, &path.end, held)?;
     Ok(path)
@@ -507,23 +504,14 @@ fn counted(tally: Tally, outcome: &Outcome) -> Tally {
     }
 }
 
-/// What is found so far, and this outcome, where it is the wanted one.
-fn counted_if(tally: Tally, outcome: &Outcome, wanted: &Outcome) -> Option<Tally> {
-    if outcome == wanted {
-        Some(counted(tally, outcome))
-    } else {
-        None
-    }
-}
-
-/// Adds what a state comes to; `None` where the segments give other than the steps.
+/// Adds what a state comes to, by the segments as by the steps.
 fn tally_state(
     alloc: Global,
     checked: &Checked,
     explored: &Exploration,
     state: State,
     tally: Tally,
-) -> Result<Option<Tally>, NoMemory>
+) -> Result<Tally, Stop>
     requires { IsValid (checked_plan checked.now) state }
 {
     let wanted = stepped(
@@ -532,10 +520,9 @@ fn tally_state(
         explored.records.as_slice(),
         state.copy(alloc)?,
     )?;
-    match given_by_all(alloc, checked, explored.segments.as_slice(), state)? {
-        Some(found) => Ok(counted_if(tally, &found, &wanted)),
-        None => Ok(None),
-    }
+    let found = given_by_all(alloc, checked, explored.segments.as_slice(), state)?;
+    same_outcomes(alloc, &found, &wanted)?;
+    Ok(counted(tally, &found))
 }
 
 fn tally_held(
@@ -544,11 +531,11 @@ fn tally_held(
     explored: &Exploration,
     held: Held,
     tally: Tally,
-) -> Result<Option<Tally>, NoMemory> {
+) -> Result<Tally, Stop> {
     let path = holding(alloc, checked, held)?;
     match state_by(alloc, checked, &path)? {
         Some(state) => tally_state(alloc, checked, explored, state, tally),
-        None => Ok(None),
+        None => Err(Stop::Differs(format!(in alloc; "found {held:?}, wanted a state")?)),
     }
 }
 
@@ -559,16 +546,13 @@ fn tally_labels(
     explored: &Exploration,
     held: Held,
     tally: Tally,
-) -> Result<Option<Tally>, NoMemory> {
+) -> Result<Tally, Stop> {
     let mut tally = tally;
     'labels: for label in 0..case.labels {
         let held = Held { label, ..held };
-        match tally_held(alloc, checked, explored, held, tally)? {
-            Some(more) => tally = more,
-            None => return Ok(None),
-        }
+        tally = tally_held(alloc, checked, explored, held, tally)?;
     }
-    Ok(Some(tally))
+    Ok(tally)
 }
 
 fn tally_numbers(
@@ -578,7 +562,7 @@ fn tally_numbers(
     explored: &Exploration,
     part: i64,
     tally: Tally,
-) -> Result<Option<Tally>, NoMemory> {
+) -> Result<Tally, Stop> {
     let mut tally = tally;
     let (first, last) = case.numbers;
     'numbers: for number in first..last {
@@ -587,12 +571,9 @@ fn tally_numbers(
             label: 0,
             part,
         };
-        match tally_labels(alloc, case, checked, explored, held, tally)? {
-            Some(more) => tally = more,
-            None => return Ok(None),
-        }
+        tally = tally_labels(alloc, case, checked, explored, held, tally)?;
     }
-    Ok(Some(tally))
+    Ok(tally)
 }
 
 fn tally_parts(
@@ -600,25 +581,32 @@ fn tally_parts(
     case: &Case,
     checked: &Checked,
     explored: &Exploration,
-) -> Result<Option<Tally>, NoMemory> {
+) -> Result<Tally, Stop> {
     let mut tally = Tally {
         faults: 0,
         pushed: 0,
     };
     'parts: for part in case.parts {
-        match tally_numbers(alloc, case, checked, explored, *part, tally)? {
-            Some(more) => tally = more,
-            None => return Ok(None),
-        }
+        tally = tally_numbers(alloc, case, checked, explored, *part, tally)?;
     }
-    Ok(Some(tally))
+    Ok(tally)
 }
 
-/// Whether there are as many segments, and paths of the last one, as the case says.
-fn has_sizes(case: &Case, segments: &[Segment]) -> bool {
-    match segments.last() {
-        Some(last) => segments.len() == case.segments && last.paths().len() == case.paths,
-        None => case.segments == 0,
+/// How many segments there are, and how many paths the last one has.
+#[derive(Clone, Copy, Debug, PartialEq, Eq)]
+struct Sizes {
+    segments: usize,
+    paths: usize,
+}
+
+fn sizes_of(segments: &[Segment]) -> Sizes {
+    let paths = match segments.last() {
+        Some(last) => last.paths().len(),
+        None => 0,
+    };
+    Sizes {
+        segments: segments.len(),
+        paths,
     }
 }
 
@@ -627,37 +615,43 @@ fn is_explored(
     case: &Case,
     checked: &Checked,
     explored: &Exploration,
-) -> Result<bool, NoMemory> {
-    let wanted = Tally {
+) -> Result<(), Stop> {
+    let sizes = Sizes {
+        segments: case.segments,
+        paths: case.paths,
+    };
+    let found = sizes_of(explored.segments.as_slice());
+    none_told(difference(alloc, &found, &sizes))?;
+    let tally = Tally {
         faults: case.faults,
         pushed: case.pushed,
     };
-    Ok(
-        has_sizes(case, explored.segments.as_slice())
-            && tally_parts(alloc, case, checked, explored)? == Some(wanted),
-    )
+    let found = tally_parts(alloc, case, checked, explored)?;
+    none_told(difference(alloc, &found, &tally))
 }
 
-fn records_hold(
+fn case_holds(
     alloc: Global,
     case: &Case,
     checked: &Checked,
     used: &mut Scratch,
-) -> Result<bool, NoMemory> {
+) -> Result<(), Stop> {
     let mut explored = Exploration {
         records: Vec::new(alloc),
         segments: Vec::new(alloc),
     };
-    Ok(
-        add_lines(alloc, checked, case, used, &mut explored)?
-            && is_explored(alloc, case, checked, &explored)?,
-    )
+    add_lines(alloc, checked, case, used, &mut explored)?;
+    is_explored(alloc, case, checked, &explored)
 }
 
-fn case_holds(alloc: Global, case: &Case, used: &mut Scratch) -> Result<bool, NoMemory> {
+fn case_differs(
+    alloc: Global,
+    case: &Case,
+    used: &mut Scratch,
+) -> Result<Option<String>, NoMemory> {
     match accepted(alloc, case.script) {
-        Some(checked) => records_hold(alloc, case, &checked, used),
-        None => Ok(false),
+        Some(checked) => told_of(case_holds(alloc, case, &checked, used)),
+        None => refused(alloc, case.script),
     }
 }
 
@@ -679,13 +673,14 @@ fn used_scratch(alloc: Global) -> Result<Scratch, NoMemory> {
     Ok(used)
 }
 
-/// The place of the first case whose segments don't give what the steps give, or whose numbers are
-/// others. One case after the other uses the same memory.
-pub(crate) fn wrong_case(alloc: Global, cases: &[Case]) -> Result<Option<usize>, NoMemory> {
+/// What is said of the first case whose segments don't give what the steps give, or whose numbers
+/// are others. One case after the other uses the same memory.
+pub(crate) fn first_of(alloc: Global, cases: &[Case]) -> Result<Option<String>, NoMemory> {
     let mut used = used_scratch(alloc)?;
     'cases: for (place, case) in cases.iter().enumerate() {
-        if !case_holds(alloc, case, &mut used)? {
-            return Ok(Some(place));
+        let told = case_differs(alloc, case, &mut used)?;
+        if told.is_some() {
+            return told_at(alloc, place, told);
         }
     }
     Ok(None)

@@ -5,13 +5,14 @@ ghost use Rattle.sym_path.specs.Fitting.{SegmentFits};
 
 use crate::comparing::record;
 use crate::exploring::has_both;
-use crate::sessions::SESSIONS;
-use crate::setting::{Row, check_rows};
+use crate::setting::{Stop, holds, none_told, told_of};
 use std::alloc::Global;
 use std::test::Fail;
 use sym_base::{NoMemory, Record};
 use sym_check::Checked;
 use sym_explore::fresh;
+use sym_given::scripts::SESSIONS;
+use sym_given::{Row, check_rows, difference};
 use sym_path::{Composition, Segment, compose, compose_within, pairs};
 
 /// The two in one, if they have at most so many pairs.
@@ -34,50 +35,50 @@ fn within(
     )
 }
 
-/// Whether the two are in one, if a limit of three pairs or of four is kept.
+/// Stops where the two aren't in one exactly if a limit of three pairs or of four is kept.
 fn is_told(
     alloc: Global,
     checked: &Checked,
     first: &Segment,
     second: &Segment,
     both: Segment,
-) -> Result<bool, NoMemory>
+) -> Result<(), Stop>
     requires first { SegmentFits (checked_plan checked.now) first.now }
     requires second { SegmentFits (checked_plan checked.now) second.now }
 {
     let apart = Composition::Apart(first.copy(alloc)?, second.copy(alloc)?);
-    Ok(
-        within(alloc, checked, first, second, 3)? == apart
-            && within(alloc, checked, first, second, 4)? == Composition::One(both),
+    let same = within(alloc, checked, first, second, 3)? == apart;
+    holds(
+        alloc,
+        same,
+        "found one segment for at most 3 pairs, wanted both apart",
+    )?;
+    let same = within(alloc, checked, first, second, 4)? == Composition::One(both);
+    holds(
+        alloc,
+        same,
+        "found both apart for at most 4 pairs, wanted one segment",
     )
 }
 
-/// Whether two segments of three paths have four pairs and come to the paths of both records.
-fn comes_to(
-    alloc: Global,
-    checked: &Checked,
-    first: &Segment,
-    second: &Segment,
-) -> Result<bool, NoMemory>
+/// Stops where two segments don't have three paths each and four pairs, or don't come to the paths
+/// of both records.
+fn comes_to(alloc: Global, checked: &Checked, first: &Segment, second: &Segment) -> Result<(), Stop>
     requires first { SegmentFits (checked_plan checked.now) first.now }
     requires second { SegmentFits (checked_plan checked.now) second.now }
 {
-    if first.paths().len() != 3 || second.paths().len() != 3 {
-        return Ok(false);
+    let found = (first.paths().len(), second.paths().len());
+    none_told(difference(alloc, &found, &(3, 3)))?;
+    if found != (3, 3) {
+        return Ok(());
     }
+    none_told(difference(alloc, &pairs(checked, first, second), &4))?;
     let both = compose(alloc, checked, first, second)?;
-    if pairs(checked, first, second) != 4 || !has_both(&both) {
-        return Ok(false);
-    }
+    has_both(alloc, &both)?;
     is_told(alloc, checked, first, second, both)
 }
 
-fn of_records(
-    alloc: Global,
-    checked: &Checked,
-    first: &Record,
-    second: &Record,
-) -> Result<bool, NoMemory>
+fn of_records(alloc: Global, checked: &Checked, first: &Record, second: &Record) -> Result<(), Stop>
     requires first { IsRecord (checked_plan checked.now) first.now }
     requires second { IsRecord (checked_plan checked.now) second.now }
 {
@@ -86,28 +87,22 @@ fn of_records(
     comes_to(alloc, checked, &left, &right)
 }
 
-fn after(alloc: Global, checked: &Checked, first: &Record) -> Result<bool, NoMemory>
-    requires { IsRecord (checked_plan checked.now) first.now }
-{
-    match record(alloc, checked, "ts,user", "61,a", 5)? {
-        Some(second) => of_records(alloc, checked, first, &second),
-        None => Ok(false),
-    }
+fn compose_records(alloc: Global, checked: &Checked) -> Result<(), Stop> {
+    let first = record(alloc, checked, "ts,user", "60,a", 3)?;
+    let second = record(alloc, checked, "ts,user", "61,a", 5)?;
+    of_records(alloc, checked, &first, &second)
 }
 
 /// The segments of two records of one user.
 struct Records;
 
 impl Row for Records {
-    fn holds(&self, alloc: Global, checked: &Checked) -> Result<bool, NoMemory> {
-        match record(alloc, checked, "ts,user", "60,a", 3)? {
-            Some(first) => after(alloc, checked, &first),
-            None => Ok(false),
-        }
+    fn differs(&self, alloc: Global, checked: &Checked) -> Result<Option<String>, NoMemory> {
+        told_of(compose_records(alloc, checked))
     }
 }
 
 #[test]
 fn segments_compose_to_those_of_both_records(rt: HostRuntime) -> Result<(), Fail> {
-    check_rows(&rt, rt.alloc(), SESSIONS, &[Records])
+    check_rows(rt.alloc(), SESSIONS, &[Records])
 }

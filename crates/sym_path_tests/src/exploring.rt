@@ -2,14 +2,15 @@
 ghost use Rattle.sym_check.specs.Checking.CheckedScripts.{checked_plan};
 ghost use Rattle.sym_check.specs.Meaning.Validity.{IsRecord};
 
-use crate::comparing::{Case, record, wrong_case};
-use crate::sessions::SESSIONS;
-use crate::setting::{Row, all_hold, check_rows};
+use crate::comparing::{Case, first_of, record};
+use crate::setting::{Stop, holds, none_told, told_of};
 use std::alloc::Global;
 use std::test::Fail;
 use sym_base::{Fault, FaultKind, NoMemory, Record};
 use sym_check::Checked;
 use sym_explore::{Grown, extend, fresh, grow};
+use sym_given::scripts::SESSIONS;
+use sym_given::{Row, all_hold, check_rows, difference};
 use sym_path::{PathEnd, Segment};
 
 /// No number of the cell makes the sides equal.
@@ -218,7 +219,7 @@ const CASES: [Case; 19] = [
 
 #[test]
 fn segments_give_what_the_steps_give(rt: HostRuntime) -> Result<(), Fail> {
-    all_hold(&rt, wrong_case(rt.alloc(), &CASES))
+    all_hold(first_of(rt.alloc(), &CASES))
 }
 
 /// Whether some state ends at the record of this number, since its number of records overflows.
@@ -230,50 +231,66 @@ fn ends_at(segment: &Segment, no: u64) -> bool {
     segment.paths().iter().any(|path| path.end == end)
 }
 
-/// Whether the segment has the paths of two records, both of which can overflow.
-pub(crate) fn has_both(segment: &Segment) -> bool {
-    segment.paths().len() == 4 && ends_at(segment, 3) && ends_at(segment, 5)
+/// How many paths a segment has, and which of the records 3 and 5 can overflow.
+#[derive(Clone, Copy, Debug, PartialEq, Eq)]
+struct Ends {
+    paths: usize,
+    third: bool,
+    fifth: bool,
 }
 
-fn has_grown(grown: &Grown, fits: bool) -> bool {
-    match grown {
-        Grown::Fits(segment) => fits && has_both(segment),
-        Grown::Over(segment) => !fits && has_both(segment),
-    }
+/// Stops where the segment doesn't have the paths of two records, both of which can overflow.
+pub(crate) fn has_both(alloc: Global, segment: &Segment) -> Result<(), Stop> {
+    let found = Ends {
+        paths: segment.paths().len(),
+        third: ends_at(segment, 3),
+        fifth: ends_at(segment, 5),
+    };
+    let wanted = Ends {
+        paths: 4,
+        third: true,
+        fifth: true,
+    };
+    none_told(difference(alloc, &found, &wanted))
 }
 
-/// Whether the segment of two records fits a limit as it should, by both calls.
+fn has_grown(alloc: Global, grown: &Grown, fits: bool) -> Result<(), Stop> {
+    let (segment, found) = match grown {
+        Grown::Fits(segment) => (segment, true),
+        Grown::Over(segment) => (segment, false),
+    };
+    none_told(difference(alloc, &found, &fits))?;
+    has_both(alloc, segment)
+}
+
+fn is_copied(alloc: Global, grown: &Grown) -> Result<(), Stop> {
+    let same = grown.copy(alloc)? == *grown;
+    holds(alloc, same, "found another segment, wanted a copy")
+}
+
+/// Stops where the segment of two records doesn't fit a limit as it should, by both calls.
 fn grows(
     alloc: Global,
     checked: &Checked,
     first: &Record,
     second: &Record,
     limit: &Limit,
-) -> Result<bool, NoMemory>
+) -> Result<(), Stop>
     requires first { IsRecord (checked_plan checked.now) first.now }
     requires second { IsRecord (checked_plan checked.now) second.now }
 {
     let segment = fresh(alloc, checked, first)?;
     let grown = extend(alloc, checked, &segment, second, limit.0)?;
-    Ok(
-        has_grown(&grown, limit.1)
-            && grown.copy(alloc)? == grown
-            && grow(alloc, checked, segment, second, limit.0)? == grown,
-    )
+    has_grown(alloc, &grown, limit.1)?;
+    is_copied(alloc, &grown)?;
+    let same = grow(alloc, checked, segment, second, limit.0)? == grown;
+    holds(alloc, same, "found another segment by grow than by extend")
 }
 
-fn grows_by(
-    alloc: Global,
-    checked: &Checked,
-    first: &Record,
-    limit: &Limit,
-) -> Result<bool, NoMemory>
-    requires { IsRecord (checked_plan checked.now) first.now }
-{
-    match record(alloc, checked, "ts,user", "61,a", 5)? {
-        Some(second) => grows(alloc, checked, first, &second, limit),
-        None => Ok(false),
-    }
+fn limit_holds(alloc: Global, checked: &Checked, limit: &Limit) -> Result<(), Stop> {
+    let first = record(alloc, checked, "ts,user", "60,a", 3)?;
+    let second = record(alloc, checked, "ts,user", "61,a", 5)?;
+    grows(alloc, checked, &first, &second, limit)
 }
 
 /// A limit, and whether four paths fit it.
@@ -282,15 +299,12 @@ struct Limit(u32, bool);
 const LIMITS: [Limit; 2] = [Limit(4, true), Limit(3, false)];
 
 impl Row for Limit {
-    fn holds(&self, alloc: Global, checked: &Checked) -> Result<bool, NoMemory> {
-        match record(alloc, checked, "ts,user", "60,a", 3)? {
-            Some(first) => grows_by(alloc, checked, &first, self),
-            None => Ok(false),
-        }
+    fn differs(&self, alloc: Global, checked: &Checked) -> Result<Option<String>, NoMemory> {
+        told_of(limit_holds(alloc, checked, self))
     }
 }
 
 #[test]
 fn a_limit_is_the_most_paths_that_fit(rt: HostRuntime) -> Result<(), Fail> {
-    check_rows(&rt, rt.alloc(), SESSIONS, &LIMITS)
+    check_rows(rt.alloc(), SESSIONS, &LIMITS)
 }

@@ -1,9 +1,10 @@
 //! Paths that are joined and settled.
-use crate::setting::{all_hold, join_to, number, span};
+use crate::setting::{Stop, has_path, join_to, none_told, number, same_paths, span, told_of};
 use std::alloc::Global;
 use std::test::Fail;
 use sym_base::{Fault, FaultKind, NoMemory, Sequence};
 use sym_enum::{EnumForm, LabelSet};
+use sym_given::{all_hold, difference, told_at};
 use sym_path::{Form, Forms, Part, Path, PathEnd, Segment, joinable, settle};
 
 /// What a path says of its only cell.
@@ -21,11 +22,15 @@ enum Said {
 /// Two paths, and the one that they join to.
 struct Joining(Said, Said, Option<Said>);
 
-fn part(said: Said) -> Result<Part, NoMemory> {
+fn part(alloc: Global, said: Said) -> Result<Part, Stop> {
     match said {
-        Said::Number(lo, hi, _, _) | Said::Fault(lo, hi, _) => Ok(Part::Span(span(lo, hi)?)),
+        Said::Number(lo, hi, _, _) | Said::Fault(lo, hi, _) => {
+            Ok(Part::Span(span(alloc, lo, hi)?))
+        }
         Said::Label(Some(label), _) if label < 32 => Ok(Part::Set(LabelSet::one(label))),
-        Said::Label(Some(_), _) => Err(NoMemory),
+        Said::Label(Some(label), _) => {
+            Err(Stop::Differs(format!(in alloc; "found {label}, wanted a label")?))
+        }
         Said::Label(None, _) => Ok(Part::Set(LabelSet::full(2))),
     }
 }
@@ -36,50 +41,57 @@ fn next(alloc: Global, form: Form) -> Result<PathEnd, NoMemory> {
     Ok(PathEnd::Next(forms))
 }
 
-fn end(alloc: Global, said: Said) -> Result<PathEnd, NoMemory> {
+fn end(alloc: Global, said: Said) -> Result<PathEnd, Stop> {
     match said {
-        Said::Number(_, _, a, b) => next(alloc, Form::Int(number(0, a, b)?)),
+        Said::Number(_, _, a, b) => Ok(next(alloc, Form::Int(number(alloc, 0, a, b)?))?),
         Said::Fault(_, _, no) => Ok(PathEnd::Ended(Fault {
             kind: FaultKind::Arith,
             no,
         })),
-        Said::Label(_, form) => next(alloc, Form::Enum(form)),
+        Said::Label(_, form) => Ok(next(alloc, Form::Enum(form))?),
     }
 }
 
-fn path(alloc: Global, said: Said) -> Result<Path, NoMemory> {
+fn path(alloc: Global, said: Said) -> Result<Path, Stop> {
     let mut when = Sequence::new(alloc);
-    when.push(part(said)?)?;
+    when.push(part(alloc, said)?)?;
     let end = end(alloc, said)?;
     Ok(Path { when, end })
 }
 
-fn wanted_path(alloc: Global, said: Option<Said>) -> Result<Option<Path>, NoMemory> {
+fn wanted_path(alloc: Global, said: Option<Said>) -> Result<Option<Path>, Stop> {
     match said {
         Some(said) => Ok(Some(path(alloc, said)?)),
         None => Ok(None),
     }
 }
 
-// Whether the second path joins with the first one to the wanted one, where both are given away.
-fn moved_join_to(first: Path, second: Path, wanted: &Option<Path>) -> bool {
-    if !joinable(&second, &first) {
-        return wanted.is_none();
+// The path that the second one joins with the first one to, where both are given away.
+fn moved(first: Path, second: Path) -> Option<Path> {
+    if joinable(&second, &first) {
+        Some(second.join(first))
+    } else {
+        None
     }
-    let joined = Some(second.join(first));
-    joined == *wanted
 }
 
-fn join_as_wanted(alloc: Global, row: &Joining, wanted: &Option<Path>) -> Result<bool, NoMemory> {
+fn join_as_wanted(alloc: Global, row: &Joining, wanted: &Option<Path>) -> Result<(), Stop> {
     let first = path(alloc, row.0)?;
     let second = path(alloc, row.1)?;
-    Ok(join_to(alloc, &first, &second, wanted)? && moved_join_to(first, second, wanted))
+    join_to(alloc, &first, &second, wanted)?;
+    same_paths(alloc, &moved(first, second), wanted)
 }
 
-fn wrong_join(alloc: Global, rows: &[Joining]) -> Result<Option<usize>, NoMemory> {
+fn row_holds(alloc: Global, row: &Joining) -> Result<(), Stop> {
+    join_as_wanted(alloc, row, &wanted_path(alloc, row.2)?)
+}
+
+// What is said of the first row that doesn't hold.
+fn first_of(alloc: Global, rows: &[Joining]) -> Result<Option<String>, NoMemory> {
     'rows: for (place, row) in rows.iter().enumerate() {
-        if !join_as_wanted(alloc, row, &wanted_path(alloc, row.2)?)? {
-            return Ok(Some(place));
+        let told = told_of(row_holds(alloc, row))?;
+        if told.is_some() {
+            return told_at(alloc, place, told);
         }
     }
     Ok(None)
@@ -124,7 +136,7 @@ const NUMBERS: [Joining; 10] = [
 
 #[test]
 fn numbers_join_where_spans_touch_and_forms_agree(rt: HostRuntime) -> Result<(), Fail> {
-    all_hold(&rt, wrong_join(rt.alloc(), &NUMBERS))
+    all_hold(first_of(rt.alloc(), &NUMBERS))
 }
 
 /// Leaves the label as it is.
@@ -147,7 +159,7 @@ const LABELS: [Joining; 4] = [
 
 #[test]
 fn labels_join_where_forms_agree(rt: HostRuntime) -> Result<(), Fail> {
-    all_hold(&rt, wrong_join(rt.alloc(), &LABELS))
+    all_hold(first_of(rt.alloc(), &LABELS))
 }
 
 const FAULTS: [Joining; 3] = [
@@ -162,7 +174,7 @@ const FAULTS: [Joining; 3] = [
 
 #[test]
 fn paths_with_the_same_fault_join(rt: HostRuntime) -> Result<(), Fail> {
-    all_hold(&rt, wrong_join(rt.alloc(), &FAULTS))
+    all_hold(first_of(rt.alloc(), &FAULTS))
 }
 
 const UNSETTLED: [Said; 4] = [
@@ -172,7 +184,10 @@ const UNSETTLED: [Said; 4] = [
     Said::Number(1, 1, 0, 1),
 ];
 
-fn paths(alloc: Global) -> Result<Vec<Path>, NoMemory> {
+/// What they settle to.
+const SETTLED: [Said; 2] = [Said::Number(0, 5, 1, 0), Said::Number(7, 9, 1, 0)];
+
+fn paths(alloc: Global) -> Result<Vec<Path>, Stop> {
     let mut paths = Vec::new(alloc);
     'paths: for said in &UNSETTLED {
         paths.push(path(alloc, *said)?)?;
@@ -180,23 +195,18 @@ fn paths(alloc: Global) -> Result<Vec<Path>, NoMemory> {
     Ok(paths)
 }
 
-fn has_path(alloc: Global, segment: &Segment, said: Said) -> Result<bool, NoMemory> {
-    Ok(segment.paths().contains(&path(alloc, said)?))
+fn is_settled(alloc: Global, segment: &Segment) -> Result<(), Stop> {
+    'paths: for said in &SETTLED {
+        has_path(alloc, segment, &path(alloc, *said)?)?;
+    }
+    none_told(difference(alloc, &segment.paths().len(), &SETTLED.len()))
 }
 
-fn is_settled(alloc: Global, segment: &Segment) -> Result<bool, NoMemory> {
-    Ok(
-        segment.paths().len() == 2
-            && has_path(alloc, segment, Said::Number(0, 5, 1, 0))?
-            && has_path(alloc, segment, Said::Number(7, 9, 1, 0))?,
-    )
-}
-
-fn settles(alloc: Global) -> Result<bool, NoMemory> {
+fn settles(alloc: Global) -> Result<(), Stop> {
     is_settled(alloc, &settle(alloc, paths(alloc)?)?)
 }
 
 #[test]
-fn a_joined_path_is_tried_against_all_others(rt: HostRuntime) {
-    assert!(rt; settles(rt.alloc()) == Ok(true));
+fn a_joined_path_is_tried_against_all_others(rt: HostRuntime) -> Result<(), Fail> {
+    all_hold(told_of(settles(rt.alloc())))
 }

@@ -1,12 +1,13 @@
 //! One path after another, and two paths joined, over cells of every kind.
 use crate::setting::{
-    Row, all_hold, check_rows, follows, join_to, number as number_of, path_of, span,
+    Stop, facts_of, follows, join_to, number as number_of, path_of, span, told_of,
 };
 use std::alloc::Global;
 use std::test::Fail;
 use sym_base::{Element, NoMemory, Text, Value, Values};
 use sym_check::Checked;
 use sym_enum::{EnumForm, LabelSet};
+use sym_given::{Row, check_rows};
 use sym_int::IntForm;
 use sym_path::{Form, Part, Path};
 use sym_pred::{Facts, HoldForm, Literal};
@@ -29,25 +30,19 @@ fn far(alloc: Global, b: i64, outcome: bool) -> Result<Literal, NoMemory> {
 }
 
 /// Which numbers are far from what is held, and which are not, in order.
-fn facts(alloc: Global, numbers: &[(i64, bool)]) -> Result<Facts, NoMemory> {
+fn facts(alloc: Global, numbers: &[(i64, bool)]) -> Result<Facts, Stop> {
     let mut literals = Vec::new(alloc);
     for (b, outcome) in numbers {
         literals.push(far(alloc, *b, *outcome)?)?;
     }
-    Facts::of(literals).ok_or(NoMemory)
+    facts_of(alloc, literals)
 }
 
 /// The labels, the numbers of n, and the facts of h.
-fn parts(
-    alloc: Global,
-    set: LabelSet,
-    lo: i64,
-    hi: i64,
-    known: Facts,
-) -> Result<Vec<Part>, NoMemory> {
+fn parts(alloc: Global, set: LabelSet, lo: i64, hi: i64, known: Facts) -> Result<Vec<Part>, Stop> {
     let mut parts = Vec::new(alloc);
     parts.push(Part::Set(set))?;
-    parts.push(Part::Span(span(lo, hi)?))?;
+    parts.push(Part::Span(span(alloc, lo, hi)?))?;
     parts.push(Part::Facts(known))?;
     parts.push(Part::Free)?;
     parts.push(Part::Free)?;
@@ -55,8 +50,8 @@ fn parts(
 }
 
 /// The number `a * n + b`, which is the constant `b` where `a` is 0.
-fn number(a: i128, b: i64) -> Result<IntForm, NoMemory> {
-    number_of(1, a, b)
+fn number(alloc: Global, a: i128, b: i64) -> Result<IntForm, Stop> {
+    number_of(alloc, 1, a, b)
 }
 
 fn held(alloc: Global, x: i64) -> Result<HoldForm, NoMemory> {
@@ -101,43 +96,43 @@ fn forms(
 
 /// Copies of the label and of what is held; n is one more, and is pushed twice as large and one
 /// more, and so is a word.
-fn copies(alloc: Global) -> Result<Path, NoMemory> {
+fn copies(alloc: Global) -> Result<Path, Stop> {
     let when = parts(alloc, LabelSet::full(2), 0, 9, facts(alloc, &[(9, true)])?)?;
     let forms = forms(
         alloc,
         EnumForm::Copy(0),
-        number(1, 1)?,
+        number(alloc, 1, 1)?,
         HoldForm::Copy(2),
-        &[number(2, 1)?],
+        &[number(alloc, 2, 1)?],
         &["a"],
     )?;
     Ok(path_of(when, forms))
 }
 
 /// Constants in the place of the label, of n and of what is held.
-fn constants(alloc: Global) -> Result<Path, NoMemory> {
+fn constants(alloc: Global) -> Result<Path, Stop> {
     let when = parts(alloc, LabelSet::full(3), 2, 7, facts(alloc, &[(5, false)])?)?;
     let forms = forms(
         alloc,
         EnumForm::Const(1),
-        number(0, 4)?,
+        number(alloc, 0, 4)?,
         held(alloc, 6)?,
-        &[number(0, 8)?],
+        &[number(alloc, 0, 8)?],
         &["b", "c"],
     )?;
     Ok(path_of(when, forms))
 }
 
 /// Needs a label above the first and n in 3 to 6; n becomes `9 - n`, and n and 5 are pushed.
-fn later(alloc: Global) -> Result<Path, NoMemory> {
+fn later(alloc: Global) -> Result<Path, Stop> {
     let (_, upper) = LabelSet::full(3).split(0);
     let when = parts(alloc, upper, 3, 6, facts(alloc, &[(5, false)])?)?;
     let forms = forms(
         alloc,
         EnumForm::Copy(0),
-        number(-1, 9)?,
+        number(alloc, -1, 9)?,
         HoldForm::Copy(2),
-        &[number(1, 0)?, number(0, 5)?],
+        &[number(alloc, 1, 0)?, number(alloc, 0, 5)?],
         &["b"],
     )?;
     Ok(path_of(when, forms))
@@ -145,49 +140,48 @@ fn later(alloc: Global) -> Result<Path, NoMemory> {
 
 /// The path of copies and then the later one: the label 1 is left of both sets, n lies in 2 to 5,
 /// and both facts are known.
-fn copies_and_later(alloc: Global) -> Result<Path, NoMemory> {
+fn copies_and_later(alloc: Global) -> Result<Path, Stop> {
     let known = facts(alloc, &[(5, false), (9, true)])?;
     let when = parts(alloc, LabelSet::one(1), 2, 5, known)?;
     let forms = forms(
         alloc,
         EnumForm::Const(1),
-        number(-1, 8)?,
+        number(alloc, -1, 8)?,
         HoldForm::Copy(2),
-        &[number(2, 1)?, number(1, 1)?, number(0, 5)?],
+        &[
+            number(alloc, 2, 1)?,
+            number(alloc, 1, 1)?,
+            number(alloc, 0, 5)?,
+        ],
         &["a", "b"],
     )?;
     Ok(path_of(when, forms))
 }
 
 /// The constants after the copies, which leave n in this span and push this number.
-fn copies_and_constants(
-    alloc: Global,
-    lo: i64,
-    hi: i64,
-    pushed: IntForm,
-) -> Result<Path, NoMemory> {
+fn copies_and_constants(alloc: Global, lo: i64, hi: i64, pushed: IntForm) -> Result<Path, Stop> {
     let known = facts(alloc, &[(5, false), (9, true)])?;
     let when = parts(alloc, LabelSet::full(2), lo, hi, known)?;
     let forms = forms(
         alloc,
         EnumForm::Const(1),
-        number(0, 4)?,
+        number(alloc, 0, 4)?,
         held(alloc, 6)?,
-        &[pushed, number(0, 8)?],
+        &[pushed, number(alloc, 0, 8)?],
         &["a", "b", "c"],
     )?;
     Ok(path_of(when, forms))
 }
 
 /// The constants and then copies that add to them.
-fn constants_and_copies(alloc: Global) -> Result<Path, NoMemory> {
+fn constants_and_copies(alloc: Global) -> Result<Path, Stop> {
     let when = parts(alloc, LabelSet::full(3), 2, 7, facts(alloc, &[(5, false)])?)?;
     let forms = forms(
         alloc,
         EnumForm::Const(1),
-        number(0, 5)?,
+        number(alloc, 0, 5)?,
         held(alloc, 6)?,
-        &[number(0, 8)?, number(0, 9)?],
+        &[number(alloc, 0, 8)?, number(alloc, 0, 9)?],
         &["b", "c", "a"],
     )?;
     Ok(path_of(when, forms))
@@ -201,23 +195,23 @@ fn with_part(path: Path, cell: usize, part: Part) -> Path {
 }
 
 /// Copies for what is as far from these numbers as they say.
-fn copies_where(alloc: Global, numbers: &[(i64, bool)]) -> Result<Path, NoMemory> {
+fn copies_where(alloc: Global, numbers: &[(i64, bool)]) -> Result<Path, Stop> {
     let known = facts(alloc, numbers)?;
     Ok(with_part(copies(alloc)?, 2, Part::Facts(known)))
 }
 
-fn copies_from(alloc: Global, lo: i64, hi: i64) -> Result<Path, NoMemory> {
-    let part = Part::Span(span(lo, hi)?);
+fn copies_from(alloc: Global, lo: i64, hi: i64) -> Result<Path, Stop> {
+    let part = Part::Span(span(alloc, lo, hi)?);
     Ok(with_part(copies(alloc)?, 1, part))
 }
 
-fn constants_at(alloc: Global, x: i64) -> Result<Path, NoMemory> {
-    let part = Part::Span(span(x, x)?);
+fn constants_at(alloc: Global, x: i64) -> Result<Path, Stop> {
+    let part = Part::Span(span(alloc, x, x)?);
     Ok(with_part(constants(alloc)?, 1, part))
 }
 
 /// What the copies are for, with what the constants make of it.
-fn replaced(alloc: Global) -> Result<Path, NoMemory> {
+fn replaced(alloc: Global) -> Result<Path, Stop> {
     let mut path = copies(alloc)?;
     path.end = constants(alloc)?.end.copy(alloc)?;
     Ok(path)
@@ -245,7 +239,7 @@ enum Named {
     ConstantsAndCopies,
 }
 
-fn path(alloc: Global, named: Named) -> Result<Path, NoMemory> {
+fn path(alloc: Global, named: Named) -> Result<Path, Stop> {
     match named {
         Named::Copies => copies(alloc),
         Named::CopiesFrom(lo, hi) => copies_from(alloc, lo, hi),
@@ -264,14 +258,14 @@ fn path(alloc: Global, named: Named) -> Result<Path, NoMemory> {
         Named::Replaced => replaced(alloc),
         Named::CopiesAndLater => copies_and_later(alloc),
         Named::CopiesAndConstants(lo, hi, a, b) => {
-            copies_and_constants(alloc, lo, hi, number(a, b)?)
+            copies_and_constants(alloc, lo, hi, number(alloc, a, b)?)
         }
         Named::ConstantsAndCopies => constants_and_copies(alloc),
     }
 }
 
 /// The path of the table that is wanted.
-fn wanted_path(alloc: Global, named: Option<Named>) -> Result<Option<Path>, NoMemory> {
+fn wanted_path(alloc: Global, named: Option<Named>) -> Result<Option<Path>, Stop> {
     match named {
         Some(named) => Ok(Some(path(alloc, named)?)),
         None => Ok(None),
@@ -316,20 +310,24 @@ fn comes_to(
     checked: &Checked,
     row: &Follows,
     wanted: &Option<Path>,
-) -> Result<bool, NoMemory> {
+) -> Result<(), Stop> {
     let first = path(alloc, row.0)?;
     follows(alloc, checked, &first, &path(alloc, row.1)?, wanted)
 }
 
+fn row_holds(alloc: Global, checked: &Checked, row: &Follows) -> Result<(), Stop> {
+    comes_to(alloc, checked, row, &wanted_path(alloc, row.2)?)
+}
+
 impl Row for Follows {
-    fn holds(&self, alloc: Global, checked: &Checked) -> Result<bool, NoMemory> {
-        comes_to(alloc, checked, self, &wanted_path(alloc, self.2)?)
+    fn differs(&self, alloc: Global, checked: &Checked) -> Result<Option<String>, NoMemory> {
+        told_of(row_holds(alloc, checked, self))
     }
 }
 
 #[test]
 fn paths_follow_over_cells_of_each_kind(rt: HostRuntime) -> Result<(), Fail> {
-    check_rows(&rt, rt.alloc(), KINDS, &FOLLOWED)
+    check_rows(rt.alloc(), KINDS, &FOLLOWED)
 }
 
 /// Two paths, and the path that they join to.
@@ -357,21 +355,22 @@ const JOINED: [Joins; 6] = [
     Joins(Named::Copies, Named::Replaced, None),
 ];
 
-fn are_joined(alloc: Global, row: &Joins, wanted: &Option<Path>) -> Result<bool, NoMemory> {
+fn are_joined(alloc: Global, row: &Joins, wanted: &Option<Path>) -> Result<(), Stop> {
     let first = path(alloc, row.0)?;
     join_to(alloc, &first, &path(alloc, row.1)?, wanted)
 }
 
-fn wrong_join(alloc: Global) -> Result<Option<usize>, NoMemory> {
-    'rows: for (place, row) in JOINED.iter().enumerate() {
-        if !are_joined(alloc, row, &wanted_path(alloc, row.2)?)? {
-            return Ok(Some(place));
-        }
+fn row_joins(alloc: Global, row: &Joins) -> Result<(), Stop> {
+    are_joined(alloc, row, &wanted_path(alloc, row.2)?)
+}
+
+impl Row for Joins {
+    fn differs(&self, alloc: Global, _checked: &Checked) -> Result<Option<String>, NoMemory> {
+        told_of(row_joins(alloc, self))
     }
-    Ok(None)
 }
 
 #[test]
 fn paths_join_in_a_cell_of_each_kind(rt: HostRuntime) -> Result<(), Fail> {
-    all_hold(&rt, wrong_join(rt.alloc()))
+    check_rows(rt.alloc(), KINDS, &JOINED)
 }

@@ -20,10 +20,10 @@ mod rows;
 #[cfg(test)]
 mod scripts;
 #[cfg(test)]
-mod sessions;
-#[cfg(test)]
 mod setting;
 #[cfg(test)]
 mod states;
 #[cfg(test)]
 mod table;
+#[cfg(test)]
+mod texts;

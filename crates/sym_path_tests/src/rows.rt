@@ -1,9 +1,10 @@
 //! One path after another, over a cell n from 0 to 10.
-use crate::setting::{Row, check_rows, follows, number, span};
+use crate::setting::{Stop, follows, holds, number, same_paths, span, told_of};
 use std::alloc::Global;
 use std::test::Fail;
 use sym_base::{Fault, FaultKind, NoMemory, Sequence};
 use sym_check::Checked;
+use sym_given::{Row, check_rows, difference};
 use sym_path::{Form, Forms, Part, Path, PathEnd};
 
 const COUNTER: &str = "field x: num; state n: int [0..10] = 0; update { } report { n = n; }";
@@ -17,13 +18,13 @@ enum Said {
     Over(i64, i64),
 }
 
-fn forms(alloc: Global, a: i128, b: i64) -> Result<Forms, NoMemory> {
+fn forms(alloc: Global, a: i128, b: i64) -> Result<Forms, Stop> {
     let mut forms = Sequence::new(alloc);
-    forms.push(Form::Int(number(0, a, b)?))?;
+    forms.push(Form::Int(number(alloc, 0, a, b)?))?;
     Ok(forms)
 }
 
-fn end(alloc: Global, said: Said) -> Result<PathEnd, NoMemory> {
+fn end(alloc: Global, said: Said) -> Result<PathEnd, Stop> {
     match said {
         Said::Next(_, _, a, b) => Ok(PathEnd::Next(forms(alloc, a, b)?)),
         Said::Over(_, _) => Ok(PathEnd::Ended(Fault {
@@ -33,18 +34,18 @@ fn end(alloc: Global, said: Said) -> Result<PathEnd, NoMemory> {
     }
 }
 
-fn path(alloc: Global, said: Said) -> Result<Path, NoMemory> {
+fn path(alloc: Global, said: Said) -> Result<Path, Stop> {
     let (lo, hi) = match said {
         Said::Next(lo, hi, _, _) => (lo, hi),
         Said::Over(lo, hi) => (lo, hi),
     };
     let mut when = Sequence::new(alloc);
-    when.push(Part::Span(span(lo, hi)?))?;
+    when.push(Part::Span(span(alloc, lo, hi)?))?;
     let end = end(alloc, said)?;
     Ok(Path { when, end })
 }
 
-fn wanted_path(alloc: Global, said: Option<Said>) -> Result<Option<Path>, NoMemory> {
+fn wanted_path(alloc: Global, said: Option<Said>) -> Result<Option<Path>, Stop> {
     match said {
         Some(said) => Ok(Some(path(alloc, said)?)),
         None => Ok(None),
@@ -59,14 +60,18 @@ fn comes_to(
     checked: &Checked,
     pair: &Pair,
     wanted: &Option<Path>,
-) -> Result<bool, NoMemory> {
+) -> Result<(), Stop> {
     let first = path(alloc, pair.0)?;
     follows(alloc, checked, &first, &path(alloc, pair.1)?, wanted)
 }
 
+fn pair_holds(alloc: Global, checked: &Checked, pair: &Pair) -> Result<(), Stop> {
+    comes_to(alloc, checked, pair, &wanted_path(alloc, pair.2)?)
+}
+
 impl Row for Pair {
-    fn holds(&self, alloc: Global, checked: &Checked) -> Result<bool, NoMemory> {
-        comes_to(alloc, checked, self, &wanted_path(alloc, self.2)?)
+    fn differs(&self, alloc: Global, checked: &Checked) -> Result<Option<String>, NoMemory> {
+        told_of(pair_holds(alloc, checked, self))
     }
 }
 
@@ -87,7 +92,7 @@ const PAIRS: [Pair; 5] = [
 
 #[test]
 fn a_path_after_another_is_for_what_the_other_leaves(rt: HostRuntime) -> Result<(), Fail> {
-    check_rows(&rt, rt.alloc(), COUNTER, &PAIRS)
+    check_rows(rt.alloc(), COUNTER, &PAIRS)
 }
 
 /// n itself.
@@ -110,15 +115,22 @@ const FITTING: [Fitting; 10] = [
     Fitting(Said::Next(3, 4, 0, 11), false),
 ];
 
+fn fits(alloc: Global, checked: &Checked, said: Said) -> Result<bool, Stop> {
+    Ok(path(alloc, said)?.fits(checked))
+}
+
 impl Row for Fitting {
-    fn holds(&self, alloc: Global, checked: &Checked) -> Result<bool, NoMemory> {
-        Ok(path(alloc, self.0)?.fits(checked) == self.1)
+    fn differs(&self, alloc: Global, checked: &Checked) -> Result<Option<String>, NoMemory> {
+        match fits(alloc, checked, self.0) {
+            Ok(found) => difference(alloc, &found, &self.1),
+            Err(stop) => told_of(Err(stop)),
+        }
     }
 }
 
 #[test]
 fn a_path_that_fits_is_within_its_cells(rt: HostRuntime) -> Result<(), Fail> {
-    check_rows(&rt, rt.alloc(), COUNTER, &FITTING)
+    check_rows(rt.alloc(), COUNTER, &FITTING)
 }
 
 /// The path of all states.
@@ -126,14 +138,24 @@ struct All(Said);
 
 const ALL: [All; 1] = [All(SAME)];
 
+fn is_all(alloc: Global, checked: &Checked, said: Said) -> Result<(), Stop> {
+    let all = Path::all(alloc, checked)?;
+    let fits = all.fits(checked);
+    same_paths(alloc, &Some(all), &Some(path(alloc, said)?))?;
+    holds(
+        alloc,
+        fits,
+        "found a path of all states that doesn't fit the script",
+    )
+}
+
 impl Row for All {
-    fn holds(&self, alloc: Global, checked: &Checked) -> Result<bool, NoMemory> {
-        let all = Path::all(alloc, checked)?;
-        Ok(all.fits(checked) && all == path(alloc, self.0)?)
+    fn differs(&self, alloc: Global, checked: &Checked) -> Result<Option<String>, NoMemory> {
+        told_of(is_all(alloc, checked, self.0))
     }
 }
 
 #[test]
 fn the_path_of_all_states_is_the_number_itself(rt: HostRuntime) -> Result<(), Fail> {
-    check_rows(&rt, rt.alloc(), COUNTER, &ALL)
+    check_rows(rt.alloc(), COUNTER, &ALL)
 }

@@ -1,8 +1,10 @@
 //! Scripts over fifty records, from all states of a small range.
-use crate::comparing::{Case, wrong_case};
-use crate::sessions::SHORT_SESSIONS;
-use crate::setting::all_hold;
+use crate::comparing::{Case, first_of};
+use std::alloc::Global;
 use std::test::Fail;
+use sym_base::NoMemory;
+use sym_given::scripts::SHORT_SESSIONS;
+use sym_given::{all_hold, difference, told_at};
 
 const NUMBERS: &str = "1 2 3 4 5 6 7 8 9 10 11 12 13 14 15 16 17 18 19 20 21 22 23 24 25 26 27 \
     28 29 30 31 32 33 34 35 36 37 38 39 40 41 42 43 44 45 46 47 48 49 50";
@@ -165,19 +167,21 @@ const CASES: [Case; 12] = [
     },
 ];
 
-fn has_fifty(cases: &[Case]) -> bool {
-    'cases: for case in cases {
-        if case.lines.split_whitespace().count() != 50 {
-            return false;
+// What is said of the first case that doesn't have fifty records.
+fn first_short(alloc: Global, cases: &[Case]) -> Result<Option<String>, NoMemory> {
+    'cases: for (place, case) in cases.iter().enumerate() {
+        let told = difference(alloc, &case.lines.split_whitespace().count(), &50)?;
+        if told.is_some() {
+            return told_at(alloc, place, told);
         }
     }
-    true
+    Ok(None)
 }
 
 #[test]
 fn fifty_records_give_what_their_steps_give(rt: HostRuntime) -> Result<(), Fail> {
-    assert!(rt; has_fifty(&CASES));
-    all_hold(&rt, wrong_case(rt.alloc(), &CASES))
+    all_hold(first_short(rt.alloc(), &CASES))?;
+    all_hold(first_of(rt.alloc(), &CASES))
 }
 
 /// Each of the tests may be true or false of the parts, and a word says which were true.
@@ -204,5 +208,5 @@ const TESTS: Case = Case {
 
 #[test]
 fn ten_tests_of_a_cell_make_all_their_paths(rt: HostRuntime) -> Result<(), Fail> {
-    all_hold(&rt, wrong_case(rt.alloc(), &[TESTS]))
+    all_hold(first_of(rt.alloc(), &[TESTS]))
 }

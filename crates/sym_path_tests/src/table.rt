@@ -1,10 +1,12 @@
 //! Pairs of small paths of a number n and a label, against a plain walk over all states.
-use crate::setting::{Row, check_rows, number as form_of, path_of};
+use crate::setting::{Stop, none_told, number as form_of, path_of, told_of};
+use crate::texts::path_text;
 use std::alloc::Global;
 use std::test::Fail;
 use sym_base::{Fault, FaultKind, NoMemory};
 use sym_check::Checked;
 use sym_enum::{EnumForm, LabelSet};
+use sym_given::{Row, check_rows, difference};
 use sym_int::{IntForm, Span};
 use sym_path::{Form, Part, Path, PathEnd, follow, join_paths, joinable, possible};
 
@@ -208,7 +210,7 @@ fn push_labels(
     span: Span,
     set: LabelSet,
     number: IntForm,
-) -> Result<(), NoMemory> {
+) -> Result<(), Stop> {
     'labels: for label in [EnumForm::Const(0), EnumForm::Const(1), EnumForm::Copy(1)] {
         let path = small_path(alloc, span, set, number, label)?;
         push_fitting(checked, paths, path)?;
@@ -224,9 +226,9 @@ fn push_numbers(
     span: Span,
     set: LabelSet,
     a: i128,
-) -> Result<(), NoMemory> {
+) -> Result<(), Stop> {
     'offsets: for b in [-2, -1, 0, 1, 2] {
-        let form = form_of(0, a, b)?;
+        let form = form_of(alloc, 0, a, b)?;
         push_labels(alloc, checked, paths, span, set, form)?;
     }
     Ok(())
@@ -239,11 +241,17 @@ fn push_constraint(
     paths: &mut Vec<Path>,
     span: Span,
     set: LabelSet,
-) -> Result<(), NoMemory> {
+) -> Result<(), Stop> {
     'slopes: for a in [-2, -1, 0, 1, 2] {
         push_numbers(alloc, checked, paths, span, set, a)?;
     }
-    let mut path = small_path(alloc, span, set, form_of(0, 0, 0)?, EnumForm::Const(0))?;
+    let mut path = small_path(
+        alloc,
+        span,
+        set,
+        form_of(alloc, 0, 0, 0)?,
+        EnumForm::Const(0),
+    )?;
     path.end = PathEnd::Ended(Fault {
         kind: FaultKind::Over(0),
         no: 4,
@@ -258,7 +266,7 @@ fn push_span(
     checked: &Checked,
     paths: &mut Vec<Path>,
     span: Span,
-) -> Result<(), NoMemory> {
+) -> Result<(), Stop> {
     'sets: for set in [LabelSet::one(0), LabelSet::one(1), LabelSet::full(2)] {
         push_constraint(alloc, checked, paths, span, set)?;
     }
@@ -266,7 +274,7 @@ fn push_span(
 }
 
 /// All small paths that fit the script.
-fn small_paths(alloc: Global, checked: &Checked) -> Result<Vec<Path>, NoMemory> {
+fn small_paths(alloc: Global, checked: &Checked) -> Result<Vec<Path>, Stop> {
     let mut paths = Vec::new(alloc);
     let numbers = [-3, -2, -1, 0, 1, 2, 3];
     'low: for lo in numbers {
@@ -279,45 +287,50 @@ fn small_paths(alloc: Global, checked: &Checked) -> Result<Vec<Path>, NoMemory> 
     Ok(paths)
 }
 
+/// Stops at two paths of which calls make other than a walk does.
+fn found_others(alloc: Global, first: &Path, second: &Path) -> Result<(), Stop> {
+    let first = path_text(alloc, Some(first))?;
+    let second = path_text(alloc, Some(second))?;
+    Err(Stop::Differs(format!(in alloc;
+        "found other than a walk gives, wanted the same, of{first} and{second}"
+    )?))
+}
+
 fn is_followed_by_all(
     alloc: Global,
     checked: &Checked,
     paths: &[Path],
     first: &Path,
-) -> Result<bool, NoMemory> {
+) -> Result<(), Stop> {
     'second: for second in paths {
         if !is_followed(alloc, checked, first, second)? {
-            return Ok(false);
+            return found_others(alloc, first, second);
         }
     }
-    Ok(true)
+    Ok(())
 }
 
-fn all_are_followed(alloc: Global, checked: &Checked, paths: &[Path]) -> Result<bool, NoMemory> {
+fn all_are_followed(alloc: Global, checked: &Checked, paths: &[Path]) -> Result<(), Stop> {
     'first: for first in paths {
-        if !is_followed_by_all(alloc, checked, paths, first)? {
-            return Ok(false);
-        }
+        is_followed_by_all(alloc, checked, paths, first)?;
     }
-    Ok(true)
+    Ok(())
 }
 
-fn joins_all(alloc: Global, paths: &[Path], first: &Path) -> Result<bool, NoMemory> {
+fn joins_all(alloc: Global, paths: &[Path], first: &Path) -> Result<(), Stop> {
     'second: for second in paths {
         if !joins(alloc, first, second)? {
-            return Ok(false);
+            return found_others(alloc, first, second);
         }
     }
-    Ok(true)
+    Ok(())
 }
 
-fn all_join(alloc: Global, paths: &[Path]) -> Result<bool, NoMemory> {
+fn all_join(alloc: Global, paths: &[Path]) -> Result<(), Stop> {
     'first: for first in paths {
-        if !joins_all(alloc, paths, first)? {
-            return Ok(false);
-        }
+        joins_all(alloc, paths, first)?;
     }
-    Ok(true)
+    Ok(())
 }
 
 /// What is tried of each two small paths.
@@ -326,31 +339,31 @@ enum Tried {
     Joined,
 }
 
-fn are_tried(
-    alloc: Global,
-    checked: &Checked,
-    paths: &[Path],
-    tried: &Tried,
-) -> Result<bool, NoMemory> {
+fn are_tried(alloc: Global, checked: &Checked, paths: &[Path], tried: &Tried) -> Result<(), Stop> {
+    none_told(difference(alloc, &paths.len(), &2_352))?;
     match tried {
         Tried::Followed => all_are_followed(alloc, checked, paths),
         Tried::Joined => all_join(alloc, paths),
     }
 }
 
+fn small_paths_are_tried(alloc: Global, checked: &Checked, tried: &Tried) -> Result<(), Stop> {
+    let paths = small_paths(alloc, checked)?;
+    are_tried(alloc, checked, paths.as_slice(), tried)
+}
+
 impl Row for Tried {
-    fn holds(&self, alloc: Global, checked: &Checked) -> Result<bool, NoMemory> {
-        let paths = small_paths(alloc, checked)?;
-        Ok(paths.len() == 2_352 && are_tried(alloc, checked, paths.as_slice(), self)?)
+    fn differs(&self, alloc: Global, checked: &Checked) -> Result<Option<String>, NoMemory> {
+        told_of(small_paths_are_tried(alloc, checked, self))
     }
 }
 
 #[test]
 fn small_paths_follow_as_a_walk_does(rt: HostRuntime) -> Result<(), Fail> {
-    check_rows(&rt, rt.alloc(), SMALL, &[Tried::Followed])
+    check_rows(rt.alloc(), SMALL, &[Tried::Followed])
 }
 
 #[test]
 fn small_paths_join_as_a_walk_does(rt: HostRuntime) -> Result<(), Fail> {
-    check_rows(&rt, rt.alloc(), SMALL, &[Tried::Joined])
+    check_rows(rt.alloc(), SMALL, &[Tried::Joined])
 }

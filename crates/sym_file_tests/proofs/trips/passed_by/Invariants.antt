@@ -1,6 +1,0 @@
-use Rattle.sym_check.specs.Checking.CheckedScripts.{checked_plan}
-use Rattle.sym_table.specs.Rows.{FitsHeader}
-use Rattle.sym_file_tests.proofs.trips.passed_by.Given as goal
-
-abbrev pub invariant-rows : goal.invariant-rows
-invariant-rows l = FitsHeader (checked_plan l.checked).fields l.cutter.header
