@@ -1,6 +1,6 @@
-//! What the tests of several crates are given: scripts, files of saved runs, the checked script of a
-//! text, the chunks and records of a log, and rows of tables, each of which says what was found and
-//! what was wanted if it doesn't hold.
+//! What the tests of several crates are given: scripts, files of saved runs, the checked script of
+//! a text, the chunks and records of a log, and rows of tables, each of which says what was found
+//! and what was wanted if it doesn't hold.
 #![tactic(auto)]
 
 mod acceptance;

@@ -16,8 +16,8 @@ pub fn difference<T: Debug + PartialEq>(
     Ok(Some(format!(in alloc; "found {found:?}, wanted {wanted:?}")?))
 }
 
-/// What is found in the place of what is wanted, in these words, if it doesn't hold. For values that
-/// have no text.
+/// What is found in the place of what is wanted, in these words, if it doesn't hold. For values
+/// that have no text.
 pub fn found_unless(alloc: Global, holds: bool, found: &str) -> Result<Option<String>, NoMemory> {
     if holds {
         return Ok(None);

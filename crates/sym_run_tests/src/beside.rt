@@ -4,14 +4,15 @@ ghost use Rattle.sym_check.specs.Checking.CheckedScripts.{checked_plan};
 ghost use Rattle.sym_run.specs.Applying.{AreValid};
 ghost use Rattle.sym_run.specs.Runs.{GroupsFit};
 
-use crate::logs::SUMS;
-use crate::setting::{chunks_of, same_groups};
+use crate::setting::applied_differs;
 use std::alloc::Global;
+use std::sync::Wait;
 use std::test::Fail;
 use std::thread::Threads;
 use sym_base::NoMemory;
 use sym_check::Checked;
-use sym_given::accepted;
+use sym_given::scripts::SMALL_SUMS;
+use sym_given::{ThreadedCase, check_threaded_cases, chunks_of, difference, found_unless};
 use sym_plain::Groups;
 use sym_run::{Applied, Run, of_chunks};
 
@@ -25,22 +26,22 @@ struct Rows(u32, u32, u32, bool);
 /// Two logs, whose runs are applied one after the other, and how many groups there are then; none
 /// where the second one has a bad row.
 #[derive(Clone, Copy)]
-struct Case(Rows, Rows, Option<usize>);
+struct Logs(Rows, Rows, Option<usize>);
 
-const CASES: [Case; 5] = [
-    Case(Rows(0, 1, 3, false), Rows(0, 1, 2, false), Some(1)),
-    Case(Rows(0, 600, 1, false), Rows(0, 600, 1, false), Some(600)),
-    Case(
+const LOGS: [Logs; 5] = [
+    Logs(Rows(0, 1, 3, false), Rows(0, 1, 2, false), Some(1)),
+    Logs(Rows(0, 600, 1, false), Rows(0, 600, 1, false), Some(600)),
+    Logs(
         Rows(0, 600, 1, false),
         Rows(300, 700, 2, false),
         Some(1_000),
     ),
-    Case(
+    Logs(
         Rows(0, 100, 1, false),
         Rows(50, 2_100, 1, false),
         Some(2_150),
     ),
-    Case(Rows(0, 600, 1, false), Rows(0, 600, 1, true), None),
+    Logs(Rows(0, 600, 1, false), Rows(0, 600, 1, true), None),
 ];
 
 /// A row of a user. What is added differs by user and time, and takes some groups out of their
@@ -72,19 +73,11 @@ fn run_of(alloc: Global, checked: &Checked, rows: Rows) -> Result<Option<Run>, N
         GroupsFit (checked_plan checked.now) r.groups)) }
 {
     let log = log_of(alloc, rows)?;
-    let chunks = chunks_of(alloc, checked, log.as_str(), 1_000)?;
+    let chunks = chunks_of(alloc, checked, log.as_str(), 1_000, 64)?;
     if chunks.is_empty() || chunks.len() > 64 {
         return Ok(None);
     }
     Ok(Some(of_chunks(alloc, checked, &chunks, 16)?))
-}
-
-fn is_same(left: &Applied, right: &Applied) -> bool {
-    match (left, right) {
-        (Applied::Done(left), Applied::Done(right)) => same_groups(left, right),
-        (Applied::Bad(left), Applied::Bad(right)) => left == right,
-        _ => false,
-    }
 }
 
 /// How many groups there are.
@@ -95,15 +88,15 @@ fn count_of(applied: &Applied) -> Option<usize> {
     }
 }
 
-/// Whether a run gives by so many workers what one thread makes of it.
-fn is_same_by<T: Threads + Sync>(
+/// How what a run gives by so many workers differs from what one thread makes of it.
+fn differs_by<T: Threads + Sync>(
     rt: &T,
     alloc: Global,
     checked: &Checked,
     run: &Run,
     groups: &Groups,
     workers: u32,
-) -> Result<bool, NoMemory>
+) -> Result<Option<String>, NoMemory>
     requires fits { GroupsFit (checked_plan checked.now) run.now.groups }
     requires valid { AreValid (checked_plan checked.now) groups.now }
 {
@@ -111,69 +104,89 @@ fn is_same_by<T: Threads + Sync>(
     let beside = run
         .copy(alloc)?
         .apply_by(rt, alloc, checked, groups.copy(alloc)?, workers)?;
-    Ok(is_same(&alone, &beside))
+    applied_differs(alloc, &beside, &alone)
 }
 
-/// The first number of workers by which it doesn't.
+/// The first number of workers by which it differs, and how.
 fn first_other<T: Threads + Sync>(
     rt: &T,
     alloc: Global,
     checked: &Checked,
     run: &Run,
     groups: &Groups,
-) -> Result<Option<u32>, NoMemory>
+) -> Result<Option<String>, NoMemory>
     requires fits { GroupsFit (checked_plan checked.now) run.now.groups }
     requires valid { AreValid (checked_plan checked.now) groups.now }
 {
     'workers: for workers in WORKERS {
-        if !is_same_by(rt, alloc, checked, run, groups, workers)? {
-            return Ok(Some(workers));
+        if let Some(told) = differs_by(rt, alloc, checked, run, groups, workers)? {
+            return Ok(Some(format!(in alloc; "by {workers} workers: {told}")?));
         }
     }
     Ok(None)
 }
 
-/// Whether the run of the second log, applied to the groups of the first, gives the same by any
-/// number of workers, and so many groups.
-fn is_wanted<T: Threads + Sync>(
+/// How the run of the second log, applied to these groups, differs by some number of workers, or in
+/// the number of groups that it gives.
+fn next_differs<T: Threads + Sync>(
     rt: &T,
     alloc: Global,
     checked: &Checked,
-    case: &Case,
-) -> Result<bool, NoMemory> {
-    let Case(first, then, count) = case;
-    let Some(run) = run_of(alloc, checked, *first)? else {
-        return Ok(false);
-    };
-    let Some(next) = run_of(alloc, checked, *then)? else {
-        return Ok(false);
-    };
+    next: Run,
+    groups: Groups,
+    count: Option<usize>,
+) -> Result<Option<String>, NoMemory>
+    requires fits { GroupsFit (checked_plan checked.now) next.groups }
+    requires valid { AreValid (checked_plan checked.now) groups }
+{
+    let told = first_other(rt, alloc, checked, &next, &groups)?;
+    if told.is_some() {
+        return Ok(told);
+    }
+    let last = next.apply(alloc, checked, groups)?;
+    difference(alloc, &count_of(&last), &count)
+}
+
+/// The same with the groups of the first log.
+fn runs_differ<T: Threads + Sync>(
+    rt: &T,
+    alloc: Global,
+    checked: &Checked,
+    run: Run,
+    next: Run,
+    count: Option<usize>,
+) -> Result<Option<String>, NoMemory>
+    requires first { GroupsFit (checked_plan checked.now) run.groups }
+    requires next { GroupsFit (checked_plan checked.now) next.groups }
+{
     match run.apply(alloc, checked, Groups::new(alloc))? {
-        Applied::Done(groups) => {
-            let other = first_other(rt, alloc, checked, &next, &groups)?;
-            let last = next.apply(alloc, checked, groups)?;
-            Ok(other.is_none() && count_of(&last) == *count)
-        }
-        Applied::Bad(_) => Ok(false),
+        Applied::Done(groups) => next_differs(rt, alloc, checked, next, groups, count),
+        Applied::Bad(bad) => Ok(Some(format!(in alloc; "found {bad:?} in the first log")?)),
     }
 }
 
-/// The place of the first case in which it isn't so.
-fn first_wrong<T: Threads + Sync>(rt: &T, alloc: Global) -> Result<Option<usize>, NoMemory> {
-    let Some(checked) = accepted(alloc, SUMS) else {
-        return Ok(Some(CASES.len()));
-    };
-    'cases: for (place, case) in CASES.iter().enumerate() {
-        if !is_wanted(rt, alloc, &checked, case)? {
-            return Ok(Some(place));
+impl ThreadedCase for Logs {
+    fn script(&self) -> &str {
+        SMALL_SUMS
+    }
+
+    fn differs<T: Threads + Wait + Sync>(
+        &self,
+        rt: &T,
+        alloc: Global,
+        checked: &Checked,
+    ) -> Result<Option<String>, NoMemory> {
+        let Logs(first, then, count) = *self;
+        let run = run_of(alloc, checked, first)?;
+        let next = run_of(alloc, checked, then)?;
+        match (run, next) {
+            (Some(run), Some(next)) => runs_differ(rt, alloc, checked, run, next, count),
+            _ => found_unless(alloc, false, "found a log of no chunk or of more than 64"),
         }
     }
-    Ok(None)
 }
 
 #[test]
 fn any_workers_make_of_groups_what_one_thread_does(rt: HostRuntime) -> Result<(), Fail> {
-    let wrong = first_wrong(&rt, rt.alloc())?;
-    assert_eq!(rt; wrong, None);
-    Ok(())
+    check_threaded_cases(&rt, rt.alloc(), &LOGS)
 }

@@ -5,28 +5,26 @@ ghost use Rattle.sym_check.specs.Checking.CheckedScripts.{checked_plan};
 ghost use Rattle.sym_path.specs.Fitting.{SegmentFits};
 ghost use Rattle.sym_table.specs.Rows.{FitsChunk};
 
-use crate::logs::{ASKED, NOTES, RESETS, SESSIONS, TOGGLE};
-use crate::setting::{Case, check_cases, chunks_of, same_groups};
+use crate::logs::{ASKED, MAXES, NOTES, RESETS};
+use crate::setting::{applied_differs, not_one};
 use std::alloc::Global;
 use std::test::Fail;
 use sym_base::NoMemory;
 use sym_check::Checked;
+use sym_given::scripts::{SHORT_SESSIONS, TOGGLE};
+use sym_given::{Case, check_cases, chunks_of, difference, found_unless};
 use sym_path::{Segment, pairs};
 use sym_plain::Groups;
 use sym_run::{Applied, Chain, Run, RunGroups, of_chunk};
 use sym_table::Chunk;
 
 /// How many paths each segment has.
-fn has_paths(segments: &[Segment], paths: &[usize]) -> bool {
-    if segments.len() != paths.len() {
-        return false;
+fn paths_of(alloc: Global, segments: &[Segment]) -> Result<Vec<usize>, NoMemory> {
+    let mut paths = Vec::new(alloc);
+    'segments: for segment in segments {
+        paths.push(segment.paths().len())?;
     }
-    'segments: for (segment, count) in segments.iter().zip(paths) {
-        if segment.paths().len() != *count {
-            return false;
-        }
-    }
-    true
+    Ok(paths)
 }
 
 /// The chain of the only group of a chunk.
@@ -60,11 +58,41 @@ fn pairs_of(checked: &Checked, first: &Segment, second: &Segment) -> Option<u64>
     }
 }
 
-/// Whether the first two segments have so many pairs.
-fn has_pairs(checked: &Checked, segments: &[Segment], wanted: Option<u64>) -> bool {
+/// The pairs of the first two segments, if there are two.
+fn first_pairs(checked: &Checked, segments: &[Segment]) -> Option<u64> {
     match segments {
-        [first, second, ..] => pairs_of(checked, first, second) == wanted,
-        _ => wanted.is_none(),
+        [first, second, ..] => pairs_of(checked, first, second),
+        _ => None,
+    }
+}
+
+/// How the segments of a chain differ from those that are wanted.
+fn segments_differ(
+    alloc: Global,
+    checked: &Checked,
+    chain: &Chain,
+    case: &OneChain,
+) -> Result<Option<String>, NoMemory> {
+    let paths = paths_of(alloc, chain.segments())?;
+    let found = (paths.as_slice(), first_pairs(checked, chain.segments()));
+    difference(alloc, &found, &(case.paths, case.pairs))
+}
+
+/// How the run differs from one that has the one chain.
+fn chain_differs(
+    alloc: Global,
+    checked: &Checked,
+    run: &Run,
+    case: &OneChain,
+) -> Result<Option<String>, NoMemory> {
+    match run.groups.at(0) {
+        Some((_key, chain)) if run.groups.len() == 1 && run.bad.is_none() => {
+            segments_differ(alloc, checked, chain, case)
+        }
+        _ => {
+            let (groups, bad) = (run.groups.len(), run.bad);
+            Ok(Some(format!(in alloc; "found {groups} groups and {bad:?}, wanted one")?))
+        }
     }
 }
 
@@ -79,59 +107,56 @@ fn same_chains(left: &RunGroups, right: &RunGroups) -> bool {
     }
 }
 
-fn is_chain_copied(alloc: Global, chain: &Chain) -> Result<bool, NoMemory> {
-    Ok(same_chain(&chain.copy(alloc)?, chain))
-}
-
-fn has_segments(checked: &Checked, chain: &Chain, case: &OneChain) -> bool {
-    has_paths(chain.segments(), case.paths) && has_pairs(checked, chain.segments(), case.pairs)
-}
-
-/// Whether the run has the one chain, and copies of it are the same.
-fn has_chain(
-    alloc: Global,
-    checked: &Checked,
-    run: &Run,
-    case: &OneChain,
-) -> Result<bool, NoMemory> {
-    let copied = run.copy(alloc)?;
-    if run.groups.len() != 1 || run.bad.is_some() || !same_chains(&copied.groups, &run.groups) {
-        return Ok(false);
-    }
-    match run.groups.at(0) {
-        Some((_key, chain)) => {
-            Ok(has_segments(checked, chain, case) && is_chain_copied(alloc, chain)?)
-        }
+fn is_chain_copied(alloc: Global, groups: &RunGroups) -> Result<bool, NoMemory> {
+    match groups.at(0) {
+        Some((_key, chain)) => Ok(same_chain(&chain.copy(alloc)?, chain)),
         None => Ok(false),
     }
 }
 
-fn same_answer(left: &Applied, right: &Applied) -> bool {
-    match (left, right) {
-        (Applied::Done(groups), Applied::Done(others)) => same_groups(groups, others),
-        (Applied::Bad(bad), Applied::Bad(other)) => bad == other,
-        _ => false,
+/// How copies of the run and of its chain differ from these.
+fn copies_differ(alloc: Global, run: &Run) -> Result<Option<String>, NoMemory> {
+    let same = same_chains(&run.copy(alloc)?.groups, &run.groups);
+    let told = found_unless(alloc, same, "found another run, wanted a copy")?;
+    if told.is_some() {
+        return Ok(told);
     }
+    let same = is_chain_copied(alloc, &run.groups)?;
+    found_unless(alloc, same, "found another chain, wanted a copy")
 }
 
-fn is_applied_copied(alloc: Global, applied: &Applied) -> Result<bool, NoMemory> {
-    Ok(same_answer(&applied.copy(alloc)?, applied))
+fn run_differs(
+    alloc: Global,
+    checked: &Checked,
+    run: &Run,
+    case: &OneChain,
+) -> Result<Option<String>, NoMemory> {
+    let told = chain_differs(alloc, checked, run, case)?;
+    if told.is_some() {
+        return Ok(told);
+    }
+    copies_differ(alloc, run)
 }
 
-fn chunk_has_chain(
+fn applied_copy_differs(alloc: Global, applied: &Applied) -> Result<Option<String>, NoMemory> {
+    applied_differs(alloc, &applied.copy(alloc)?, applied)
+}
+
+fn chunk_differs(
     alloc: Global,
     checked: &Checked,
     chunk: &Chunk,
     case: &OneChain,
-) -> Result<bool, NoMemory>
+) -> Result<Option<String>, NoMemory>
     requires { FitsChunk (checked_plan checked.now).fields chunk.now }
 {
     let run = of_chunk(alloc, checked, chunk, 0, case.limit)?;
-    if !has_chain(alloc, checked, &run, case)? {
-        return Ok(false);
+    let told = run_differs(alloc, checked, &run, case)?;
+    if told.is_some() {
+        return Ok(told);
     }
     let applied = run.apply(alloc, checked, Groups::new(alloc))?;
-    is_applied_copied(alloc, &applied)
+    applied_copy_differs(alloc, &applied)
 }
 
 impl Case for OneChain {
@@ -139,11 +164,11 @@ impl Case for OneChain {
         self.script
     }
 
-    fn holds(&self, alloc: Global, checked: &Checked) -> Result<bool, NoMemory> {
-        let chunks = chunks_of(alloc, checked, self.log, 1_024)?;
+    fn differs(&self, alloc: Global, checked: &Checked) -> Result<Option<String>, NoMemory> {
+        let chunks = chunks_of(alloc, checked, self.log, 1_024, 2)?;
         match chunks.as_slice() {
-            [chunk] => chunk_has_chain(alloc, checked, chunk, self),
-            _ => Ok(false),
+            [chunk] => chunk_differs(alloc, checked, chunk, self),
+            others => not_one(alloc, others),
         }
     }
 }
@@ -168,21 +193,21 @@ fn segments_stay_apart_over_the_limit(rt: HostRuntime) -> Result<(), Fail> {
             pairs: None,
         },
         OneChain {
-            script: SESSIONS,
+            script: SHORT_SESSIONS,
             log: visits,
             limit: 3,
             paths: &[3, 3],
             pairs: Some(4),
         },
         OneChain {
-            script: SESSIONS,
+            script: SHORT_SESSIONS,
             log: visits,
             limit: 4,
             paths: &[4],
             pairs: None,
         },
     ];
-    check_cases(&rt, rt.alloc(), &cases)
+    check_cases(rt.alloc(), &cases)
 }
 
 // The first record of a toggle has two paths, and the one after it that makes the group idle joins
@@ -221,30 +246,48 @@ fn a_record_that_fits_is_in_the_last_segment(rt: HostRuntime) -> Result<(), Fail
             pairs: Some(2),
         },
     ];
-    check_cases(&rt, rt.alloc(), &cases)
+    check_cases(rt.alloc(), &cases)
+}
+
+// Where records rise, each has a pair more with the segment before it than its extension has paths.
+#[test]
+fn a_record_that_fits_is_in_the_last_segment_where_it_has_more_pairs(
+    rt: HostRuntime,
+) -> Result<(), Fail> {
+    let log = "x\n5\n7\n3\n8\n";
+    let cases = [
+        OneChain {
+            script: MAXES,
+            log,
+            limit: 2,
+            paths: &[2],
+            pairs: None,
+        },
+        OneChain {
+            script: MAXES,
+            log,
+            limit: 1,
+            paths: &[2, 2, 2, 2],
+            pairs: Some(3),
+        },
+    ];
+    check_cases(rt.alloc(), &cases)
 }
 
 /// The same where a record has as many paths as it may have. Copies of so many are left out.
 #[derive(Drop)]
 struct Asked(OneChain);
 
-fn run_has_chain(checked: &Checked, run: &Run, case: &OneChain) -> bool {
-    match run.groups.at(0) {
-        Some((_key, chain)) => run.groups.len() == 1 && has_segments(checked, chain, case),
-        None => false,
-    }
-}
-
-fn chunk_has_asked(
+fn asked_differs(
     alloc: Global,
     checked: &Checked,
     chunk: &Chunk,
     case: &OneChain,
-) -> Result<bool, NoMemory>
+) -> Result<Option<String>, NoMemory>
     requires { FitsChunk (checked_plan checked.now).fields chunk.now }
 {
     let run = of_chunk(alloc, checked, chunk, 0, case.limit)?;
-    Ok(run_has_chain(checked, &run, case))
+    chain_differs(alloc, checked, &run, case)
 }
 
 impl Case for Asked {
@@ -252,11 +295,11 @@ impl Case for Asked {
         self.0.script
     }
 
-    fn holds(&self, alloc: Global, checked: &Checked) -> Result<bool, NoMemory> {
-        let chunks = chunks_of(alloc, checked, self.0.log, 1_024)?;
+    fn differs(&self, alloc: Global, checked: &Checked) -> Result<Option<String>, NoMemory> {
+        let chunks = chunks_of(alloc, checked, self.0.log, 1_024, 2)?;
         match chunks.as_slice() {
-            [chunk] => chunk_has_asked(alloc, checked, chunk, &self.0),
-            _ => Ok(false),
+            [chunk] => asked_differs(alloc, checked, chunk, &self.0),
+            others => not_one(alloc, others),
         }
     }
 }
@@ -270,5 +313,5 @@ fn two_records_of_1024_paths_have_1024_pairs(rt: HostRuntime) -> Result<(), Fail
         paths: &[1_024, 1_024],
         pairs: Some(1_024),
     };
-    check_cases(&rt, rt.alloc(), &[Asked(asked)])
+    check_cases(rt.alloc(), &[Asked(asked)])
 }

@@ -4,15 +4,16 @@ ghost use Rattle.sym_check.specs.Checking.CheckedScripts.{checked_plan};
 ghost use Rattle.sym_table.specs.Rows.{FitsChunk};
 ghost use Rattle.sym_run.specs.Runs.{AreTight, GroupsFit};
 
-use crate::logs::{SUMS, TOGGLE};
-use crate::setting::{Case, check_cases, chunks_of, passed, same_groups, stretched};
+use crate::setting::{given_differs, not_one, stretched};
 use Log::{Sums, Turns};
 use std::alloc::Global;
 use std::test::Fail;
 use sym_base::NoMemory;
 use sym_check::Checked;
+use sym_given::scripts::{SMALL_SUMS, TOGGLE};
+use sym_given::{Case, check_cases, chunks_of, difference, passed};
 use sym_plain::Groups;
-use sym_run::{Applied, Chain, Run, RunGroups};
+use sym_run::{Run, RunGroups};
 use sym_table::Chunk;
 
 /// A log of one group.
@@ -55,54 +56,95 @@ const CASES: [Kept; 21] = [
     Kept(Sums, 60, 16, 64, 60),
 ];
 
-/// Whether so many records are kept, and segments cover some exactly where none are.
-fn keeps(chain: &Chain, kept: usize) -> bool {
-    chain.kept() == kept
-        && chain.is_closed() == (kept == 0)
-        && chain.segments().is_empty() != (kept == 0)
+/// What is seen of the first of so many groups.
+#[derive(Clone, Copy, Debug, PartialEq, Eq)]
+struct Seen {
+    groups: usize,
+    kept: usize,
+    is_closed: bool,
+    has_segments: bool,
 }
 
-/// Whether there is one group, which keeps so many.
-fn has_kept(groups: &RunGroups, kept: usize) -> bool {
+fn seen_of(groups: &RunGroups) -> Option<Seen> {
     match groups.at(0) {
-        Some((_key, chain)) => groups.len() == 1 && keeps(chain, kept),
-        None => false,
+        Some((_key, chain)) => Some(Seen {
+            groups: groups.len(),
+            kept: chain.kept(),
+            is_closed: chain.is_closed(),
+            has_segments: !chain.segments().is_empty(),
+        }),
+        None => None,
     }
 }
 
-/// Whether the run's groups, from none on, are these.
-fn gives(alloc: Global, checked: &Checked, run: Run, wanted: &Groups) -> Result<bool, NoMemory>
+/// How the groups differ from one that keeps so many records. Segments cover some exactly where
+/// none are kept.
+fn kept_differs(
+    alloc: Global,
+    groups: &RunGroups,
+    kept: usize,
+) -> Result<Option<String>, NoMemory> {
+    let wanted = Seen {
+        groups: 1,
+        kept,
+        is_closed: kept == 0,
+        has_segments: kept == 0,
+    };
+    difference(alloc, &seen_of(groups), &Some(wanted))
+}
+
+/// How the run's groups, from none on, differ from these.
+fn gives_others(
+    alloc: Global,
+    checked: &Checked,
+    run: Run,
+    wanted: &Groups,
+) -> Result<Option<String>, NoMemory>
     requires { GroupsFit (checked_plan checked.now) run.groups }
 {
-    match run.apply(alloc, checked, Groups::new(alloc))? {
-        Applied::Done(groups) => Ok(same_groups(&groups, wanted)),
-        Applied::Bad(_) => Ok(false),
-    }
+    let applied = run.apply(alloc, checked, Groups::new(alloc))?;
+    given_differs(alloc, &applied, wanted)
 }
 
-/// Whether the run keeps nothing once it is closed, and gives these groups.
-fn gives_closed(
+/// How the run that has these groups, which keep nothing, differs in what it gives.
+fn explored_differs(
+    alloc: Global,
+    checked: &Checked,
+    explored: Run,
+    wanted: &Groups,
+) -> Result<Option<String>, NoMemory>
+    requires { GroupsFit (checked_plan checked.now) explored.groups }
+{
+    let told = kept_differs(alloc, &explored.groups, 0)?;
+    if told.is_some() {
+        return Ok(told);
+    }
+    gives_others(alloc, checked, explored, wanted)
+}
+
+/// How the run, once it is closed, differs from one that keeps nothing and gives these groups.
+fn closed_differs(
     alloc: Global,
     checked: &Checked,
     run: Run,
     limit: u32,
     wanted: &Groups,
-) -> Result<bool, NoMemory>
+) -> Result<Option<String>, NoMemory>
     requires fits { GroupsFit (checked_plan checked.now) run.groups }
     requires tight { run.bad ≡ None → AreTight (checked_plan checked.now) limit run.groups }
 {
     if run.bad.is_some() {
-        return Ok(false);
+        let bad = run.bad;
+        return Ok(Some(format!(in alloc; "found {bad:?}, wanted no bad row")?));
     }
     let groups = run.groups.copy(alloc)?.closed(alloc, checked, limit)?;
-    let closed = has_kept(&groups, 0);
     let explored = Run {
         lo: run.lo,
         hi: run.hi,
         groups,
         bad: None,
     };
-    Ok(closed && gives(alloc, checked, explored, wanted)?)
+    explored_differs(alloc, checked, explored, wanted)
 }
 
 impl Kept {
@@ -120,24 +162,38 @@ impl Kept {
         Ok(text)
     }
 
-    fn chunk_holds(
+    fn run_differs(
+        &self,
+        alloc: Global,
+        checked: &Checked,
+        run: &Run,
+        wanted: &Groups,
+    ) -> Result<Option<String>, NoMemory>
+        requires { GroupsFit (checked_plan checked.now) run.now.groups }
+    {
+        let told = kept_differs(alloc, &run.groups, self.4)?;
+        if told.is_some() {
+            return Ok(told);
+        }
+        gives_others(alloc, checked, run.copy(alloc)?, wanted)
+    }
+
+    fn chunk_differs(
         &self,
         alloc: Global,
         checked: &Checked,
         chunk: &Chunk,
         wanted: &Groups,
-    ) -> Result<bool, NoMemory>
+    ) -> Result<Option<String>, NoMemory>
         requires { FitsChunk (checked_plan checked.now).fields chunk.now }
     {
-        let Kept(_log, _records, limit, most, kept) = *self;
+        let Kept(_log, _records, limit, most, _kept) = *self;
         let run = stretched(alloc, checked, chunk, 0, limit, most)?;
-        let keeps = has_kept(&run.groups, kept);
-        let copied = run.copy(alloc)?;
-        Ok(
-            keeps
-                && gives(alloc, checked, copied, wanted)?
-                && gives_closed(alloc, checked, run, limit, wanted)?,
-        )
+        let told = self.run_differs(alloc, checked, &run, wanted)?;
+        if told.is_some() {
+            return Ok(told);
+        }
+        closed_differs(alloc, checked, run, limit, wanted)
     }
 }
 
@@ -145,22 +201,22 @@ impl Case for Kept {
     fn script(&self) -> &str {
         match self.0 {
             Turns => TOGGLE,
-            Sums => SUMS,
+            Sums => SMALL_SUMS,
         }
     }
 
-    fn holds(&self, alloc: Global, checked: &Checked) -> Result<bool, NoMemory> {
+    fn differs(&self, alloc: Global, checked: &Checked) -> Result<Option<String>, NoMemory> {
         let log = self.log(alloc)?;
         let wanted = passed(alloc, checked, log.as_str())?;
-        let chunks = chunks_of(alloc, checked, log.as_str(), 1_024)?;
+        let chunks = chunks_of(alloc, checked, log.as_str(), 1_024, 2)?;
         match chunks.as_slice() {
-            [chunk] => self.chunk_holds(alloc, checked, chunk, &wanted),
-            _ => Ok(false),
+            [chunk] => self.chunk_differs(alloc, checked, chunk, &wanted),
+            others => not_one(alloc, others),
         }
     }
 }
 
 #[test]
 fn a_stretch_keeps_first_records_and_closing_explores_them(rt: HostRuntime) -> Result<(), Fail> {
-    check_cases(&rt, rt.alloc(), &CASES)
+    check_cases(rt.alloc(), &CASES)
 }

@@ -15,5 +15,3 @@ mod orders;
 mod setting;
 #[cfg(test)]
 mod stretches;
-#[cfg(test)]
-mod texts;

@@ -1,17 +1,5 @@
 //! Scripts and logs.
 
-/// Sessions of each user: a gap of more than 30 ends one.
-pub(crate) const SESSIONS: &str = "field ts: num; field user: word; group user; \
-    state last: hold(num = 0); state n: int [0..12] = 0; state done: nums [0..12]; \
-    test gap(h: num, t: num) = t - h > 30; \
-    update { if gap(last, ts) { push done n; n = 1; } else { n = n + 1; } keep last(ts); } \
-    report { sessions = count(done); open = n; longest = max(done); }";
-
-/// A sum of each user in a range, and a list of what was added.
-pub(crate) const SUMS: &str = "field user: word; field x: num else 0; group user; \
-    state n: int [-20..20] = 0; state xs: nums [-20..20]; \
-    update { n = n + x; push xs x; } report { n = n; big = sum(xs); }";
-
 /// What each user did, by name, and a note. Either may be the empty word.
 pub(crate) const ACTIONS: &str =
     "field what: word; field user: word; field note: word; group user; \
@@ -19,11 +7,7 @@ pub(crate) const ACTIONS: &str =
     update { if what != \"\" { n = n + 1; } push done what; push done note; } \
     report { n = n; done = count(done); }";
 
-/// One group that is idle and busy in turn.
-pub(crate) const TOGGLE: &str = "enum mode { idle, busy } field x: num; state phase: mode = idle; \
-    update { if phase is idle { phase = busy; } else { phase = idle; } } report { phase = phase; }";
-
-/// The same group, which is idle after a record with a 0, whatever it was before.
+/// A group that toggles, and is idle after a record with a 0, whatever it was before.
 pub(crate) const RESETS: &str = "enum mode { idle, busy } field x: num; state phase: mode = idle; \
     update { if x > 0 { if phase is idle { phase = busy; } else { phase = idle; } } \
     else { phase = idle; } } report { phase = phase; }";
@@ -31,6 +15,10 @@ pub(crate) const RESETS: &str = "enum mode { idle, busy } field x: num; state ph
 /// A word for each record, which has one path.
 pub(crate) const NOTES: &str = "field x: num; state notes: words; \
     update { push notes \"a\"; } report { notes = count(notes); }";
+
+/// The greatest number so far.
+pub(crate) const MAXES: &str = "field x: num; state n: int [0..9] = 0; \
+    update { if n < x { n = x; } } report { n = n; }";
 
 /// So many tests of a cell that each of them may be true or false of it: a record has 1,024 paths.
 pub(crate) const ASKED: &str = "field x: num; state h: hold(num = 0); state w: words; \
@@ -92,16 +80,10 @@ pub(crate) const MANY: &str = "field x: num else 0; field no: num; group no; \
     state n: int [-5..9] = 0; state xs: nums [-9..9]; \
     update { n = n + x; push xs x; } report { n = n; xs = count(xs); }";
 
-pub(crate) const VISITS: &str = "ts,user\n10,a\n20,a\n60,a\n5,b\n61,a\n62,c\n90,b\n100,b\n101,c\n\
-    102,a\n140,a\n141,d\n150,b\n151,b\n200,c\n201,a\n";
-
-pub(crate) const CHANGES: &str = "user,x\na,3\nb,-1\na,\nc,-4\na,2\nb,2\nd,\nd,5\na,1\nb,-2\nc,-9\n\
-    c,\na,-3\nd,1\nb,-6\na,4\na,\nb,8\nd,-2\nc,-9\na,3\ne,20\ne,1\ne,2\n";
-
 pub(crate) const NUMBERS: &str = "x\n1\n1\n1\n1\n1\n1\n1\n1\n";
 
-/// Actions and notes. In some chunks all records of a user lack the action, in some the note, and in
-/// others neither.
+/// Actions and notes. In some chunks all records of a user lack the action, in some the note, and
+/// in others neither.
 pub(crate) const DEEDS: &str = "what,user,note\n,a,x\n,a,y\nbuy,b,\nsell,a,\n,b,z\nbuy,a,\n,a,x\n\
     ,b,\nbuy,b,x\n,a,\nlook,a,y\n,b,w\nbuy,a,\n,b,v\nsell,b,\nbuy,b,\n";
 

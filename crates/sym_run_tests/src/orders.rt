@@ -5,12 +5,14 @@ ghost use Rattle.sym_check.specs.Checking.CheckedScripts.{checked_plan};
 ghost use Rattle.sym_table.specs.Rows.{FitsChunk};
 ghost use Rattle.sym_run.specs.Runs.{IsFromTo, StandsForChunks};
 
-use crate::logs::{ACTIONS, CHANGES, DEEDS, NUMBERS, SESSIONS, SUMS, TOGGLE, VISITS};
-use crate::setting::{Case, check_cases, chunks_of, passed, same_groups, stretched};
+use crate::logs::{ACTIONS, DEEDS, NUMBERS};
+use crate::setting::{given_differs, stretched};
 use std::alloc::Global;
 use std::test::Fail;
 use sym_base::NoMemory;
 use sym_check::Checked;
+use sym_given::scripts::{CHANGES, SHORT_SESSIONS, SMALL_SUMS, TOGGLE, VISITS};
+use sym_given::{Case, check_cases, chunks_of, difference, found_unless, passed};
 use sym_plain::Groups;
 use sym_run::{Applied, Run, of_chunk, of_chunks};
 use sym_table::Chunk;
@@ -131,29 +133,42 @@ fn joined(
     first.join(alloc, checked, second, limit)
 }
 
-fn is_wanted(applied: &Applied, wanted: &Groups) -> bool {
-    match applied {
-        Applied::Done(groups) => same_groups(groups, wanted),
-        Applied::Bad(_) => false,
-    }
+/// What is said of chunks of which there is no run.
+fn no_run(alloc: Global) -> Result<Option<String>, NoMemory> {
+    found_unless(alloc, false, "found no chunk or more than 64")
 }
 
-/// Whether the run of the first chunk, extended by the others in turn, gives the groups.
-fn extended_holds(
+/// What the run of the first chunk, extended by the others in turn, comes to on no groups. There is
+/// none where there are no chunks, or more than 64.
+fn extended(
+    alloc: Global,
+    checked: &Checked,
+    chunks: &[Chunk],
+    limit: u32,
+) -> Result<Option<Applied>, NoMemory>
+    requires fit { All (FitsChunk (checked_plan checked.now).fields) chunks.now }
+{
+    if chunks.is_empty() || chunks.len() > 64 {
+        return Ok(None);
+    }
+    let run = of_chunks(alloc, checked, chunks, limit)?;
+    Ok(Some(run.apply(alloc, checked, Groups::new(alloc))?))
+}
+
+/// How what it comes to differs from the groups.
+fn extended_differs(
     alloc: Global,
     checked: &Checked,
     chunks: &[Chunk],
     wanted: &Groups,
     limit: u32,
-) -> Result<bool, NoMemory>
+) -> Result<Option<String>, NoMemory>
     requires fit { All (FitsChunk (checked_plan checked.now).fields) chunks.now }
 {
-    if chunks.is_empty() || chunks.len() > 64 {
-        return Ok(false);
+    match extended(alloc, checked, chunks, limit)? {
+        Some(applied) => given_differs(alloc, &applied, wanted),
+        None => no_run(alloc),
     }
-    let run = of_chunks(alloc, checked, chunks, limit)?;
-    let applied = run.apply(alloc, checked, Groups::new(alloc))?;
-    Ok(is_wanted(&applied, wanted))
 }
 
 /// What the runs of the chunks, joined in this order, come to on no groups. There is none where
@@ -174,40 +189,41 @@ fn applied_in(
     Ok(Some(run.apply(alloc, checked, Groups::new(alloc))?))
 }
 
-/// Whether the runs of the chunks, joined in this order, give the groups.
-fn order_holds(
+/// How what the runs of the chunks, joined in this order, give differs from the groups.
+fn order_differs(
     alloc: Global,
     checked: &Checked,
     chunks: &[Chunk],
     order: Order,
     wanted: &Groups,
     limit: u32,
-) -> Result<bool, NoMemory>
+) -> Result<Option<String>, NoMemory>
     requires fit { All (FitsChunk (checked_plan checked.now).fields) chunks.now }
 {
     match applied_in(alloc, checked, chunks, order, limit)? {
-        Some(applied) => Ok(is_wanted(&applied, wanted)),
-        None => Ok(false),
+        Some(applied) => given_differs(alloc, &applied, wanted),
+        None => no_run(alloc),
     }
 }
 
-fn orders_hold(
+/// The first order that gives something else, and what.
+fn orders_differ(
     alloc: Global,
     checked: &Checked,
     chunks: &[Chunk],
     wanted: &Groups,
     limit: u32,
     keeping: Keeping,
-) -> Result<bool, NoMemory>
+) -> Result<Option<String>, NoMemory>
     requires fit { All (FitsChunk (checked_plan checked.now).fields) chunks.now }
 {
     'orders: for number in 0..trees_over(chunks.len()).max(1) {
         let order = Order { number, keeping };
-        if !order_holds(alloc, checked, chunks, order, wanted, limit)? {
-            return Ok(false);
+        if let Some(told) = order_differs(alloc, checked, chunks, order, wanted, limit)? {
+            return Ok(Some(format!(in alloc; "in order {number}: {told}")?));
         }
     }
-    Ok(true)
+    Ok(None)
 }
 
 /// A script and a log, cut into chunks of so many rows.
@@ -225,24 +241,24 @@ impl Case for Orders {
         self.script
     }
 
-    fn holds(&self, alloc: Global, checked: &Checked) -> Result<bool, NoMemory> {
+    fn differs(&self, alloc: Global, checked: &Checked) -> Result<Option<String>, NoMemory> {
         let wanted = passed(alloc, checked, self.log)?;
-        let chunks = chunks_of(alloc, checked, self.log, self.rows)?;
-        orders_hold(alloc, checked, &chunks, &wanted, self.limit, self.keeping)
+        let chunks = chunks_of(alloc, checked, self.log, self.rows, 64)?;
+        orders_differ(alloc, checked, &chunks, &wanted, self.limit, self.keeping)
     }
 }
 
 #[test]
 fn each_order_of_eight_chunks_gives_the_groups_of_the_pass(rt: HostRuntime) -> Result<(), Fail> {
     let sums = Orders {
-        script: SUMS,
+        script: SMALL_SUMS,
         log: CHANGES,
         rows: 3,
         limit: 1,
         keeping: NOTHING,
     };
     let sessions = Orders {
-        script: SESSIONS,
+        script: SHORT_SESSIONS,
         log: VISITS,
         rows: 2,
         limit: 2,
@@ -265,7 +281,7 @@ fn each_order_of_eight_chunks_gives_the_groups_of_the_pass(rt: HostRuntime) -> R
         },
         toggles,
     ];
-    check_cases(&rt, rt.alloc(), &cases)
+    check_cases(rt.alloc(), &cases)
 }
 
 #[test]
@@ -273,14 +289,14 @@ fn each_order_of_runs_that_keep_records_gives_the_groups_of_the_pass(
     rt: HostRuntime,
 ) -> Result<(), Fail> {
     let kept = Orders {
-        script: SUMS,
+        script: SMALL_SUMS,
         log: CHANGES,
         rows: 5,
         limit: 1,
         keeping: Keeping { most: 1, other: 1 },
     };
     let sessions = Orders {
-        script: SESSIONS,
+        script: SHORT_SESSIONS,
         log: VISITS,
         rows: 4,
         limit: 16,
@@ -317,7 +333,7 @@ fn each_order_of_runs_that_keep_records_gives_the_groups_of_the_pass(
             ..sessions
         },
     ];
-    check_cases(&rt, rt.alloc(), &cases)
+    check_cases(rt.alloc(), &cases)
 }
 
 #[test]
@@ -339,7 +355,7 @@ fn records_that_lack_different_words_are_kept_beside_each_other(
             ..deeds
         },
     ];
-    check_cases(&rt, rt.alloc(), &cases)
+    check_cases(rt.alloc(), &cases)
 }
 
 /// A script and a log, cut into chunks of several sizes, with several limits.
@@ -349,19 +365,42 @@ struct Sizes {
     log: &'static str,
 }
 
+const LIMITS: [u32; 4] = [1, 2, 16, 256];
+
+const ROWS: [u32; 5] = [1, 2, 3, 7, 1_024];
+
+/// How what runs of the chunks give under this limit differs from the groups.
+fn limit_differs(
+    alloc: Global,
+    checked: &Checked,
+    chunks: &[Chunk],
+    wanted: &Groups,
+    limit: u32,
+) -> Result<Option<String>, NoMemory>
+    requires fit { All (FitsChunk (checked_plan checked.now).fields) chunks.now }
+{
+    let told = order_differs(alloc, checked, chunks, FIRST, wanted, limit)?;
+    if told.is_some() {
+        return Ok(told);
+    }
+    extended_differs(alloc, checked, chunks, wanted, limit)
+}
+
 impl Sizes {
-    fn limits_hold(&self, alloc: Global, checked: &Checked, rows: u32) -> Result<bool, NoMemory> {
+    fn rows_differ(
+        &self,
+        alloc: Global,
+        checked: &Checked,
+        rows: u32,
+    ) -> Result<Option<String>, NoMemory> {
         let wanted = passed(alloc, checked, self.log)?;
-        let chunks = chunks_of(alloc, checked, self.log, rows)?;
-        'limits: for limit in [1, 2, 16, 256] {
-            if !order_holds(alloc, checked, &chunks, FIRST, &wanted, limit)? {
-                return Ok(false);
-            }
-            if !extended_holds(alloc, checked, &chunks, &wanted, limit)? {
-                return Ok(false);
+        let chunks = chunks_of(alloc, checked, self.log, rows, 64)?;
+        'limits: for limit in LIMITS {
+            if let Some(told) = limit_differs(alloc, checked, &chunks, &wanted, limit)? {
+                return Ok(Some(format!(in alloc; "{rows} rows, limit {limit}: {told}")?));
             }
         }
-        Ok(true)
+        Ok(None)
     }
 }
 
@@ -370,13 +409,14 @@ impl Case for Sizes {
         self.script
     }
 
-    fn holds(&self, alloc: Global, checked: &Checked) -> Result<bool, NoMemory> {
-        'sizes: for rows in [1, 2, 3, 7, 1_024] {
-            if !self.limits_hold(alloc, checked, rows)? {
-                return Ok(false);
+    fn differs(&self, alloc: Global, checked: &Checked) -> Result<Option<String>, NoMemory> {
+        'sizes: for rows in ROWS {
+            let told = self.rows_differ(alloc, checked, rows)?;
+            if told.is_some() {
+                return Ok(told);
             }
         }
-        Ok(true)
+        Ok(None)
     }
 }
 
@@ -384,11 +424,11 @@ impl Case for Sizes {
 fn chunks_and_limits_of_all_sizes_give_the_groups_of_the_pass(rt: HostRuntime) -> Result<(), Fail> {
     let cases = [
         Sizes {
-            script: SUMS,
+            script: SMALL_SUMS,
             log: CHANGES,
         },
         Sizes {
-            script: SESSIONS,
+            script: SHORT_SESSIONS,
             log: VISITS,
         },
         Sizes {
@@ -396,7 +436,7 @@ fn chunks_and_limits_of_all_sizes_give_the_groups_of_the_pass(rt: HostRuntime) -
             log: NUMBERS,
         },
     ];
-    check_cases(&rt, rt.alloc(), &cases)
+    check_cases(rt.alloc(), &cases)
 }
 
 /// A log with rows that are no records.
@@ -408,29 +448,25 @@ struct BadRows {
     first: u64,
 }
 
-fn is_bad(applied: &Applied, first: u64) -> bool {
+/// The number of the bad row that a run found.
+fn bad_row(applied: &Option<Applied>) -> Option<u64> {
     match applied {
-        Applied::Bad(bad) => bad.no == first,
-        Applied::Done(_) => false,
+        Some(Applied::Bad(bad)) => Some(bad.no),
+        Some(Applied::Done(_)) | None => None,
     }
 }
 
 impl Case for BadRows {
     fn script(&self) -> &str {
-        SUMS
+        SMALL_SUMS
     }
 
-    fn holds(&self, alloc: Global, checked: &Checked) -> Result<bool, NoMemory> {
-        let chunks = chunks_of(alloc, checked, self.log, self.rows)?;
-        if chunks.is_empty() || chunks.len() > 64 {
-            return Ok(false);
-        }
-        let run = of_chunks(alloc, checked, &chunks, 16)?;
-        let extended = run.apply(alloc, checked, Groups::new(alloc))?;
-        match applied_in(alloc, checked, &chunks, FIRST, 16)? {
-            Some(applied) => Ok(is_bad(&applied, self.first) && is_bad(&extended, self.first)),
-            None => Ok(false),
-        }
+    fn differs(&self, alloc: Global, checked: &Checked) -> Result<Option<String>, NoMemory> {
+        let chunks = chunks_of(alloc, checked, self.log, self.rows, 64)?;
+        let joined = bad_row(&applied_in(alloc, checked, &chunks, FIRST, 16)?);
+        let extended = bad_row(&extended(alloc, checked, &chunks, 16)?);
+        let first = Some(self.first);
+        difference(alloc, &(joined, extended), &(first, first))
     }
 }
 
@@ -454,5 +490,5 @@ fn the_first_bad_row_is_found(rt: HostRuntime) -> Result<(), Fail> {
             first: 5,
         },
     ];
-    check_cases(&rt, rt.alloc(), &cases)
+    check_cases(rt.alloc(), &cases)
 }

@@ -1,102 +1,18 @@
-//! Scripts, and the chunks, a run and the groups of a log, for these tests.
+//! The run of a chunk, and how what a run gives differs from what is wanted.
 ghost use Rattle.std.specs.Prelude.{◌≡◌, ◌<◌, ◌+◌, List, None, Some, IfOk, slice_get};
-ghost use Rattle.std.specs.List.{All};
 ghost use Rattle.sym_check.specs.Checking.CheckedScripts.{checked_plan};
-ghost use Rattle.sym_table.specs.Rows.{FitsChunk, FitsHeader};
+ghost use Rattle.sym_table.specs.Rows.{FitsChunk};
 ghost use Rattle.sym_table.specs.declared.chunk.Chunk.{Chunk as OneChunk};
 ghost use Rattle.sym_run.specs.Runs.{AreTight, GroupsFit, IsFromTo, StandsForChunks};
 
 use std::alloc::Global;
-use std::process::Abort;
 use std::slice;
-use std::test::Fail;
-use sym_base::{Fields, NoMemory, Record};
+use sym_base::NoMemory;
 use sym_check::Checked;
-use sym_given::accepted;
-use sym_plain::{Groups, fold_into};
-use sym_run::{Run, Stretch};
-use sym_table::{Chunk, Cutter, Row, RowCursor, decode_into};
-
-/// The most rows of a log in these tests.
-const ROWS: usize = 400;
-
-/// A test under a script and a log.
-pub(crate) trait Case {
-    fn script(&self) -> &str;
-
-    fn holds(&self, alloc: Global, checked: &Checked) -> Result<bool, NoMemory>;
-}
-
-fn case_holds<C: Case>(alloc: Global, case: &C) -> Result<bool, NoMemory> {
-    match accepted(alloc, case.script()) {
-        Some(checked) => case.holds(alloc, &checked),
-        None => Ok(false),
-    }
-}
-
-/// Fails the test at the first case that doesn't hold.
-pub(crate) fn check_cases<C: Case>(
-    rt: &impl Abort,
-    alloc: Global,
-    cases: &[C],
-) -> Result<(), Fail> {
-    'cases: for (place, case) in cases.iter().enumerate() {
-        if !case_holds(alloc, case)? {
-            panic!(rt; "case {place}");
-        }
-    }
-    Ok(())
-}
-
-/// The next chunk, if there is one, goes last.
-fn push_chunk(
-    alloc: Global,
-    checked: &Checked,
-    cutter: &mut Cutter<'_>,
-    chunks: &mut Vec<Chunk>,
-) -> Result<(), NoMemory>
-    requires header { FitsHeader (checked_plan checked.now).fields cutter.old.header }
-    requires fit { All (FitsChunk (checked_plan checked.now).fields) chunks.old.items }
-    ensures header { FitsHeader (checked_plan checked.now).fields cutter.new.header }
-    ensures fit { All (FitsChunk (checked_plan checked.now).fields) chunks.new.items }
-{
-    if let Some(chunk) = cutter.next(alloc)? {
-        chunks.push(chunk)?;
-    }
-    Ok(())
-}
-
-fn chunks_by(alloc: Global, checked: &Checked, cutter: Cutter<'_>) -> Result<Vec<Chunk>, NoMemory>
-    requires { FitsHeader (checked_plan checked.now).fields cutter.header }
-    ensures { IfOk result (λ chunks.
-        All (FitsChunk (checked_plan checked.now).fields) chunks.items) }
-{
-    let mut cutter = cutter;
-    let mut chunks = Vec::new(alloc);
-    'chunks: for _place in 0..64 {
-        push_chunk(alloc, checked, &mut cutter, &mut chunks)?;
-    }
-    Ok(chunks)
-}
-
-/// The first 64 chunks of a log, of so many rows; none where the log has no header of the script.
-pub(crate) fn chunks_of(
-    alloc: Global,
-    checked: &Checked,
-    log: &str,
-    rows: u32,
-) -> Result<Vec<Chunk>, NoMemory>
-    ensures { IfOk result (λ chunks.
-        All (FitsChunk (checked_plan checked.now).fields) chunks.items) }
-{
-    if log.len() >= 100_000 || rows < 1 || rows > 1_024 {
-        return Ok(Vec::new(alloc));
-    }
-    match Cutter::open(alloc, checked, log.as_bytes(), 1, rows) {
-        Ok(cutter) => chunks_by(alloc, checked, cutter),
-        Err(_) => Ok(Vec::new(alloc)),
-    }
-}
+use sym_given::{difference, groups_differ};
+use sym_plain::Groups;
+use sym_run::{Applied, Run, Stretch};
+use sym_table::{Chunk, RowCursor};
 
 /// The run of the chunk with this number, of which up to `most` records of a key are kept before
 /// they are explored.
@@ -123,75 +39,35 @@ pub(crate) fn stretched(
     stretch.finish(alloc, checked, limit)
 }
 
-/// Folds the record of the next row; false where there is none.
-fn fold_row(
+/// What is said of the chunks of a log that has to have one.
+pub(crate) fn not_one(alloc: Global, chunks: &[Chunk]) -> Result<Option<String>, NoMemory> {
+    let count = chunks.len();
+    Ok(Some(format!(in alloc; "found {count} chunks, wanted 1")?))
+}
+
+/// How what a run gives differs from the groups that are wanted.
+pub(crate) fn given_differs(
     alloc: Global,
-    checked: &Checked,
-    cutter: &mut Cutter<'_>,
-    no: u64,
-    rec: &mut Record,
-    groups: &mut Groups,
-) -> Result<bool, NoMemory>
-    requires header { FitsHeader (checked_plan checked.now).fields cutter.old.header }
-    ensures header { FitsHeader (checked_plan checked.now).fields cutter.new.header }
-{
-    let mut row = Row::new(alloc);
-    if !cutter.next_row(&mut row)? {
-        return Ok(false);
-    }
-    if decode_into(alloc, checked, cutter.header(), &row.view(), no, rec)?.is_some() {
-        return Ok(false);
-    }
-    fold_into(alloc, checked, groups, rec)?;
-    Ok(true)
-}
-
-fn passed_by(alloc: Global, checked: &Checked, cutter: Cutter<'_>) -> Result<Groups, NoMemory>
-    requires { FitsHeader (checked_plan checked.now).fields cutter.header }
-{
-    let mut cutter = cutter;
-    let mut groups = Groups::new(alloc);
-    let mut rec = Record {
-        no: 0,
-        fields: Fields::new(alloc),
-    };
-    'rows: for place in 0..ROWS {
-        let no = place as u64 + 1;
-        if !fold_row(alloc, checked, &mut cutter, no, &mut rec, &mut groups)? {
-            break;
-        }
-    }
-    Ok(groups)
-}
-
-/// The groups of the sequential pass over the records of a log, up to the first row that is none.
-pub(crate) fn passed(alloc: Global, checked: &Checked, log: &str) -> Result<Groups, NoMemory> {
-    if log.len() >= 100_000 {
-        return Ok(Groups::new(alloc));
-    }
-    match Cutter::open(alloc, checked, log.as_bytes(), 1, 1) {
-        Ok(cutter) => passed_by(alloc, checked, cutter),
-        Err(_) => Ok(Groups::new(alloc)),
+    given: &Applied,
+    wanted: &Groups,
+) -> Result<Option<String>, NoMemory> {
+    match given {
+        Applied::Done(groups) => groups_differ(alloc, groups, wanted),
+        Applied::Bad(bad) => Ok(Some(format!(in alloc; "found {bad:?}, wanted groups")?)),
     }
 }
 
-/// Whether the groups at this place are the same.
-pub(crate) fn same_group(left: &Groups, right: &Groups, index: usize) -> bool {
-    match (left.at(index), right.at(index)) {
-        (Some((key, outcome)), Some((other, stands))) => key == other && outcome == stands,
-        _ => false,
+/// How what a run gives differs from what another gives.
+pub(crate) fn applied_differs(
+    alloc: Global,
+    given: &Applied,
+    other: &Applied,
+) -> Result<Option<String>, NoMemory> {
+    match other {
+        Applied::Done(groups) => given_differs(alloc, given, groups),
+        Applied::Bad(wanted) => match given {
+            Applied::Bad(bad) => difference(alloc, bad, wanted),
+            Applied::Done(_) => Ok(Some(format!(in alloc; "found groups, wanted {wanted:?}")?)),
+        },
     }
-}
-
-/// Whether the groups are the same, in the same order.
-pub(crate) fn same_groups(left: &Groups, right: &Groups) -> bool {
-    if left.len() != right.len() {
-        return false;
-    }
-    'groups: for index in 0..left.len() {
-        if !same_group(left, right, index) {
-            return false;
-        }
-    }
-    true
 }

@@ -7,23 +7,21 @@ ghost use Rattle.sym_run.specs.Applying.{AreValid};
 ghost use Rattle.sym_run.specs.Runs.{GroupsFit};
 ghost use Rattle.sym_table.specs.Rows.{FitsChunk};
 
-use crate::logs::{BALANCES, BY_NUMBER, DEALS, HELD, MANY, MODES, NAMED, QUOTIENTS, STREAKS, SUMS};
-use crate::setting::{chunks_of, passed};
-use crate::texts::difference;
+use crate::logs::{BALANCES, BY_NUMBER, DEALS, HELD, MANY, MODES, NAMED, QUOTIENTS, STREAKS};
 use std::alloc::Global;
-use std::process::Abort;
 use std::slice;
 use std::test::Fail;
 use sym_base::{Fields, NoMemory, Outcome, Record};
 use sym_check::Checked;
-use sym_given::accepted;
+use sym_given::scripts::SMALL_SUMS;
+use sym_given::{Case, check_cases, chunks_of, groups_differ, passed, told_by};
 use sym_plain::{Groups, fold_into};
 use sym_run::{Applied, Run, Stretch};
 use sym_table::{Chunk, Row, RowCursor, decode_into};
 
 /// A script, and how many groups there are after the log, and how many of these have ended.
 #[derive(Clone, Copy)]
-struct Case(&'static str, usize, usize);
+struct Deals(&'static str, usize, usize);
 
 /// How a log is cut into stretches, and how these are made.
 #[derive(Clone, Copy, Debug)]
@@ -169,7 +167,7 @@ fn led_over(
             Some(next) => groups = next,
             None => return Ok(Err(String::from_str(alloc, "found a bad row, wanted none")?)),
         }
-        if let Some(said) = difference(alloc, &groups, folded)? {
+        if let Some(said) = groups_differ(alloc, &groups, folded)? {
             return Ok(Err(format!(in alloc; "after {end} chunks: {said}")?));
         }
         first = end;
@@ -184,7 +182,7 @@ fn wrong_way(
     log: &str,
     way: Way,
 ) -> Result<Option<String>, NoMemory> {
-    let chunks = chunks_of(alloc, checked, log, way.rows)?;
+    let chunks = chunks_of(alloc, checked, log, way.rows, 64)?;
     if chunks.len() != 64 {
         let count = chunks.len();
         return Ok(Some(format!(in alloc; "found {count} chunks, wanted 64")?));
@@ -217,9 +215,9 @@ fn wrong_pass(
     alloc: Global,
     checked: &Checked,
     log: &str,
-    case: &Case,
+    case: &Deals,
 ) -> Result<Option<String>, NoMemory> {
-    let Case(_script, groups, faulty) = case;
+    let Deals(_script, groups, faulty) = case;
     let passed = passed(alloc, checked, log)?;
     let (found, over) = (passed.len(), ended(&passed));
     if found == *groups && over == *faulty {
@@ -247,63 +245,56 @@ fn wrong_cut(
                 most,
                 limit,
             };
-            if let Some(said) = wrong_way(alloc, checked, log, way)? {
-                return Ok(Some(format!(in alloc; "{way:?}, {said}")?));
+            let said = wrong_way(alloc, checked, log, way)?;
+            if said.is_some() {
+                return told_by(alloc, &way, said);
             }
         }
     }
     Ok(None)
 }
 
-/// What is wrong with a case: what was found, and what was wanted.
-fn wrong(alloc: Global, case: &Case) -> Result<Option<String>, NoMemory> {
-    let Some(checked) = accepted(alloc, case.0) else {
-        return Ok(Some(String::from_str(alloc, "the script is refused")?));
-    };
-    let log = log_of(alloc)?;
-    let said = wrong_pass(alloc, &checked, log.as_str(), case)?;
-    if said.is_some() {
-        return Ok(said);
+impl Case for Deals {
+    fn script(&self) -> &str {
+        self.0
     }
-    'ways: for (rows, chunks) in CUTS {
-        if let Some(said) = wrong_cut(alloc, &checked, log.as_str(), rows, chunks)? {
-            return Ok(Some(said));
-        }
-    }
-    Ok(None)
-}
 
-/// Fails the test at the first case that comes to something else than is wanted.
-fn check_all(rt: &impl Abort, alloc: Global, cases: &[Case]) -> Result<(), Fail> {
-    'cases: for (place, case) in cases.iter().enumerate() {
-        if let Some(said) = wrong(alloc, case)? {
-            panic!(rt; "case {place}: {said}");
+    fn differs(&self, alloc: Global, checked: &Checked) -> Result<Option<String>, NoMemory> {
+        let log = log_of(alloc)?;
+        let said = wrong_pass(alloc, checked, log.as_str(), self)?;
+        if said.is_some() {
+            return Ok(said);
         }
+        'ways: for (rows, chunks) in CUTS {
+            let said = wrong_cut(alloc, checked, log.as_str(), rows, chunks)?;
+            if said.is_some() {
+                return Ok(said);
+            }
+        }
+        Ok(None)
     }
-    Ok(())
 }
 
 #[test]
 fn lists_and_labels_are_those_of_folding(rt: HostRuntime) -> Result<(), Fail> {
-    let cases = [Case(STREAKS, 3, 0), Case(NAMED, 3, 0), Case(MODES, 1, 0)];
-    check_all(&rt, rt.alloc(), &cases)
+    let cases = [Deals(STREAKS, 3, 0), Deals(NAMED, 3, 0), Deals(MODES, 1, 0)];
+    check_cases(rt.alloc(), &cases)
 }
 
 #[test]
 fn clamped_numbers_and_holds_are_those_of_folding(rt: HostRuntime) -> Result<(), Fail> {
-    check_all(&rt, rt.alloc(), &[Case(BALANCES, 3, 0), Case(HELD, 3, 0)])
+    check_cases(rt.alloc(), &[Deals(BALANCES, 3, 0), Deals(HELD, 3, 0)])
 }
 
 #[test]
 fn groups_that_end_in_a_stretch_are_those_of_folding(rt: HostRuntime) -> Result<(), Fail> {
-    check_all(&rt, rt.alloc(), &[Case(SUMS, 3, 3), Case(QUOTIENTS, 3, 2)])
+    check_cases(
+        rt.alloc(),
+        &[Deals(SMALL_SUMS, 3, 3), Deals(QUOTIENTS, 3, 2)],
+    )
 }
 
 #[test]
 fn several_groups_are_those_of_folding(rt: HostRuntime) -> Result<(), Fail> {
-    check_all(
-        &rt,
-        rt.alloc(),
-        &[Case(BY_NUMBER, 10, 1), Case(MANY, 40, 3)],
-    )
+    check_cases(rt.alloc(), &[Deals(BY_NUMBER, 10, 1), Deals(MANY, 40, 3)])
 }

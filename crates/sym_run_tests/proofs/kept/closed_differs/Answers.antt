@@ -2,7 +2,7 @@ use Rattle.std.proofs.Common.{◌≡◌, ◌∙◌, false, Option, None, Some, i
 use Rattle.sym_check.specs.Checking.CheckedScripts.{checked_plan}
 use Rattle.sym_table.specs.declared.bad.Bad.{Bad}
 use Rattle.sym_run.specs.Runs.{AreTight, GroupsFit}
-use Rattle.sym_run_tests.proofs.kept.gives_closed.Goals as goal
+use Rattle.sym_run_tests.proofs.kept.closed_differs.Goals as goal
 
 no_bad : (bad : Option Bad) → is_some bad ≡ false → bad ≡ None
 no_bad None e = refl
