@@ -2,9 +2,9 @@
 use crate::given::{After, Given, GivenReport, GivenRow, heads_of, row_of};
 use crate::marks::Marks;
 use std::alloc::Global;
-use std::process::Abort;
 use std::test::Fail;
 use sym_base::{NoMemory, ReportFault};
+use sym_given::{all_hold, bytes_differ, told_by};
 use sym_report::{CsvForm, Heads, PairsForm, ReportForm, TableForm, choose, report_bytes};
 
 /// A report, and its text in each form.
@@ -237,29 +237,23 @@ fn report_in(alloc: Global, name: &str, report: GivenReport) -> Result<Vec<u8>, 
     }
 }
 
-fn check_report(
-    rt: &impl Abort,
-    alloc: Global,
-    name: &str,
-    report: GivenReport,
-    text: &str,
-) -> Result<(), Fail> {
+fn check_report(alloc: Global, name: &str, report: GivenReport, text: &str) -> Result<(), Fail> {
     let bytes = report_in(alloc, name, report)?;
-    assert_eq!(rt; bytes.as_slice(), text.as_bytes(), "{name}: {text}");
-    Ok(())
+    let told = bytes_differ(alloc, bytes.as_slice(), text.as_bytes())?;
+    all_hold(told_by(alloc, &name, told))
 }
 
-fn check_shown(rt: &impl Abort, alloc: Global, shown: Shown) -> Result<(), Fail> {
-    check_report(rt, alloc, "table", shown.report, shown.table)?;
-    check_report(rt, alloc, "csv", shown.report, shown.csv)?;
-    check_report(rt, alloc, "pairs", shown.report, shown.pairs)?;
-    check_report(rt, alloc, "marks", shown.report, shown.marks)
+fn check_shown(alloc: Global, shown: Shown) -> Result<(), Fail> {
+    check_report(alloc, "table", shown.report, shown.table)?;
+    check_report(alloc, "csv", shown.report, shown.csv)?;
+    check_report(alloc, "pairs", shown.report, shown.pairs)?;
+    check_report(alloc, "marks", shown.report, shown.marks)
 }
 
 #[test]
 fn reports_have_their_bytes_in_each_form(rt: HostRuntime) -> Result<(), Fail> {
     'reports: for shown in &REPORTS {
-        check_shown(&rt, rt.alloc(), *shown)?;
+        check_shown(rt.alloc(), *shown)?;
     }
     Ok(())
 }
@@ -267,7 +261,7 @@ fn reports_have_their_bytes_in_each_form(rt: HostRuntime) -> Result<(), Fail> {
 #[test]
 fn no_form_has_another_name(rt: HostRuntime) -> Result<(), Fail> {
     'names: for name in ["", "cs", "csv ", "CSV", "html"] {
-        check_report(&rt, rt.alloc(), name, REPORTS[1].report, "")?;
+        check_report(rt.alloc(), name, REPORTS[1].report, "")?;
     }
     Ok(())
 }
@@ -287,6 +281,6 @@ fn after_two(alloc: Global) -> Result<Marks, NoMemory> {
 
 #[test]
 fn a_row_without_memory_leaves_the_bytes(rt: HostRuntime) -> Result<(), Fail> {
-    assert!(rt; after_two(rt.alloc())?.bytes() == b"<.".as_slice());
-    Ok(())
+    let marks = after_two(rt.alloc())?;
+    all_hold(bytes_differ(rt.alloc(), marks.bytes(), b"<."))
 }

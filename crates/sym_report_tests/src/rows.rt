@@ -1,9 +1,9 @@
 //! Rows: which belong under which names, and copies.
 use crate::given::{After, Given, GivenReport, GivenRow, heads_of, row_of};
 use std::alloc::Global;
-use std::process::Abort;
 use std::test::Fail;
 use sym_base::{NoMemory, ReportFault};
+use sym_given::{all_hold, difference, found_unless, told_at};
 
 const NAMES: GivenReport = GivenReport {
     keys: &["user"],
@@ -73,17 +73,23 @@ fn names_are_copied(alloc: Global) -> Result<bool, NoMemory> {
     Ok(heads.copy(alloc)? == heads)
 }
 
-fn check_row(rt: &impl Abort, alloc: Global, given: GivenRow, under: bool) -> Result<(), Fail> {
-    assert!(rt; belongs(alloc, given)? == under);
-    assert!(rt; is_copied(alloc, given)?);
-    Ok(())
+fn row_differs(alloc: Global, given: GivenRow, under: bool) -> Result<Option<String>, NoMemory> {
+    match difference(alloc, &belongs(alloc, given)?, &under)? {
+        Some(told) => Ok(Some(told)),
+        None => found_unless(
+            alloc,
+            is_copied(alloc, given)?,
+            "found another row, wanted a copy",
+        ),
+    }
 }
 
 #[test]
 fn rows_belong_under_names_and_are_copied(rt: HostRuntime) -> Result<(), Fail> {
-    'rows: for (row, under) in &ROWS {
-        check_row(&rt, rt.alloc(), *row, *under)?;
+    'rows: for (place, (row, under)) in ROWS.iter().enumerate() {
+        let told = row_differs(rt.alloc(), *row, *under)?;
+        all_hold(told_at(rt.alloc(), place, told))?;
     }
-    assert!(&rt; names_are_copied(rt.alloc())?);
-    Ok(())
+    let same = names_are_copied(rt.alloc())?;
+    all_hold(found_unless(rt.alloc(), same, "found other names, wanted a copy"))
 }
