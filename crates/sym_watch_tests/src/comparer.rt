@@ -35,8 +35,8 @@ impl Noted {
         )
     }
 
-    // One more, which is right or isn't.
-    fn note(&self, is_right: bool) {
+    /// One more, which is right or isn't.
+    pub(crate) fn note(&self, is_right: bool) {
         let _told = self.told.fetch_add(1, Ordering::SeqCst);
         if is_right {
             let _right = self.right.fetch_add(1, Ordering::SeqCst);
@@ -65,8 +65,8 @@ pub(crate) fn comparer_of(case: usize, noted: &Arc<Noted>) -> Result<Comparer, A
     })
 }
 
-// The rows in the form `table`, without names and end.
-fn text_of(alloc: Global, rows: &[Row]) -> Result<Vec<u8>, NoMemory> {
+/// The rows in the form `table`, without names and end.
+pub(crate) fn text_of(alloc: Global, rows: &[Row]) -> Result<Vec<u8>, NoMemory> {
     let heads = Heads {
         keys: Texts::new(alloc),
         columns: Texts::new(alloc),

@@ -2,12 +2,14 @@
 //! over the records up to its border.
 use crate::calls::{Ended, call};
 use crate::comparer::{Noted, Told, comparer_of};
+use crate::logged::{logged, observers_of};
 use std::alloc::Global;
 use std::sync::{Arc, Wait};
 use std::test::Fail;
 use std::thread::Threads;
-use sym_base::{MemStore, NoMemory};
-use sym_engine::{Free, OpenGate};
+use sym_base::{FILE_MAX_DEFAULT, MemStore, NoMemory};
+use sym_engine::{Free, LIMIT_DEFAULT, OpenGate, Options};
+use sym_given::accepted;
 use sym_top::Status;
 use sym_watch::Observer;
 
@@ -234,6 +236,85 @@ fn partials_are_reports_on_the_records_before(rt: HostRuntime) -> Result<(), Fai
             let is_so = reports(&rt, rt.alloc(), case, told)?;
             assert!(rt; is_so, "at {}, {}", told.0, case.script);
         }
+    }
+    Ok(())
+}
+
+/// What a watched pass comes to: how many groups there are, how many partials the observer was told
+/// of whose log contracts don't see, how many of them were those that are wanted, and the last border
+/// of each observer.
+#[derive(Clone, Copy, Debug, PartialEq, Eq)]
+struct Passed {
+    groups: Option<usize>,
+    told: (u64, u64),
+    last: (Option<u64>, Option<u64>),
+}
+
+const OPTIONS: Options = Options {
+    chunk: 1,
+    limit: LIMIT_DEFAULT,
+    workers: 4,
+    max_bytes: FILE_MAX_DEFAULT,
+};
+
+// The groups of the rows of a partial.
+fn groups_of(told: &Told) -> usize {
+    told.1
+        .as_bytes()
+        .iter()
+        .filter(|byte| **byte == b'\n')
+        .count()
+}
+
+// What the pass over the records of the case with this number comes to, up to its last border.
+fn passed_of<T: Threads + Wait + Sync>(
+    rt: &T,
+    alloc: Global,
+    number: usize,
+    case: &Case,
+    wanted: &Told,
+) -> Result<Option<Passed>, NoMemory> {
+    let Some(checked) = accepted(alloc, case.script) else {
+        return Ok(None);
+    };
+    let mut files = MemStore::new(alloc);
+    files.add(alloc, "f", log_of(alloc, case, wanted.0)?.as_bytes())?;
+    let name = String::from_str(alloc, "f")?;
+    let names = [name];
+    let noted = Arc::new(alloc, Noted::new())?;
+    let mut observers = observers_of(alloc, comparer_of(number, &noted)?)?;
+    let groups = logged(
+        rt,
+        alloc,
+        &checked,
+        &mut files,
+        &names,
+        &OPTIONS,
+        &mut observers,
+    );
+    let last = match observers.as_slice() {
+        [logger, other] => (logger.last(), other.last()),
+        _ => (None, None),
+    };
+    Ok(Some(Passed {
+        groups: groups.ok().map(|groups| groups.len()),
+        told: noted.seen(),
+        last,
+    }))
+}
+
+#[test]
+fn logs_that_contracts_see_are_of_these_partials(rt: HostRuntime) -> Result<(), Fail> {
+    'cases: for (number, case) in CASES.iter().enumerate() {
+        let last = case.told.last().ok_or("a partial")?;
+        let count = case.told.len() as u64;
+        let wanted = Passed {
+            groups: Some(groups_of(last)),
+            told: (count, count),
+            last: (Some(last.0), Some(last.0)),
+        };
+        let passed = passed_of(&rt, rt.alloc(), number, case, last)?;
+        assert_eq!(rt; passed, Some(wanted), "{}", case.script);
     }
     Ok(())
 }

@@ -3,15 +3,23 @@
 #![tactic(auto)]
 
 #[cfg(test)]
+mod awaiter;
+#[cfg(test)]
 mod calls;
 #[cfg(test)]
 mod comparer;
 #[cfg(test)]
 mod courses;
 #[cfg(test)]
+mod drawn;
+#[cfg(test)]
 mod given;
 #[cfg(test)]
 mod groups;
+#[cfg(test)]
+mod logged;
+#[cfg(test)]
+mod logger;
 #[cfg(test)]
 mod meeting;
 #[cfg(test)]
@@ -20,5 +28,7 @@ mod noter;
 mod passes;
 #[cfg(test)]
 mod runs;
+#[cfg(test)]
+mod shown;
 #[cfg(test)]
 mod threads;
