@@ -76,6 +76,34 @@ pub enum TakenText {
     Gap { group: u64 },
 }
 
+impl Taken {
+    /// An equal answer.
+    pub fn copy(&self, alloc: Global) -> Result<Taken, NoMemory>
+        ensures { IfOk result (λ copy. copy ≡ self.now) }
+    {
+        match self {
+            Taken::Done(totals) => Ok(Taken::Done(totals.copy(alloc)?)),
+            Taken::Gap { group } => Ok(Taken::Gap { group: *group }),
+        }
+    }
+}
+
+impl TakenText {
+    /// An equal answer.
+    pub fn copy(&self, alloc: Global) -> Result<TakenText, NoMemory>
+        ensures { IfOk result (λ copy. copy ≡ self.now) }
+    {
+        match self {
+            TakenText::Done { totals, next } => Ok(TakenText::Done {
+                totals: totals.copy(alloc)?,
+                next: *next,
+            }),
+            TakenText::Apart => Ok(TakenText::Apart),
+            TakenText::Gap { group } => Ok(TakenText::Gap { group: *group }),
+        }
+    }
+}
+
 /// Puts what the first path that admits it makes of a state in its place; whether there is such a
 /// path. A group that has ended stays so.
 fn lead(
@@ -252,6 +280,15 @@ impl Totals {
         ensures { result.now ≡ self.now }
     {
         &self.groups
+    }
+
+    /// Equal totals.
+    pub fn copy(&self, alloc: Global) -> Result<Totals, NoMemory>
+        ensures { IfOk result (λ copy. copy ≡ self.now) }
+    {
+        Ok(Totals {
+            groups: self.groups.copy(alloc)?,
+        })
     }
 
     /// The totals after a saved run: each of its groups is led through its chain, a state by the
