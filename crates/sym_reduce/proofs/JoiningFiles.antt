@@ -102,7 +102,7 @@ module _ (p : ScriptPlan) (limit : ℕ) where
       stands (part ∷ parts) h = absurd h
 
   -- One saved run is the join of itself alone.
-  join_one : (saved joined : Saved) → joined ≡ saved → IsLawfulSaved p saved → IsJoinOf p limit (saved ∷ []) joined
+  pub join_one : (saved joined : Saved) → joined ≡ saved → IsLawfulSaved p saved → IsJoinOf p limit (saved ∷ []) joined
   join_one saved joined is lawful = subst (IsJoinOf p limit (saved ∷ [])) (sym is) (record {
     first = refl;
     next = refl;

@@ -74,11 +74,11 @@ use Rattle.sym_top.proofs.OtherWork.{one_end_by_work}
 use Rattle.sym_top.proofs.ReducedEnds.{program-formed}
 
 -- The visits of each user. There may be one at most.
-abbrev text : List ℕ
+abbrev pub text : List ℕ
 text =
     codes "field user: word;\ngroup user;\nstate n: int [0..1] = 0;\nupdate { n = n + 1; }\nreport { visits = n; }\n"
 
-abbrev tree : ScriptTree
+abbrev pub tree : ScriptTree
 tree = record {
   enums = [];
   fields = record { name = record { text = codes "user"; at = 6 }; header = None; kind = of.Word; default = None } ∷ [];
@@ -89,7 +89,7 @@ tree = record {
   columns = record { name = record { text = codes "visits"; at = 86 }; value = Named (record { text = codes "n"; at = 95 }) } ∷ [];
 }
 
-abbrev visits : Program
+abbrev pub visits : Program
 visits = record {
   tree = tree;
   plan = record {
@@ -104,19 +104,19 @@ visits = record {
 }
 
 -- Three records in two files.
-abbrev first : List ℕ
+abbrev pub first : List ℕ
 first = codes "user\nann\nbob\n"
 
-abbrev second : List ℕ
+abbrev pub second : List ℕ
 second = codes "user\nann\n"
 
-abbrev visit : ℕ → List ℕ → Record
+abbrev pub visit : ℕ → List ℕ → Record
 visit n user = record { no = n; fields = value.Word user ∷ [] }
 
-abbrev records : List Record
+abbrev pub records : List Record
 records = visit 1 (codes "ann") ∷ visit 2 (codes "bob") ∷ visit 3 (codes "ann") ∷ []
 
-abbrev holds : List ℕ → Option (List ℕ)
+abbrev pub holds : List ℕ → Option (List ℕ)
 holds file =
     if bytes_eq file (codes "s") then Some text
     else if bytes_eq file (codes "f") then Some first
@@ -124,15 +124,15 @@ holds file =
     else None
 
 -- `run --chunk 2 --limit 1 --workers 3 s f g`
-abbrev asked : Asked
+abbrev pub asked : Asked
 asked = asks
     (codes "run" ∷ codes "--chunk" ∷ codes "2" ∷ codes "--limit" ∷ codes "1" ∷ codes "--workers" ∷ codes "3" ∷ codes "s" ∷ codes "f" ∷ codes "g" ∷ [])
     (record { name = codes "table"; texts = table_form } ∷ []) (λ row. row)
 
-abbrev call : Call
+abbrev pub call : Call
 call = record { asked = asked; holds = holds; before = λ file. 0; after = λ file. 0 }
 
-abbrev run : Run
+abbrev pub run : Run
 run = record {
   form = codes "table";
   options = record { chunk = 2; limit = 1; workers = 3; max_bytes = 67108864 };
@@ -141,7 +141,7 @@ run = record {
   files = codes "f" ∷ codes "g" ∷ [];
 }
 
-is_asked : command_of asked ≡ Some (Runs run)
+pub is_asked : command_of asked ≡ Some (Runs run)
 unfolding command_in run_of matched run_app run_found run_options options_found files_found number_of clap_on_literals
 is_asked = refl
 
@@ -152,11 +152,11 @@ is_read = refl
 is_planned : plan_of tree ≡ Ok visits.plan
 is_planned = refl
 
-are_read : records_in visits.plan (record { max_bytes = 67108864; shown = λ row. row }) 0 1 (first ∷ second ∷ []) ≡ Ok records
+pub are_read : records_in visits.plan (record { max_bytes = 67108864; shown = λ row. row }) 0 1 (first ∷ second ∷ []) ≡ Ok records
 unfolding csv_on_literals is_utf8 chars encode
 are_read = refl
 
-is_program : IsProgram text visits
+pub is_program : IsProgram text visits
 is_program = record { small = lit≤ tt; script = parsed-found text tree is_read; accepted = planned_accepted tree visits.plan is_planned }
 
 -- The premises of the headline are met.
@@ -188,7 +188,7 @@ it_is_written out err result says = one-pass-by call out err result is_fine says
 
 -- ---- over the first file alone no row is faulty
 
-abbrev first_records : List Record
+abbrev pub first_records : List Record
 first_records = visit 1 (codes "ann") ∷ visit 2 (codes "bob") ∷ []
 
 first_pass_is : pass_text table_form visits first_records ≡ codes "user | visits\nann | 1\nbob | 1\n--\n"
@@ -210,7 +210,7 @@ saved_ends = refl
 
 -- ---- an empty file and a header alone have no records, and those after them are numbered on
 
-abbrev rules : FileRules
+abbrev pub rules : FileRules
 rules = record { max_bytes = 67108864; shown = λ row. row }
 
 abbrev header_alone : List ℕ
@@ -225,22 +225,22 @@ unfolding csv_on_literals is_utf8 chars encode
 others_are_read = refl
 
 -- `run s f`, where the file is empty
-abbrev short_asked : Asked
+abbrev pub short_asked : Asked
 short_asked = asks (codes "run" ∷ codes "s" ∷ codes "f" ∷ []) (record { name = codes "table"; texts = table_form } ∷ []) (λ row. row)
 
-abbrev short_run : Run
+abbrev pub short_run : Run
 short_run = record run { options = record run.options { chunk = 3072; limit = 16; workers = 4 }; files = codes "f" ∷ [] }
 
-is_short : command_of short_asked ≡ Some (Runs short_run)
+pub is_short : command_of short_asked ≡ Some (Runs short_run)
 unfolding command_in run_of matched run_app run_found run_options options_found files_found number_of clap_on_literals
 is_short = refl
 
-nothing_is_read : records_in visits.plan rules 0 1 ([] ∷ []) ≡ Ok []
+pub nothing_is_read : records_in visits.plan rules 0 1 ([] ∷ []) ≡ Ok []
 unfolding csv_on_literals
 nothing_is_read = refl
 
 -- It ends with a report of no groups.
-empty_ends : IsEnd short_asked (record { script = text; files = [] ∷ [] }) (report_of table_form visits [])
+pub empty_ends : IsEnd short_asked (record { script = text; files = [] ∷ [] }) (report_of table_form visits [])
 empty_ends = finished (Runs short_run) visits [] is_short is_program tt ((files_records visits.plan rules 0 1 ([] ∷ []) []).1 nothing_is_read)
 
 empty_pass_is : pass_text table_form visits [] ≡ codes "user | visits\n--\n"
@@ -254,7 +254,7 @@ empty_pass_ends = refl
 abbrev tight_asked : Asked
 tight_asked = asks (codes "run" ∷ codes "--max-bytes" ∷ codes "9" ∷ codes "s" ∷ codes "f" ∷ []) (record { name = codes "table"; texts = table_form } ∷ []) (λ row. row)
 
-abbrev tight_run : Run
+abbrev pub tight_run : Run
 tight_run = record short_run { options = record short_run.options { max_bytes = 9 } }
 
 is_tight : command_of tight_asked ≡ Some (Runs tight_run)
@@ -273,7 +273,7 @@ are_told =
     let P : Option Command → Type 0 = λ o. TellsScript holds (names_of o).script text × (map holds (names_of o).files ≡ map Some (first ∷ [])) in
     subst P (sym is_tight) (refl, refl)
 
-too_many_bytes : records_in visits.plan (record rules { max_bytes = 9 }) 0 1 (first ∷ []) ≡ Err (pass_error.TooLarge 0)
+pub too_many_bytes : records_in visits.plan (record rules { max_bytes = 9 }) 0 1 (first ∷ []) ≡ Err (pass_error.TooLarge 0)
 too_many_bytes = refl
 
 is_too_large : IsTooLarge tight_call one_file (refusal.TooLarge (place.File 0))
@@ -331,37 +331,37 @@ one_end_of_both held end = one_end_by_work asked other held end they_differ
 
 -- ---- `reduce s f`, where the file is that of a saved run of no records
 
-abbrev reduce_asked : Asked
+abbrev pub reduce_asked : Asked
 reduce_asked = asks (codes "reduce" ∷ codes "s" ∷ codes "f" ∷ []) (record { name = codes "table"; texts = table_form } ∷ []) (λ row. row)
 
-abbrev reduce : Reduce
+abbrev pub reduce : Reduce
 reduce = record { form = codes "table"; max_bytes = 67108864; script = codes "s"; files = codes "f" ∷ [] }
 
-is_reduction : command_of reduce_asked ≡ Some (Reduces reduce)
+pub is_reduction : command_of reduce_asked ≡ Some (Reduces reduce)
 unfolding command_in reduce_of matched reduce_app reduce_found files_found number_of clap_on_literals
 is_reduction = refl
 
-abbrev nothing : Saved
+abbrev pub nothing : Saved
 nothing = record { first = 1; next = 1; groups = [] }
 
-abbrev run_file : List ℕ
+abbrev pub run_file : List ℕ
 run_file = saved_text (script_text tree) nothing
 
-run_file_is_small : length run_file ≤ 67108864
+pub run_file_is_small : length run_file ≤ 67108864
 unfolding script_text form.script form.range form.clamp_of head_text body_text digits
 run_file_is_small = lit≤ tt
 
-is_lawful : IsLawfulSaved visits.plan nothing
+pub is_lawful : IsLawfulSaved visits.plan nothing
 unfolding IsDistinct
 is_lawful = record { from = lit≤ tt; order = lit≤ tt; distinct = tt; each = All-nil _ }
 
-is_stored : IsStored nothing
+pub is_stored : IsStored nothing
 is_stored = record { first = lit< tt; next = lit< tt; groups = record { many = lit< tt; each = All-nil _ } }
 
-is_taken : IsTakenFile (script_text tree) visits.plan 1 [] run_file nothing []
+pub is_taken : IsTakenFile (script_text tree) visits.plan 1 [] run_file nothing []
 is_taken = record { file = record { is = record { lawful = is_lawful; text = refl }; stored = is_stored }; follows = refl; led = refl }
 
-abbrev read : Held
+abbrev pub read : Held
 read = record { script = text; files = run_file ∷ [] }
 
 -- It ends with a report of no groups, and with nothing else.
@@ -377,7 +377,7 @@ one_end_alone end is = one_end reduce_asked read end (groups_end table_form visi
 abbrev join_asked : Asked
 join_asked = asks (codes "join" ∷ codes "s" ∷ codes "f" ∷ codes "g" ∷ []) [] (λ row. row)
 
-abbrev join : Join
+abbrev pub join : Join
 join = record { limit = 16; max_bytes = 67108864; script = codes "s"; files = codes "f" ∷ codes "g" ∷ [] }
 
 is_join : command_of join_asked ≡ Some (Joins join)

@@ -6,14 +6,17 @@ mod HeadlineExamples
 pub mod JoinedEnds
 pub mod JoinedTexts
 pub mod JoinsReported
+mod LogExamples
 mod MadeExamples
 pub mod MadeLines
 pub mod MappedTexts
 pub mod Observed
 pub mod OnePass
 pub mod OtherWork
+mod PartExamples
 pub mod PartsReported
 pub mod PassKeys
+mod PremiseExamples
 pub mod Preparing
 pub mod ProgramsFound
 pub mod ReducedEnds
