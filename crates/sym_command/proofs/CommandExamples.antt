@@ -108,6 +108,20 @@ made : command_in (codes "make" ∷ codes "--workers" ∷ codes "2" ∷ codes "5
 unfolding command_in make_of matched make_app make_found options_found number_of clap_on_literals
 made = refl
 
+-- `make 1000000 999999999`: as many records as `make` takes
+most_made : command_in (codes "make" ∷ codes "1000000" ∷ codes "999999999" ∷ []) ≡ Some (Makes (record {
+  options = record { chunk = 3072; limit = 16; workers = 4; max_bytes = 67108864 };
+  records = 1000000;
+  seed = 999999999;
+}))
+unfolding command_in make_of matched make_app make_found options_found number_of clap_on_literals
+most_made = refl
+
+-- `make 1000001 1`
+too_many_made : command_in (codes "make" ∷ codes "1000001" ∷ codes "1" ∷ []) ≡ None
+unfolding command_in make_of matched make_app make_found options_found number_of clap_on_literals
+too_many_made = refl
+
 -- `make 0 1`
 no_records : command_in (codes "make" ∷ codes "0" ∷ codes "1" ∷ []) ≡ None
 unfolding command_in make_of matched make_app make_found options_found number_of clap_on_literals
