@@ -30,18 +30,25 @@ pub(crate) fn cut_rows(alloc: Global, cutter: &mut Cutter<'_>) -> Result<usize, 
     Err(Stop::Input)
 }
 
+/// The memory that rows and their records are read over.
+#[derive(Drop)]
+struct Buffers {
+    row: Row,
+    rec: Record,
+}
+
 /// Folds the rows of a chunk, which the cursor has next, over the memory of a row and of a record.
 fn fold_chunk(
     alloc: Global,
     checked: &Checked,
     cursor: &mut RowCursor<'_>,
-    row: &mut Row,
     chunk: &Chunk,
     groups: &mut Groups,
-    rec: &mut Record,
+    buffers: &mut Buffers,
 ) -> Result<(), Stop>
     requires { FitsChunk (checked_plan checked.now).fields chunk.now }
 {
+    let Buffers { row, rec } = buffers;
     'rows: for index in 0..chunk.rows.len() {
         let no = chunk.first_no.wrapping_add(index as u64);
         if !cursor.read(row)? {
@@ -60,14 +67,13 @@ fn fold_chunks(
     checked: &Checked,
     chunks: &[Chunk],
     groups: &mut Groups,
-    rec: &mut Record,
+    buffers: &mut Buffers,
 ) -> Result<(), Stop>
     requires { All (FitsChunk (checked_plan checked.now).fields) chunks.now }
 {
     let mut cursor = RowCursor::over(alloc, chunks)?;
-    let mut row = Row::with_room(alloc)?;
     'chunks: for chunk in chunks {
-        fold_chunk(alloc, checked, &mut cursor, &mut row, chunk, groups, rec)?;
+        fold_chunk(alloc, checked, &mut cursor, chunk, groups, buffers)?;
     }
     Ok(())
 }
@@ -82,16 +88,19 @@ pub(crate) fn fold_rows(
 {
     let mut spare = Spare::new(alloc);
     let mut groups = Groups::new(alloc);
-    let mut rec = Record {
-        no: 0,
-        fields: Fields::new(alloc),
+    let mut buffers = Buffers {
+        row: Row::with_room(alloc)?,
+        rec: Record {
+            no: 0,
+            fields: Fields::new(alloc),
+        },
     };
     'rounds: for _round in 0..ROUNDS {
         let chunks = next_round(alloc, cutter, &mut spare, CHUNKS)?;
         if chunks.is_empty() {
             return Ok(groups);
         }
-        fold_chunks(alloc, checked, chunks.as_slice(), &mut groups, &mut rec)?;
+        fold_chunks(alloc, checked, chunks.as_slice(), &mut groups, &mut buffers)?;
         keep_rows(chunks, &mut spare);
     }
     Err(Stop::Input)
