@@ -1,5 +1,5 @@
 -- What follows from what the top call says of each status.
-use Rattle.std.proofs.Common.{◌≡◌, ◌⊎◌, inl, inr, ℕ, Bool, true, false, if◌then◌else◌, List, [], ◌∷◌, map, Option, None, Some, Result, Ok, Err, IfOk, IfErr, MatchResult, refl, sym, ap, subst, ◌∙◌}
+use Rattle.std.proofs.Common.{◌≡◌, ◌⊎◌, inl, inr, ℕ, Bool, true, false, if◌then◌else◌, List, [], ◌∷◌, map, Option, None, Some, Result, Ok, Err, IfOk, refl, sym, ap, subst, ◌∙◌}
 use Rattle.sym_base.specs.declared.values.record.Record.{Record}
 use Rattle.sym_check.specs.declared.elaborate.error.CheckErr.TheVariants as check_error
 use Rattle.sym_check.specs.declared.elaborate.error.CheckErr.{CheckErr}
@@ -15,18 +15,20 @@ use Rattle.sym_parse.specs.declared.error.ParseErr.TheVariants as parse_error
 use Rattle.sym_report.specs.ReportRows.{some_faulty}
 use Rattle.sym_command.specs.declared.place.Place.{Place}
 use Rattle.sym_command.specs.declared.place.Place.TheVariants as place
-use Rattle.sym_command.specs.Commands.{Command, command_of, ReadsNoRuns, Runs, Traces, Checks, Makes, Maps, Reduces, Joins, FileNames, name_at, names_of}
+use Rattle.sym_command.specs.declared.commands.Command.{Command as CommandRead}
+use Rattle.sym_command.specs.Commands.{Command, ReadsNoRuns, Runs, Traces, Checks, Makes, Maps, Reduces, Joins, FileNames, name_at, names_of}
 use Rattle.sym_message.specs.declared.refusal.Refusal.{Refusal}
 use Rattle.sym_message.specs.declared.refusal.Refusal.TheVariants as refusal
 use Rattle.sym_message.specs.declared.status.Status.{Status}
 use Rattle.sym_message.specs.declared.status.Status.TheVariants as status
 use Rattle.sym_message.specs.Messages.{line_of}
 use Rattle.sym_message.specs.Refusals.{status_of_refusal, parse_refusal, check_refusal, pass_refusal}
-use Rattle.sym_message.specs.Telling.{Sunk, Has, Short, Tells}
-use Rattle.sym_top.specs.declared.load.Failure.{Failure}
+use Rattle.sym_message.specs.Telling.{Sunk, Has, Tells}
+use Rattle.sym_top.specs.declared.output.Output.{Output}
+use Rattle.sym_top.specs.declared.output.Stop.{Stop}
 use Rattle.sym_top.specs.Ends.{End, whole_end, Refused, Reported, Said, Summed, Mapped, Joined, Held, IsEnd, usage, no_program, problem, finished, run_problem, reduced, join_problem, runs_joined, IsWhole, script_of, status_of}
 use Rattle.sym_top.specs.EndReading.{command_end}
-use Rattle.sym_top.specs.Loading.{ComesTo, Ready, Says, Stops, failure_line}
+use Rattle.sym_top.specs.Loading.{ComesTo, Ready, Says, Stops, stop_line, text_bytes}
 use Rattle.sym_top.specs.Programs.{Program, IsNoProgram, too_large, unparsed, broken}
 use Rattle.sym_top.specs.Promises.{Call, IsUsage, call_line, call_names, MayScript, MayHold, TellsScript, Told, ReadFailed, IsStop, at_end, script_unread, file_unread, run_unread, join_unread, no_memory, IsUntouched, WriteFails, failed, short, IsCause, stopped, cut, Refuses, Wrote, line_told, text_written, Answers, Unless, IsReported, IsRefused, IsUnwritten, MustReport}
 use Rattle.sym_top.specs.RunFileRefusals.{reduce_refusal}
@@ -96,13 +98,13 @@ unless status.NoMemory P p = tt
 
 -- ---- the exits
 
-pub stop-refuses : (call : Call) (out err : Sunk) (failure : Failure) (result : Status) → Stops call failure →
-    result ≡ status_of_refusal failure.why → IsUntouched out → Tells err (failure_line failure) →
+pub stop-refuses : (call : Call) (out err : Sunk) (command : Option CommandRead) (own : Stop) (result : Status) → Stops call command own →
+    result ≡ status_of_refusal own.why → IsUntouched out → Tells err (stop_line command own) →
     Refuses call out err result
-stop-refuses call out err failure result s status_is untouched told = record {
+stop-refuses call out err command own result s status_is untouched told = record {
   held = s.held;
   may = s.may;
-  why = failure.why;
+  why = own.why;
   status_is = status_is;
   cause = stopped s.stop untouched;
   line = subst (Tells err) s.line told;
@@ -139,12 +141,12 @@ pub ready-reported : (call : Call) (status : Status) (text : List ℕ) → Ready
 ready-reported call status text ready =
     subst IsReported (sym ready.has.status_is) (whole-reported ready.has.end ready.has.whole)
 
-pub stop-says : (call : Call) (out err : Sunk) (failure : Failure) (result : Status) → Stops call failure →
-    result ≡ status_of_refusal failure.why → IsUntouched out → Tells err (failure_line failure) → Says call out err result
-stop-says call out err failure result stops status_is untouched told = record {
-  reported = λ done. absurd (refusal-refused failure.why (subst IsReported status_is done));
-  refused = λ undone. stop-refuses call out err failure result stops status_is untouched told;
-  quiet = λ done. absurd (refusal-refused failure.why (subst IsReported status_is done));
+pub stop-says : (call : Call) (out err : Sunk) (command : Option CommandRead) (own : Stop) (result : Status) → Stops call command own →
+    result ≡ status_of_refusal own.why → IsUntouched out → Tells err (stop_line command own) → Says call out err result
+stop-says call out err command own result stops status_is untouched told = record {
+  reported = λ done. absurd (refusal-refused own.why (subst IsReported status_is done));
+  refused = λ undone. stop-refuses call out err command own result stops status_is untouched told;
+  quiet = λ done. absurd (refusal-refused own.why (subst IsReported status_is done));
 }
 
 pub ready-says : (call : Call) (out err : Sunk) (status : Status) (text : List ℕ) → Ready call status text → Has out text → IsUntouched err →
@@ -163,36 +165,11 @@ cut-says call names out err status text why result ready status_is fails told = 
   quiet = λ done. absurd (refusal-refused why (subst IsReported status_is done));
 }
 
--- What was made is ready, or it stops the call.
-pub made-match : (made : Result Status Failure) (call : Call) (text gathered : List ℕ) → text ≡ gathered →
-    IfOk made (λ status. Ready call status gathered) → IfErr made (Stops call) → MatchResult made (λ status. Ready call status text) (Stops call)
-made-match (Ok status) call text gathered same ready stops = subst (Ready call status) (sym same) ready
-made-match (Err failure) call text gathered same ready stops = stops
-
--- A command that stopped before it wrote leaves all that it has to leave.
-pub stop-comes : {F O E : Type 0} (call : Call) (sunk_out sunk_err : Sunk) (files : F) (out : O) (err err_after : E) (failure : Failure) (result : Status) →
-    Stops call failure → result ≡ status_of_refusal failure.why → IsUntouched sunk_out → Tells sunk_err (failure_line failure) →
-    ComesTo call sunk_out sunk_err files files out out err err_after result
-stop-comes call sunk_out sunk_err files out err err_after failure result stops status_is untouched told = record {
-  says = stop-says call sunk_out sunk_err failure result stops status_is untouched told;
-  unread = λ none. refl;
-  unwritten = λ stopped_early. refl;
-  memory = λ full. inl refl;
-  quiet = λ done. absurd (refusal-refused failure.why (subst IsReported status_is done));
-}
-
--- What a command comes to that isn't one of none.
-pub some-comes : {F O E : Type 0} (call : Call) (sunk_out sunk_err : Sunk) (files files_after : F) (out out_after : O) (err err_after : E) (result : Status)
-    (command : Command) → command_of call.asked ≡ Some command → Says call sunk_out sunk_err result → (IsUnwritten result → out_after ≡ out) →
-    (result ≡ status.NoMemory → (out_after ≡ out) ⊎ Short sunk_out) → (IsReported result → err_after ≡ err) →
-    ComesTo call sunk_out sunk_err files files_after out out_after err err_after result
-some-comes call sunk_out sunk_err files files_after out out_after err err_after result command some says unwritten memory quiet = record {
-  says = says;
-  unread = λ none. let e : Some command ≡ None = sym some ∙ none in cc;
-  unwritten = unwritten;
-  memory = memory;
-  quiet = quiet;
-}
+-- What is ready has the status of a report.
+pub made-reported : {F : Type 0} (call : Call) (gathered : F → List ℕ) (command : Option CommandRead) (made : Result (Output F) Stop) →
+    ComesTo call gathered command made → IfOk made (λ output. IsReported output.status)
+made-reported call gathered command (Ok output) ready = ready-reported call output.status (text_bytes gathered output.text) ready
+made-reported call gathered command (Err own) stops = tt
 
 -- ---- the bytes that a store tells are those that the files may hold
 

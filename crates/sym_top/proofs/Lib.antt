@@ -4,12 +4,10 @@ mod EndExamples
 pub mod EndsFound
 mod HeadlineExamples
 pub mod JoinedEnds
-pub mod JoinedTexts
 pub mod JoinsReported
 mod LogExamples
 mod MadeExamples
 pub mod MadeLines
-pub mod MappedTexts
 pub mod Observed
 pub mod OnePass
 pub mod OtherWork

@@ -1,5 +1,5 @@
 -- What observers were told of, by what the steps of a call say of it.
-use Rattle.std.proofs.Common.{◌≡◌, ◌⊎◌, ℕ, ◌≤◌, inl, inr, Bool, true, false, if◌then◌else◌, List, [], ◌∷◌, ◌++◌, length, Option, None, Some, Result, Ok, Err, IfOk, refl, sym, ap, subst, ◌∙◌, arith}
+use Rattle.std.proofs.Common.{◌≡◌, ◌⊎◌, ℕ, ◌≤◌, inl, inr, Bool, true, false, if◌then◌else◌, List, [], ◌++◌, length, Option, None, Some, Result, Ok, Err, IfOk, refl, sym, ap, subst, ◌∙◌, arith}
 use Rattle.std.proofs.lemmas.List.{append-nil}
 use Rattle.sym_base.specs.Trees.{ScriptTree}
 use Rattle.sym_base.specs.declared.values.record.Record.{Record}
@@ -23,10 +23,11 @@ use Rattle.sym_message.specs.declared.status.Status.{Status}
 use Rattle.sym_message.specs.declared.status.Status.TheVariants as status
 use Rattle.sym_message.specs.Refusals.{check_refusal, parse_refusal, pass_refusal, status_of_refusal}
 use Rattle.sym_message.specs.Telling.{Sunk}
-use Rattle.sym_top.specs.declared.load.Failure.{Failure}
+use Rattle.sym_top.specs.declared.output.Output.{Output}
+use Rattle.sym_top.specs.declared.output.Stop.{Stop}
 use Rattle.sym_top.specs.Loading.{Loads, MayEnd, Unloads}
 use Rattle.sym_top.specs.Loading as loading
-use Rattle.sym_top.specs.Observers.{AreTold, AreToldAll, AreToldBefore, AreToldBy, AreToldOf, AreToldTo, AreToldUntil, AreUntold, at_files, at_script, FilesStop, Logs, run_files, StopsTold, stops_told, watched_run}
+use Rattle.sym_top.specs.Observers.{AreTold, AreToldAll, AreToldBefore, AreToldBy, AreToldOf, AreToldTo, AreToldUntil, AreUntold, at_files, at_script, FilesStop, IsObserved, Logs, run_files, watched_run}
 use Rattle.sym_top.specs.Programs.{Program, IsNoProgram}
 use Rattle.sym_top.specs.Programs as programs
 use Rattle.sym_top.specs.Promises.{Call, IsReported, WriteFails}
@@ -47,21 +48,18 @@ all_some tree w olds news all = record {
       (subst (λ (rs : List (List Record)). AllGrew olds news (partials_of tree w.plan rs)) (sym (append-nil all.rounds)) all.so);
 }
 
--- The same by equal rules, over a store that tells the same.
-pub told_along : (tree : ScriptTree) (p : ScriptPlan) (rules likewise : FileRules) (chunk : ℕ) (holds told : Holds) (names : List (List ℕ))
-    (olds news : List Log) → likewise ≡ rules → holds ≡ told → ToldAll tree (watched_files p rules chunk holds names 1) olds news →
-    ToldAll tree (watched_files p likewise chunk told names 1) olds news
-told_along tree p rules likewise chunk holds told names olds news ruled stores all =
-    subst (λ (rs : FileRules). ToldAll tree (watched_files p rs chunk told names 1) olds news) (sym ruled)
-    (subst (λ (h : Holds). ToldAll tree (watched_files p rules chunk h names 1) olds news) stores all)
+-- The same over a store that tells the same.
+pub told_along : (tree : ScriptTree) (p : ScriptPlan) (rules : FileRules) (chunk : ℕ) (holds told : Holds) (names : List (List ℕ))
+    (olds news : List Log) → holds ≡ told → ToldAll tree (watched_files p rules chunk holds names 1) olds news →
+    ToldAll tree (watched_files p rules chunk told names 1) olds news
+told_along tree p rules chunk holds told names olds news stores all =
+    subst (λ (h : Holds). ToldAll tree (watched_files p rules chunk h names 1) olds news) stores all
 
-pub stops_along : (tree : ScriptTree) (p : ScriptPlan) (rules likewise : FileRules) (chunk : ℕ) (holds told : Holds) (names : List (List ℕ))
-    (before after : Counts) (logs : Logs) (why : Refusal) → likewise ≡ rules → holds ≡ told →
-    StopsTold tree (watched_files p rules chunk holds names 1) before after logs why →
-    StopsTold tree (watched_files p likewise chunk told names 1) before after logs why
-stops_along tree p rules likewise chunk holds told names before after logs why ruled stores stop =
-    subst (λ (rs : FileRules). StopsTold tree (watched_files p rs chunk told names 1) before after logs why) (sym ruled)
-    (subst (λ (h : Holds). StopsTold tree (watched_files p rules chunk h names 1) before after logs why) stores stop)
+pub until_along : (tree : ScriptTree) (p : ScriptPlan) (rules : FileRules) (chunk : ℕ) (holds told : Holds) (names : List (List ℕ))
+    (olds news : List Log) (why : PassErr) → holds ≡ told → ToldUntil tree (watched_files p rules chunk holds names 1) olds news why →
+    ToldUntil tree (watched_files p rules chunk told names 1) olds news why
+until_along tree p rules chunk holds told names olds news why stores until =
+    subst (λ (h : Holds). ToldUntil tree (watched_files p rules chunk h names 1) olds news why) stores until
 
 -- Faults are counted since an earlier moment.
 stops_earlier : (p : ScriptPlan) (rules : FileRules) (holds : Holds) (names : List (List ℕ)) (before middle after : Counts) →
@@ -86,16 +84,18 @@ module _ (call : Call) (run : Run) (logs : Logs) (program : Program) (loads : Lo
   pub told_all : ToldAll program.tree (run_files call run program) logs.before logs.after → AreToldAll call run logs
   told_all told = record { program = program; loads = loads; told = told }
 
-  pub told_to : (middle : Counts) → ((name : List ℕ) → call.before name ≤ middle name) → (why : Refusal) →
-      StopsTold program.tree (run_files call run program) middle call.after logs why → AreToldTo call run logs why
-  told_to middle lower _ (stops_told why stops told) =
-      at_files why
+  pub told_to : (middle : Counts) → ((name : List ℕ) → call.before name ≤ middle name) → (why : Refusal) (cause : PassErr) →
+      why ≡ pass_refusal cause → StopsPass program.plan (file_rules call.asked (Runs run)) call.holds run.files middle call.after cause →
+      ToldUntil program.tree (run_files call run program) logs.before logs.after cause → AreToldTo call run logs why
+  told_to middle lower why cause is stops told =
+      subst (AreToldTo call run logs) (sym is)
+      (at_files cause
       (record {
         program = program;
         loads = loads;
-        stops = stops_earlier program.plan (file_rules call.asked (Runs run)) call.holds run.files call.before middle call.after lower why stops;
+        stops = stops_earlier program.plan (file_rules call.asked (Runs run)) call.holds run.files call.before middle call.after lower cause stops;
         told = told;
-      })
+      }))
 
 -- ---- the status
 module _ (call : Call) (run : Run) (logs : Logs) where
@@ -163,28 +163,28 @@ module _ (call : Call) (run : Run) (logs : Logs) where
   whole_told status.TooLarge reported all = absurd reported
   whole_told status.NoMemory reported all = absurd reported
 
-  end_told : (made : Result Status Failure) (result : Status) → IfOk made IsReported → MayEnd made result →
-      AreToldBefore call run logs made → AreToldBy call run logs result
-  end_told (Ok made) result reported (inl same) all =
-      subst (AreToldBy call run logs) (sym same) (whole_told made reported all)
-  end_told (Ok made) result reported (inr (inl same)) all = subst (AreToldBy call run logs) (sym same) all
-  end_told (Ok made) result reported (inr (inr same)) all =
+  ended_told : {F : Type 0} (made : Result (Output F) Stop) (result : Status) → IfOk made (λ output. IsReported output.status) →
+      MayEnd made result → AreToldBefore (Some run) call logs made → AreToldBy call run logs result
+  ended_told (Ok output) result reported (inl same) all =
+      subst (AreToldBy call run logs) (sym same) (whole_told output.status reported all)
+  ended_told (Ok output) result reported (inr (inl same)) all = subst (AreToldBy call run logs) (sym same) all
+  ended_told (Ok output) result reported (inr (inr same)) all =
       let until : FilesStop call run logs status.NoMemory = record { why = pass_error.NoMemory; status_is = refl; until = all_until all } in
       subst (AreToldBy call run logs) (sym same) (inr until)
-  end_told (Err failure) result reported same stop =
-      subst (AreToldBy call run logs) (sym same) (stop_told failure.why stop)
+  ended_told (Err stopped) result reported same stop =
+      subst (AreToldBy call run logs) (sym same) (stop_told stopped.why stop)
 
-  -- What the observers of a run were told of, watched or not.
-  pub run_told : (made : Result Status Failure) (result : Status) → command_of call.asked ≡ Some (Runs run) → IfOk made IsReported →
-      MayEnd made result → (run.watch ≡ true → AreToldBefore call run logs made) → (run.watch ≡ false → AreUntold logs) →
-      AreTold call logs result
-  run_told made result asked reported ends told untold =
-      subst (λ (o : Option Command). AreToldOf (watched_run o) call logs result) (sym asked) (go run.watch told untold)
-    where
-      go : (b : Bool) → (b ≡ true → AreToldBefore call run logs made) → (b ≡ false → AreUntold logs) →
-          AreToldOf (if b then Some run else None) call logs result
-      go true told untold = end_told made result reported ends (told refl)
-      go false told untold = untold refl
+-- What the observers of a call were told of in the end.
+pub end_told : {F : Type 0} (call : Call) (logs : Logs) (made : Result (Output F) Stop) (result : Status) →
+    IfOk made (λ output. IsReported output.status) → MayEnd made result → AreToldBefore (watched_run (command_of call.asked)) call logs made →
+    AreTold call logs result
+end_told call logs made result reported ends = go (watched_run (command_of call.asked))
+  where
+    go : (o : Option Run) → AreToldBefore o call logs made → AreToldOf o call logs result
+    go None untold = untold
+    go (Some run) told = ended_told call run logs made result reported ends told
+
+-- ---- before anything is written
 
 -- A run that is asked for without `--watch`.
 pub run_unwatched : (command : Option Command) (run : Run) → command ≡ Some (Runs run) → watched_run command ≡ None → run.watch ≡ false
@@ -193,6 +193,21 @@ run_unwatched command run is none = go run.watch (sym (ap watched_run is) ∙ no
     go : (b : Bool) → (if b then Some run else None) ≡ None → b ≡ false
     go true e = let wrong : Some run ≡ None = e in cc
     go false e = refl
+
+module _ {A W : Type 0} (call : Call) (logs : Logs) (observers observers_after : W) (made : Result A Stop) where
+  -- A run, watched or not.
+  pub run_observed : (run : Run) → command_of call.asked ≡ Some (Runs run) → (run.watch ≡ true → AreToldBefore (Some run) call logs made) →
+      (run.watch ≡ false → observers_after ≡ observers) → (observers_after ≡ observers → AreUntold logs) →
+      IsObserved call logs observers observers_after made
+  run_observed run asked told unwatched untold = record {
+    told = subst (λ (o : Option Command). AreToldBefore (watched_run o) call logs made) (sym asked) (go run.watch told unwatched);
+    unwatched = λ none. unwatched (run_unwatched (command_of call.asked) run asked none);
+  }
+    where
+      go : (b : Bool) → (b ≡ true → AreToldBefore (Some run) call logs made) → (b ≡ false → observers_after ≡ observers) →
+          AreToldBefore (if b then Some run else None) call logs made
+      go true told unwatched = told refl
+      go false told unwatched = untold (unwatched refl)
 
 -- ---- other commands
 -- Arguments whose command isn't watched ask for none that is.
@@ -205,17 +220,23 @@ handed_unwatched forms (Some command) none = go (is_handed forms command)
     go false = refl
 
 -- No observer was told where there is no run that is watched.
-pub unwatched_told : (call : Call) (logs : Logs) (result : Status) (command : Option Command) → command_in call.asked.words ≡ command →
-    watched_run command ≡ None → AreUntold logs → AreTold call logs result
-unwatched_told call logs result command is none untold =
+pub unwatched_observed : {A W : Type 0} (call : Call) (logs : Logs) (observers : W) (made : Result A Stop) (command : Option Command) →
+    command_in call.asked.words ≡ command → watched_run command ≡ None → AreUntold logs → IsObserved call logs observers observers made
+unwatched_observed call logs observers made command is none untold =
     let nothing : watched_run (command_of call.asked) ≡ None =
     ap (λ (o : Option Command). watched_run (handed call.asked.forms o)) is ∙ handed_unwatched call.asked.forms command none in
-    subst (λ (o : Option Run). AreToldOf o call logs result) (sym nothing) untold
+    record {
+      told = subst (λ (o : Option Run). AreToldBefore o call logs made) (sym nothing) untold;
+      unwatched = λ none. refl;
+    }
 
 -- No command: nor were they told.
-pub no_command_told : (call : Call) (logs : Logs) (result : Status) → command_of call.asked ≡ None → AreUntold logs → AreTold call logs result
-no_command_told call logs result none untold =
-    subst (λ (o : Option Command). AreToldOf (watched_run o) call logs result) (sym none) untold
+pub unasked_observed : {A W : Type 0} (call : Call) (logs : Logs) (observers : W) (made : Result A Stop) → command_of call.asked ≡ None →
+    AreUntold logs → IsObserved call logs observers observers made
+unasked_observed call logs observers made none untold = record {
+  told = subst (λ (o : Option Command). AreToldBefore (watched_run o) call logs made) (sym none) untold;
+  unwatched = λ none. refl;
+}
 
 -- ---- the writing
 pub cut_ends : (out : Sunk) (text : List ℕ) (made : Status) (why : Refusal) (result : Status) → WriteFails out text why →

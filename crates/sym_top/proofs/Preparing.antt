@@ -24,20 +24,26 @@ use Rattle.sym_files.specs.FileRecords.{FileRules, rules_of}
 use Rattle.sym_files.specs.FirstProblems.{AllFine, FirstProblem, no_file}
 use Rattle.sym_files.specs.Passing.{AllRead, Holds, Counts, May, MayAll, HasFirstProblem, StopsFrom, StopsPass}
 use Rattle.sym_passes.specs.Passed.{PassedAll}
+use Rattle.sym_passes.specs.Saving.{SavedAll}
+use Rattle.sym_file.specs.Stored.{IsStored}
+use Rattle.sym_file.specs.Texts.{saved_text}
 use Rattle.sym_parse.specs.Printed.{script_text}
 use Rattle.sym_reduce.specs.declared.error.ReduceErr.{ReduceErr}
 use Rattle.sym_reduce.specs.declared.error.ReduceErr.TheVariants as reduce_error
-use Rattle.sym_reduce.specs.Joining.{HasJoinProblem, StopsJoin}
+use Rattle.sym_reduce.specs.Joining.{AreRunFiles, HasJoinProblem, JoinedAll, StopsJoin}
 use Rattle.sym_file.specs.TakenTexts.{Pairs}
-use Rattle.sym_reduce.specs.Reducing.{HasFirstRunProblem, ReducedAll, StopsReduce}
+use Rattle.sym_reduce.specs.Reducing.{AreReduced, HasFirstRunProblem, ReducedAll, StopsReduce}
 use Rattle.sym_report.specs.Forms.{FormTexts, report_text}
+use Rattle.sym_run.specs.Runs.{AreTight}
+use Rattle.sym_run.specs.SavedRuns.{IsLawfulSaved}
+use Rattle.sym_run.specs.declared.saved.Saved.{Saved}
 use Rattle.sym_report.specs.ReportRows.{heads_of, row_of, some_faulty}
 use Rattle.sym_table.specs.Reading.{Row}
 use Rattle.sym_trace.specs.TraceReports.{trace_heads, trace_rows}
 use Rattle.sym_trace.specs.Tracing.{IsTraceReport}
 use Rattle.sym_command.specs.declared.place.Place.TheVariants as place
 use Rattle.sym_command.specs.declared.commands.Command.{Command as CommandRead}
-use Rattle.sym_command.specs.Commands.{Runs, Traces, Checks, Makes, Maps, Reduces, Joins, FileNames, ReadsRecords, command_of, file_rules, first_no, name_at, names_of, shown_names, texts_of}
+use Rattle.sym_command.specs.Commands.{Command, Runs, Traces, Checks, Makes, Maps, Reduces, Joins, FileNames, ReadsRecords, command_of, file_rules, first_no, name_at, names_of, shown_names, texts_of}
 use Rattle.sym_command.specs.declared.commands.Command.TheVariants as command
 use Rattle.sym_command.specs.declared.commands.Run.{Run as RunRead}
 use Rattle.sym_command.specs.declared.commands.Trace.{Trace as TraceRead}
@@ -56,13 +62,16 @@ use Rattle.sym_message.specs.Refusals.{parse_refusal, check_refusal, read_refusa
 use Rattle.sym_message.specs.Summaries.{summary_text}
 use Rattle.sym_message.specs.Telling.{Sunk, HasPrefix, Failed, Short}
 use Rattle.sym_top.specs.Ends.{End, Held, IsWhole, status_of, IsTextOf, report_in, said, summed, mapped, usage, no_program, problem, finished, run_problem, reduced, join_problem, runs_joined, joined, Joined, script_of, files_of, group_rows, groups_end, report_of, trace_report_of, rows_of, rows_status, said_of, whole_end}
-use Rattle.sym_top.specs.Loading.{MayRefuse, Loads, Unloads, refused, unread, no_memory, Passed, StopsRecords, first, no_more, Reports, JoinsFiles, MapsFiles, StopsFiles, stops, ReportsRuns, StopsJoins, stops_joins, StopsRuns, stops_runs, Ready, Stops}
+use Rattle.sym_top.specs.declared.output.Output.{Output}
+use Rattle.sym_top.specs.declared.output.Stop.{Stop}
+use Rattle.sym_top.specs.Loading.{ComesTo, IsPrepared, MayRefuse, Loads, Unloads, refused, unread, no_memory, Passed, StopsRecords, first, no_more, Ready, Stops}
 use Rattle.sym_top.specs.Making.{made_file, made_script}
 use Rattle.sym_top.specs.Programs.{Program, IsProgram, IsNoProgram, checked_program, program_headers, headers_in}
 use Rattle.sym_top.specs.Programs as programs
 use Rattle.sym_top.specs.Promises.{Call, MayHold, MayScript, ReadFailed, IsStop, WriteFails, call_line, call_names, call_script}
 use Rattle.sym_top.specs.Promises as promise
 use Rattle.sym_top.specs.RunFileRefusals.{reduce_refusal}
+use Rattle.sym_top.specs.SavedFiles.{IsJoined, IsMapped}
 use Rattle.sym_top.proofs.ProgramsFound.{parsed-unparsed, program-found, none-found}
 
 -- ---- the script
@@ -115,18 +124,29 @@ pub read-may : (told : Option (List ℕ)) (text : List ℕ) → IfSome told (λ 
 read-may None text h = tt
 read-may (Some bytes) text h = h
 
-pub loads-by : (told : Option (List ℕ)) (text : List ℕ) (r : Result Checked Refusal) → May told text →
+pub loads-by : (told : Option (List ℕ)) (text : List ℕ) (r : Result Checked Stop) → May told text →
     IfOk r (λ checked. IsProgram text (checked_program checked)) → IfOk r (λ checked. Loads told (checked_program checked))
 loads-by told text (Ok checked) may is = record { text = text; may = may; is_program = is }
-loads-by told text (Err why) may is = tt
+loads-by told text (Err stopped) may is = tt
 
-pub unloads-by : (told : Option (List ℕ)) (before after : ℕ) (text : List ℕ) (r : Result Checked Refusal) → May told text →
-    IfErr r (MayRefuse text) → IfErr r (Unloads told before after)
+pub unloads-by : (told : Option (List ℕ)) (before after : ℕ) (text : List ℕ) (r : Result Checked Stop) → May told text →
+    IfErr r (λ stopped. MayRefuse text stopped.why) → IfErr r (λ stopped. Unloads told before after stopped.why)
 unloads-by told before after text (Ok checked) may is = tt
-unloads-by told before after text (Err why) may (inl same) = subst (Unloads told before after) (sym same) no_memory
-unloads-by told before after text (Err why) may (inr is) = refused text why may is
+unloads-by told before after text (Err stopped) may (inl same) = subst (Unloads told before after) (sym same) no_memory
+unloads-by told before after text (Err stopped) may (inr is) = refused text stopped.why may is
 
 -- ---- the files
+
+-- This status and this text are those of the end that the records come to of files which the names
+-- may hold.
+pub record Reports (end : List Record → End) (program : Program) (rules : FileRules)
+    (holds : Holds) (names : List (List ℕ)) (status : Status) (text : List ℕ) : Type 0 where
+  pub files : List (List ℕ)
+  pub may : MayAll holds names files
+  pub records : List Record
+  pub fine : AllFine program.plan rules 1 files records
+  pub status_is : status ≡ status_of (end records)
+  pub text_is : IsTextOf (end records) text
 
 pub reports-by : (form : FormTexts) (program : Program) (rules : FileRules) (holds : Holds) (names : List (List ℕ)) (groups : List (Key × Outcome))
     (faulty : Bool) (made : Status) (text : List ℕ) → PassedAll program.plan rules holds names groups →
@@ -147,15 +167,14 @@ reports-by form program rules holds names groups faulty made text passed text_is
           (report_in form heads (rows_of program passed.records));
     }
 
--- The same of equal names, to an equal end, by equal rules, over a store that tells the same.
-pub reports-along : (end other : List Record → End) (program : Program) (rules likewise : FileRules) (holds told : Holds) (names words : List (List ℕ))
-    (made : Status) (text : List ℕ) → other ≡ end → likewise ≡ rules → holds ≡ told → names ≡ words → Reports end program rules holds names made text →
-    Reports other program likewise told words made text
-reports-along end other program rules likewise holds told names words made text ends ruled stores same r =
-    subst (λ f. Reports f program likewise told words made text) (sym ends)
-    (subst (λ rs. Reports end program rs told words made text) (sym ruled)
+-- The same of equal names, to an equal end, over a store that tells the same.
+pub reports-along : (end other : List Record → End) (program : Program) (rules : FileRules) (holds told : Holds) (names words : List (List ℕ))
+    (made : Status) (text : List ℕ) → other ≡ end → holds ≡ told → names ≡ words → Reports end program rules holds names made text →
+    Reports other program rules told words made text
+reports-along end other program rules holds told names words made text ends stores same r =
+    subst (λ f. Reports f program rules told words made text) (sym ends)
     (subst (λ h. Reports end program rules h words made text) stores
-    (subst (λ ns. Reports end program rules holds ns made text) same r)))
+    (subst (λ ns. Reports end program rules holds ns made text) same r))
 
 -- The report of a trace, gathered in a form that had no bytes.
 pub trace-reports-by : (form : FormTexts) (program : Program) (every : ℕ) (rules : FileRules) (holds : Holds) (names : List (List ℕ)) (before text : List ℕ)
@@ -207,9 +226,10 @@ some-held call =
     let others = some-files call.holds (call_names call).files in
     (record { script = text.0; files = others.0 }, (text.1, others.1))
 
--- A call that asks for no command.
-pub usage-stops : (call : Call) → command_of call.asked ≡ None → Stops call (record { why = refusal.Usage; command = None; checked = None })
-usage-stops call asked =
+-- A call that stops for want of a command, or of memory.
+pub usage-stops : (call : Call) (command : Option CommandRead) → command_of call.asked ≡ None →
+    Stops call command (record { why = refusal.Usage; checked = None })
+usage-stops call command asked =
     let held = some-held call in
     record {
       held = held.0;
@@ -218,9 +238,9 @@ usage-stops call asked =
       line = refl;
     }
 
--- A call for which memory ran out while its arguments were read.
-pub memory-stops : (call : Call) → Stops call (record { why = refusal.NoMemory; command = None; checked = None })
-memory-stops call =
+pub memory-stops : (call : Call) (command : Option CommandRead) (checked : Option Checked) →
+    Stops call command (record { why = refusal.NoMemory; checked = checked })
+memory-stops call command checked =
     let held = some-held call in
     record {
       held = held.0;
@@ -228,6 +248,29 @@ memory-stops call =
       stop = promise.no_memory;
       line = refl;
     }
+
+-- ---- what a command comes to, with and without the store
+
+module _ {F S : Type 0} (call : Call) (gathered : F → List ℕ) (command : Option CommandRead) where
+  pub some-prepared : (asks : Command) (files files_after : S) (made : Result (Output F) Stop) → command_of call.asked ≡ Some asks →
+      ComesTo call gathered command made → IsPrepared call gathered command files files_after made
+  some-prepared asks files files_after made some comes = record {
+    comes_to = comes;
+    unread = λ none. let e : Some asks ≡ None = sym some ∙ none in cc;
+  }
+
+  -- The same of an equal command.
+  pub same-prepared : (other : Option CommandRead) (files files_after : S) (made : Result (Output F) Stop) → command ≡ other →
+      IsPrepared call gathered other files files_after made → IsPrepared call gathered command files files_after made
+  same-prepared other files files_after made same prepared =
+      subst (λ (o : Option CommandRead). IsPrepared call gathered o files files_after made) (sym same) prepared
+
+  pub usage-prepared : (files : S) (stopped : Stop) → stopped ≡ record { why = refusal.Usage; checked = None } → command_of call.asked ≡ None →
+      IsPrepared call gathered command files files (Err stopped)
+  usage-prepared files stopped is none = record {
+    comes_to = subst (Stops call command) (sym is) (usage-stops call command none);
+    unread = λ usage. refl;
+  }
 
 -- This status and this text are those of the end.
 pub record IsWholeEnd (end : End) (status : Status) (text : List ℕ) : Type 0 where
@@ -248,19 +291,9 @@ module _ (call : Call) (read : CommandRead) (asked : command_of call.asked ≡ S
       line_of (shown_names (Some (command_seen read))) (headers_in (script_of (command_seen read) held)) why ≡ call_line call held why
   bare-line held why = named-line held (headers_in (script_of (command_seen read) held)) why refl
 
-  pub memory-out : (checked : Option Checked) → Stops call (record { why = refusal.NoMemory; command = Some read; checked = checked })
-  memory-out checked =
-      let held = some-held call in
-      record {
-        held = held.0;
-        may = held.1;
-        stop = promise.no_memory;
-        line = bare-line held.0 refusal.NoMemory;
-      }
-
   -- It is refused for its script, or for its files, which have these bytes.
   pub refused-stops : (held : Held) (why : Refusal) → MayHold call held → IsNoProgram (script_of (command_seen read) held) why →
-      Stops call (record { why = why; command = Some read; checked = None })
+      Stops call (Some read) (record { why = why; checked = None })
   refused-stops held why may is = record {
     held = held;
     may = may;
@@ -270,7 +303,7 @@ module _ (call : Call) (read : CommandRead) (asked : command_of call.asked ≡ S
 
   pub known-stops : (held : Held) (checked : Checked) (why : Refusal) → MayHold call held →
       IsProgram (script_of (command_seen read) held) (checked_program checked) → IsStop call held why →
-      Stops call (record { why = why; command = Some read; checked = Some checked })
+      Stops call (Some read) (record { why = why; checked = Some checked })
   known-stops held checked why may is stop = record {
     held = held;
     may = may;
@@ -313,7 +346,7 @@ module _ (call : Call) (read : CommandRead) (asked : command_of call.asked ≡ S
     }
 
     pub load-stops : (why : Refusal) → Unloads (call.holds name) (call.before name) (call.after name) why →
-        Stops call (record { why = why; command = Some read; checked = None })
+        Stops call (Some read) (record { why = why; checked = None })
     load-stops _ (refused text why may is) =
         let others = some-files call.holds (names_of (Some (command_seen read))).files in
         let held : Held = record { script = text; files = others.0 } in
@@ -328,7 +361,7 @@ module _ (call : Call) (read : CommandRead) (asked : command_of call.asked ≡ S
           stop = promise.script_unread (script-failed rose);
           line = bare-line held (refusal.Read place.Script);
         }
-    load-stops _ no_memory = memory-out None
+    load-stops _ no_memory = memory-stops call (Some read) None
 
 -- ---- a command that reads a script and files
 
@@ -346,9 +379,11 @@ module _ (call : Call) (read : CommandRead) (asked : command_of call.asked ≡ S
     rose = rose;
   }
 
-  pub reading-load-stops : (why : Refusal) → Unloads (call.holds name) (call.before name) (call.after name) why →
-      Stops call (record { why = why; command = Some read; checked = None })
-  reading-load-stops = load-stops call read asked name script-named own
+  pub reading-load-stops : (stopped : Stop) → stopped.checked ≡ None → Unloads (call.holds name) (call.before name) (call.after name) stopped.why →
+      Stops call (Some read) stopped
+  reading-load-stops stopped none unloads =
+      subst (λ (checked : Option Checked). Stops call (Some read) (record { why = stopped.why; checked = checked })) (sym none)
+      (load-stops call read asked name script-named own stopped.why unloads)
 
   reading-may : (held : Held) → May (call.holds name) held.script → MayAll call.holds names held.files → MayHold call held
   reading-may held script files =
@@ -363,7 +398,7 @@ module _ (call : Call) (read : CommandRead) (asked : command_of call.asked ≡ S
       (loads : Loads (call.holds name) (checked_program checked)) where
     known : (why : Refusal) (files : List (List ℕ)) → MayAll call.holds names files →
         IsStop call (record { script = loads.text; files = files }) why →
-        Stops call (record { why = why; command = Some read; checked = Some checked })
+        Stops call (Some read) (record { why = why; checked = Some checked })
     known why files may stop =
         let held : Held = record { script = loads.text; files = files } in
         known-stops call read asked held checked why (reading-may held loads.may may) (own-program held (checked_program checked) loads.is_program) stop
@@ -391,7 +426,7 @@ module _ (call : Call) (read : CommandRead) (asked : command_of call.asked ≡ S
       (loads : Loads (call.holds name) (checked_program checked)) where
     problem-stops : (why : PassErr) →
         HasFirstProblem (checked_program checked).plan (file_rules call.asked (command_seen read)) call.holds names (first_no (command_seen read)) why →
-        Stops call (record { why = pass_refusal why; command = Some read; checked = Some checked })
+        Stops call (Some read) (record { why = pass_refusal why; checked = Some checked })
     problem-stops why s =
         let held : Held = record { script = loads.text; files = s.files } in
         known call read asked name names named own checked middle lower loads (pass_refusal why) s.files s.may
@@ -401,7 +436,7 @@ module _ (call : Call) (read : CommandRead) (asked : command_of call.asked ≡ S
 
     pub reading-error-stops : (why : PassErr) →
         StopsFrom (first_no (command_seen read)) (checked_program checked).plan (file_rules call.asked (command_seen read)) call.holds names middle call.after why →
-        Stops call (record { why = pass_refusal why; command = Some read; checked = Some checked })
+        Stops call (Some read) (record { why = pass_refusal why; checked = Some checked })
     reading-error-stops (pass_error.Read file) s =
         let held : Held = record { script = loads.text; files = s.files } in
         known call read asked name names named own checked middle lower loads (refusal.Read (place.File file)) s.files s.may
@@ -411,84 +446,66 @@ module _ (call : Call) (read : CommandRead) (asked : command_of call.asked ≡ S
     reading-error-stops (pass_error.TooLarge file) s = problem-stops (pass_error.TooLarge file) s
     reading-error-stops (pass_error.Head file fault) s = problem-stops (pass_error.Head file fault) s
     reading-error-stops (pass_error.Bad file bad) s = problem-stops (pass_error.Bad file bad) s
-    reading-error-stops pass_error.NoMemory s = memory-out call read asked (Some checked)
+    reading-error-stops pass_error.NoMemory s = memory-stops call (Some read) (Some checked)
 
--- ---- a run
+    pub reading-files-stop : (why : Refusal) (cause : PassErr) → why ≡ pass_refusal cause →
+        StopsFrom (first_no (command_seen read)) (checked_program checked).plan (file_rules call.asked (command_seen read)) call.holds names middle call.after cause →
+        Stops call (Some read) (record { why = why; checked = Some checked })
+    reading-files-stop why cause is s =
+        subst (λ (w : Refusal). Stops call (Some read) (record { why = w; checked = Some checked })) (sym is) (reading-error-stops cause s)
 
-module _ (call : Call) (read : RunRead) (asked : command_of call.asked ≡ Some (Runs (run_seen read))) where
-  pub run-load-stops : (why : Refusal) → Unloads (call.holds read.script.now) (call.before read.script.now) (call.after read.script.now) why →
-      Stops call (record { why = why; command = Some (command.Run read); checked = None })
-  run-load-stops =
-      reading-load-stops call (command.Run read) asked read.script.now (run_seen read).files refl (λ held. refl)
+-- ---- a run and a trace
 
-  pub run-ready : (program : Program) (status : Status) (text : List ℕ) → Loads (call.holds read.script.now) program →
-      Reports (report_of (texts_of call.asked.forms read.form.now) program) program (file_rules call.asked (Runs (run_seen read))) call.holds (run_seen read).files status text →
-      Ready call status text
-  run-ready program status text loads reports =
-      reading-ready call (command.Run read) asked read.script.now (run_seen read).files refl (λ held. refl) tt (λ held. refl) refl
-      program status text loads (λ records. tt) reports
+pub run-ready : (call : Call) (read : RunRead) → command_of call.asked ≡ Some (Runs (run_seen read)) →
+    (program : Program) (status : Status) (text : List ℕ) → Loads (call.holds read.script.now) program →
+    Reports (report_of (texts_of call.asked.forms read.form.now) program) program (file_rules call.asked (Runs (run_seen read))) call.holds (run_seen read).files status text →
+    Ready call status text
+run-ready call read asked program status text loads reports =
+    reading-ready call (command.Run read) asked read.script.now (run_seen read).files refl (λ held. refl) tt (λ held. refl) refl
+    program status text loads (λ records. tt) reports
 
-  -- What stops it after its script was accepted.
-  module _ (checked : Checked) (middle : Counts) (lower : (name : List ℕ) → call.before name ≤ middle name)
-      (loads : Loads (call.holds read.script.now) (checked_program checked)) where
-    pub run-files-stop : (why : Refusal) →
-        StopsFiles 1 (checked_program checked) (file_rules call.asked (Runs (run_seen read))) call.holds (run_seen read).files middle call.after why →
-        Stops call (record { why = why; command = Some (command.Run read); checked = Some checked })
-    run-files-stop _ (stops why s) =
-        reading-error-stops call (command.Run read) asked read.script.now (run_seen read).files refl (λ held. refl) tt (λ held. refl)
-        checked middle lower loads why s
+pub trace-ready : (call : Call) (read : TraceRead) → command_of call.asked ≡ Some (Traces (trace_seen read)) →
+    (program : Program) (status : Status) (text : List ℕ) → Loads (call.holds read.script.now) program →
+    Reports (trace_report_of (texts_of call.asked.forms read.form.now) program read.every) program (file_rules call.asked (Traces (trace_seen read))) call.holds (trace_seen read).files status text →
+    Ready call status text
+trace-ready call read asked program status text loads reports =
+    reading-ready call (command.Trace read) asked read.script.now (trace_seen read).files refl (λ held. refl) tt (λ held. refl) refl
+    program status text loads (λ records. tt) reports
 
--- ---- a trace
+-- ---- a saved run
 
-module _ (call : Call) (read : TraceRead) (asked : command_of call.asked ≡ Some (Traces (trace_seen read))) where
-  pub trace-load-stops : (why : Refusal) → Unloads (call.holds read.script.now) (call.before read.script.now) (call.after read.script.now) why →
-      Stops call (record { why = why; command = Some (command.Trace read); checked = None })
-  trace-load-stops =
-      reading-load-stops call (command.Trace read) asked read.script.now (trace_seen read).files refl (λ held. refl)
+-- This text is that of a saved run of the records of files which the names may hold.
+abbrev pub MapsFiles : Program → FileRules → Holds → List (List ℕ) → ℕ → ℕ → List ℕ → Type 0
+MapsFiles program rules holds names from limit text =
+    AllRead program.plan rules holds names from
+    (λ records. IsMapped program from limit records text)
 
-  pub trace-ready : (program : Program) (status : Status) (text : List ℕ) → Loads (call.holds read.script.now) program →
-      Reports (trace_report_of (texts_of call.asked.forms read.form.now) program read.every) program (file_rules call.asked (Traces (trace_seen read))) call.holds (trace_seen read).files status text →
-      Ready call status text
-  trace-ready program status text loads reports =
-      reading-ready call (command.Trace read) asked read.script.now (trace_seen read).files refl (λ held. refl) tt (λ held. refl) refl
-      program status text loads (λ records. tt) reports
+pub maps-by : (program : Program) (rules : FileRules) (holds : Holds) (names : List (List ℕ)) (from limit : ℕ) (saved : Saved) (text : List ℕ)
+    → SavedAll program.plan rules holds names from saved → IsLawfulSaved program.plan saved → AreTight program.plan limit saved.groups
+    → text ≡ saved_text (script_text program.tree) saved → IsStored saved → MapsFiles program rules holds names from limit text
+maps-by program rules holds names from limit saved text all lawful tight text_is stored = record {
+  files = all.files;
+  may = all.may;
+  records = all.records;
+  fine = all.fine;
+  stands = record {
+    saved = saved;
+    file = record { is = record { lawful = lawful; text = text_is }; stored = stored };
+    first_is = all.stands.0;
+    stands = all.stands.1;
+    tight = tight;
+  };
+}
 
-  -- What stops it after its script was accepted.
-  module _ (checked : Checked) (middle : Counts) (lower : (name : List ℕ) → call.before name ≤ middle name)
-      (loads : Loads (call.holds read.script.now) (checked_program checked)) where
-    pub trace-files-stop : (why : Refusal) (cause : PassErr) → why ≡ pass_refusal cause →
-        StopsPass (checked_program checked).plan (file_rules call.asked (Traces (trace_seen read))) call.holds (trace_seen read).files middle call.after cause →
-        Stops call (record { why = why; command = Some (command.Trace read); checked = Some checked })
-    trace-files-stop why cause is s =
-        subst (λ (w : Refusal). Stops call (record { why = w; command = Some (command.Trace read); checked = Some checked })) (sym is)
-        (reading-error-stops call (command.Trace read) asked read.script.now (trace_seen read).files refl (λ held. refl) tt (λ held. refl)
-        checked middle lower loads cause s)
-
--- ---- a summary
-
-module _ (call : Call) (read : MapRead) (asked : command_of call.asked ≡ Some (Maps (map_seen read))) where
-  pub map-load-stops : (why : Refusal) → Unloads (call.holds read.script.now) (call.before read.script.now) (call.after read.script.now) why →
-      Stops call (record { why = why; command = Some (command.Map read); checked = None })
-  map-load-stops = reading-load-stops call (command.Map read) asked read.script.now (map_seen read).files refl (λ held. refl)
-
-  pub map-ready : (program : Program) (text : List ℕ) → Loads (call.holds read.script.now) program →
-      MapsFiles program (file_rules call.asked (Maps (map_seen read))) call.holds (map_seen read).files read.first read.options.limit text →
-      Ready call status.Done text
-  map-ready program text loads maps =
-      let held : Held = record { script = loads.text; files = maps.files } in
-      whole-ready call (command.Map read) asked held program maps.records status.Done text
-      (reading-may call (command.Map read) asked read.script.now (map_seen read).files refl (λ h. refl) held loads.may maps.may) loads.is_program tt maps.fine
-      (record { whole = tt; status_is = refl; text_is = mapped program read.first read.options.limit maps.records text maps.stands })
-
-  -- What stops it after its script was accepted.
-  module _ (checked : Checked) (middle : Counts) (lower : (name : List ℕ) → call.before name ≤ middle name)
-      (loads : Loads (call.holds read.script.now) (checked_program checked)) where
-    pub map-files-stop : (why : Refusal) →
-        StopsFiles read.first (checked_program checked) (file_rules call.asked (Maps (map_seen read))) call.holds (map_seen read).files middle call.after why →
-        Stops call (record { why = why; command = Some (command.Map read); checked = Some checked })
-    map-files-stop _ (stops why s) =
-        reading-error-stops call (command.Map read) asked read.script.now (map_seen read).files refl (λ held. refl) tt (λ held. refl)
-        checked middle lower loads why s
+pub map-ready : (call : Call) (read : MapRead) → command_of call.asked ≡ Some (Maps (map_seen read)) →
+    (program : Program) (text : List ℕ) → Loads (call.holds read.script.now) program →
+    MapsFiles program (file_rules call.asked (Maps (map_seen read))) call.holds (map_seen read).files read.first read.options.limit text →
+    Ready call status.Done text
+map-ready call read asked program text loads maps =
+    let held : Held = record { script = loads.text; files = maps.files } in
+    whole-ready call (command.Map read) asked held program maps.records status.Done text
+    (reading-may call (command.Map read) asked read.script.now (map_seen read).files refl (λ h. refl) held loads.may maps.may) loads.is_program tt maps.fine
+    (record { whole = tt; status_is = refl; text_is = mapped program read.first read.options.limit maps.records text maps.stands })
 
 -- The same of equal names, by equal rules, over a store that tells the same.
 pub maps-along : (program : Program) (rules likewise : FileRules) (holds told : Holds) (names words : List (List ℕ)) (from limit : ℕ) (text : List ℕ) →
@@ -500,11 +517,27 @@ maps-along program rules likewise holds told names words from limit text ruled s
 
 -- ---- a join of saved runs
 
-module _ (call : Call) (read : JoinRead) (asked : command_of call.asked ≡ Some (Joins (join_seen read))) where
-  pub join-load-stops : (why : Refusal) → Unloads (call.holds read.script.now) (call.before read.script.now) (call.after read.script.now) why →
-      Stops call (record { why = why; command = Some (command.Join read); checked = None })
-  join-load-stops = reading-load-stops call (command.Join read) asked read.script.now (join_seen read).files refl (λ held. refl)
+-- This text is that of the join of the saved runs of files which the names may hold.
+pub record JoinsFiles (program : Program) (max_bytes limit : ℕ) (holds : Holds)
+    (names : List (List ℕ)) (text : List ℕ) : Type 0 where
+  pub files : List (List ℕ)
+  pub may : MayAll holds names files
+  pub runs : List Saved
+  pub are : AreRunFiles (script_text program.tree) program.plan max_bytes files runs
+  pub text_is : IsJoined program limit runs text
 
+pub joins-by : (program : Program) (max_bytes limit : ℕ) (holds : Holds) (names : List (List ℕ)) (saved : Saved) (text : List ℕ)
+    → JoinedAll (script_text program.tree) program.plan max_bytes limit holds names saved
+    → text ≡ saved_text (script_text program.tree) saved → IsStored saved → JoinsFiles program max_bytes limit holds names text
+joins-by program max_bytes limit holds names saved text all text_is stored = record {
+  files = all.files;
+  may = all.may;
+  runs = all.runs;
+  are = all.are;
+  text_is = record { saved = saved; text = text_is; stored = stored; joins = all.joins };
+}
+
+module _ (call : Call) (read : JoinRead) (asked : command_of call.asked ≡ Some (Joins (join_seen read))) where
   pub join-ready : (program : Program) (text : List ℕ) → Loads (call.holds read.script.now) program →
       JoinsFiles program read.max_bytes read.limit call.holds (join_seen read).files text →
       Ready call status.Done text
@@ -527,19 +560,19 @@ module _ (call : Call) (read : JoinRead) (asked : command_of call.asked ≡ Some
       (loads : Loads (call.holds read.script.now) (checked_program checked)) where
     joins-known : (why : Refusal) (files : List (List ℕ)) → MayAll call.holds (join_seen read).files files →
         IsStop call (record { script = loads.text; files = files }) why →
-        Stops call (record { why = why; command = Some (command.Join read); checked = Some checked })
+        Stops call (Some (command.Join read)) (record { why = why; checked = Some checked })
     joins-known = known call (command.Join read) asked read.script.now (join_seen read).files refl (λ held. refl) checked middle lower loads
 
     join-problem-stops : (why : ReduceErr) →
         HasJoinProblem (script_text (checked_program checked).tree) (checked_program checked).plan read.max_bytes call.holds (join_seen read).files why →
-        Stops call (record { why = reduce_refusal why; command = Some (command.Join read); checked = Some checked })
+        Stops call (Some (command.Join read)) (record { why = reduce_refusal why; checked = Some checked })
     join-problem-stops why s =
         joins-known (reduce_refusal why) s.files s.may
         (promise.at_end (reduce_refusal why) (join_problem (join_seen read) (checked_program checked) why asked loads.is_program s.problem))
 
     join-error-stops : (why : ReduceErr) →
         StopsJoin (script_text (checked_program checked).tree) (checked_program checked).plan read.max_bytes call.holds (join_seen read).files middle call.after why →
-        Stops call (record { why = reduce_refusal why; command = Some (command.Join read); checked = Some checked })
+        Stops call (Some (command.Join read)) (record { why = reduce_refusal why; checked = Some checked })
     join-error-stops (reduce_error.Read file) s =
         joins-known (refusal.Read (place.File file)) s.files s.may
         (promise.join_unread (join_seen read) (checked_program checked) s.runs file asked loads.is_program s.are
@@ -549,12 +582,13 @@ module _ (call : Call) (read : JoinRead) (asked : command_of call.asked ≡ Some
     join-error-stops (reduce_error.Malformed file) s = join-problem-stops (reduce_error.Malformed file) s
     join-error-stops (reduce_error.Apart file) s = join-problem-stops (reduce_error.Apart file) s
     join-error-stops (reduce_error.Gap file group) s = absurd s
-    join-error-stops reduce_error.NoMemory s = memory-out call (command.Join read) asked (Some checked)
+    join-error-stops reduce_error.NoMemory s = memory-stops call (Some (command.Join read)) (Some checked)
 
-    pub join-files-stop : (why : Refusal) →
-        StopsJoins (checked_program checked) read.max_bytes call.holds (join_seen read).files middle call.after why →
-        Stops call (record { why = why; command = Some (command.Join read); checked = Some checked })
-    join-files-stop _ (stops_joins why s) = join-error-stops why s
+    pub join-files-stop : (why : Refusal) (cause : ReduceErr) → why ≡ reduce_refusal cause →
+        StopsJoin (script_text (checked_program checked).tree) (checked_program checked).plan read.max_bytes call.holds (join_seen read).files middle call.after cause →
+        Stops call (Some (command.Join read)) (record { why = why; checked = Some checked })
+    join-files-stop why cause is s =
+        subst (λ (w : Refusal). Stops call (Some (command.Join read)) (record { why = w; checked = Some checked })) (sym is) (join-error-stops cause s)
 
 -- The same of equal names, over a store that tells the same.
 pub joins-along : (program : Program) (max_bytes limit : ℕ) (holds told : Holds) (names words : List (List ℕ)) (text : List ℕ) →
@@ -565,11 +599,19 @@ joins-along program max_bytes limit holds told names words text stores same j =
 
 -- ---- a report on saved runs
 
-module _ (call : Call) (read : ReduceRead) (asked : command_of call.asked ≡ Some (Reduces (reduce_seen read))) where
-  pub reduce-load-stops : (why : Refusal) → Unloads (call.holds read.script.now) (call.before read.script.now) (call.after read.script.now) why →
-      Stops call (record { why = why; command = Some (command.Reduce read); checked = None })
-  reduce-load-stops = reading-load-stops call (command.Reduce read) asked read.script.now (reduce_seen read).files refl (λ held. refl)
+-- This status and this text are those of the report, in this form, of the totals of files of saved
+-- runs which the names may hold.
+pub record ReportsRuns (form : FormTexts) (program : Program) (max_bytes : ℕ) (holds : Holds)
+    (names : List (List ℕ)) (status : Status) (text : List ℕ) : Type 0 where
+  pub files : List (List ℕ)
+  pub may : MayAll holds names files
+  pub end : ℕ
+  pub totals : Pairs
+  pub reduced : AreReduced (script_text program.tree) program.plan max_bytes 1 [] files end totals
+  pub status_is : status ≡ status_of (groups_end form program totals)
+  pub text_is : IsTextOf (groups_end form program totals) text
 
+module _ (call : Call) (read : ReduceRead) (asked : command_of call.asked ≡ Some (Reduces (reduce_seen read))) where
   pub reduce-ready : (program : Program) (status : Status) (text : List ℕ) → Loads (call.holds read.script.now) program →
       ReportsRuns (texts_of call.asked.forms read.form.now) program read.max_bytes call.holds (reduce_seen read).files status text →
       Ready call status text
@@ -592,19 +634,19 @@ module _ (call : Call) (read : ReduceRead) (asked : command_of call.asked ≡ So
       (loads : Loads (call.holds read.script.now) (checked_program checked)) where
     runs-known : (why : Refusal) (files : List (List ℕ)) → MayAll call.holds (reduce_seen read).files files →
         IsStop call (record { script = loads.text; files = files }) why →
-        Stops call (record { why = why; command = Some (command.Reduce read); checked = Some checked })
+        Stops call (Some (command.Reduce read)) (record { why = why; checked = Some checked })
     runs-known = known call (command.Reduce read) asked read.script.now (reduce_seen read).files refl (λ held. refl) checked middle lower loads
 
     run-problem-stops : (why : ReduceErr) →
         HasFirstRunProblem (script_text (checked_program checked).tree) (checked_program checked).plan read.max_bytes call.holds (reduce_seen read).files why →
-        Stops call (record { why = reduce_refusal why; command = Some (command.Reduce read); checked = Some checked })
+        Stops call (Some (command.Reduce read)) (record { why = reduce_refusal why; checked = Some checked })
     run-problem-stops why s =
         runs-known (reduce_refusal why) s.files s.may
         (promise.at_end (reduce_refusal why) (run_problem (reduce_seen read) (checked_program checked) why asked loads.is_program s.problem))
 
     run-error-stops : (why : ReduceErr) →
         StopsReduce (script_text (checked_program checked).tree) (checked_program checked).plan read.max_bytes call.holds (reduce_seen read).files middle call.after why →
-        Stops call (record { why = reduce_refusal why; command = Some (command.Reduce read); checked = Some checked })
+        Stops call (Some (command.Reduce read)) (record { why = reduce_refusal why; checked = Some checked })
     run-error-stops (reduce_error.Read file) s =
         runs-known (refusal.Read (place.File file)) s.files s.may
         (promise.run_unread (reduce_seen read) (checked_program checked) s.end s.totals file asked loads.is_program s.reduced
@@ -614,12 +656,13 @@ module _ (call : Call) (read : ReduceRead) (asked : command_of call.asked ≡ So
     run-error-stops (reduce_error.Malformed file) s = run-problem-stops (reduce_error.Malformed file) s
     run-error-stops (reduce_error.Apart file) s = run-problem-stops (reduce_error.Apart file) s
     run-error-stops (reduce_error.Gap file group) s = run-problem-stops (reduce_error.Gap file group) s
-    run-error-stops reduce_error.NoMemory s = memory-out call (command.Reduce read) asked (Some checked)
+    run-error-stops reduce_error.NoMemory s = memory-stops call (Some (command.Reduce read)) (Some checked)
 
-    pub reduce-files-stop : (why : Refusal) →
-        StopsRuns (checked_program checked) read.max_bytes call.holds (reduce_seen read).files middle call.after why →
-        Stops call (record { why = why; command = Some (command.Reduce read); checked = Some checked })
-    reduce-files-stop _ (stops_runs why s) = run-error-stops why s
+    pub reduce-files-stop : (why : Refusal) (cause : ReduceErr) → why ≡ reduce_refusal cause →
+        StopsReduce (script_text (checked_program checked).tree) (checked_program checked).plan read.max_bytes call.holds (reduce_seen read).files middle call.after cause →
+        Stops call (Some (command.Reduce read)) (record { why = why; checked = Some checked })
+    reduce-files-stop why cause is s =
+        subst (λ (w : Refusal). Stops call (Some (command.Reduce read)) (record { why = w; checked = Some checked })) (sym is) (run-error-stops cause s)
 
 -- What is written of totals.
 pub runs-by : (form : FormTexts) (program : Program) (max_bytes : ℕ) (holds : Holds) (names : List (List ℕ)) (totals : Pairs) (faulty : Bool) (made : Status) (text : List ℕ) →
@@ -649,18 +692,13 @@ runs-along form other program max_bytes holds told names words made text forms s
 
 -- ---- a check
 
-module _ (call : Call) (read : CheckRead) (asked : command_of call.asked ≡ Some (Checks (check_seen read))) where
-  pub check-load-stops : (why : Refusal) → Unloads (call.holds read.script.now) (call.before read.script.now) (call.after read.script.now) why →
-      Stops call (record { why = why; command = Some (command.Check read); checked = None })
-  check-load-stops = load-stops call (command.Check read) asked read.script.now refl (λ held. refl)
-
-  pub check-ready : (program : Program) (text : List ℕ) → Loads (call.holds read.script.now) program → text ≡ said_of read.print program →
-      Ready call status.Done text
-  check-ready program text loads text_is =
-      let held : Held = record { script = loads.text; files = [] } in
-      whole-ready call (command.Check read) asked held program [] status.Done text
-      (may-by call (command.Check read) asked read.script.now refl (λ h. refl) held loads.may tt) loads.is_program tt (no_file 1)
-      (record { whole = tt; status_is = refl; text_is = subst (IsTextOf (whole_end call.asked (Checks (check_seen read)) program [])) (sym text_is) (said (said_of read.print program)) })
+pub check-ready : (call : Call) (read : CheckRead) → command_of call.asked ≡ Some (Checks (check_seen read)) →
+    (program : Program) (text : List ℕ) → Loads (call.holds read.script.now) program → text ≡ said_of read.print program → Ready call status.Done text
+check-ready call read asked program text loads text_is =
+    let held : Held = record { script = loads.text; files = [] } in
+    whole-ready call (command.Check read) asked held program [] status.Done text
+    (may-by call (command.Check read) asked read.script.now refl (λ h. refl) held loads.may tt) loads.is_program tt (no_file 1)
+    (record { whole = tt; status_is = refl; text_is = subst (IsTextOf (whole_end call.asked (Checks (check_seen read)) program [])) (sym text_is) (said (said_of read.print program)) })
 
 -- ---- a making
 
@@ -670,19 +708,24 @@ module _ (call : Call) (read : MakeRead) (asked : command_of call.asked ≡ Some
       let P : FileNames → Type 0 = λ names. MayScript call.holds names.script [] × MayAll call.holds names.files [] in
       subst P (sym (ap names_of asked)) (refl, tt)
 
-  pub make-refused : (why : Refusal) → MayRefuse made_script why → Stops call (record { why = why; command = Some (command.Make read); checked = None })
-  make-refused why (inl same) =
-      subst (λ w. Stops call (record { why = w; command = Some (command.Make read); checked = None })) (sym same)
-      (memory-out call (command.Make read) asked None)
-  make-refused why (inr is) = refused-stops call (command.Make read) asked (record { script = []; files = [] }) why make-may is
+  made-refused : (why : Refusal) → MayRefuse made_script why → Stops call (Some (command.Make read)) (record { why = why; checked = None })
+  made-refused why (inl same) =
+      subst (λ w. Stops call (Some (command.Make read)) (record { why = w; checked = None })) (sym same)
+      (memory-stops call (Some (command.Make read)) None)
+  made-refused why (inr is) = refused-stops call (command.Make read) asked (record { script = []; files = [] }) why make-may is
+
+  pub make-refused : (stopped : Stop) → stopped.checked ≡ None → MayRefuse made_script stopped.why → Stops call (Some (command.Make read)) stopped
+  make-refused stopped none is =
+      subst (λ (checked : Option Checked). Stops call (Some (command.Make read)) (record { why = stopped.why; checked = checked })) (sym none)
+      (made-refused stopped.why is)
 
   files-stop : (checked : Checked) (why : Refusal) → IsProgram made_script (checked_program checked) →
       StopsRecords (checked_program checked) (file_rules call.asked (Makes (make_seen read))) (made_file read.records read.seed ∷ []) why →
-      Stops call (record { why = why; command = Some (command.Make read); checked = Some checked })
+      Stops call (Some (command.Make read)) (record { why = why; checked = Some checked })
   files-stop checked _ is (first why problem_is) =
       known-stops call (command.Make read) asked (record { script = []; files = [] }) checked (pass_refusal why) make-may is
       (promise.at_end (pass_refusal why) (problem (Makes (make_seen read)) (checked_program checked) why asked is problem_is))
-  files-stop checked _ is no_more = memory-out call (command.Make read) asked (Some checked)
+  files-stop checked _ is no_more = memory-stops call (Some (command.Make read)) (Some checked)
 
   -- By the rows that a gate shows.
   module _ (shown : Row → Row) (likewise : call.asked.shown ≡ shown) where
@@ -691,7 +734,7 @@ module _ (call : Call) (read : MakeRead) (asked : command_of call.asked ≡ Some
 
     pub make-files-stop : (checked : Checked) (why : Refusal) → IsProgram made_script (checked_program checked) →
         StopsRecords (checked_program checked) (rules_of read.options.max_bytes shown) (made_file read.records read.seed ∷ []) why →
-        Stops call (record { why = why; command = Some (command.Make read); checked = Some checked })
+        Stops call (Some (command.Make read)) (record { why = why; checked = Some checked })
     make-files-stop checked why is stop =
         files-stop checked why is (subst (λ rules. StopsRecords (checked_program checked) rules (made_file read.records read.seed ∷ []) why) made-rules stop)
 

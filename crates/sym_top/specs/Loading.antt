@@ -1,5 +1,5 @@
 -- What the steps of a call come to.
-use Rattle.std.specs.Prelude.{◌≡◌, ℕ, ◌⊎◌, List, [], ◌∷◌, Option, None, Some, Result, Ok, Err}
+use Rattle.std.specs.Prelude.{◌≡◌, ℕ, ◌⊎◌, List, [], Option, None, Some, Result, Ok, Err, MatchResult}
 use Rattle.std.specs.Option.{option_map}
 use Rattle.sym_base.specs.Counts.{Rose}
 use Rattle.sym_base.specs.declared.values.record.Record.{Record}
@@ -11,17 +11,10 @@ use Rattle.sym_check.specs.declared.checked.accepted.Checked.{Checked}
 use Rattle.sym_files.specs.declared.error.PassErr.{PassErr}
 use Rattle.sym_files.specs.FileRecords.{FileRules}
 use Rattle.sym_files.specs.FirstProblems.{AllFine, FirstProblem}
-use Rattle.sym_files.specs.Passing.{AllRead, Holds, Counts, May, MayAll, StopsFrom}
-use Rattle.sym_parse.specs.Printed.{script_text}
-use Rattle.sym_reduce.specs.declared.error.ReduceErr.{ReduceErr}
-use Rattle.sym_reduce.specs.Joining.{AreRunFiles, StopsJoin}
-use Rattle.sym_file.specs.TakenTexts.{Pairs}
-use Rattle.sym_reduce.specs.Reducing.{AreReduced, StopsReduce}
-use Rattle.sym_run.specs.declared.saved.Saved.{Saved}
-use Rattle.sym_report.specs.Forms.{FormTexts}
+use Rattle.sym_files.specs.Passing.{May}
 use Rattle.sym_command.specs.declared.place.Place.TheVariants as place
 use Rattle.sym_command.specs.declared.commands.Command.{Command as CommandRead}
-use Rattle.sym_command.specs.Commands.{FileNames, shown_names}
+use Rattle.sym_command.specs.Commands.{shown_names}
 use Rattle.sym_command.specs.Words.{command_seen}
 use Rattle.sym_message.specs.declared.refusal.Refusal.{Refusal}
 use Rattle.sym_message.specs.declared.refusal.Refusal.TheVariants as refusal
@@ -29,13 +22,14 @@ use Rattle.sym_message.specs.declared.status.Status.{Status}
 use Rattle.sym_message.specs.declared.status.Status.TheVariants as status
 use Rattle.sym_message.specs.Messages.{headers_of, line_of}
 use Rattle.sym_message.specs.Refusals.{pass_refusal, status_of_refusal}
-use Rattle.sym_message.specs.Telling.{Sunk, Short}
-use Rattle.sym_top.specs.declared.load.Failure.{Failure}
-use Rattle.sym_top.specs.Ends.{End, Held, IsTextOf, groups_end, status_of}
+use Rattle.sym_message.specs.Telling.{Sunk}
+use Rattle.sym_top.specs.declared.output.Output.{Output}
+use Rattle.sym_top.specs.declared.output.Stop.{Stop}
+use Rattle.sym_top.specs.declared.output.Text.{Text}
+use Rattle.sym_top.specs.declared.output.Text.TheVariants.{Plain, Gathered}
+use Rattle.sym_top.specs.Ends.{Held}
 use Rattle.sym_top.specs.Programs.{Program, IsProgram, IsNoProgram}
-use Rattle.sym_top.specs.Promises.{Call, MayHold, IsStop, IsUntouched, HasReport, Wrote, Refuses, IsUsage, IsReported, IsRefused, IsUnwritten, call_line}
-use Rattle.sym_top.specs.RunFileRefusals.{reduce_refusal}
-use Rattle.sym_top.specs.SavedFiles.{IsJoined, IsMapped}
+use Rattle.sym_top.specs.Promises.{Call, MayHold, IsStop, IsUntouched, HasReport, Wrote, Refuses, IsUsage, IsReported, IsRefused, call_line}
 
 -- A text that isn't too large is refused for its own sake, or memory ran out.
 abbrev pub MayRefuse : List ℕ → Refusal → Type 0
@@ -72,110 +66,57 @@ pub data StopsRecords (program : Program) (rules : FileRules) (files : List (Lis
       → StopsRecords program rules files (pass_refusal why)
   no_more : StopsRecords program rules files refusal.NoMemory
 
--- This status and this text are those of the end that the records come to of files which the names
--- may hold.
-pub record Reports (end : List Record → End) (program : Program) (rules : FileRules)
-    (holds : Holds) (names : List (List ℕ)) (status : Status) (text : List ℕ) : Type 0 where
-  pub files : List (List ℕ)
-  pub may : MayAll holds names files
-  pub records : List Record
-  pub fine : AllFine program.plan rules 1 files records
-  pub status_is : status ≡ status_of (end records)
-  pub text_is : IsTextOf (end records) text
-
--- This text is that of a saved run of the records of files which the names may hold.
-abbrev pub MapsFiles : Program → FileRules → Holds → List (List ℕ) → ℕ → ℕ → List ℕ → Type 0
-MapsFiles program rules holds names from limit text =
-    AllRead program.plan rules holds names from
-    (λ records. IsMapped program from limit records text)
-
--- Why there is no report, and no saved run: the loop over the files was stopped, or memory ran out.
--- Records are numbered from `from` on.
-pub data StopsFiles (from : ℕ) (program : Program) (rules : FileRules) (holds : Holds)
-    (names : List (List ℕ)) (before after : Counts) : Refusal → Type 0 where
-  stops : (why : PassErr)
-      → StopsFrom from program.plan rules holds names before after why
-      → StopsFiles from program rules holds names before after (pass_refusal why)
-
--- This status and this text are those of the report, in this form, of the totals of files of saved
--- runs which the names may hold.
-pub record ReportsRuns (form : FormTexts) (program : Program) (max_bytes : ℕ) (holds : Holds)
-    (names : List (List ℕ)) (status : Status) (text : List ℕ) : Type 0 where
-  pub files : List (List ℕ)
-  pub may : MayAll holds names files
-  pub end : ℕ
-  pub totals : Pairs
-  pub reduced : AreReduced (script_text program.tree) program.plan max_bytes 1 [] files end totals
-  pub status_is : status ≡ status_of (groups_end form program totals)
-  pub text_is : IsTextOf (groups_end form program totals) text
-
--- Why there is none: the files have no totals, or memory ran out.
-pub data StopsRuns (program : Program) (max_bytes : ℕ) (holds : Holds)
-    (names : List (List ℕ)) (before after : Counts) : Refusal → Type 0 where
-  stops_runs : (why : ReduceErr)
-      → StopsReduce (script_text program.tree) program.plan max_bytes holds names before after why
-      → StopsRuns program max_bytes holds names before after (reduce_refusal why)
-
--- This text is that of the join of the saved runs of files which the names may hold.
-pub record JoinsFiles (program : Program) (max_bytes limit : ℕ) (holds : Holds)
-    (names : List (List ℕ)) (text : List ℕ) : Type 0 where
-  pub files : List (List ℕ)
-  pub may : MayAll holds names files
-  pub runs : List Saved
-  pub are : AreRunFiles (script_text program.tree) program.plan max_bytes files runs
-  pub text_is : IsJoined program limit runs text
-
--- Why there is none: the files can't be joined, or memory ran out.
-pub data StopsJoins (program : Program) (max_bytes : ℕ) (holds : Holds)
-    (names : List (List ℕ)) (before after : Counts) : Refusal → Type 0 where
-  stops_joins : (why : ReduceErr)
-      → StopsJoin (script_text program.tree) program.plan max_bytes holds names before after why
-      → StopsJoins program max_bytes holds names before after (reduce_refusal why)
-
 -- A call that is ready to write this text, and then to end with this status.
 pub record Ready (call : Call) (status : Status) (text : List ℕ) : Type 0 where
   pub held : Held
   pub may : MayHold call held
   pub has : HasReport call.asked held status text
 
+-- The bytes of a text, by what a form has gathered.
+abbrev pub text_bytes : {F : Type 0} → (F → List ℕ) → Text F → List ℕ
+text_bytes gathered (Plain bytes) = bytes.items
+text_bytes gathered (Gathered form) = gathered form
+
+-- The header texts of the fields of a script, if one was accepted.
 abbrev pub known_headers : Option Checked → List (List ℕ)
 known_headers None = []
 known_headers (Some checked) = headers_of (checked_plan checked).fields
 
--- The names by which a line speaks of the files of a command that was read.
-abbrev pub known_names : Option CommandRead → FileNames
-known_names command = shown_names (option_map command_seen command)
+-- The line of a stop, by the command, if there is one, and by the script.
+abbrev pub stop_line : Option CommandRead → Stop → List ℕ
+stop_line command stop =
+    line_of (shown_names (option_map command_seen command)) (known_headers stop.checked) stop.why
 
--- How a call may end: with the status of what was to be written, if that was written whole, or with
--- that of the failure.
-abbrev pub MayEnd : Result Status Failure → Status → Type 0
-MayEnd (Ok made) result =
-    (result ≡ made) ⊎ ((result ≡ status.WriteFault) ⊎ (result ≡ status.NoMemory))
-MayEnd (Err failure) result = result ≡ status_of_refusal failure.why
-
--- The line of a failure, by the command and the script that it carries.
-abbrev pub failure_line : Failure → List ℕ
-failure_line failure =
-    line_of (known_names failure.command) (known_headers failure.checked) failure.why
-
--- A run that stops before it writes. Its line names what the line of the script's text would name.
-pub record Stops (call : Call) (failure : Failure) : Type 0 where
+-- Why a call stops before it writes. Its line names what the line of the script's text would name.
+pub record Stops (call : Call) (command : Option CommandRead) (stopped : Stop) : Type 0 where
   pub held : Held
   pub may : MayHold call held
-  pub stop : IsStop call held failure.why
-  pub line : failure_line failure ≡ call_line call held failure.why
+  pub stop : IsStop call held stopped.why
+  pub line : stop_line command stopped ≡ call_line call held stopped.why
+
+-- What a command comes to before anything is written: a text that is ready, or a stop.
+abbrev pub ComesTo : {F : Type 0} → Call → (F → List ℕ) → Option CommandRead
+    → Result (Output F) Stop → Type 0
+ComesTo call gathered command made =
+    MatchResult made (λ output. Ready call output.status (text_bytes gathered output.text))
+    (Stops call command)
+
+-- The same, of which the store is left as it was with arguments of no command.
+pub record IsPrepared {F S : Type 0} (call : Call) (gathered : F → List ℕ)
+    (command : Option CommandRead) (files files_after : S) (made : Result (Output F) Stop)
+    : Type 0 where
+  pub comes_to : ComesTo call gathered command made
+  pub unread : IsUsage call → files_after ≡ files
+
+-- How a call may end: with the status of its text, if that was written whole, or with that of what
+-- stopped it.
+abbrev pub MayEnd : {F : Type 0} → Result (Output F) Stop → Status → Type 0
+MayEnd (Ok output) result =
+    (result ≡ output.status) ⊎ ((result ≡ status.WriteFault) ⊎ (result ≡ status.NoMemory))
+MayEnd (Err stop) result = result ≡ status_of_refusal stop.why
 
 -- What is said of each status: with a text written, and without.
 pub record Says (call : Call) (out err : Sunk) (result : Status) : Type 0 where
   pub reported : IsReported result → Wrote call out result
   pub refused : IsRefused result → Refuses call out err result
   pub quiet : IsReported result → IsUntouched err
-
--- What a command comes to: what is said of its status, and what it leaves as it was.
-pub record ComesTo {F O E : Type 0} (call : Call) (sunk_out sunk_err : Sunk) (files files_after : F)
-    (out out_after : O) (err err_after : E) (result : Status) : Type 0 where
-  pub says : Says call sunk_out sunk_err result
-  pub unread : IsUsage call → files_after ≡ files
-  pub unwritten : IsUnwritten result → out_after ≡ out
-  pub memory : result ≡ status.NoMemory → (out_after ≡ out) ⊎ Short sunk_out
-  pub quiet : IsReported result → err_after ≡ err

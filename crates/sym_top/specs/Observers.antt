@@ -2,12 +2,11 @@
 -- partials at the borders of the rounds that were done. The option is this project's profile.
 use Rattle.std.specs.Prelude.{◌≡◌, ◌<◌, ◌⊎◌, ℕ, if◌then◌else◌, List, length, map, Option, None, Some, Result, Ok, Err}
 use Rattle.sym_base.specs.Counts.{Rose}
-use Rattle.sym_base.specs.Trees.{ScriptTree}
 use Rattle.sym_base.specs.declared.limits.TheConstants as limit
 use Rattle.sym_files.specs.declared.error.PassErr.{PassErr}
 use Rattle.sym_files.specs.FileRecords.{rules_of}
 use Rattle.sym_watched.specs.Partials.{ToldAll, ToldUntil, WatchedFiles, watched_files}
-use Rattle.sym_files.specs.Passing.{Counts, Holds, May, StopsPass}
+use Rattle.sym_files.specs.Passing.{Holds, May, StopsPass}
 use Rattle.sym_table.specs.Reading.{Row as FileRow}
 use Rattle.sym_watch.specs.Logs.{Log}
 use Rattle.sym_command.specs.declared.commands.Run.{Run as RunRead}
@@ -17,7 +16,7 @@ use Rattle.sym_message.specs.declared.refusal.Refusal.{Refusal}
 use Rattle.sym_message.specs.declared.status.Status.{Status}
 use Rattle.sym_message.specs.declared.status.Status.TheVariants as status
 use Rattle.sym_message.specs.Refusals.{pass_refusal, status_of_refusal}
-use Rattle.sym_top.specs.declared.load.Failure.{Failure}
+use Rattle.sym_top.specs.declared.output.Stop.{Stop}
 use Rattle.sym_top.specs.Loading.{Loads, Unloads}
 use Rattle.sym_top.specs.Programs.{Program}
 use Rattle.sym_top.specs.Promises.{Call}
@@ -120,14 +119,6 @@ abbrev pub AreTold : Call → Logs → Status → Type 0
 AreTold call logs result = AreToldOf (watched_run (command_of call.asked)) call logs result
 
 -- ---- the steps of a run
--- Why files weren't taken, and what observers were told of until then.
-pub data StopsTold (tree : ScriptTree) (w : WatchedFiles) (before after : Counts) (logs : Logs)
-    : Refusal → Type 0 where
-  stops_told : (why : PassErr)
-      → StopsPass w.plan w.rules w.holds w.names before after why
-      → ToldUntil tree w logs.before logs.after why
-      → StopsTold tree w before after logs (pass_refusal why)
-
 -- Why a run stops before it writes, and what its observers were told of until then.
 pub data AreToldTo (call : Call) (run : Run) (logs : Logs) : Refusal → Type 0 where
   at_script : (why : Refusal)
@@ -138,7 +129,14 @@ pub data AreToldTo (call : Call) (run : Run) (logs : Logs) : Refusal → Type 0 
       → AreToldUntil call run logs why
       → AreToldTo call run logs (pass_refusal why)
 
--- What the observers were told of when a report is ready to be written, or there is none.
-abbrev pub AreToldBefore : Call → Run → Logs → Result Status Failure → Type 0
-AreToldBefore call run logs (Ok made) = AreToldAll call run logs
-AreToldBefore call run logs (Err failure) = AreToldTo call run logs failure.why
+-- What the observers of a call were told of when a report is ready to be written, or there is none.
+abbrev pub AreToldBefore : {A : Type 0} → Option Run → Call → Logs → Result A Stop → Type 0
+AreToldBefore None call logs made = AreUntold logs
+AreToldBefore (Some run) call logs (Ok output) = AreToldAll call run logs
+AreToldBefore (Some run) call logs (Err stop) = AreToldTo call run logs stop.why
+
+-- The same of its own run, and that the observers are as they were without one.
+pub record IsObserved {A W : Type 0} (call : Call) (logs : Logs) (observers observers_after : W)
+    (made : Result A Stop) : Type 0 where
+  pub told : AreToldBefore (watched_run (command_of call.asked)) call logs made
+  pub unwatched : IsUnwatched call → observers_after ≡ observers

@@ -1,6 +1,7 @@
 //! The top call: arguments in, report out.
 #![tactic(auto)]
 
+mod check;
 mod ends;
 mod join;
 pub mod laws;
@@ -8,9 +9,10 @@ mod load;
 mod made;
 mod make;
 mod map;
+mod output;
 mod prepare;
 mod reduce;
-mod report;
+mod run;
 mod run_file_refusal;
 mod top;
 mod trace;

@@ -1,119 +1,69 @@
-//! Everything of a command but the writing.
-ghost use Rattle.std.specs.Prelude.{◌≡◌, ◌≤◌, ℕ, true, false, List, [], Some, IfOk, IfErr};
-ghost use Rattle.sym_command.specs.Commands.{Asked, Runs, Checks, command_of, texts_of};
-ghost use Rattle.sym_command.specs.Words.{run_seen, check_seen, IsRun};
-ghost use Rattle.sym_top.specs.Ends.{said_of};
-ghost use Rattle.sym_top.specs.Loading.{Ready, Stops};
-ghost use Rattle.sym_top.specs.Observers.{AreToldBefore, logs_of};
-ghost use Rattle.sym_top.specs.Programs.{checked_program};
-ghost use Rattle.sym_top.specs.Promises.{call_of, IsReported};
+//! All of a command but the writing.
+ghost use Rattle.std.specs.Prelude.{◌≡◌, ◌≤◌, ℕ, List, [], IfSome};
+ghost use Rattle.std.specs.List.{All};
+ghost use Rattle.std.specs.Option.{option_map};
+ghost use Rattle.sym_command.specs.Commands.{command_in};
+ghost use Rattle.sym_command.specs.Words.{IsInRange, command_seen};
+ghost use Rattle.sym_top.specs.Loading.{IsPrepared};
+ghost use Rattle.sym_top.specs.Observers.{IsObserved, logs_of};
+ghost use Rattle.sym_top.specs.Promises.{call_with};
 
-use crate::load::{Failure, load_script};
-use crate::report::report_run;
+use crate::check::prepare_check;
+use crate::join::prepare_join;
+use crate::made::prepare_make;
+use crate::map::prepare_map;
+use crate::output::{Output, Stop, no_command};
+use crate::reduce::prepare_reduce;
+use crate::run::prepare_run;
+use crate::trace::prepare_trace;
 use std::alloc::Global;
 use std::sync::Wait;
 use std::thread::Threads;
-use sym_base::{NoMemory, Store};
-use sym_check::Checked;
-use sym_command::{Check, Command, Run};
+use sym_base::Store;
+use sym_command::Command;
 use sym_engine::Gate;
-use sym_message::{Refusal, Status, check_line};
-use sym_parse::print;
+use sym_message::Refusal;
 use sym_report::ReportForm;
 use sym_watch::Observer;
 
-/// Gathers the report of a run in a form without bytes, and gives its status. The files of records
-/// are worked on through the gate, and the observers are told of them where the run is watched.
-pub fn prepare_run<'a, T: Threads + Wait + Sync, F: Store, G: Gate + Sync>(
+/// What the command comes to, if there is one. Its report is gathered in the form that it names,
+/// and the observers are told of partials where a run is watched.
+pub fn prepare<T: Threads + Wait + Sync, F: Store, G: Gate + Sync>(
     rt: &T,
     alloc: Global,
-    run: Run<'a>,
+    command: &Option<Command<'_>>,
     files: &mut F,
-    form: &mut Box<dyn ReportForm>,
+    forms: Vec<Box<dyn ReportForm>>,
     observers: &mut Vec<Box<dyn Observer + Send>>,
     gate: &G,
-) -> Result<Status, Failure<'a>>
-    requires run { IsRun run }
-    requires empty { gathered form.old ≡ [] }
-    ensures ready { (asked : Asked) → command_of asked ≡ Some (Runs (run_seen run.entry)) →
-        texts_of asked.forms run.entry.form.now ≡ texts form.old → asked.shown ≡ G.shown gate.now →
-        let call = call_of F.holds F.faults asked files.old files.new in
-        IfOk result (λ status. Ready call status (gathered form.new)) }
-    ensures reported { IfOk result IsReported }
-    ensures stopped { (asked : Asked) → command_of asked ≡ Some (Runs (run_seen run.entry)) →
-        asked.shown ≡ G.shown gate.now →
-        let call = call_of F.holds F.faults asked files.old files.new in
-        IfErr result (Stops call) }
-    ensures told { (asked : Asked) → asked.shown ≡ G.shown gate.now → run.entry.watch ≡ true →
-        let call = call_of F.holds F.faults asked files.old files.new in
+) -> Result<Output<Box<dyn ReportForm>>, Stop>
+    requires range { IfSome command.now IsInRange }
+    requires empty { All (λ f. gathered f ≡ []) forms.items }
+    ensures prepared { (words : List (List ℕ)) →
+        command_in words ≡ option_map command_seen command.now →
+        let call = call_with words (λ f. called f) (λ f. texts f) forms.items (G.shown gate.now)
+        F.holds F.faults files.old files.new in
+        IsPrepared call (λ f. gathered f) command.now files.old files.new result }
+    ensures observed { (words : List (List ℕ)) →
+        command_in words ≡ option_map command_seen command.now →
+        let call = call_with words (λ f. called f) (λ f. texts f) forms.items (G.shown gate.now)
+        F.holds F.faults files.old files.new in
         let logs = logs_of (λ o. log o) observers.old.items observers.new.items in
-        AreToldBefore call (run_seen run.entry) logs result }
-    ensures unwatched { run.entry.watch ≡ false → observers.new ≡ observers.old }
+        IsObserved call logs observers.old observers.new result }
     ensures same { F.holds files.new ≡ F.holds files.old }
     ensures later { (other : List ℕ) → F.faults files.old other ≤ F.faults files.new other }
 {
-    let checked = match load_script(alloc, files, run.script) {
-        Ok(checked) => checked,
-        Err(why) => {
-            return Err(Failure {
-                why,
-                command: Some(Command::Run(run)),
-                checked: None,
-            });
-        }
+    let command = match command {
+        Some(command) => command,
+        None => return Err(no_command(Refusal::Usage)),
     };
-    match report_run(rt, alloc, &checked, &run, files, form, observers, gate) {
-        Ok(status) => Ok(status),
-        Err(why) => Err(Failure {
-            why,
-            command: Some(Command::Run(run)),
-            checked: Some(checked),
-        }),
-    }
-}
-
-// What is said of a script: its line, or the script as it is printed.
-fn say(alloc: Global, checked: &Checked, print_it: bool) -> Result<Vec<u8>, NoMemory>
-    ensures { IfOk result (λ text. text.items ≡ said_of print_it (checked_program checked.now)) }
-{
-    if print_it {
-        print(alloc, checked.script())
-    } else {
-        check_line(alloc, checked)
-    }
-}
-
-/// What is said of the script of a check.
-pub fn prepare_check<'a, F: Store>(
-    alloc: Global,
-    check: Check<'a>,
-    files: &mut F,
-) -> Result<Vec<u8>, Failure<'a>>
-    ensures ready { (asked : Asked) → command_of asked ≡ Some (Checks (check_seen check.entry)) →
-        let call = call_of F.holds F.faults asked files.old files.new in
-        IfOk result (λ text. Ready call Status.Done text.items) }
-    ensures stopped { (asked : Asked) → command_of asked ≡ Some (Checks (check_seen check.entry)) →
-        let call = call_of F.holds F.faults asked files.old files.new in
-        IfErr result (Stops call) }
-    ensures same { F.holds files.new ≡ F.holds files.old }
-    ensures later { (other : List ℕ) → F.faults files.old other ≤ F.faults files.new other }
-{
-    let checked = match load_script(alloc, files, check.script) {
-        Ok(checked) => checked,
-        Err(why) => {
-            return Err(Failure {
-                why,
-                command: Some(Command::Check(check)),
-                checked: None,
-            });
-        }
-    };
-    match say(alloc, &checked, check.print) {
-        Ok(text) => Ok(text),
-        Err(_) => Err(Failure {
-            why: Refusal::NoMemory,
-            command: Some(Command::Check(check)),
-            checked: Some(checked),
-        }),
+    match command {
+        Command::Run(run) => prepare_run(rt, alloc, run, files, forms, observers, gate),
+        Command::Trace(trace) => prepare_trace(rt, alloc, trace, files, forms),
+        Command::Check(check) => prepare_check(alloc, check, files),
+        Command::Make(make) => prepare_make(rt, alloc, make, gate),
+        Command::Map(part) => prepare_map(rt, alloc, part, files, gate),
+        Command::Reduce(reduce) => prepare_reduce(alloc, reduce, files, forms),
+        Command::Join(join) => prepare_join(rt, alloc, join, files),
     }
 }

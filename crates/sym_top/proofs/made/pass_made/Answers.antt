@@ -26,8 +26,8 @@ returns-in-Err-made_names-clause-stopped g c = no_more
 pub returns-clause-stopped : goal.returns-clause-stopped
 returns-clause-stopped g c =
     let program = checked_program c.args.checked.now in
-    let rules = rules_of c.args.make.options.max_bytes (g.G.Gate.shown c.args.gate.now) in
-    let log = made_file c.args.make.records c.args.make.seed in
+    let rules = rules_of c.args.make.now.options.max_bytes (g.G.Gate.shown c.args.gate.now) in
+    let log = made_file c.args.make.now.records c.args.make.now.seed in
     let holds = visible_bytes c.in-Ok.store in
     let names = map string_bytes c.as_slice.result.now in
     let named = ap (map string_bytes) c.as_slice.ensures.value ∙ c.in-Ok-made_names.ensures in
@@ -37,8 +37,8 @@ returns-clause-stopped g c =
 pub returns-in-Ok-pass-clause-passed : goal.returns-in-Ok-pass-clause-passed
 returns-in-Ok-pass-clause-passed g c =
     let passed = c.in-Ok-pass.ensures.passed in
-    let rules = rules_of c.args.make.options.max_bytes (g.G.Gate.shown c.args.gate.now) in
-    let log = made_file c.args.make.records c.args.make.seed in
+    let rules = rules_of c.args.make.now.options.max_bytes (g.G.Gate.shown c.args.gate.now) in
+    let log = made_file c.args.make.now.records c.args.make.now.seed in
     let named = ap (map string_bytes) c.as_slice.ensures.value ∙ c.in-Ok-made_names.ensures in
     let same = one-file (visible_bytes c.in-Ok.store) (map string_bytes c.as_slice.result.now) _ log named c.in-Ok.ensures passed.files passed.may in
     record {

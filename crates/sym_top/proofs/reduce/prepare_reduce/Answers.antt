@@ -1,28 +1,64 @@
-use Rattle.std.proofs.Common.{ap, subst, map}
+use Rattle.std.proofs.Common.{◌≡◌, [], Some, ap, refl, subst, sym, map}
+use Rattle.std.specs.List.{All}
 use Rattle.std.specs.String.{string_bytes}
-use Rattle.sym_top.specs.Loading.{StopsRuns}
+use Rattle.sym_check.specs.Checking.CheckedScripts.{checked_plan}
+use Rattle.sym_check.specs.Meaning.Validity.{IsKey}
+use Rattle.sym_parse.specs.Printed.{script_text}
+use Rattle.sym_reduce.specs.Reducing.{StopsReduce}
+use Rattle.sym_command.specs.declared.commands.Command.TheVariants as command
+use Rattle.sym_command.specs.Words.{reduce_seen}
+use Rattle.sym_command.proofs.Handed.{chosen-all, reduce-handed, reduce-unhanded, texts-named}
 use Rattle.sym_top.specs.Programs.{checked_program}
-use Rattle.sym_top.proofs.Preparing.{reduce-files-stop, reduce-load-stops, reduce-ready, runs-along}
+use Rattle.sym_top.proofs.Preparing.{memory-stops, reading-load-stops, reduce-files-stop, reduce-ready, runs-along, runs-by, some-prepared, usage-prepared}
 use Rattle.sym_top.proofs.reduce.prepare_reduce.Goals as goal
 
-pub returns-in-Err-clause-stopped : goal.returns-in-Err-clause-stopped
-returns-in-Err-clause-stopped g c asked is =
-    reduce-load-stops _ c.args.reduce is c.in-Err.why c.in-Err.ensures.refused
+pub write_report-requires : goal.write_report-requires
+write_report-requires g c =
+    let p = checked_plan c.in-Ok.checked in subst (All (λ pair. IsKey p pair.0)) (sym c.groups.ensures) c.in-Ok-reduce_files.ensures.keys
 
-pub returns-in-Ok-report_runs-clause-ready : goal.returns-in-Ok-report_runs-clause-ready
-returns-in-Ok-report_runs-clause-ready g c asked is form =
-    reduce-ready _ c.args.reduce is (checked_program c.in-Ok.checked) c.in-Ok-report_runs.status _ c.in-Ok.ensures.loaded
-    (runs-along _ _ _ c.args.reduce.max_bytes _ _ _ _ c.in-Ok-report_runs.status _ form c.in-Ok.ensures.same (ap (map string_bytes) c.as_slice.ensures.value)
-    c.in-Ok-report_runs.ensures.ready)
+pub returns-in-None-clause-prepared : goal.returns-in-None-clause-prepared
+returns-in-None-clause-prepared g c words shown is =
+    usage-prepared _ _ _ _ _ c.no_command.ensures
+    (reduce-unhanded _ _ words c.args.forms.items shown (reduce_seen c.args.reduce.now) is (sym c.in-None.ensures))
 
-pub returns-clause-stopped : goal.returns-clause-stopped
-returns-clause-stopped g c asked is =
+pub returns-in-Err-clause-prepared : goal.returns-in-Err-clause-prepared
+returns-in-Err-clause-prepared g c words shown is =
+    let handed = reduce-handed _ _ words c.args.forms.items shown (reduce_seen c.args.reduce.now) c.in-Some.form is (sym c.in-Some.ensures) in
+    some-prepared _ _ _ _ _ _ _ handed
+    (reading-load-stops _ (command.Reduce c.args.reduce.now) handed c.args.reduce.now.script.now (reduce_seen c.args.reduce.now).files refl (λ held. refl) c.in-Err.stop c.in-Err.ensures.none c.in-Err.ensures.refused)
+
+pub returns-in-Err-reduce_files-clause-prepared : goal.returns-in-Err-reduce_files-clause-prepared
+returns-in-Err-reduce_files-clause-prepared g c words shown is =
+    let handed = reduce-handed _ _ words c.args.forms.items shown (reduce_seen c.args.reduce.now) c.in-Some.form is (sym c.in-Some.ensures) in
     let program = checked_program c.in-Ok.checked in
-    let size = c.args.reduce.max_bytes in
+    let size = c.args.reduce.now.max_bytes in
     let middle = g.F.Store.faults c.load_script.new.files in
-    let after = g.F.Store.faults c.report_runs.new.files in
-    let why = c.in-Err-report_runs.why in
-    reduce-files-stop _ c.args.reduce is c.in-Ok.checked middle c.in-Ok.ensures.later c.in-Ok.ensures.loaded why
-    (subst (λ h. StopsRuns program size h (map string_bytes c.args.reduce.files.items) middle after why) c.in-Ok.ensures.same
-    (subst (λ names. StopsRuns program size (g.F.Store.holds c.load_script.new.files) (map string_bytes names) middle after why)
-    c.as_slice.ensures.value c.in-Err-report_runs.ensures.stopped))
+    let after = g.F.Store.faults c.reduce_files.new.files in
+    let why = c.in-Err-reduce_files.error in
+    some-prepared _ _ _ _ _ _ _ handed
+    (reduce-files-stop _ c.args.reduce.now handed c.in-Ok.checked middle c.in-Ok.ensures.later c.in-Ok.ensures.loaded c.reduce_refusal.result why c.reduce_refusal.ensures
+    (subst (λ h. StopsReduce (script_text program.tree) program.plan size h (map string_bytes c.args.reduce.now.files.items) middle after why) c.in-Ok.ensures.same
+    (subst (λ names. StopsReduce (script_text program.tree) program.plan size (g.F.Store.holds c.load_script.new.files) (map string_bytes names) middle after why)
+    c.as_slice-names.ensures.value c.in-Err-reduce_files.ensures.stopped)))
+
+pub returns-in-Ok-write_report-clause-prepared : goal.returns-in-Ok-write_report-clause-prepared
+returns-in-Ok-write_report-clause-prepared g c words shown is =
+    let named = sym c.in-Some.ensures in
+    let handed = reduce-handed _ _ words c.args.forms.items shown (reduce_seen c.args.reduce.now) c.in-Some.form is named in
+    let program = checked_program c.in-Ok.checked in
+    let size = c.args.reduce.now.max_bytes in
+    let empty = chosen-all (λ f. (goal.ReportForm-dyn g (f.vtable, f.value)).called f.value)
+    (λ f. (goal.ReportForm-dyn g (f.vtable, f.value)).gathered f.value ≡ []) c.args.reduce.now.form.now c.args.forms.items c.in-Some.form c.requires.empty named in
+    some-prepared _ _ _ _ _ _ _ handed
+    (reduce-ready _ c.args.reduce.now handed program c.report_status.result _ c.in-Ok.ensures.loaded
+    (runs-along _ _ _ size _ _ _ _ c.report_status.result _ (texts-named _ _ c.args.reduce.now.form.now c.args.forms.items c.in-Some.form named)
+    c.in-Ok.ensures.same (ap (map string_bytes) c.as_slice-names.ensures.value)
+    (runs-by _ program size (g.F.Store.holds c.load_script.new.files) (map string_bytes c.as_slice-names.result.now) c.in-Ok-reduce_files.totals c.in-Ok-write_report.faulty
+    c.report_status.result _ c.in-Ok-reduce_files.ensures.reduced (rw (empty, c.groups.ensures) at c.in-Ok-write_report.ensures.text)
+    (rw c.groups.ensures at c.in-Ok-write_report.ensures.faulty) c.report_status.ensures)))
+
+pub returns-in-Err-write_report-clause-prepared : goal.returns-in-Err-write_report-clause-prepared
+returns-in-Err-write_report-clause-prepared g c words shown is =
+    some-prepared _ _ _ _ _ _ _
+    (reduce-handed _ _ words c.args.forms.items shown (reduce_seen c.args.reduce.now) c.in-Some.form is (sym c.in-Some.ensures))
+    (memory-stops _ (Some (command.Reduce c.args.reduce.now)) (Some c.in-Ok.checked))

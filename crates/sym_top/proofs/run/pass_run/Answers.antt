@@ -5,7 +5,7 @@ use Rattle.sym_files.specs.FileRecords.{rules_of}
 use Rattle.sym_watched.specs.Partials.{ToldAll, ToldUntil, watched_files}
 use Rattle.sym_top.specs.Observers.{logs_of}
 use Rattle.sym_top.specs.Programs.{checked_program}
-use Rattle.sym_top.proofs.report.pass_run.Goals as goal
+use Rattle.sym_top.proofs.run.pass_run.Goals as goal
 
 pub returns-then-run-clause-told : goal.returns-then-run-clause-told
 returns-then-run-clause-told g c watch =
