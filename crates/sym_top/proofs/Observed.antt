@@ -9,7 +9,7 @@ use Rattle.sym_check.specs.declared.elaborate.error.CheckErr.TheVariants as chec
 use Rattle.sym_files.specs.declared.error.PassErr.{PassErr}
 use Rattle.sym_files.specs.declared.error.PassErr.TheVariants as pass_error
 use Rattle.sym_files.specs.FileRecords.{FileRules}
-use Rattle.sym_watched.specs.Partials.{AllGrew, ToldAll, ToldUntil, WatchedFiles, partials_of, watched_files}
+use Rattle.sym_watched.specs.Partials.{AllGrew, ToldAll, ToldUntil, WatchedFiles, partials_of}
 use Rattle.sym_files.specs.Passing.{Counts, Holds, May, StopsPass}
 use Rattle.sym_watched.proofs.Logs.{part_whole}
 use Rattle.sym_lex.specs.declared.error.LexFault.{LexFault}
@@ -47,19 +47,6 @@ all_some tree w olds news all = record {
   so = part_whole (partials_of tree w.plan (all.rounds ++ [])) olds news
       (subst (λ (rs : List (List Record)). AllGrew olds news (partials_of tree w.plan rs)) (sym (append-nil all.rounds)) all.so);
 }
-
--- The same over a store that tells the same.
-pub told_along : (tree : ScriptTree) (p : ScriptPlan) (rules : FileRules) (chunk : ℕ) (holds told : Holds) (names : List (List ℕ))
-    (olds news : List Log) → holds ≡ told → ToldAll tree (watched_files p rules chunk holds names 1) olds news →
-    ToldAll tree (watched_files p rules chunk told names 1) olds news
-told_along tree p rules chunk holds told names olds news stores all =
-    subst (λ (h : Holds). ToldAll tree (watched_files p rules chunk h names 1) olds news) stores all
-
-pub until_along : (tree : ScriptTree) (p : ScriptPlan) (rules : FileRules) (chunk : ℕ) (holds told : Holds) (names : List (List ℕ))
-    (olds news : List Log) (why : PassErr) → holds ≡ told → ToldUntil tree (watched_files p rules chunk holds names 1) olds news why →
-    ToldUntil tree (watched_files p rules chunk told names 1) olds news why
-until_along tree p rules chunk holds told names olds news why stores until =
-    subst (λ (h : Holds). ToldUntil tree (watched_files p rules chunk h names 1) olds news why) stores until
 
 -- Faults are counted since an earlier moment.
 stops_earlier : (p : ScriptPlan) (rules : FileRules) (holds : Holds) (names : List (List ℕ)) (before middle after : Counts) →

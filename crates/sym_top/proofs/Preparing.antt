@@ -43,16 +43,14 @@ use Rattle.sym_trace.specs.TraceReports.{trace_heads, trace_rows}
 use Rattle.sym_trace.specs.Tracing.{IsTraceReport}
 use Rattle.sym_command.specs.declared.place.Place.TheVariants as place
 use Rattle.sym_command.specs.declared.commands.Command.{Command as CommandRead}
-use Rattle.sym_command.specs.Commands.{Command, Runs, Traces, Checks, Makes, Maps, Reduces, Joins, FileNames, ReadsRecords, command_of, file_rules, first_no, name_at, names_of, shown_names, texts_of}
+use Rattle.sym_command.specs.Commands.{Command, Checks, Makes, Maps, Reduces, Joins, FileNames, ReadsRecords, command_of, file_rules, first_no, name_at, names_of, shown_names, texts_of}
 use Rattle.sym_command.specs.declared.commands.Command.TheVariants as command
-use Rattle.sym_command.specs.declared.commands.Run.{Run as RunRead}
-use Rattle.sym_command.specs.declared.commands.Trace.{Trace as TraceRead}
 use Rattle.sym_command.specs.declared.commands.Check.{Check as CheckRead}
 use Rattle.sym_command.specs.declared.commands.Make.{Make as MakeRead}
 use Rattle.sym_command.specs.declared.commands.Map.{Map as MapRead}
 use Rattle.sym_command.specs.declared.commands.Reduce.{Reduce as ReduceRead}
 use Rattle.sym_command.specs.declared.commands.Join.{Join as JoinRead}
-use Rattle.sym_command.specs.Words.{command_seen, run_seen, trace_seen, check_seen, make_seen, map_seen, reduce_seen, join_seen}
+use Rattle.sym_command.specs.Words.{command_seen, check_seen, make_seen, map_seen, reduce_seen, join_seen}
 use Rattle.sym_message.specs.declared.refusal.Refusal.{Refusal}
 use Rattle.sym_message.specs.declared.refusal.Refusal.TheVariants as refusal
 use Rattle.sym_message.specs.declared.status.Status.{Status}
@@ -166,15 +164,6 @@ reports-by form program rules holds names groups faulty made text passed text_is
       text_is = subst (IsTextOf (report_of form program passed.records)) (sym (text_is ∙ ap (λ gs. report_text form heads (map row gs)) passed.stands))
           (report_in form heads (rows_of program passed.records));
     }
-
--- The same of equal names, to an equal end, over a store that tells the same.
-pub reports-along : (end other : List Record → End) (program : Program) (rules : FileRules) (holds told : Holds) (names words : List (List ℕ))
-    (made : Status) (text : List ℕ) → other ≡ end → holds ≡ told → names ≡ words → Reports end program rules holds names made text →
-    Reports other program rules told words made text
-reports-along end other program rules holds told names words made text ends stores same r =
-    subst (λ f. Reports f program rules told words made text) (sym ends)
-    (subst (λ h. Reports end program rules h words made text) stores
-    (subst (λ ns. Reports end program rules holds ns made text) same r))
 
 -- The report of a trace, gathered in a form that had no bytes.
 pub trace-reports-by : (form : FormTexts) (program : Program) (every : ℕ) (rules : FileRules) (holds : Holds) (names : List (List ℕ)) (before text : List ℕ)
@@ -454,24 +443,6 @@ module _ (call : Call) (read : CommandRead) (asked : command_of call.asked ≡ S
     reading-files-stop why cause is s =
         subst (λ (w : Refusal). Stops call (Some read) (record { why = w; checked = Some checked })) (sym is) (reading-error-stops cause s)
 
--- ---- a run and a trace
-
-pub run-ready : (call : Call) (read : RunRead) → command_of call.asked ≡ Some (Runs (run_seen read)) →
-    (program : Program) (status : Status) (text : List ℕ) → Loads (call.holds read.script.now) program →
-    Reports (report_of (texts_of call.asked.forms read.form.now) program) program (file_rules call.asked (Runs (run_seen read))) call.holds (run_seen read).files status text →
-    Ready call status text
-run-ready call read asked program status text loads reports =
-    reading-ready call (command.Run read) asked read.script.now (run_seen read).files refl (λ held. refl) tt (λ held. refl) refl
-    program status text loads (λ records. tt) reports
-
-pub trace-ready : (call : Call) (read : TraceRead) → command_of call.asked ≡ Some (Traces (trace_seen read)) →
-    (program : Program) (status : Status) (text : List ℕ) → Loads (call.holds read.script.now) program →
-    Reports (trace_report_of (texts_of call.asked.forms read.form.now) program read.every) program (file_rules call.asked (Traces (trace_seen read))) call.holds (trace_seen read).files status text →
-    Ready call status text
-trace-ready call read asked program status text loads reports =
-    reading-ready call (command.Trace read) asked read.script.now (trace_seen read).files refl (λ held. refl) tt (λ held. refl) refl
-    program status text loads (λ records. tt) reports
-
 -- ---- a saved run
 
 -- This text is that of a saved run of the records of files which the names may hold.
@@ -506,14 +477,6 @@ map-ready call read asked program text loads maps =
     whole-ready call (command.Map read) asked held program maps.records status.Done text
     (reading-may call (command.Map read) asked read.script.now (map_seen read).files refl (λ h. refl) held loads.may maps.may) loads.is_program tt maps.fine
     (record { whole = tt; status_is = refl; text_is = mapped program read.first read.options.limit maps.records text maps.stands })
-
--- The same of equal names, by equal rules, over a store that tells the same.
-pub maps-along : (program : Program) (rules likewise : FileRules) (holds told : Holds) (names words : List (List ℕ)) (from limit : ℕ) (text : List ℕ) →
-    likewise ≡ rules → holds ≡ told → names ≡ words → MapsFiles program rules holds names from limit text → MapsFiles program likewise told words from limit text
-maps-along program rules likewise holds told names words from limit text ruled stores same m =
-    subst (λ rs. MapsFiles program rs told words from limit text) (sym ruled)
-    (subst (λ h. MapsFiles program rules h words from limit text) stores
-    (subst (λ ns. MapsFiles program rules holds ns from limit text) same m))
 
 -- ---- a join of saved runs
 
@@ -589,13 +552,6 @@ module _ (call : Call) (read : JoinRead) (asked : command_of call.asked ≡ Some
         Stops call (Some (command.Join read)) (record { why = why; checked = Some checked })
     join-files-stop why cause is s =
         subst (λ (w : Refusal). Stops call (Some (command.Join read)) (record { why = w; checked = Some checked })) (sym is) (join-error-stops cause s)
-
--- The same of equal names, over a store that tells the same.
-pub joins-along : (program : Program) (max_bytes limit : ℕ) (holds told : Holds) (names words : List (List ℕ)) (text : List ℕ) →
-    holds ≡ told → names ≡ words → JoinsFiles program max_bytes limit holds names text → JoinsFiles program max_bytes limit told words text
-joins-along program max_bytes limit holds told names words text stores same j =
-    subst (λ h. JoinsFiles program max_bytes limit h words text) stores
-    (subst (λ ns. JoinsFiles program max_bytes limit holds ns text) same j)
 
 -- ---- a report on saved runs
 
@@ -681,14 +637,6 @@ runs-by form program max_bytes holds names totals faulty made text all text_is f
   text_is = subst (IsTextOf (groups_end form program totals)) (sym text_is)
       (report_in form (heads_of program.tree program.plan) (group_rows program totals));
 }
-
--- The same of equal names, in an equal form, over a store that tells the same.
-pub runs-along : (form other : FormTexts) (program : Program) (max_bytes : ℕ) (holds told : Holds) (names words : List (List ℕ)) (made : Status) (text : List ℕ) →
-    other ≡ form → holds ≡ told → names ≡ words → ReportsRuns form program max_bytes holds names made text → ReportsRuns other program max_bytes told words made text
-runs-along form other program max_bytes holds told names words made text forms stores same r =
-    subst (λ f. ReportsRuns f program max_bytes told words made text) (sym forms)
-    (subst (λ h. ReportsRuns form program max_bytes h words made text) stores
-    (subst (λ ns. ReportsRuns form program max_bytes holds ns made text) same r))
 
 -- ---- a check
 

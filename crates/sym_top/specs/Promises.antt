@@ -1,6 +1,6 @@
 -- What a report and a refusal of a call are, over any store and sinks. A store may tell what a file
 -- holds or not: there are bytes that the files may hold, and the answer is what follows from them.
-use Rattle.std.specs.Prelude.{◌≡◌, ◌⊎◌, ℕ, List, [], take, map, Option, None, Some}
+use Rattle.std.specs.Prelude.{◌≡◌, ℕ, List, [], take, map, Option, None, Some}
 use Rattle.sym_base.specs.Counts.{Rose}
 use Rattle.sym_base.specs.declared.values.record.Record.{Record}
 use Rattle.sym_files.specs.FirstProblems.{AllFine}

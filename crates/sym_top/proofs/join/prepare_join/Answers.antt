@@ -1,11 +1,8 @@
-use Rattle.std.proofs.Common.{Some, ap, refl, subst, map}
-use Rattle.std.specs.String.{string_bytes}
-use Rattle.sym_parse.specs.Printed.{script_text}
-use Rattle.sym_reduce.specs.Joining.{StopsJoin}
+use Rattle.std.proofs.Common.{Some, refl}
 use Rattle.sym_command.specs.declared.commands.Command.TheVariants as command
 use Rattle.sym_command.specs.Words.{join_seen}
 use Rattle.sym_top.specs.Programs.{checked_program}
-use Rattle.sym_top.proofs.Preparing.{join-files-stop, join-ready, joins-along, joins-by, memory-stops, reading-load-stops}
+use Rattle.sym_top.proofs.Preparing.{join-files-stop, join-ready, joins-by, memory-stops, reading-load-stops}
 use Rattle.sym_top.proofs.join.prepare_join.Goals as goal
 
 pub returns-in-Err-clause-comes_to : goal.returns-in-Err-clause-comes_to

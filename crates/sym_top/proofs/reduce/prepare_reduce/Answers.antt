@@ -1,15 +1,12 @@
-use Rattle.std.proofs.Common.{◌≡◌, [], Some, ap, refl, subst, sym, map}
+use Rattle.std.proofs.Common.{◌≡◌, [], Some, refl, subst, sym}
 use Rattle.std.specs.List.{All}
-use Rattle.std.specs.String.{string_bytes}
 use Rattle.sym_check.specs.Checking.CheckedScripts.{checked_plan}
 use Rattle.sym_check.specs.Meaning.Validity.{IsKey}
-use Rattle.sym_parse.specs.Printed.{script_text}
-use Rattle.sym_reduce.specs.Reducing.{StopsReduce}
 use Rattle.sym_command.specs.declared.commands.Command.TheVariants as command
 use Rattle.sym_command.specs.Words.{reduce_seen}
 use Rattle.sym_command.proofs.Handed.{chosen-all, reduce-handed, reduce-unhanded, texts-named}
 use Rattle.sym_top.specs.Programs.{checked_program}
-use Rattle.sym_top.proofs.Preparing.{memory-stops, reading-load-stops, reduce-files-stop, reduce-ready, runs-along, runs-by, some-prepared, usage-prepared}
+use Rattle.sym_top.proofs.Preparing.{memory-stops, reading-load-stops, reduce-files-stop, reduce-ready, runs-by, some-prepared, usage-prepared}
 use Rattle.sym_top.proofs.reduce.prepare_reduce.Goals as goal
 
 pub write_report-requires : goal.write_report-requires
@@ -30,32 +27,25 @@ returns-in-Err-clause-prepared g c words shown is =
 pub returns-in-Err-reduce_files-clause-prepared : goal.returns-in-Err-reduce_files-clause-prepared
 returns-in-Err-reduce_files-clause-prepared g c words shown is =
     let handed = reduce-handed _ _ words c.args.forms.items shown (reduce_seen c.args.reduce.now) c.in-Some.form is (sym c.in-Some.ensures) in
-    let program = checked_program c.in-Ok.checked in
-    let size = c.args.reduce.now.max_bytes in
-    let middle = g.F.Store.faults c.load_script.new.files in
-    let after = g.F.Store.faults c.reduce_files.new.files in
-    let why = c.in-Err-reduce_files.error in
     some-prepared _ _ _ _ _ _ _ handed
-    (reduce-files-stop _ c.args.reduce.now handed c.in-Ok.checked middle c.in-Ok.ensures.later c.in-Ok.ensures.loaded c.reduce_refusal.result why c.reduce_refusal.ensures
-    (subst (λ h. StopsReduce (script_text program.tree) program.plan size h (map string_bytes c.args.reduce.now.files.items) middle after why) c.in-Ok.ensures.same
-    (subst (λ names. StopsReduce (script_text program.tree) program.plan size (g.F.Store.holds c.load_script.new.files) (map string_bytes names) middle after why)
-    c.as_slice-names.ensures.value c.in-Err-reduce_files.ensures.stopped)))
+    (reduce-files-stop _ c.args.reduce.now handed c.in-Ok.checked (g.F.Store.faults c.load_script.new.files) c.in-Ok.ensures.later c.in-Ok.ensures.loaded
+    c.reduce_refusal.result c.in-Err-reduce_files.error c.reduce_refusal.ensures
+    (rw (c.in-Ok.ensures.same, c.as_slice-names.ensures.value) at c.in-Err-reduce_files.ensures.stopped))
 
 pub returns-in-Ok-write_report-clause-prepared : goal.returns-in-Ok-write_report-clause-prepared
 returns-in-Ok-write_report-clause-prepared g c words shown is =
     let named = sym c.in-Some.ensures in
     let handed = reduce-handed _ _ words c.args.forms.items shown (reduce_seen c.args.reduce.now) c.in-Some.form is named in
-    let program = checked_program c.in-Ok.checked in
-    let size = c.args.reduce.now.max_bytes in
     let empty = chosen-all (λ f. (goal.ReportForm-dyn g (f.vtable, f.value)).called f.value)
     (λ f. (goal.ReportForm-dyn g (f.vtable, f.value)).gathered f.value ≡ []) c.args.reduce.now.form.now c.args.forms.items c.in-Some.form c.requires.empty named in
+    let texts = texts-named (λ f. (goal.ReportForm-dyn g (f.vtable, f.value)).called f.value) (λ f. (goal.ReportForm-dyn g (f.vtable, f.value)).texts f.value)
+    c.args.reduce.now.form.now c.args.forms.items c.in-Some.form named in
     some-prepared _ _ _ _ _ _ _ handed
-    (reduce-ready _ c.args.reduce.now handed program c.report_status.result _ c.in-Ok.ensures.loaded
-    (runs-along _ _ _ size _ _ _ _ c.report_status.result _ (texts-named _ _ c.args.reduce.now.form.now c.args.forms.items c.in-Some.form named)
-    c.in-Ok.ensures.same (ap (map string_bytes) c.as_slice-names.ensures.value)
-    (runs-by _ program size (g.F.Store.holds c.load_script.new.files) (map string_bytes c.as_slice-names.result.now) c.in-Ok-reduce_files.totals c.in-Ok-write_report.faulty
-    c.report_status.result _ c.in-Ok-reduce_files.ensures.reduced (rw (empty, c.groups.ensures) at c.in-Ok-write_report.ensures.text)
-    (rw c.groups.ensures at c.in-Ok-write_report.ensures.faulty) c.report_status.ensures)))
+    (reduce-ready _ c.args.reduce.now handed (checked_program c.in-Ok.checked) c.report_status.result _ c.in-Ok.ensures.loaded
+    (runs-by _ (checked_program c.in-Ok.checked) c.args.reduce.now.max_bytes _ _ c.in-Ok-reduce_files.totals c.in-Ok-write_report.faulty c.report_status.result _
+    (rw (c.in-Ok.ensures.same, c.as_slice-names.ensures.value) at c.in-Ok-reduce_files.ensures.reduced)
+    (rw (empty, c.groups.ensures, sym texts) at c.in-Ok-write_report.ensures.text)
+    (rw c.groups.ensures at c.in-Ok-write_report.ensures.faulty) c.report_status.ensures))
 
 pub returns-in-Err-write_report-clause-prepared : goal.returns-in-Err-write_report-clause-prepared
 returns-in-Err-write_report-clause-prepared g c words shown is =

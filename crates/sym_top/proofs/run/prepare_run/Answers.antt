@@ -1,19 +1,16 @@
 use Rattle.std.proofs.Common.{◌≡◌, [], Some, ap, sym, subst, map, refl}
-use Rattle.std.specs.String.{string_bytes}
 use Rattle.sym_check.specs.Checking.CheckedScripts.{checked_plan}
 use Rattle.sym_check.specs.Plan.WellFormed.{IsWellFormed}
 use Rattle.sym_files.specs.declared.error.PassErr.TheVariants as pass_error
 use Rattle.sym_files.specs.FileRecords.{rules_of}
-use Rattle.sym_files.specs.Passing.{StopsPass}
 use Rattle.sym_command.specs.declared.commands.Command.TheVariants as command
 use Rattle.sym_command.specs.Words.{run_seen}
 use Rattle.sym_command.proofs.Handed.{chosen-all, run-handed, run-unhanded, texts-named}
-use Rattle.sym_top.specs.Ends.{report_of}
 use Rattle.sym_top.specs.Observers.{at_script}
 use Rattle.sym_top.specs.Programs.{checked_program}
-use Rattle.sym_top.proofs.Observed.{all_some, run_observed, told_all, told_along, told_to, unasked_observed, until_along}
+use Rattle.sym_top.proofs.Observed.{all_some, run_observed, told_all, told_to, unasked_observed}
 use Rattle.sym_top.proofs.PassKeys.{groups-keyed}
-use Rattle.sym_top.proofs.Preparing.{memory-stops, reading-files-stop, reading-load-stops, reports-along, reports-by, run-ready, some-prepared, usage-prepared}
+use Rattle.sym_top.proofs.Preparing.{memory-stops, reading-files-stop, reading-load-stops, reading-ready, reports-by, some-prepared, usage-prepared}
 use Rattle.sym_top.proofs.run.prepare_run.Goals as goal
 
 pub returns-in-None-clause-prepared : goal.returns-in-None-clause-prepared
@@ -39,30 +36,18 @@ returns-in-Err-clause-observed g c words is =
 pub returns-in-Err-pass_run-clause-prepared : goal.returns-in-Err-pass_run-clause-prepared
 returns-in-Err-pass_run-clause-prepared g c words is =
     let handed = run-handed _ _ words c.args.forms.items (g.G.Gate.shown c.args.gate.now) (run_seen c.args.run.now) c.in-Some.form is (sym c.in-Some.ensures) in
-    let program = checked_program c.in-Ok.checked in
-    let rules = rules_of c.args.run.now.options.max_bytes (g.G.Gate.shown c.args.gate.now) in
-    let middle = g.F.Store.faults c.load_script.new.files in
-    let after = g.F.Store.faults c.pass_run.new.files in
-    let names = map string_bytes c.args.run.now.files.items in
-    let why = c.in-Err-pass_run.error in
     some-prepared _ _ _ _ _ _ _ handed
     (reading-files-stop _ (command.Run c.args.run.now) handed c.args.run.now.script.now (run_seen c.args.run.now).files refl (λ held. refl) tt (λ held. refl)
-    c.in-Ok.checked middle c.in-Ok.ensures.later c.in-Ok.ensures.loaded c.pass_refusal.result why c.pass_refusal.ensures
-    (subst (λ h. StopsPass program.plan rules h names middle after why) c.in-Ok.ensures.same c.in-Err-pass_run.ensures.stopped))
+    c.in-Ok.checked (g.F.Store.faults c.load_script.new.files) c.in-Ok.ensures.later c.in-Ok.ensures.loaded
+    c.pass_refusal.result c.in-Err-pass_run.error c.pass_refusal.ensures (rw c.in-Ok.ensures.same at c.in-Err-pass_run.ensures.stopped))
 
 pub returns-in-Err-pass_run-clause-observed : goal.returns-in-Err-pass_run-clause-observed
 returns-in-Err-pass_run-clause-observed g c words is =
     let handed = run-handed _ _ words c.args.forms.items (g.G.Gate.shown c.args.gate.now) (run_seen c.args.run.now) c.in-Some.form is (sym c.in-Some.ensures) in
-    let program = checked_program c.in-Ok.checked in
-    let rules = rules_of c.args.run.now.options.max_bytes (g.G.Gate.shown c.args.gate.now) in
-    let middle = g.F.Store.faults c.load_script.new.files in
-    let after = g.F.Store.faults c.pass_run.new.files in
-    let names = map string_bytes c.args.run.now.files.items in
-    let why = c.in-Err-pass_run.error in
     run_observed _ _ _ _ _ (run_seen c.args.run.now) handed
-    (λ watch. told_to _ (run_seen c.args.run.now) _ program c.in-Ok.ensures.loaded middle c.in-Ok.ensures.later c.pass_refusal.result why c.pass_refusal.ensures
-    (subst (λ h. StopsPass program.plan rules h names middle after why) c.in-Ok.ensures.same c.in-Err-pass_run.ensures.stopped)
-    (until_along program.tree program.plan rules c.args.run.now.options.chunk _ _ names _ _ why c.in-Ok.ensures.same (c.in-Err-pass_run.ensures.told_until watch)))
+    (λ watch. told_to _ (run_seen c.args.run.now) _ (checked_program c.in-Ok.checked) c.in-Ok.ensures.loaded (g.F.Store.faults c.load_script.new.files) c.in-Ok.ensures.later
+    c.pass_refusal.result c.in-Err-pass_run.error c.pass_refusal.ensures (rw c.in-Ok.ensures.same at c.in-Err-pass_run.ensures.stopped)
+    (rw c.in-Ok.ensures.same at c.in-Err-pass_run.ensures.told_until watch))
     c.pass_run.ensures.unwatched (ap (λ os. map (λ o. (goal.Observer-dyn g (o.vtable, o.value)).log o.value) os.items))
 
 pub write_report-requires : goal.write_report-requires
@@ -76,26 +61,23 @@ pub returns-in-Ok-write_report-clause-prepared : goal.returns-in-Ok-write_report
 returns-in-Ok-write_report-clause-prepared g c words is =
     let named = sym c.in-Some.ensures in
     let handed = run-handed _ _ words c.args.forms.items (g.G.Gate.shown c.args.gate.now) (run_seen c.args.run.now) c.in-Some.form is named in
-    let program = checked_program c.in-Ok.checked in
-    let rules = rules_of c.args.run.now.options.max_bytes (g.G.Gate.shown c.args.gate.now) in
     let empty = chosen-all (λ f. (goal.ReportForm-dyn g (f.vtable, f.value)).called f.value)
     (λ f. (goal.ReportForm-dyn g (f.vtable, f.value)).gathered f.value ≡ []) c.args.run.now.form.now c.args.forms.items c.in-Some.form c.requires.empty named in
+    let texts = texts-named (λ f. (goal.ReportForm-dyn g (f.vtable, f.value)).called f.value) (λ f. (goal.ReportForm-dyn g (f.vtable, f.value)).texts f.value)
+    c.args.run.now.form.now c.args.forms.items c.in-Some.form named in
     some-prepared _ _ _ _ _ _ _ handed
-    (run-ready _ c.args.run.now handed program c.report_status.result _ c.in-Ok.ensures.loaded
-    (reports-along _ _ _ rules _ _ _ _ c.report_status.result _
-    (ap (λ texts. report_of texts program) (texts-named _ _ c.args.run.now.form.now c.args.forms.items c.in-Some.form named)) c.in-Ok.ensures.same refl
-    (reports-by _ program rules (g.F.Store.holds c.load_script.new.files) (map string_bytes c.args.run.now.files.items) c.in-Ok-pass_run.groups
-    c.in-Ok-write_report.faulty c.report_status.result _ c.in-Ok-pass_run.ensures.passed
-    (rw empty at c.in-Ok-write_report.ensures.text) c.in-Ok-write_report.ensures.faulty c.report_status.ensures)))
+    (reading-ready _ (command.Run c.args.run.now) handed c.args.run.now.script.now (run_seen c.args.run.now).files refl (λ held. refl) tt (λ held. refl) refl
+    (checked_program c.in-Ok.checked) c.report_status.result _ c.in-Ok.ensures.loaded (λ records. tt)
+    (reports-by _ (checked_program c.in-Ok.checked) _ _ _ c.in-Ok-pass_run.groups c.in-Ok-write_report.faulty c.report_status.result _
+    (rw c.in-Ok.ensures.same at c.in-Ok-pass_run.ensures.passed)
+    (rw (empty, sym texts) at c.in-Ok-write_report.ensures.text) c.in-Ok-write_report.ensures.faulty c.report_status.ensures))
 
 pub returns-in-Ok-write_report-clause-observed : goal.returns-in-Ok-write_report-clause-observed
 returns-in-Ok-write_report-clause-observed g c words is =
     let handed = run-handed _ _ words c.args.forms.items (g.G.Gate.shown c.args.gate.now) (run_seen c.args.run.now) c.in-Some.form is (sym c.in-Some.ensures) in
-    let program = checked_program c.in-Ok.checked in
-    let rules = rules_of c.args.run.now.options.max_bytes (g.G.Gate.shown c.args.gate.now) in
     run_observed _ _ _ _ _ (run_seen c.args.run.now) handed
-    (λ watch. told_all _ (run_seen c.args.run.now) _ program c.in-Ok.ensures.loaded
-    (told_along program.tree program.plan rules c.args.run.now.options.chunk _ _ _ _ _ c.in-Ok.ensures.same (c.in-Ok-pass_run.ensures.told watch)))
+    (λ watch. told_all _ (run_seen c.args.run.now) _ (checked_program c.in-Ok.checked) c.in-Ok.ensures.loaded
+    (rw c.in-Ok.ensures.same at c.in-Ok-pass_run.ensures.told watch))
     c.pass_run.ensures.unwatched (ap (λ os. map (λ o. (goal.Observer-dyn g (o.vtable, o.value)).log o.value) os.items))
 
 pub returns-in-Err-write_report-clause-prepared : goal.returns-in-Err-write_report-clause-prepared
@@ -107,11 +89,7 @@ returns-in-Err-write_report-clause-prepared g c words is =
 pub returns-in-Err-write_report-clause-observed : goal.returns-in-Err-write_report-clause-observed
 returns-in-Err-write_report-clause-observed g c words is =
     let handed = run-handed _ _ words c.args.forms.items (g.G.Gate.shown c.args.gate.now) (run_seen c.args.run.now) c.in-Some.form is (sym c.in-Some.ensures) in
-    let program = checked_program c.in-Ok.checked in
-    let rules = rules_of c.args.run.now.options.max_bytes (g.G.Gate.shown c.args.gate.now) in
-    let middle = g.F.Store.faults c.load_script.new.files in
     run_observed _ _ _ _ _ (run_seen c.args.run.now) handed
-    (λ watch. told_to _ (run_seen c.args.run.now) _ program c.in-Ok.ensures.loaded middle c.in-Ok.ensures.later _ pass_error.NoMemory refl tt
-    (all_some program.tree _ _ _
-    (told_along program.tree program.plan rules c.args.run.now.options.chunk _ _ _ _ _ c.in-Ok.ensures.same (c.in-Ok-pass_run.ensures.told watch))))
+    (λ watch. told_to _ (run_seen c.args.run.now) _ (checked_program c.in-Ok.checked) c.in-Ok.ensures.loaded (g.F.Store.faults c.load_script.new.files) c.in-Ok.ensures.later
+    _ pass_error.NoMemory refl tt (all_some (checked_program c.in-Ok.checked).tree _ _ _ (rw c.in-Ok.ensures.same at c.in-Ok-pass_run.ensures.told watch)))
     c.pass_run.ensures.unwatched (ap (λ os. map (λ o. (goal.Observer-dyn g (o.vtable, o.value)).log o.value) os.items))
