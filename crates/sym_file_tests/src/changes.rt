@@ -1,15 +1,13 @@
 //! A file whose bits are changed one by one, and one that is cut off. The numbers of answers were
 //! counted by a program apart, which reads such a file by regular expressions.
-use crate::scripts::{COUNT, KEPT, KEPT_OTHERWISE, TOGGLE};
-use crate::setting::{Answer, Case, answer_of, check_cases};
+use crate::setting::{Answer, answer_of};
 use std::alloc::Global;
 use std::test::Fail;
 use sym_base::NoMemory;
 use sym_check::Checked;
-
-const FILE: &str = "symple run 1\nscript 79\n\
-    field x: num;\nstate n: int [0..3] = 0;\nupdate {\n  n = n;\n}\nreport {\n  n = n;\n}\n\
-    first 1\nnext 3\ngroups 1\nkey\nchain 1\nsegment 1\nwhen i0..3\nnext x0,1,0\nend\n";
+use sym_given::saved::{KEPT, KEPT_OTHERWISE, TWO as FILE};
+use sym_given::scripts::{COUNTER, TOGGLE};
+use sym_given::{Case, check_cases, difference};
 
 /// How many of some bytes are read, and how they are refused.
 #[derive(Clone, Copy, Debug, PartialEq, Eq)]
@@ -82,20 +80,34 @@ impl Case for Changes {
         KEPT
     }
 
-    fn holds(&self, alloc: Global, checked: &Checked) -> Result<bool, NoMemory> {
+    fn differs(&self, alloc: Global, checked: &Checked) -> Result<Option<String>, NoMemory> {
         let wanted = Answers {
             read: 8,
             wrong: 0,
             other_script: 637,
             malformed: 755,
         };
-        Ok(changes_of(alloc, checked)? == wanted)
+        difference(alloc, &changes_of(alloc, checked)?, &wanted)
     }
 }
 
 #[test]
 fn each_bit_of_a_file_is_told(rt: HostRuntime) -> Result<(), Fail> {
-    check_cases(&rt, rt.alloc(), &[Changes])
+    check_cases(rt.alloc(), &[Changes])
+}
+
+/// How the answer to these bytes differs.
+fn answer_differs(
+    alloc: Global,
+    checked: &Checked,
+    bytes: &[u8],
+    wanted: Answer,
+) -> Result<Option<String>, NoMemory> {
+    let (count, found) = (bytes.len(), answer_of(alloc, checked, bytes)?);
+    match difference(alloc, &found, &wanted)? {
+        Some(told) => Ok(Some(format!(in alloc; "{count} bytes: {told}")?)),
+        None => Ok(None),
+    }
 }
 
 /// The file without its last bytes is no run.
@@ -107,20 +119,21 @@ impl Case for Cuts {
         KEPT
     }
 
-    fn holds(&self, alloc: Global, checked: &Checked) -> Result<bool, NoMemory> {
+    fn differs(&self, alloc: Global, checked: &Checked) -> Result<Option<String>, NoMemory> {
         let bytes = FILE.as_bytes();
         'ends: for end in 0..bytes.len() {
-            if answer_of(alloc, checked, &bytes[..end])? != Answer::Malformed {
-                return Ok(false);
+            let told = answer_differs(alloc, checked, &bytes[..end], Answer::Malformed)?;
+            if told.is_some() {
+                return Ok(told);
             }
         }
-        Ok(answer_of(alloc, checked, bytes)? == Answer::Read)
+        answer_differs(alloc, checked, bytes, Answer::Read)
     }
 }
 
 #[test]
 fn a_file_that_is_cut_off_is_none(rt: HostRuntime) -> Result<(), Fail> {
-    check_cases(&rt, rt.alloc(), &[Cuts])
+    check_cases(rt.alloc(), &[Cuts])
 }
 
 /// The file is one of the script, however that is written, and of no other script.
@@ -135,8 +148,12 @@ impl Case for Written {
         self.script
     }
 
-    fn holds(&self, alloc: Global, checked: &Checked) -> Result<bool, NoMemory> {
-        Ok(answer_of(alloc, checked, FILE.as_bytes())? == self.answer)
+    fn differs(&self, alloc: Global, checked: &Checked) -> Result<Option<String>, NoMemory> {
+        difference(
+            alloc,
+            &answer_of(alloc, checked, FILE.as_bytes())?,
+            &self.answer,
+        )
     }
 }
 
@@ -152,7 +169,7 @@ fn a_file_is_of_its_script_however_that_is_written(rt: HostRuntime) -> Result<()
             answer: Answer::Read,
         },
         Written {
-            script: COUNT,
+            script: COUNTER,
             answer: Answer::OtherScript,
         },
         Written {
@@ -160,5 +177,5 @@ fn a_file_is_of_its_script_however_that_is_written(rt: HostRuntime) -> Result<()
             answer: Answer::OtherScript,
         },
     ];
-    check_cases(&rt, rt.alloc(), &cases)
+    check_cases(rt.alloc(), &cases)
 }

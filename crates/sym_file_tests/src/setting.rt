@@ -1,4 +1,4 @@
-//! Scripts, files of saved runs, and what reading them answers.
+//! Files of saved runs, and what reading them answers.
 ghost use Rattle.std.specs.Prelude.{◌≤◌, length};
 ghost use Rattle.sym_base.specs.declared.limits.TheConstants as limit;
 ghost use Rattle.sym_check.specs.Checking.CheckedScripts.{checked_plan};
@@ -6,42 +6,12 @@ ghost use Rattle.sym_run.specs.SavedRuns.{IsLawfulSaved};
 
 use itoa::Buffer;
 use std::alloc::Global;
-use std::process::Abort;
-use std::test::Fail;
 use sym_base::NoMemory;
 use sym_check::Checked;
 use sym_file::{SavedErr, Taken, TakenText, Totals, read_saved, write_saved};
-use sym_given::accepted;
+use sym_given::groups_differ;
 use sym_parse::print;
 use sym_run::Saved;
-
-/// A test under a script.
-pub(crate) trait Case {
-    fn script(&self) -> &str;
-
-    fn holds(&self, alloc: Global, checked: &Checked) -> Result<bool, NoMemory>;
-}
-
-fn case_holds<C: Case>(alloc: Global, case: &C) -> Result<bool, NoMemory> {
-    match accepted(alloc, case.script()) {
-        Some(checked) => case.holds(alloc, &checked),
-        None => Ok(false),
-    }
-}
-
-/// Fails the test at the first case that doesn't hold.
-pub(crate) fn check_cases<C: Case>(
-    rt: &impl Abort,
-    alloc: Global,
-    cases: &[C],
-) -> Result<(), Fail> {
-    'cases: for (place, case) in cases.iter().enumerate() {
-        if !case_holds(alloc, case)? {
-            panic!(rt; "case {place}");
-        }
-    }
-    Ok(())
-}
 
 /// The file of the script that goes on with these bytes.
 pub(crate) fn file_of(alloc: Global, checked: &Checked, body: &[u8]) -> Result<Vec<u8>, NoMemory> {
@@ -67,19 +37,6 @@ pub(crate) enum Answer {
     Malformed,
 }
 
-/// Whether there are the same groups, which stand the same.
-fn are_equal(one: &Totals, other: &Totals) -> bool {
-    if one.len() != other.len() {
-        return false;
-    }
-    'groups: for index in 0..one.len() {
-        if one.at(index) != other.at(index) {
-            return false;
-        }
-    }
-    true
-}
-
 /// Whether taking a text comes to what taking its saved run comes to.
 fn is_taken_alike(
     alloc: Global,
@@ -94,7 +51,8 @@ fn is_taken_alike(
     let text = Totals::new(alloc).take_text(alloc, checked, bytes, saved.first);
     match (run, text) {
         (Taken::Done(one), Ok(TakenText::Done { totals, next })) => {
-            Ok(next == saved.next && are_equal(&one, &totals))
+            let other = groups_differ(alloc, totals.groups(), one.groups())?;
+            Ok(next == saved.next && other.is_none())
         }
         (Taken::Gap { group: one }, Ok(TakenText::Gap { group })) => Ok(one == group),
         _ => Ok(false),

@@ -4,16 +4,18 @@ ghost use Rattle.sym_check.specs.Checking.CheckedScripts.{checked_plan};
 ghost use Rattle.sym_file.specs.Totals.{IfDone};
 ghost use Rattle.sym_run.specs.Applying.{AreValid};
 
-use crate::scripts::{KEPT, SESSIONS};
-use crate::setting::{Case, check_cases, saved_of};
+use crate::setting::saved_of;
 use std::alloc::Global;
 use std::test::Fail;
 use sym_base::{Cell, NoMemory, Outcome};
 use sym_check::Checked;
 use sym_file::{Taken, Totals};
+use sym_given::saved::KEPT;
+use sym_given::scripts::SHORT_SESSIONS;
+use sym_given::{Case, check_cases, difference, found_unless};
 
 /// What the totals say of the first group.
-#[derive(Clone, Copy, PartialEq, Eq)]
+#[derive(Clone, Copy, Debug, PartialEq, Eq)]
 enum Stands {
     /// Its first cell has this number.
     Number(i64),
@@ -90,10 +92,10 @@ impl<'a> Case for Taking<'a> {
         self.script
     }
 
-    fn holds(&self, alloc: Global, checked: &Checked) -> Result<bool, NoMemory> {
+    fn differs(&self, alloc: Global, checked: &Checked) -> Result<Option<String>, NoMemory> {
         match take_all(alloc, checked, self.parts)? {
-            Some(taken) => Ok(first_of(&taken) == self.wanted),
-            None => Ok(false),
+            Some(taken) => difference(alloc, &first_of(&taken), &self.wanted),
+            None => found_unless(alloc, false, "found a text without a lawful saved run"),
         }
     }
 }
@@ -131,7 +133,7 @@ fn a_state_is_led_by_the_first_path_that_admits_it(rt: HostRuntime) -> Result<()
         of(&[ONE_THEN_THREE], Stands::Number(3)),
         of(&[ONE_THEN_THREE, TO_TWO], Stands::Number(1)),
     ];
-    check_cases(&rt, rt.alloc(), &cases)
+    check_cases(rt.alloc(), &cases)
 }
 
 #[test]
@@ -148,7 +150,7 @@ fn a_state_that_no_path_admits_is_a_gap(rt: HostRuntime) -> Result<(), Fail> {
         of(&[ENDS, FROM_ONE], Stands::Ended(2)),
         of(&[ENDS, ONE_THEN_NONE], Stands::Ended(2)),
     ];
-    check_cases(&rt, rt.alloc(), &cases)
+    check_cases(rt.alloc(), &cases)
 }
 
 const SECOND_GAP: &str = "first 1\nnext 3\ngroups 3\n\
@@ -159,9 +161,9 @@ const SECOND_GAP: &str = "first 1\nnext 3\ngroups 3\n\
 #[test]
 fn the_first_gap_is_told(rt: HostRuntime) -> Result<(), Fail> {
     let cases = [Taking {
-        script: SESSIONS,
+        script: SHORT_SESSIONS,
         parts: &[SECOND_GAP],
         wanted: Stands::Gap(1),
     }];
-    check_cases(&rt, rt.alloc(), &cases)
+    check_cases(rt.alloc(), &cases)
 }

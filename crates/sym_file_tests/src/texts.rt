@@ -1,12 +1,13 @@
 //! Texts of saved runs, and texts that are none: of each text a part is replaced.
-use crate::scripts::{KEPT, SESSIONS, TOGGLE, WORDS};
+use crate::scripts::WORDS;
 use crate::setting::{Answer, answer_of, file_of};
 use std::alloc::Global;
-use std::process::Abort;
 use std::test::Fail;
 use sym_base::NoMemory;
 use sym_check::Checked;
-use sym_given::accepted;
+use sym_given::saved::KEPT;
+use sym_given::scripts::{SHORT_SESSIONS, TOGGLE};
+use sym_given::{Row, check_rows, difference, found_unless, told_by};
 
 /// A part of a text that stands there once, what takes its place, and whether that is read.
 struct Edit(&'static str, &'static str, bool);
@@ -19,36 +20,50 @@ fn answer_wanted(read: bool) -> Answer {
     }
 }
 
-/// Whether the text after the script with the edit is answered as it says.
-fn edit_holds(alloc: Global, checked: &Checked, text: &str, edit: &Edit) -> Result<bool, NoMemory> {
+/// How the answer to the text after the script differs with the edit.
+fn edit_differs(
+    alloc: Global,
+    checked: &Checked,
+    text: &str,
+    edit: &Edit,
+) -> Result<Option<String>, NoMemory> {
     let Some((before, after)) = text.split_once(edit.0) else {
-        return Ok(false);
+        return found_unless(alloc, false, "found no such part");
     };
     let mut body = Vec::new(alloc);
     body.extend_from_slice(before.as_bytes())?;
     body.extend_from_slice(edit.1.as_bytes())?;
     body.extend_from_slice(after.as_bytes())?;
     let bytes = file_of(alloc, checked, &body)?;
-    Ok(answer_of(alloc, checked, &bytes)? == answer_wanted(edit.2))
+    difference(
+        alloc,
+        &answer_of(alloc, checked, &bytes)?,
+        &answer_wanted(edit.2),
+    )
+}
+
+/// A text, and edits of it.
+#[derive(Drop)]
+struct Edits<'a> {
+    text: &'a str,
+    edits: &'a [Edit],
+}
+
+impl<'a> Row for Edits<'a> {
+    fn differs(&self, alloc: Global, checked: &Checked) -> Result<Option<String>, NoMemory> {
+        'edits: for edit in self.edits {
+            let told = edit_differs(alloc, checked, self.text, edit)?;
+            if told.is_some() {
+                return told_by(alloc, &(edit.0, edit.1), told);
+            }
+        }
+        Ok(None)
+    }
 }
 
 /// Fails the test at the first edit of the text that is answered otherwise.
-fn check_edits(
-    rt: &impl Abort,
-    alloc: Global,
-    script: &str,
-    text: &str,
-    edits: &[Edit],
-) -> Result<(), Fail> {
-    let Some(checked) = accepted(alloc, script) else {
-        panic!(rt; "the script is refused");
-    };
-    'edits: for (place, edit) in edits.iter().enumerate() {
-        if !edit_holds(alloc, &checked, text, edit)? {
-            panic!(rt; "edit {place}");
-        }
-    }
-    Ok(())
+fn check_edits(alloc: Global, script: &str, text: &str, edits: &[Edit]) -> Result<(), Fail> {
+    check_rows(alloc, script, &[Edits { text, edits }])
 }
 
 const NUMBERS: &str = "first 1\nnext 3\ngroups 1\nkey\nchain 1\nsegment 1\n\
@@ -145,7 +160,7 @@ const NUMBER_EDITS: [Edit; 66] = [
 
 #[test]
 fn lines_and_numbers_have_one_spelling(rt: HostRuntime) -> Result<(), Fail> {
-    check_edits(&rt, rt.alloc(), KEPT, NUMBERS, &NUMBER_EDITS)
+    check_edits(rt.alloc(), KEPT, NUMBERS, &NUMBER_EDITS)
 }
 
 const HOLDS: &str = "first 1\nnext 9\ngroups 2\n\
@@ -201,7 +216,7 @@ const HOLD_EDITS: [Edit; 43] = [
 
 #[test]
 fn keys_facts_and_forms_are_those_of_the_script(rt: HostRuntime) -> Result<(), Fail> {
-    check_edits(&rt, rt.alloc(), SESSIONS, HOLDS, &HOLD_EDITS)
+    check_edits(rt.alloc(), SHORT_SESSIONS, HOLDS, &HOLD_EDITS)
 }
 
 const LABELS: &str = "first 1\nnext 2\ngroups 1\nkey\nchain 1\nsegment 2\n\
@@ -223,7 +238,7 @@ const LABEL_EDITS: [Edit; 11] = [
 
 #[test]
 fn labels_are_those_of_the_enum(rt: HostRuntime) -> Result<(), Fail> {
-    check_edits(&rt, rt.alloc(), TOGGLE, LABELS, &LABEL_EDITS)
+    check_edits(rt.alloc(), TOGGLE, LABELS, &LABEL_EDITS)
 }
 
 const ADDED: &str = "first 1\nnext 5\ngroups 1\nkey n-1 l1\nchain 1\nsegment 1\n\
@@ -246,36 +261,39 @@ const ADDED_EDITS: [Edit; 12] = [
 
 #[test]
 fn words_have_their_length_and_keys_their_kinds(rt: HostRuntime) -> Result<(), Fail> {
-    check_edits(&rt, rt.alloc(), WORDS, ADDED, &ADDED_EDITS)
+    check_edits(rt.alloc(), WORDS, ADDED, &ADDED_EDITS)
 }
 
-/// Texts with a word of one byte, which is UTF-8 or isn't.
-const BYTES: [(&[u8], bool); 3] = [
-    (
+/// A text with a word of one byte, and whether that is UTF-8.
+struct Byte(&'static [u8], bool);
+
+const BYTES: [Byte; 3] = [
+    Byte(
         b"first 1\nnext 2\ngroups 1\nkey n1 l0\nchain 1\nsegment 1\nwhen v\nnext a1 w1:\x7f\nend\n",
         true,
     ),
-    (
+    Byte(
         b"first 1\nnext 2\ngroups 1\nkey n1 l0\nchain 1\nsegment 1\nwhen v\nnext a1 w1:\xff\nend\n",
         false,
     ),
-    (
+    Byte(
         b"first 1\nnext 2\ngroups 1\nkey n1 l0\nchain 1\nsegment 1\nwhen v\nnext a1 w1:\xc3\nend\n",
         false,
     ),
 ];
 
+impl Row for Byte {
+    fn differs(&self, alloc: Global, checked: &Checked) -> Result<Option<String>, NoMemory> {
+        let bytes = file_of(alloc, checked, self.0)?;
+        difference(
+            alloc,
+            &answer_of(alloc, checked, &bytes)?,
+            &answer_wanted(self.1),
+        )
+    }
+}
+
 #[test]
 fn words_are_utf_8(rt: HostRuntime) -> Result<(), Fail> {
-    let alloc = rt.alloc();
-    let Some(checked) = accepted(alloc, WORDS) else {
-        panic!(rt; "the script is refused");
-    };
-    'texts: for (body, read) in BYTES {
-        let bytes = file_of(alloc, &checked, body)?;
-        if answer_of(alloc, &checked, &bytes)? != answer_wanted(read) {
-            panic!(rt; "a word is answered otherwise");
-        }
-    }
-    Ok(())
+    check_rows(rt.alloc(), WORDS, &BYTES)
 }

@@ -6,12 +6,13 @@ ghost use Rattle.sym_base.specs.declared.limits.TheConstants as limit;
 use crate::scripts::{RISING, WORDS};
 use crate::setting::file_of;
 use std::alloc::Global;
+use std::sync::Wait;
 use std::test::Fail;
 use std::thread::Threads;
 use sym_base::NoMemory;
 use sym_check::Checked;
 use sym_file::{join_texts, write_saved};
-use sym_given::accepted;
+use sym_given::{ThreadedCase, bytes_differ, check_threaded_cases, found_unless};
 
 /// Texts, after the script, and what they come to.
 #[derive(Drop)]
@@ -59,49 +60,43 @@ fn joined_by<T: Threads + Sync>(
     }
 }
 
-fn is_wanted<T: Threads + Sync>(
-    rt: &T,
+/// How the text that they come to differs from the one that is wanted.
+fn joined_differs(
     alloc: Global,
     checked: &Checked,
-    case: &Joining<'_>,
-    threads: usize,
-) -> Result<bool, NoMemory> {
-    let joined = joined_by(rt, alloc, checked, case.parts, threads)?;
-    match (joined, case.wanted) {
+    joined: &Option<Vec<u8>>,
+    wanted: Option<&'static str>,
+) -> Result<Option<String>, NoMemory> {
+    match (joined, wanted) {
         (Some(bytes), Some(wanted)) => {
             let text = file_of(alloc, checked, wanted.as_bytes())?;
-            Ok(bytes.as_slice() == text.as_slice())
+            bytes_differ(alloc, bytes.as_slice(), text.as_slice())
         }
-        (None, None) => Ok(true),
-        _ => Ok(false),
+        (Some(_), None) => found_unless(alloc, false, "found a saved run, wanted none"),
+        (None, Some(_)) => found_unless(alloc, false, "found none, wanted a saved run"),
+        (None, None) => Ok(None),
     }
 }
 
-/// Whether the texts come to what is wanted by any number of threads.
-fn holds<T: Threads + Sync>(rt: &T, alloc: Global, case: &Joining<'_>) -> Result<bool, NoMemory> {
-    let Some(checked) = accepted(alloc, case.script) else {
-        return Ok(false);
-    };
-    'threads: for threads in THREADS {
-        if !is_wanted(rt, alloc, &checked, case, threads)? {
-            return Ok(false);
-        }
+impl<'a> ThreadedCase for Joining<'a> {
+    fn script(&self) -> &str {
+        self.script
     }
-    Ok(true)
-}
 
-/// The place of the first case that doesn't hold.
-fn first_wrong<T: Threads + Sync>(
-    rt: &T,
-    alloc: Global,
-    cases: &[Joining<'_>],
-) -> Result<Option<usize>, NoMemory> {
-    'cases: for (place, case) in cases.iter().enumerate() {
-        if !holds(rt, alloc, case)? {
-            return Ok(Some(place));
+    fn differs<T: Threads + Wait + Sync>(
+        &self,
+        rt: &T,
+        alloc: Global,
+        checked: &Checked,
+    ) -> Result<Option<String>, NoMemory> {
+        'threads: for threads in THREADS {
+            let joined = joined_by(rt, alloc, checked, self.parts, threads)?;
+            if let Some(told) = joined_differs(alloc, checked, &joined, self.wanted)? {
+                return Ok(Some(format!(in alloc; "by {threads} threads: {told}")?));
+            }
         }
+        Ok(None)
     }
-    Ok(None)
 }
 
 // The records of `a`, `b` and `a`; then of `c` and `a`; then of `b`, `d`, `c` and `d`.
@@ -149,9 +144,7 @@ fn texts_come_to_what_they_come_to_in_order(rt: HostRuntime) -> Result<(), Fail>
         of(&[SECOND, FIRST], None),
         of(&[FIRST, TWICE], None),
     ];
-    let wrong = first_wrong(&rt, rt.alloc(), &cases)?;
-    assert_eq!(rt; wrong, None);
-    Ok(())
+    check_threaded_cases(&rt, rt.alloc(), &cases)
 }
 
 // A chain with a word that has a line which begins as that of a key does, and one without.
@@ -170,7 +163,5 @@ fn a_chain_that_seems_to_end_is_left_to_the_order(rt: HostRuntime) -> Result<(),
         wanted,
     };
     let cases = [of(&[NO_LINE], Some(NO_LINE)), of(&[LINE], None)];
-    let wrong = first_wrong(&rt, rt.alloc(), &cases)?;
-    assert_eq!(rt; wrong, None);
-    Ok(())
+    check_threaded_cases(&rt, rt.alloc(), &cases)
 }

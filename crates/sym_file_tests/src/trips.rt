@@ -1,22 +1,21 @@
 //! Runs of two parts of a log, written, read back, and taken one after the other.
 ghost use Rattle.std.specs.Prelude.{IfOk, IfSome};
+ghost use Rattle.std.specs.List.{All};
 ghost use Rattle.sym_check.specs.Checking.CheckedScripts.{checked_plan};
 ghost use Rattle.sym_run.specs.Applying.{AreValid};
-ghost use Rattle.sym_table.specs.Rows.{FitsChunk, FitsHeader};
+ghost use Rattle.sym_table.specs.Rows.{FitsChunk};
 
-use crate::scripts::{CHANGES, COUNT, NAMES, NUMBERS, SESSIONS, SUMS, TOGGLE, VISITS, WORDS};
-use crate::setting::{Case, check_cases};
+use crate::scripts::{NAMES, NUMBERS, WORDS};
 use std::alloc::Global;
 use std::test::Fail;
-use sym_base::{Fields, NoMemory, Record};
+use sym_base::NoMemory;
 use sym_check::Checked;
 use sym_file::{SavedErr, Taken, Totals, read_saved, write_saved};
-use sym_plain::{Groups, fold_into};
+use sym_given::scripts::{CHANGES, COUNTER, SHORT_SESSIONS, SMALL_SUMS, TOGGLE, VISITS};
+use sym_given::{Case, check_cases, chunks_of, found_unless, groups_differ, passed};
+use sym_plain::Groups;
 use sym_run::{Saved, of_chunk};
-use sym_table::{Chunk, Cutter, Row, decode_into};
-
-/// The most rows of a log in these tests.
-const ROWS: usize = 400;
+use sym_table::Chunk;
 
 /// What the records of a chunk do to each group.
 fn part_of(alloc: Global, checked: &Checked, chunk: &Chunk, limit: u32) -> Result<Saved, NoMemory>
@@ -68,35 +67,18 @@ fn take_part(
     }
 }
 
-fn next_chunk(
+/// The totals after these chunks; `None` where one isn't taken.
+fn totals_of(
     alloc: Global,
     checked: &Checked,
-    cutter: &mut Cutter<'_>,
-) -> Result<Option<Chunk>, NoMemory>
-    requires { FitsHeader (checked_plan checked.now).fields cutter.old.header }
-    ensures header { FitsHeader (checked_plan checked.now).fields cutter.new.header }
-    ensures fits { IfOk result (λ found.
-        IfSome found (FitsChunk (checked_plan checked.now).fields)) }
-{
-    cutter.next(alloc)
-}
-
-/// The totals after the first 64 chunks; `None` where one isn't taken.
-fn totals_by(
-    alloc: Global,
-    checked: &Checked,
-    cutter: Cutter<'_>,
+    chunks: &[Chunk],
     limit: u32,
 ) -> Result<Option<Totals>, NoMemory>
-    requires { FitsHeader (checked_plan checked.now).fields cutter.header }
+    requires { All (FitsChunk (checked_plan checked.now).fields) chunks.now }
 {
-    let mut cutter = cutter;
     let mut totals = Totals::new(alloc);
-    'chunks: for _place in 0..64 {
-        let Some(chunk) = next_chunk(alloc, checked, &mut cutter)? else {
-            return Ok(Some(totals));
-        };
-        match take_part(alloc, checked, totals, &chunk, limit)? {
+    'chunks: for index in 0..chunks.len() {
+        match take_part(alloc, checked, totals, &chunks[index], limit)? {
             Some(more) => totals = more,
             None => return Ok(None),
         }
@@ -104,66 +86,17 @@ fn totals_by(
     Ok(Some(totals))
 }
 
-/// Folds the record of the next row; false where there is none.
-fn fold_row(
+/// How the totals differ from the groups that are wanted, of which there is one at least.
+fn totals_differ(
     alloc: Global,
-    checked: &Checked,
-    cutter: &mut Cutter<'_>,
-    no: u64,
-    rec: &mut Record,
-    groups: &mut Groups,
-) -> Result<bool, NoMemory>
-    requires header { FitsHeader (checked_plan checked.now).fields cutter.old.header }
-    ensures header { FitsHeader (checked_plan checked.now).fields cutter.new.header }
-{
-    let mut row = Row::new(alloc);
-    if !cutter.next_row(&mut row)? {
-        return Ok(false);
+    totals: &Option<Totals>,
+    wanted: &Groups,
+) -> Result<Option<String>, NoMemory> {
+    match totals {
+        Some(totals) if wanted.len() > 0 => groups_differ(alloc, totals.groups(), wanted),
+        Some(_) => found_unless(alloc, false, "found no groups of the pass"),
+        None => found_unless(alloc, false, "found a part that isn't read or isn't taken"),
     }
-    if decode_into(alloc, checked, cutter.header(), &row.view(), no, rec)?.is_some() {
-        return Ok(false);
-    }
-    fold_into(alloc, checked, groups, rec)?;
-    Ok(true)
-}
-
-/// The groups of the sequential pass over the records.
-fn passed_by(alloc: Global, checked: &Checked, cutter: Cutter<'_>) -> Result<Groups, NoMemory>
-    requires { FitsHeader (checked_plan checked.now).fields cutter.header }
-{
-    let mut cutter = cutter;
-    let mut groups = Groups::new(alloc);
-    let mut rec = Record {
-        no: 0,
-        fields: Fields::new(alloc),
-    };
-    'rows: for place in 0..ROWS {
-        let no = place as u64 + 1;
-        if !fold_row(alloc, checked, &mut cutter, no, &mut rec, &mut groups)? {
-            break;
-        }
-    }
-    Ok(groups)
-}
-
-fn same_group(left: &Groups, right: &Totals, index: usize) -> bool {
-    match (left.at(index), right.at(index)) {
-        (Some((key, outcome)), Some((other, stands))) => key == other && outcome == stands,
-        _ => false,
-    }
-}
-
-/// Whether these are the groups, in the same order.
-fn same_groups(left: &Groups, right: &Totals) -> bool {
-    if left.len() != right.len() {
-        return false;
-    }
-    'groups: for index in 0..left.len() {
-        if !same_group(left, right, index) {
-            return false;
-        }
-    }
-    true
 }
 
 /// A script and a log, cut into parts of so many rows.
@@ -175,51 +108,26 @@ struct Trip {
     limit: u32,
 }
 
-impl Trip {
-    fn totals(&self, alloc: Global, checked: &Checked) -> Result<Option<Totals>, NoMemory> {
-        if self.log.len() >= 100_000 || self.rows < 1 || self.rows > 1_024 {
-            return Ok(None);
-        }
-        match Cutter::open(alloc, checked, self.log.as_bytes(), 1, self.rows) {
-            Ok(cutter) => totals_by(alloc, checked, cutter, self.limit),
-            Err(_) => Ok(None),
-        }
-    }
-
-    fn groups(&self, alloc: Global, checked: &Checked) -> Result<Option<Groups>, NoMemory> {
-        if self.log.len() >= 100_000 {
-            return Ok(None);
-        }
-        match Cutter::open(alloc, checked, self.log.as_bytes(), 1, 1) {
-            Ok(cutter) => Ok(Some(passed_by(alloc, checked, cutter)?)),
-            Err(_) => Ok(None),
-        }
-    }
-}
-
 impl Case for Trip {
     fn script(&self) -> &str {
         self.script
     }
 
-    fn holds(&self, alloc: Global, checked: &Checked) -> Result<bool, NoMemory> {
-        let Some(groups) = self.groups(alloc, checked)? else {
-            return Ok(false);
-        };
-        match self.totals(alloc, checked)? {
-            Some(totals) => Ok(groups.len() > 0 && same_groups(&groups, &totals)),
-            None => Ok(false),
-        }
+    fn differs(&self, alloc: Global, checked: &Checked) -> Result<Option<String>, NoMemory> {
+        let wanted = passed(alloc, checked, self.log)?;
+        let chunks = chunks_of(alloc, checked, self.log, self.rows, 64)?;
+        let totals = totals_of(alloc, checked, &chunks, self.limit)?;
+        totals_differ(alloc, &totals, &wanted)
     }
 }
 
 #[test]
 fn parts_that_are_sent_come_to_the_groups_of_the_pass(rt: HostRuntime) -> Result<(), Fail> {
     let logs = [
-        (SUMS, CHANGES),
-        (SESSIONS, VISITS),
+        (SMALL_SUMS, CHANGES),
+        (SHORT_SESSIONS, VISITS),
         (TOGGLE, NUMBERS),
-        (COUNT, NUMBERS),
+        (COUNTER, NUMBERS),
         (WORDS, NAMES),
     ];
     'logs: for (script, log) in logs {
@@ -242,7 +150,7 @@ fn parts_that_are_sent_come_to_the_groups_of_the_pass(rt: HostRuntime) -> Result
                 ..trip
             },
         ];
-        check_cases(&rt, rt.alloc(), &cases)?;
+        check_cases(rt.alloc(), &cases)?;
     }
     Ok(())
 }
