@@ -2,36 +2,16 @@
 ghost use Rattle.sym_check.specs.Checking.CheckedScripts.{checked_plan};
 ghost use Rattle.sym_table.specs.Rows.{FitsHeader};
 
-use crate::setting::opened;
 use std::alloc::Global;
 use sym_base::{NoMemory, Record};
 use sym_check::Checked;
+use sym_given::{next_decoded, opened};
 use sym_plain::{Groups, fold_into, key_of};
 use sym_scan::TraceRow;
-use sym_table::{Cutter, Decoded, Row, decode};
+use sym_table::{Cutter, Decoded};
 
 /// The most records of a log in these tests.
 const RECORDS: u64 = 400;
-
-/// The next record; `None` where no row is left, or the row is no record.
-fn next_record(
-    alloc: Global,
-    checked: &Checked,
-    cutter: &mut Cutter<'_>,
-    no: u64,
-) -> Result<Option<Record>, NoMemory>
-    requires header { FitsHeader (checked_plan checked.now).fields cutter.old.header }
-    ensures header { FitsHeader (checked_plan checked.now).fields cutter.new.header }
-{
-    let mut row = Row::new(alloc);
-    if !cutter.next_row(&mut row)? {
-        return Ok(None);
-    }
-    match decode(alloc, checked, cutter.header(), &row.view(), no)? {
-        Decoded::Is(rec) => Ok(Some(rec)),
-        Decoded::Bad(_) => Ok(None),
-    }
-}
 
 fn records_by(alloc: Global, checked: &Checked, cutter: Cutter<'_>) -> Result<Vec<Record>, NoMemory>
     requires { FitsHeader (checked_plan checked.now).fields cutter.header }
@@ -39,9 +19,9 @@ fn records_by(alloc: Global, checked: &Checked, cutter: Cutter<'_>) -> Result<Ve
     let mut cutter = cutter;
     let mut records = Vec::new(alloc);
     'records: for place in 0..RECORDS {
-        match next_record(alloc, checked, &mut cutter, place + 1)? {
-            Some(rec) => records.push(rec)?,
-            None => break,
+        match next_decoded(alloc, checked, &mut cutter, place + 1)? {
+            Some(Decoded::Is(rec)) => records.push(rec)?,
+            Some(Decoded::Bad(_)) | None => break,
         }
     }
     Ok(records)

@@ -5,12 +5,13 @@ ghost use Rattle.sym_table.specs.Rows.{FitsChunk, FitsHeader};
 ghost use Rattle.std.specs.List.{All};
 ghost use Rattle.sym_run.specs.Applying.{AreValid};
 
-use crate::setting::{next_round, opened};
+use crate::setting::next_round;
 use std::alloc::Global;
 use std::mem;
 use std::thread::Threads;
 use sym_base::NoMemory;
 use sym_check::Checked;
+use sym_given::opened;
 use sym_plain::Groups;
 use sym_scan::{Scanned, TraceRow, scan_round};
 use sym_table::{Chunks, Cutter};
@@ -19,7 +20,7 @@ use sym_table::{Chunks, Cutter};
 const ROUNDS: usize = 8;
 
 /// How a log is traced.
-#[derive(Clone, Copy)]
+#[derive(Clone, Copy, Debug)]
 pub(crate) struct Way {
     pub(crate) chunk: u32,
     pub(crate) workers: u32,
