@@ -246,6 +246,13 @@ const LARGE: Run = Run {
     ..DONE
 };
 
+/// A script that is small enough, and has nothing but blanks.
+const BLANK: Run = Run {
+    status: Status::Script,
+    err: "symple: script: unexpected token at byte 65536\n",
+    ..DONE
+};
+
 // So many blanks.
 fn blanks(alloc: Global, many: usize) -> Result<Vec<u8>, NoMemory> {
     let mut bytes = Vec::new(alloc);
@@ -253,15 +260,23 @@ fn blanks(alloc: Global, many: usize) -> Result<Vec<u8>, NoMemory> {
     Ok(bytes)
 }
 
-fn too_large(alloc: Global) -> Result<MemStore, NoMemory> {
-    let mut store = store_of(alloc, &LARGE)?;
-    store.add(alloc, "count.symple", blanks(alloc, 65_537)?.as_slice())?;
+// A store with a script of so many blanks.
+fn blank_script(alloc: Global, run: &Run, many: usize) -> Result<MemStore, NoMemory> {
+    let mut store = store_of(alloc, run)?;
+    store.add(alloc, "count.symple", blanks(alloc, many)?.as_slice())?;
     Ok(store)
 }
 
 #[test]
-fn a_script_may_have_65536_bytes(rt: HostRuntime) -> Result<(), Fail> {
-    all_hold(differs_over(&rt, rt.alloc(), &mut too_large(rt.alloc())?, &LARGE))
+fn a_script_of_65536_bytes_is_read(rt: HostRuntime) -> Result<(), Fail> {
+    let mut store = blank_script(rt.alloc(), &BLANK, 65_536)?;
+    all_hold(differs_over(&rt, rt.alloc(), &mut store, &BLANK))
+}
+
+#[test]
+fn a_script_of_65537_bytes_is_too_large(rt: HostRuntime) -> Result<(), Fail> {
+    let mut store = blank_script(rt.alloc(), &LARGE, 65_537)?;
+    all_hold(differs_over(&rt, rt.alloc(), &mut store, &LARGE))
 }
 
 // A log of so many users, of one record each.
