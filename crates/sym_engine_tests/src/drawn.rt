@@ -1,7 +1,6 @@
 //! Logs of records that are drawn by a fixed generator: runs of many sizes beside the sequential
 //! pass.
 use crate::agreement::{Wanted, runs_differ, sequence_of};
-use crate::texts::{groups_text, passed_text};
 use crate::worked::{GUARDED, PURCHASES, SIX};
 use std::alloc::Global;
 use std::sync::Wait;
@@ -11,7 +10,7 @@ use sym_base::NoMemory;
 use sym_check::Checked;
 use sym_engine::PassErr;
 use sym_given::scripts::{BY_USER, COUNTER, SESSIONS, SHOWN, SUMS, TOGGLE};
-use sym_given::{ThreadedCase, check_threaded_cases, difference};
+use sym_given::{Draws, ThreadedCase, check_threaded_cases, difference, groups_differ};
 use sym_plain::Groups;
 
 /// The records of a log.
@@ -22,17 +21,6 @@ const USERS: [&str; 5] = ["ann", "bob", "cy", "dee", "eve"];
 const ACTIONS: [&str; 3] = ["view", "cart", "buy"];
 
 const AMOUNTS: [&str; 4] = ["", "0", "250", "1299"];
-
-/// A linear congruential generator of numbers below 2^31, of which the upper 15 bits are used.
-#[derive(Drop)]
-struct Draws(u32);
-
-impl Draws {
-    fn next(&mut self) -> u32 {
-        self.0 = self.0.wrapping_mul(1_103_515_245).wrapping_add(12_345) & 0x7fff_ffff;
-        self.0 / 65_536
-    }
-}
 
 // Appends a record with the columns of all scripts.
 fn push_record(alloc: Global, log: &mut String, ts: u32, drawn: u32) -> Result<(), NoMemory> {
@@ -47,7 +35,7 @@ fn push_record(alloc: Global, log: &mut String, ts: u32, drawn: u32) -> Result<(
 
 // A log whose times grow by 0 to 60 from record to record.
 fn log_of(alloc: Global, seed: u32) -> Result<String, NoMemory> {
-    let mut draws = Draws(seed);
+    let mut draws = Draws::of(seed);
     let mut log = String::from_str(alloc, "ts,user,x,User ID,Action,Amount\n")?;
     let mut ts: u32 = 0;
     'records: for _number in 0..RECORDS {
@@ -61,22 +49,6 @@ fn log_of(alloc: Global, seed: u32) -> Result<String, NoMemory> {
 #[derive(Drop)]
 struct Given(Groups);
 
-fn same_group(left: &Groups, right: &Groups, place: usize) -> bool {
-    match (left.at(place), right.at(place)) {
-        (Some((key, outcome)), Some((other, stands))) => key == other && outcome == stands,
-        _ => false,
-    }
-}
-
-fn same_groups(left: &Groups, right: &Groups) -> bool {
-    'groups: for place in 0..left.len() {
-        if !same_group(left, right, place) {
-            return false;
-        }
-    }
-    left.len() == right.len()
-}
-
 impl Wanted for Given {
     fn differs(
         &self,
@@ -85,12 +57,8 @@ impl Wanted for Given {
         passed: &Result<Groups, PassErr>,
     ) -> Result<Option<String>, NoMemory> {
         match passed {
-            Ok(groups) if same_groups(groups, &self.0) => Ok(None),
-            _ => {
-                let found = passed_text(alloc, passed)?;
-                let wanted = groups_text(alloc, &self.0)?;
-                Ok(Some(format!(in alloc; "found {found}, wanted {wanted}")?))
-            }
+            Ok(groups) => groups_differ(alloc, groups, &self.0),
+            Err(why) => Ok(Some(format!(in alloc; "found {why:?}, wanted groups")?)),
         }
     }
 }

@@ -4,7 +4,6 @@ ghost use Rattle.sym_check.specs.Checking.CheckedScripts.{checked_plan};
 ghost use Rattle.sym_run.specs.Applying.{AreValid};
 
 use crate::passes::{SCRIPT, Standing, are_groups, names, store};
-use crate::texts::groups_text;
 use Standing::{Is, Left};
 use std::alloc::Global;
 use std::mem;
@@ -14,7 +13,7 @@ use std::thread::Threads;
 use sym_base::{MemStore, NoMemory};
 use sym_check::Checked;
 use sym_engine::{CHUNK_DEFAULT, Free, LIMIT_MAX, OpenGate, Options, PassErr, summarise};
-use sym_given::{ThreadedCase, check_threaded_cases, difference};
+use sym_given::{ThreadedCase, check_threaded_cases, difference, groups_text};
 use sym_plain::Groups;
 use sym_run::{Applied, Run, RunGroups, Saved};
 use sym_table::{Bad, BadCause, HeadFault};

@@ -1,6 +1,6 @@
 //! Worked logs: the groups of each, by runs of many sizes and by the sequential pass.
 use crate::agreement::{Wanted, passes_differ};
-use crate::texts::{groups_text, passed_text};
+use crate::texts::passed_text;
 use std::alloc::Global;
 use std::sync::Wait;
 use std::test::Fail;
@@ -11,7 +11,7 @@ use sym_engine::PassErr;
 use sym_given::scripts::{
     BY_USER, COUNTER, DOUBLE, EARLY, MIRROR, QUOTIENT, SESSIONS, SHOWN, SUMS, TOGGLE, TWO_HUNDRED,
 };
-use sym_given::{ThreadedCase, check_threaded_cases, difference};
+use sym_given::{ThreadedCase, check_threaded_cases, difference, groups_text};
 use sym_plain::{Groups, columns};
 use sym_table::{Bad, BadCause};
 

@@ -77,22 +77,23 @@ fn is_row(row: &Row, lo: u32, hi: u32) -> bool {
 fn one_leaf_is_the_root(rt: HostRuntime) -> Result<(), Fail> {
     let Made { board, mut passes } = Board::new(rt.alloc(), &(), 1, 1)?;
     let Some(mut pass) = next_pass(&board, &mut passes) else {
-        panic!(rt; "no pass")
+        panic!(rt; "found no pass, wanted one")
     };
-    assert!(rt; pass.hand().is_none() && !pass.ended());
+    assert_eq!(rt; (pass.hand(), pass.ended()), (None, false));
     let Some(i) = board.claim(&mut pass) else {
-        panic!(rt; "no leaf")
+        panic!(rt; "found no leaf, wanted one")
     };
-    assert!(rt; i == 0 && pass.hand() == Some(Interval { lo: 0, hi: 1 }));
+    assert_eq!(rt; (i, pass.hand()), (0, Some(Interval { lo: 0, hi: 1 })));
     let piece = leaf(rt.alloc(), i)?;
-    assert!(rt; matches!(board.deliver(&mut pass, piece), Arrived::Crowned));
-    assert!(rt; pass.hand().is_none() && !pass.ended());
+    let crowned = matches!(board.deliver(&mut pass, piece), Arrived::Crowned);
+    assert!(rt; crowned, "found no root, wanted that of one leaf");
+    assert_eq!(rt; (pass.hand(), pass.ended()), (None, false));
     let mut all = Vec::new(rt.alloc());
     all.push(pass)?;
     let Some(row) = board.close(all) else {
-        panic!(rt; "not closed")
+        panic!(rt; "found an open board, wanted it closed")
     };
-    assert!(rt; is_row(&row, 0, 1));
+    assert_eq!(rt; row.0.as_slice(), [0].as_slice());
     Ok(())
 }
 
@@ -166,10 +167,10 @@ fn two_leaves_meet_in_either_order(rt: HostRuntime) -> Result<(), Fail> {
             next_pass(&board, &mut passes),
             next_pass(&board, &mut passes),
         ) else {
-            panic!(rt; "too few passes")
+            panic!(rt; "found too few passes, wanted 3")
         };
         let (Some(i), Some(j)) = (board.claim(&mut a), board.claim(&mut b)) else {
-            panic!(rt; "too few leaves")
+            panic!(rt; "found too few leaves, wanted one for each pass")
         };
         let (zero, one) = (leaf(rt.alloc(), i)?, leaf(rt.alloc(), j)?);
         let closed = if left_first {
@@ -178,9 +179,9 @@ fn two_leaves_meet_in_either_order(rt: HostRuntime) -> Result<(), Fail> {
             finish_five(rt.alloc(), board, b, one, a, zero, c)?
         };
         let Some(row) = closed else {
-            panic!(rt; "not closed")
+            panic!(rt; "found an open board, wanted it closed")
         };
-        assert!(rt; is_row(&row, 0, 5));
+        assert_eq!(rt; row.0.as_slice(), [0, 1, 2, 3, 4].as_slice());
     }
     Ok(())
 }
@@ -193,33 +194,34 @@ fn three_leaves_have_five_nodes(rt: HostRuntime) -> Result<(), Fail> {
         next_pass(&board, &mut passes),
         next_pass(&board, &mut passes),
     ) else {
-        panic!(rt; "too few passes")
+        panic!(rt; "found too few passes, wanted 3")
     };
     let (Some(i), Some(j), Some(k)) = (
         board.claim(&mut a),
         board.claim(&mut b),
         board.claim(&mut c),
     ) else {
-        panic!(rt; "too few leaves")
+        panic!(rt; "found too few leaves, wanted one for each pass")
     };
-    assert!(rt; a.hand() == Some(Interval { lo: 0, hi: 1 }));
-    assert!(rt; b.hand() == Some(Interval { lo: 1, hi: 2 }));
-    assert!(rt; c.hand() == Some(Interval { lo: 2, hi: 3 }));
+    assert_eq!(rt; a.hand(), Some(Interval { lo: 0, hi: 1 }));
+    assert_eq!(rt; b.hand(), Some(Interval { lo: 1, hi: 2 }));
+    assert_eq!(rt; c.hand(), Some(Interval { lo: 2, hi: 3 }));
     let (zero, one, two) = (
         leaf(rt.alloc(), i)?,
         leaf(rt.alloc(), j)?,
         leaf(rt.alloc(), k)?,
     );
     let Some((left, right)) = meet(&board, &mut a, zero, &mut b, one) else {
-        panic!(rt; "no two pieces")
+        panic!(rt; "found no two pieces, wanted those of two children")
     };
-    assert!(rt; b.hand() == Some(Interval { lo: 0, hi: 2 }));
+    assert_eq!(rt; b.hand(), Some(Interval { lo: 0, hi: 2 }));
     let piece = left.join(rt.alloc(), &(), right)?;
     let Some((left, right)) = meet(&board, &mut c, two, &mut b, piece) else {
-        panic!(rt; "no two pieces")
+        panic!(rt; "found no two pieces, wanted those of two children")
     };
-    assert!(rt; is_row(&left, 0, 2) && is_row(&right, 2, 3));
-    assert!(rt; b.hand() == Some(Interval { lo: 0, hi: 3 }));
+    assert_eq!(rt; left.0.as_slice(), [0, 1].as_slice());
+    assert_eq!(rt; right.0.as_slice(), [2].as_slice());
+    assert_eq!(rt; b.hand(), Some(Interval { lo: 0, hi: 3 }));
     Ok(())
 }
 
@@ -228,15 +230,20 @@ fn a_leaf_that_is_missing_leaves_the_board_open(rt: HostRuntime) -> Result<(), F
     for in_hand in [false, true] {
         let Made { board, mut passes } = Board::new(rt.alloc(), &(), 5, 1)?;
         let Some(mut pass) = next_pass(&board, &mut passes) else {
-            panic!(rt; "no pass")
+            panic!(rt; "found no pass, wanted one")
         };
-        assert!(rt; carry_leaves(rt.alloc(), &board, &mut pass, 4)?);
+        let carried = carry_leaves(rt.alloc(), &board, &mut pass, 4)?;
+        assert!(rt; carried, "found less than 4 leaves");
         if in_hand {
-            assert!(rt; board.claim(&mut pass) == Some(4));
+            assert_eq!(rt; board.claim(&mut pass), Some(4));
         }
         let mut all = Vec::new(rt.alloc());
         all.push(pass)?;
-        assert!(rt; board.close(all).is_none());
+        let closed = board.close(all).is_some();
+        assert!(rt;
+            !closed,
+            "found a closed board, wanted a leaf to be missing"
+        );
     }
     Ok(())
 }

@@ -97,7 +97,10 @@ fn keys_are_copied(rt: HostRuntime) -> Result<(), Fail> {
     let key = Key {
         values: values(rt.alloc())?,
     };
-    assert!(rt; key_is_copied(rt.alloc(), &key)?);
+    assert!(rt;
+        key_is_copied(rt.alloc(), &key)?,
+        "found another key, wanted a copy"
+    );
     Ok(())
 }
 
@@ -107,21 +110,24 @@ fn records_are_copied(rt: HostRuntime) -> Result<(), Fail> {
         no: 3,
         fields: fields(rt.alloc())?,
     };
-    assert!(rt; record_is_copied(rt.alloc(), &record)?);
+    let same = record_is_copied(rt.alloc(), &record)?;
+    assert!(rt; same, "found another record, wanted a copy");
     Ok(())
 }
 
 #[test]
 fn outcomes_are_copied(rt: HostRuntime) -> Result<(), Fail> {
     let going = Outcome::Going(state(rt.alloc())?);
-    assert!(rt; outcome_is_copied(rt.alloc(), &going)?);
+    let same = outcome_is_copied(rt.alloc(), &going)?;
+    assert!(rt; same, "found another outcome, wanted a copy");
     Ok(())
 }
 
 #[test]
 fn columns_of_reports_are_copied(rt: HostRuntime) -> Result<(), Fail> {
     let columns = columns(rt.alloc())?;
-    assert!(rt; columns_are_copied(rt.alloc(), &columns)?);
+    let same = columns_are_copied(rt.alloc(), &columns)?;
+    assert!(rt; same, "found other columns, wanted a copy");
     Ok(())
 }
 
@@ -287,7 +293,8 @@ fn script_is_copied(alloc: Global, script: &Script) -> Result<bool, NoMemory> {
 #[test]
 fn a_script_is_copied(rt: HostRuntime) -> Result<(), Fail> {
     let script = script(rt.alloc())?;
-    assert!(rt; script_is_copied(rt.alloc(), &script)?);
+    let same = script_is_copied(rt.alloc(), &script)?;
+    assert!(rt; same, "found another script, wanted a copy");
     Ok(())
 }
 
@@ -308,6 +315,16 @@ fn places(alloc: Global, mut exprs: &Exprs, most: u32) -> Result<Vec<u32>, Alloc
     Ok(places)
 }
 
+// The first place that isn't the one that is wanted, and that one.
+fn first_other(found: &[u32], wanted: &[u32]) -> Option<(u32, u32)> {
+    'places: for (at, place) in found.iter().zip(wanted.iter()) {
+        if at != place {
+            return Some((*at, *place));
+        }
+    }
+    None
+}
+
 #[test]
 fn a_list_of_many_expressions_is_made_copied_and_freed(rt: HostRuntime) -> Result<(), Fail> {
     let mut items = Vec::new(rt.alloc());
@@ -319,7 +336,13 @@ fn a_list_of_many_expressions_is_made_copied_and_freed(rt: HostRuntime) -> Resul
     let list = Exprs::of(rt.alloc(), items)?;
     let copy = list.copy(rt.alloc())?;
     drop(list);
-    assert!(rt; places(rt.alloc(), &copy, 30_000)? == wanted);
+    let found = places(rt.alloc(), &copy, 30_000)?;
+    assert_eq!(rt; found.len(), wanted.len());
+    let other = found
+        .iter()
+        .zip(wanted.iter())
+        .find(|(at, place)| at != place);
+    assert_eq!(rt; other, None);
     Ok(())
 }
 
@@ -333,13 +356,13 @@ fn numbers_compare(rt: HostRuntime) -> Result<(), Fail> {
         (Compare::Gt, [false, false, true]),
         (Compare::Ge, [false, true, true]),
     ];
-    for (compare, wanted) in answers {
+    for (place, (compare, wanted)) in answers.iter().enumerate() {
         let found = [
             compare.holds(-2, -1),
             compare.holds(7, 7),
             compare.holds(i128::MAX, i128::MIN),
         ];
-        assert!(rt; found == wanted);
+        assert_eq!(rt; found, *wanted, "row {place}");
     }
     Ok(())
 }
@@ -347,8 +370,8 @@ fn numbers_compare(rt: HostRuntime) -> Result<(), Fail> {
 #[test]
 fn a_value_of_a_list_is_replaced(rt: HostRuntime) -> Result<(), Fail> {
     let mut values = values(rt.alloc())?;
-    assert!(rt; values.replace(0, Value::Num(6)) == Some(Value::Num(-5)));
-    assert!(rt; values.replace(3, Value::Num(6)) == None && values.len() == 3);
-    assert!(rt; values.get(0) == Some(&Value::Num(6)));
+    assert_eq!(rt; values.replace(0, Value::Num(6)), Some(Value::Num(-5)));
+    assert_eq!(rt; values.replace(3, Value::Num(6)), None);
+    assert_eq!(rt; (values.len(), values.get(0)), (3, Some(&Value::Num(6))));
     Ok(())
 }

@@ -21,7 +21,7 @@ fn longer(alloc: Global, facts: Facts, added: Literal) -> Result<Facts, NoMemory
     }
 }
 
-fn known(alloc: Global, literals: &[(u16, i64, bool)]) -> Result<Facts, NoMemory> {
+fn known(alloc: Global, literals: &[Row]) -> Result<Facts, NoMemory> {
     let mut facts = Facts::none(alloc);
     for &(test, value, outcome) in literals {
         facts = longer(
@@ -33,21 +33,46 @@ fn known(alloc: Global, literals: &[(u16, i64, bool)]) -> Result<Facts, NoMemory
     Ok(facts)
 }
 
-fn are(alloc: Global, facts: &Facts, literals: &[(u16, i64, bool)]) -> Result<bool, NoMemory> {
-    let wanted = known(alloc, literals)?;
-    Ok(*facts == wanted)
+/// The test of a literal, the number on which it is, and its outcome.
+type Row = (u16, i64, bool);
+
+// The only number of a literal; the least one of 64 bits if it has other arguments.
+fn number_in(args: &Values) -> i64 {
+    match args.as_slice() {
+        [Value::Num(number)] => *number,
+        _ => i64::MIN,
+    }
 }
 
-// Whether the facts have these literals, or with `None` there are none.
-fn is_known(
-    alloc: Global,
-    found: &Option<Facts>,
-    wanted: Option<&[(u16, i64, bool)]>,
-) -> Result<bool, NoMemory> {
-    match (found, wanted) {
-        (None, None) => Ok(true),
-        (Some(facts), Some(literals)) => are(alloc, facts, literals),
-        _ => Ok(false),
+// The literals of facts, in their order.
+fn rows_of(alloc: Global, facts: &Facts) -> Result<Vec<Row>, NoMemory> {
+    let mut rows = Vec::new(alloc);
+    'literals: for place in 0..facts.len() {
+        if let Some(literal) = facts.at(place) {
+            rows.push((literal.test, number_in(&literal.args), literal.outcome))?;
+        }
+    }
+    Ok(rows)
+}
+
+// The same, if there are facts.
+fn rows_in(alloc: Global, facts: &Option<Facts>) -> Result<Option<Vec<Row>>, NoMemory> {
+    match facts {
+        Some(facts) => Ok(Some(rows_of(alloc, facts)?)),
+        None => Ok(None),
+    }
+}
+
+// These literals, in the order of facts.
+fn wanted_rows(alloc: Global, literals: &[Row]) -> Result<Vec<Row>, NoMemory> {
+    rows_of(alloc, &known(alloc, literals)?)
+}
+
+// The same, if any are wanted.
+fn wanted_in(alloc: Global, literals: Option<&[Row]>) -> Result<Option<Vec<Row>>, NoMemory> {
+    match literals {
+        Some(literals) => Ok(Some(wanted_rows(alloc, literals)?)),
+        None => Ok(None),
     }
 }
 
@@ -59,19 +84,24 @@ fn added(alloc: Global, facts: &Facts, value: i64, outcome: bool) -> Result<Adde
 #[test]
 fn a_literal_that_stands_is_the_same_or_against(rt: HostRuntime) -> Result<(), Fail> {
     let facts = known(rt.alloc(), &[(0, 5, true)])?;
-    assert!(rt; matches!(&added(rt.alloc(), &facts, 5, true)?, Added::Same));
-    assert!(rt; matches!(&added(rt.alloc(), &facts, 5, false)?, Added::Against));
+    let same = added(rt.alloc(), &facts, 5, true)?;
+    assert!(rt;
+        matches!(&same, Added::Same),
+        "found other facts, wanted the same"
+    );
+    let against = added(rt.alloc(), &facts, 5, false)?;
+    assert!(rt;
+        matches!(&against, Added::Against),
+        "found facts, wanted a clash"
+    );
     Ok(())
 }
 
-fn is_longer(
-    alloc: Global,
-    added: &Added,
-    literals: &[(u16, i64, bool)],
-) -> Result<bool, NoMemory> {
+// The literals of the facts that became longer.
+fn longer_rows(alloc: Global, added: &Added) -> Result<Vec<Row>, NoMemory> {
     match added {
-        Added::Longer(facts) => are(alloc, facts, literals),
-        _ => Ok(false),
+        Added::Longer(facts) => rows_of(alloc, facts),
+        Added::Same | Added::Against => Ok(Vec::new(alloc)),
     }
 }
 
@@ -79,50 +109,25 @@ fn is_longer(
 fn another_literal_makes_the_facts_longer(rt: HostRuntime) -> Result<(), Fail> {
     let facts = known(rt.alloc(), &[(0, 5, true)])?;
     let added = added(rt.alloc(), &facts, 6, false)?;
-    assert!(rt; is_longer(rt.alloc(), &added, &[(0, 6, false), (0, 5, true)])?);
+    let wanted = wanted_rows(rt.alloc(), &[(0, 6, false), (0, 5, true)])?;
+    assert_eq!(rt; longer_rows(rt.alloc(), &added)?, wanted);
     Ok(())
 }
 
-fn meet_in(
-    alloc: Global,
-    left: &Facts,
-    right: &Facts,
-    wanted: Option<&[(u16, i64, bool)]>,
-) -> Result<bool, NoMemory> {
+fn met(alloc: Global, left: &Facts, right: &Facts) -> Result<Option<Vec<Row>>, NoMemory> {
     let met = left.meet(alloc, right)?;
-    is_known(alloc, &met, wanted)
+    rows_in(alloc, &met)
 }
 
-fn meet_in_place(
-    alloc: Global,
-    left: Facts,
-    right: &Facts,
-    wanted: Option<&[(u16, i64, bool)]>,
-) -> Result<bool, NoMemory> {
+fn met_in_place(alloc: Global, left: Facts, right: &Facts) -> Result<Option<Vec<Row>>, NoMemory> {
     let met = left.met_with(alloc, right)?;
-    is_known(alloc, &met, wanted)
-}
-
-// Whether both ways of meeting give the facts that are wanted.
-fn is_meet(
-    alloc: Global,
-    left: &[(u16, i64, bool)],
-    right: &Facts,
-    wanted: Option<&[(u16, i64, bool)]>,
-) -> Result<bool, NoMemory> {
-    let lent = meet_in(alloc, &known(alloc, left)?, right, wanted)?;
-    let moved = meet_in_place(alloc, known(alloc, left)?, right, wanted)?;
-    Ok(lent && moved)
+    rows_in(alloc, &met)
 }
 
 /// Two rows of literals, and what their facts come to, or `None`.
-type Row = (
-    &'static [(u16, i64, bool)],
-    &'static [(u16, i64, bool)],
-    Option<&'static [(u16, i64, bool)]>,
-);
+type Meeting = (&'static [Row], &'static [Row], Option<&'static [Row]>);
 
-const MEETS: [Row; 3] = [
+const MEETS: [Meeting; 3] = [
     (
         &[(0, 5, true)],
         &[(0, 6, false)],
@@ -139,45 +144,31 @@ const MEETS: [Row; 3] = [
 #[test]
 fn facts_meet_unless_a_literal_clashes(rt: HostRuntime) -> Result<(), Fail> {
     for (left, right, wanted) in MEETS {
-        let right = known(rt.alloc(), right)?;
-        assert!(rt; is_meet(rt.alloc(), left, &right, wanted)?, "{left:?}");
+        let (first, second) = (known(rt.alloc(), left)?, known(rt.alloc(), right)?);
+        let wanted = wanted_in(rt.alloc(), wanted)?;
+        let found = met(rt.alloc(), &first, &second)?;
+        assert_eq!(rt; found, wanted, "{left:?} and {right:?}");
+        let found = met_in_place(rt.alloc(), first, &second)?;
+        assert_eq!(rt; found, wanted, "{left:?} and {right:?} in place");
     }
     Ok(())
 }
 
-fn unite_to(
-    alloc: Global,
-    left: &Facts,
-    right: &Facts,
-    wanted: Option<&[(u16, i64, bool)]>,
-) -> Result<bool, NoMemory> {
+fn united(alloc: Global, left: &Facts, right: &Facts) -> Result<Option<Vec<Row>>, NoMemory> {
     let union = left.unite(alloc, right)?;
-    Ok(left.unites(right) == wanted.is_some() && is_known(alloc, &union, wanted)?)
+    rows_in(alloc, &union)
 }
 
-fn unite_in_place(
+fn united_in_place(
     alloc: Global,
     left: Facts,
     right: &Facts,
-    wanted: Option<&[(u16, i64, bool)]>,
-) -> Result<bool, NoMemory> {
+) -> Result<Option<Vec<Row>>, NoMemory> {
     let union = left.united_with(right);
-    is_known(alloc, &union, wanted)
+    rows_in(alloc, &union)
 }
 
-// Whether both ways of uniting give the facts that are wanted.
-fn is_union(
-    alloc: Global,
-    left: &[(u16, i64, bool)],
-    right: &Facts,
-    wanted: Option<&[(u16, i64, bool)]>,
-) -> Result<bool, NoMemory> {
-    let lent = unite_to(alloc, &known(alloc, left)?, right, wanted)?;
-    let moved = unite_in_place(alloc, known(alloc, left)?, right, wanted)?;
-    Ok(lent && moved)
-}
-
-const UNIONS: [Row; 5] = [
+const UNIONS: [Meeting; 5] = [
     (
         &[(0, 5, true), (1, 2, false)],
         &[(0, 5, false), (1, 2, false)],
@@ -200,8 +191,14 @@ const UNIONS: [Row; 5] = [
 #[test]
 fn facts_unite_where_one_outcome_differs(rt: HostRuntime) -> Result<(), Fail> {
     for (left, right, wanted) in UNIONS {
-        let right = known(rt.alloc(), right)?;
-        assert!(rt; is_union(rt.alloc(), left, &right, wanted)?, "{left:?}");
+        let (first, second) = (known(rt.alloc(), left)?, known(rt.alloc(), right)?);
+        let wanted = wanted_in(rt.alloc(), wanted)?;
+        let unites = first.unites(&second);
+        assert_eq!(rt; unites, wanted.is_some(), "{left:?} and {right:?}");
+        let found = united(rt.alloc(), &first, &second)?;
+        assert_eq!(rt; found, wanted, "{left:?} and {right:?}");
+        let found = united_in_place(rt.alloc(), first, &second)?;
+        assert_eq!(rt; found, wanted, "{left:?} and {right:?} in place");
     }
     Ok(())
 }
@@ -216,21 +213,24 @@ fn mixed(alloc: Global) -> Result<Facts, NoMemory> {
     longer(alloc, facts, literal(alloc, 0, Value::Num(9), true)?)
 }
 
-fn are_mixed(facts: &Facts) -> bool {
-    let (Some(other), Some(number), Some(label)) = (facts.at(0), facts.at(1), facts.at(3)) else {
-        return false;
-    };
-    other.test == 0
-        && number.args.get(0) == Some(&Value::Num(-2))
-        && label.args.get(0) == Some(&Value::Label(1))
-        && facts.at(4).is_none()
-        && facts.len() == 4
+// The test and the first argument of the literal at this place.
+fn first_at(facts: &Facts, place: usize) -> Option<(u16, Option<&Value>)> {
+    match facts.at(place) {
+        Some(literal) => Some((literal.test, literal.args.get(0))),
+        None => None,
+    }
 }
 
 #[test]
 fn literals_stand_by_test_then_numbers_words_and_labels(rt: HostRuntime) -> Result<(), Fail> {
     let facts = mixed(rt.alloc())?;
-    assert!(rt; are_mixed(&facts));
+    let word = Value::Word(Text::from_str(rt.alloc(), "b")?);
+    assert_eq!(rt; facts.len(), 4);
+    assert_eq!(rt; first_at(&facts, 0), Some((0, Some(&Value::Num(9)))));
+    assert_eq!(rt; first_at(&facts, 1), Some((1, Some(&Value::Num(-2)))));
+    assert_eq!(rt; first_at(&facts, 2), Some((1, Some(&word))));
+    assert_eq!(rt; first_at(&facts, 3), Some((1, Some(&Value::Label(1)))));
+    assert_eq!(rt; first_at(&facts, 4), None);
     Ok(())
 }
 
@@ -240,26 +240,25 @@ fn say(alloc: Global, facts: &Facts, test: u16, value: i64) -> Result<Option<boo
     Ok(facts.says(test, &literal.args))
 }
 
-fn are_copied(alloc: Global, facts: &Facts) -> Result<bool, NoMemory> {
-    let copy = facts.copy(alloc)?;
-    Ok(copy == *facts)
+fn copied_rows(alloc: Global, facts: &Facts) -> Result<Vec<Row>, NoMemory> {
+    let copied = facts.copy(alloc)?;
+    rows_of(alloc, &copied)
 }
 
 #[test]
 fn facts_say_what_stands_and_a_copy_is_equal(rt: HostRuntime) -> Result<(), Fail> {
     let facts = known(rt.alloc(), &[(0, 5, true), (0, 6, false)])?;
-    assert!(rt; say(rt.alloc(), &facts, 0, 6)? == Some(false));
-    assert!(rt; say(rt.alloc(), &facts, 1, 6)?.is_none());
-    assert!(rt; are_copied(rt.alloc(), &facts)?);
+    assert_eq!(rt; say(rt.alloc(), &facts, 0, 6)?, Some(false));
+    assert_eq!(rt; say(rt.alloc(), &facts, 1, 6)?, None);
+    assert_eq!(rt;
+        copied_rows(rt.alloc(), &facts)?,
+        rows_of(rt.alloc(), &facts)?
+    );
     Ok(())
 }
 
 // Two literals of a number.
-fn pair(
-    alloc: Global,
-    first: (u16, i64, bool),
-    second: (u16, i64, bool),
-) -> Result<Vec<Literal>, NoMemory> {
+fn pair(alloc: Global, first: Row, second: Row) -> Result<Vec<Literal>, NoMemory> {
     let mut pair = Vec::new(alloc);
     pair.push(literal(alloc, first.0, Value::Num(first.1), first.2)?)?;
     pair.push(literal(alloc, second.0, Value::Num(second.1), second.2)?)?;
@@ -268,16 +267,19 @@ fn pair(
 
 #[test]
 fn facts_are_made_of_literals_in_order(rt: HostRuntime) -> Result<(), Fail> {
-    let facts = Facts::of(pair(rt.alloc(), (0, 5, true), (1, 2, false))?);
-    let wanted = Some([(1, 2, false), (0, 5, true)].as_slice());
-    assert!(rt; is_known(rt.alloc(), &facts, wanted)?);
-    assert!(rt; facts.ok_or("in order")?.into_list().len() == 2);
+    let facts = Facts::of(pair(rt.alloc(), (0, 5, true), (1, 2, false))?).ok_or("in order")?;
+    let wanted = wanted_rows(rt.alloc(), &[(1, 2, false), (0, 5, true)])?;
+    assert_eq!(rt; rows_of(rt.alloc(), &facts)?, wanted);
+    assert_eq!(rt; facts.into_list().len(), 2);
     let twice = Facts::of(pair(rt.alloc(), (0, 5, true), (0, 5, false))?);
-    assert!(rt; twice.is_none());
+    assert!(rt;
+        twice.is_none(),
+        "found facts of a literal and its contrary, wanted none"
+    );
     Ok(())
 }
 
-fn clash(alloc: Global, facts: &Facts, other: &[(u16, i64, bool)]) -> Result<bool, NoMemory> {
+fn clash(alloc: Global, facts: &Facts, other: &[Row]) -> Result<bool, NoMemory> {
     let other = known(alloc, other)?;
     Ok(facts.clashes(&other))
 }
@@ -290,10 +292,16 @@ fn are_against(alloc: Global, facts: &Facts, value: i64) -> Result<bool, NoMemor
 #[test]
 fn facts_clash_where_one_outcome_is_the_other(rt: HostRuntime) -> Result<(), Fail> {
     let facts = known(rt.alloc(), &[(0, 5, true), (0, 6, false)])?;
-    assert!(rt; clash(rt.alloc(), &facts, &[(0, 6, true), (1, 2, true)])?);
-    assert!(rt; clash(rt.alloc(), &facts, &[(0, 5, false)])?);
-    assert!(rt; !clash(rt.alloc(), &facts, &[(0, 5, true), (1, 6, true)])?);
-    assert!(rt; are_against(rt.alloc(), &facts, 6)?);
+    assert_eq!(rt;
+        clash(rt.alloc(), &facts, &[(0, 6, true), (1, 2, true)])?,
+        true
+    );
+    assert_eq!(rt; clash(rt.alloc(), &facts, &[(0, 5, false)])?, true);
+    assert_eq!(rt;
+        clash(rt.alloc(), &facts, &[(0, 5, true), (1, 6, true)])?,
+        false
+    );
+    assert_eq!(rt; are_against(rt.alloc(), &facts, 6)?, true);
     Ok(())
 }
 
@@ -307,15 +315,16 @@ fn one(alloc: Global) -> Result<Facts, NoMemory> {
     }
 }
 
-fn longer_is_copied(alloc: Global, added: &Added) -> Result<bool, NoMemory> {
-    let copy = added.copy(alloc)?;
-    Ok(matches!(&copy, Added::Longer(more) if more.len() == 1))
+fn longer_copied(alloc: Global, added: &Added) -> Result<Vec<Row>, NoMemory> {
+    let copied = added.copy(alloc)?;
+    longer_rows(alloc, &copied)
 }
 
 #[test]
 fn facts_that_are_given_away_take_a_literal(rt: HostRuntime) -> Result<(), Fail> {
+    let wanted = wanted_rows(rt.alloc(), &[(0, 5, true)])?;
     let facts = one(rt.alloc())?;
-    assert!(rt; are(rt.alloc(), &facts, &[(0, 5, true)])?);
-    assert!(rt; longer_is_copied(rt.alloc(), &Added::Longer(facts))?);
+    assert_eq!(rt; rows_of(rt.alloc(), &facts)?, wanted);
+    assert_eq!(rt; longer_copied(rt.alloc(), &Added::Longer(facts))?, wanted);
     Ok(())
 }

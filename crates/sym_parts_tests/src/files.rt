@@ -15,15 +15,29 @@ fn sample(alloc: Global, count: u64) -> Result<Vec<u8>, AllocError> {
     Ok(bytes)
 }
 
+// The place of the first byte of these that isn't that of the sample.
+fn first_other(found: &[u8], wanted: &[u8]) -> Option<usize> {
+    'bytes: for (place, (byte, other)) in found.iter().zip(wanted.iter()).enumerate() {
+        if byte != other {
+            return Some(place);
+        }
+    }
+    None
+}
+
 #[test]
 fn a_file_is_read_whole_up_to_its_limit(rt: HostRuntime) -> Result<(), Fail> {
     for count in [0, 1, 65_535, 65_536, 65_537, 300_000] {
         let bytes = sample(rt.alloc(), count)?;
         let mut store = MemStore::new(rt.alloc());
         store.add(rt.alloc(), "records", bytes.as_slice())?;
-        assert!(rt; count <= FILE_MAX);
+        assert!(rt;
+            count <= FILE_MAX,
+            "found {count}, wanted at most the largest size"
+        );
         let read = read_all(rt.alloc(), &mut store, "records", count)?;
-        assert!(rt; read == bytes, "{count} bytes");
+        assert_eq!(rt; read.len(), bytes.len(), "{count} bytes");
+        assert_eq!(rt; first_other(&read, &bytes), None, "{count} bytes");
         if count > 0 {
             let read = read_all(rt.alloc(), &mut store, "records", count - 1);
             assert_eq!(rt; read.err(), Some(ReadErr::TooLarge), "{count} bytes");
@@ -42,7 +56,8 @@ fn a_failed_read_is_not_the_end_of_the_file(rt: HostRuntime) -> Result<(), Fail>
         let read = read_all(rt.alloc(), &mut store, "records", 100_000);
         assert_eq!(rt; read.err(), Some(ReadErr::Failed), "read {call}");
         let read = read_all(rt.alloc(), &mut store, "records", 100_000)?;
-        assert!(rt; read == bytes, "after read {call}");
+        assert_eq!(rt; read.len(), bytes.len(), "after read {call}");
+        assert_eq!(rt; first_other(&read, &bytes), None, "after read {call}");
     }
     Ok(())
 }
@@ -55,11 +70,12 @@ fn a_file_is_read_whole_by_pieces(rt: HostRuntime) -> Result<(), Fail> {
         store.add(rt.alloc(), "records", bytes.as_slice())?;
         let mut whole = [0; 2_000];
         assert_eq!(rt; store.read_at("records", 0, &mut whole).ok(), Some(1_000));
-        assert!(rt; piece >= 1);
+        assert!(rt; piece >= 1, "found a piece of {piece}, wanted 1 at least");
         store.set_piece(piece);
         assert_eq!(rt; store.read_at("records", 0, &mut whole).ok(), Some(piece));
         let read = read_all(rt.alloc(), &mut store, "records", 1_000)?;
-        assert!(rt; read == bytes, "pieces of {piece}");
+        assert_eq!(rt; read.len(), bytes.len(), "pieces of {piece}");
+        assert_eq!(rt; first_other(&read, &bytes), None, "pieces of {piece}");
     }
     Ok(())
 }
@@ -100,7 +116,7 @@ fn a_file_that_is_absent_cannot_be_read_and_one_that_is_set_again_is_replaced(
 #[test]
 fn all_bytes_are_written_whatever_a_write_takes(rt: HostRuntime) -> Result<(), Fail> {
     for piece in [1, 4, 10, 11] {
-        assert!(rt; piece >= 1);
+        assert!(rt; piece >= 1, "found a piece of {piece}, wanted 1 at least");
         let mut sink = MemSink::new(rt.alloc(), piece);
         assert_eq!(rt; write_all(&mut sink, b"0123456789"), Ok(()));
         assert_eq!(rt; write_all(&mut sink, b""), Ok(()));
@@ -130,7 +146,7 @@ fn an_absent_file_is_empty_and_one_that_is_set_again_is_replaced(
     rt: HostRuntime,
 ) -> Result<(), Fail> {
     let mut store = SureStore::new(rt.alloc());
-    assert!(rt; read_all(rt.alloc(), &mut store, "a", 0)?.is_empty());
+    assert_eq!(rt; read_all(rt.alloc(), &mut store, "a", 0)?.len(), 0);
     store.add(rt.alloc(), "a", b"first, and longer")?;
     store.add(rt.alloc(), "b", b"other")?;
     store.add(rt.alloc(), "a", b"second")?;
@@ -138,7 +154,7 @@ fn an_absent_file_is_empty_and_one_that_is_set_again_is_replaced(
     assert_eq!(rt; read.as_slice(), b"second".as_slice());
     let read = read_all(rt.alloc(), &mut store, "b", 20)?;
     assert_eq!(rt; read.as_slice(), b"other".as_slice());
-    assert!(rt; read_all(rt.alloc(), &mut store, "", 20)?.is_empty());
+    assert_eq!(rt; read_all(rt.alloc(), &mut store, "", 20)?.len(), 0);
     Ok(())
 }
 

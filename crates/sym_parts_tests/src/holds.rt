@@ -10,6 +10,14 @@ fn parts(alloc: Global, value: i64) -> Result<Values, NoMemory> {
     Ok(parts)
 }
 
+/// The parts of a form, or the cell of which it is a copy.
+fn shown(form: &HoldForm) -> (&[Value], Option<u16>) {
+    match form {
+        HoldForm::Const(parts) => (parts.as_slice(), None),
+        HoldForm::Copy(cell) => (&[], Some(*cell)),
+    }
+}
+
 #[test]
 fn a_form_gives_its_parts_or_those_of_the_copied_cell(rt: HostRuntime) -> Result<(), Fail> {
     let alloc = rt.alloc();
@@ -17,8 +25,13 @@ fn a_form_gives_its_parts_or_those_of_the_copied_cell(rt: HostRuntime) -> Result
     cells.push(Cell::Int(3))?;
     cells.push(Cell::Hold(parts(alloc, 7)?))?;
     let state = State { cells };
-    assert!(rt; HoldForm::Const(parts(alloc, 5)?).value(alloc, &state)? == parts(alloc, 5)?);
-    assert!(rt; HoldForm::Copy(1).value(alloc, &state)? == parts(alloc, 7)?);
+    let fixed = HoldForm::Const(parts(alloc, 5)?);
+    let (own, copied) = (
+        fixed.value(alloc, &state)?,
+        HoldForm::Copy(1).value(alloc, &state)?,
+    );
+    assert_eq!(rt; own.as_slice(), [Value::Num(5)].as_slice());
+    assert_eq!(rt; copied.as_slice(), [Value::Num(7)].as_slice());
     Ok(())
 }
 
@@ -27,11 +40,17 @@ fn a_copy_becomes_the_form_of_the_copied_cell(rt: HostRuntime) -> Result<(), Fai
     let alloc = rt.alloc();
     let inner = HoldForm::Copy(2);
     let fixed = HoldForm::Const(parts(alloc, 5)?);
-    assert!(rt; HoldForm::Copy(1).through(alloc, &inner)? == inner);
-    assert!(rt; HoldForm::Copy(1).through(alloc, &fixed)? == fixed);
-    assert!(rt; fixed.through(alloc, &inner)? == fixed);
-    assert!(rt; fixed.copy(alloc)? == fixed);
-    assert!(rt; HoldForm::Copy(1).go_through(alloc, &fixed)? == fixed);
-    assert!(rt; fixed.copy(alloc)?.go_through(alloc, &inner)? == fixed);
+    let through = HoldForm::Copy(1).through(alloc, &inner)?;
+    assert_eq!(rt; shown(&through), shown(&inner));
+    let through = HoldForm::Copy(1).through(alloc, &fixed)?;
+    assert_eq!(rt; shown(&through), shown(&fixed));
+    let through = fixed.through(alloc, &inner)?;
+    assert_eq!(rt; shown(&through), shown(&fixed));
+    let copied = fixed.copy(alloc)?;
+    assert_eq!(rt; shown(&copied), shown(&fixed));
+    let through = HoldForm::Copy(1).go_through(alloc, &fixed)?;
+    assert_eq!(rt; shown(&through), shown(&fixed));
+    let through = copied.go_through(alloc, &inner)?;
+    assert_eq!(rt; shown(&through), shown(&fixed));
     Ok(())
 }

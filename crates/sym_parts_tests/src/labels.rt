@@ -1,18 +1,60 @@
 //! Sets of labels and the forms of enum cells.
+use std::alloc::{AllocError, Global};
 use std::test::Fail;
 use sym_base::{Cell, Cells, State};
 use sym_enum::{EnumForm, LabelSet, PulledLabels};
 
+/// The labels of a set, and any above 31 that it might have.
+fn labels_of(alloc: Global, set: &LabelSet) -> Result<Vec<u8>, AllocError> {
+    let mut labels = Vec::new(alloc);
+    'labels: for label in 0..64u8 {
+        if set.has(label) {
+            labels.push(label)?;
+        }
+    }
+    Ok(labels)
+}
+
 #[test]
-fn sets_of_labels_by_their_members(rt: HostRuntime) {
+fn sets_of_labels_by_their_members(rt: HostRuntime) -> Result<(), Fail> {
+    let alloc = rt.alloc();
     let all = LabelSet::full(3);
     let (one, rest) = all.split(1);
-    assert!(rt; all.has(0) && all.has(2) && !all.has(3) && !all.has(40));
-    assert!(rt; one == LabelSet::one(1) && one.only() == Some(1));
-    assert!(rt; !rest.has(1) && rest.only().is_none());
-    assert!(rt; one.unite(&rest) == all && one.meet(&rest).is_empty());
-    assert!(rt; all.split(40).1 == all && all.split(40).0.is_empty());
-    assert!(rt; LabelSet::full(32).has(31) && LabelSet::one(31).only() == Some(31));
+    let most = LabelSet::one(31);
+    let (none, same) = all.split(40);
+    let rows: [(LabelSet, &[u8]); 8] = [
+        (all, &[0, 1, 2]),
+        (one, &[1]),
+        (rest, &[0, 2]),
+        (most, &[31]),
+        (one.unite(&rest), &[0, 1, 2]),
+        (one.meet(&rest), &[]),
+        (none, &[]),
+        (same, &[0, 1, 2]),
+    ];
+    for (set, wanted) in rows {
+        assert_eq!(rt; labels_of(alloc, &set)?.as_slice(), wanted);
+    }
+    assert_eq!(rt; labels_of(alloc, &LabelSet::full(32))?.len(), 32);
+    let only = (one.only(), rest.only(), most.only());
+    assert_eq!(rt; only, (Some(1), None, Some(31)));
+    let empty = (one.is_empty(), none.is_empty());
+    assert_eq!(rt; empty, (false, true));
+    Ok(())
+}
+
+/// What a form is: a label, or the cell of which it is a copy.
+#[derive(Clone, Copy, Debug, PartialEq, Eq)]
+enum Said {
+    Label(u8),
+    Cell(u16),
+}
+
+fn shown(form: &EnumForm) -> Said {
+    match form {
+        EnumForm::Const(label) => Said::Label(*label),
+        EnumForm::Copy(cell) => Said::Cell(*cell),
+    }
 }
 
 #[test]
@@ -22,17 +64,33 @@ fn forms_at_a_state_and_through_an_earlier_form(rt: HostRuntime) -> Result<(), F
     cells.push(Cell::Enum(3))?;
     let state = State { cells };
     let (two, copy) = (EnumForm::Const(2), EnumForm::Copy(1));
-    assert!(rt; two.value(&state) == 2 && copy.value(&state) == 3);
-    assert!(rt; EnumForm::Copy(0).value(&state) == 0);
-    assert!(rt; EnumForm::Copy(4).through(&copy) == copy && two.through(&copy) == two);
+    assert_eq!(rt; (two.value(&state), copy.value(&state)), (2, 3));
+    assert_eq!(rt; EnumForm::Copy(0).value(&state), 0);
+    assert_eq!(rt; shown(&EnumForm::Copy(4).through(&copy)), Said::Cell(1));
+    assert_eq!(rt; shown(&two.through(&copy)), Said::Label(2));
     Ok(())
+}
+
+/// The cell of which a set of labels is pulled, and its only label.
+#[derive(Clone, Copy, Debug, PartialEq, Eq)]
+enum Pull {
+    All,
+    Never,
+    In(u16, Option<u8>),
+}
+
+fn pulled(set: &LabelSet, form: &EnumForm) -> Pull {
+    match EnumForm::pull(set, form) {
+        PulledLabels::All => Pull::All,
+        PulledLabels::Never => Pull::Never,
+        PulledLabels::In { cell, set } => Pull::In(cell, set.only()),
+    }
 }
 
 #[test]
 fn a_constant_pulls_all_or_none_and_a_copy_its_cell(rt: HostRuntime) {
     let set = LabelSet::one(2);
-    assert!(rt; EnumForm::pull(&set, &EnumForm::Const(2)) == PulledLabels::All);
-    assert!(rt; EnumForm::pull(&set, &EnumForm::Const(3)) == PulledLabels::Never);
-    let copied = EnumForm::pull(&set, &EnumForm::Copy(5));
-    assert!(rt; copied == PulledLabels::In { cell: 5, set });
+    assert_eq!(rt; pulled(&set, &EnumForm::Const(2)), Pull::All);
+    assert_eq!(rt; pulled(&set, &EnumForm::Const(3)), Pull::Never);
+    assert_eq!(rt; pulled(&set, &EnumForm::Copy(5)), Pull::In(5, Some(2)));
 }

@@ -23,12 +23,58 @@ fn wide_of(a: i128, b: i64) -> Option<Wide> {
     Some(form.scaled(1, b))
 }
 
-fn piece_of(lo: i64, hi: i64, truth: bool) -> Option<Cut> {
-    Span::new(lo, hi).map(|span| Cut { span, truth })
+/// What a form is: its cell, if it is a line, and `a` and `b` of `a * x + b`.
+#[derive(Clone, Copy, Debug, PartialEq, Eq)]
+struct Said {
+    cell: Option<u16>,
+    a: i128,
+    b: i128,
 }
 
-fn is_cut(pieces: &Pieces, wanted: (Option<Cut>, Option<Cut>, Option<Cut>)) -> bool {
-    Some(pieces.first) == wanted.0 && pieces.second == wanted.1 && pieces.third == wanted.2
+fn line(cell: u16, a: i128, b: i128) -> Said {
+    let cell = Some(cell);
+    Said { cell, a, b }
+}
+
+fn constant(b: i128) -> Said {
+    Said {
+        cell: None,
+        a: 0,
+        b,
+    }
+}
+
+fn shown(form: &IntForm) -> Said {
+    match form {
+        IntForm::Const(number) => constant(i128::from(number.value)),
+        IntForm::Line(over) => line(over.cell, i128::from(over.a), over.offset()),
+    }
+}
+
+fn shown_wide(form: &Wide) -> Said {
+    match form {
+        Wide::Const(number) => constant(number.value),
+        Wide::Line(over) => line(over.cell, over.a, over.b),
+    }
+}
+
+fn ends(span: Span) -> (i64, i64) {
+    (span.lo, span.hi)
+}
+
+/// The ends of a piece, and its truth.
+type Piece = (i64, i64, bool);
+
+fn piece_of(cut: Cut) -> Piece {
+    (cut.span.lo, cut.span.hi, cut.truth)
+}
+
+fn pieces_of(pieces: &Pieces) -> [Option<Piece>; 3] {
+    [
+        Some(piece_of(pieces.first)),
+        pieces.second.map(piece_of),
+        pieces.third.map(piece_of),
+    ]
 }
 
 /// The line over 0 to 10, the comparison and its bound; the pieces as ends and truths.
@@ -36,100 +82,113 @@ fn is_cut(pieces: &Pieces, wanted: (Option<Cut>, Option<Cut>, Option<Cut>)) -> b
 fn worked_rows_of_cut(rt: HostRuntime) -> Result<(), Fail> {
     let span = Span::new(0, 10).ok_or("span")?;
     let rows = [
-        (2, 1, Compare::Eq, 4, (piece_of(0, 10, false), None, None)),
+        (2, 1, Compare::Eq, 4, [Some((0, 10, false)), None, None]),
         (
             2,
             0,
             Compare::Eq,
             6,
-            (
-                piece_of(0, 2, false),
-                piece_of(3, 3, true),
-                piece_of(4, 10, false),
-            ),
+            [
+                Some((0, 2, false)),
+                Some((3, 3, true)),
+                Some((4, 10, false)),
+            ],
         ),
         (
             2,
             0,
             Compare::Ne,
             6,
-            (
-                piece_of(0, 2, true),
-                piece_of(3, 3, false),
-                piece_of(4, 10, true),
-            ),
+            [Some((0, 2, true)), Some((3, 3, false)), Some((4, 10, true))],
         ),
         (
             -3,
             10,
             Compare::Lt,
             4,
-            (piece_of(0, 2, false), piece_of(3, 10, true), None),
+            [Some((0, 2, false)), Some((3, 10, true)), None],
         ),
         (
             1,
             0,
             Compare::Le,
             9,
-            (piece_of(0, 9, true), piece_of(10, 10, false), None),
+            [Some((0, 9, true)), Some((10, 10, false)), None],
         ),
-        (-1, 0, Compare::Gt, 0, (piece_of(0, 10, false), None, None)),
+        (-1, 0, Compare::Gt, 0, [Some((0, 10, false)), None, None]),
         (
             -1,
             0,
             Compare::Ge,
             0,
-            (piece_of(0, 0, true), piece_of(1, 10, false), None),
+            [Some((0, 0, true)), Some((1, 10, false)), None],
         ),
     ];
     'rows: for (a, b, compare, bound, wanted) in rows {
         let wide = wide_of(a, b).ok_or("line")?;
-        assert!(rt; is_cut(&cut(&span, &wide, compare, bound), wanted));
+        let found = pieces_of(&cut(&span, &wide, compare, bound));
+        assert_eq!(rt; found, wanted, "{a} * x + {b}");
     }
     Ok(())
 }
 
-/// The span, the form and the numbers of cell 3 that it pulls.
+/// The cell of which numbers are pulled, and the ends of their span.
+#[derive(Clone, Copy, Debug, PartialEq, Eq)]
+enum Pull {
+    All,
+    Never,
+    In(u16, i64, i64),
+}
+
+/// What this form pulls of the numbers from `lo` to `hi`.
+fn pulled(lo: i64, hi: i64, a: i64, b: i64) -> Option<Pull> {
+    match pull(&Span::new(lo, hi)?, &form_of(a, b)?) {
+        Pulled::All => Some(Pull::All),
+        Pulled::Never => Some(Pull::Never),
+        Pulled::In { cell, span } => Some(Pull::In(cell, span.lo, span.hi)),
+    }
+}
+
 #[test]
-fn worked_rows_of_pull(rt: HostRuntime) -> Result<(), Fail> {
+fn worked_rows_of_pull(rt: HostRuntime) {
     let rows = [
-        (0, 3, -2, 7, Span::new(2, 3)),
-        (0, 3, -2, -1, Span::new(-2, -1)),
-        (-5, 5, 1, 3, Span::new(-8, 2)),
+        (0, 3, -2, 7, Pull::In(3, 2, 3)),
+        (0, 3, -2, -1, Pull::In(3, -2, -1)),
+        (-5, 5, 1, 3, Pull::In(3, -8, 2)),
+        (4, 4, 2, 1, Pull::Never),
+        (4, 4, 0, 4, Pull::All),
+        (4, 4, 0, 5, Pull::Never),
     ];
     'rows: for (lo, hi, a, b, wanted) in rows {
-        let pulled = pull(
-            &Span::new(lo, hi).ok_or("span")?,
-            &form_of(a, b).ok_or("form")?,
-        );
-        let span = wanted.ok_or("span")?;
-        assert!(rt; pulled == Pulled::In { cell: 3, span });
+        let found = pulled(lo, hi, a, b);
+        assert_eq!(rt; found, Some(wanted), "{a} * x + {b} in {lo} to {hi}");
     }
-    let four = Span::new(4, 4).ok_or("span")?;
-    assert!(rt; pull(&four, &form_of(2, 1).ok_or("form")?) == Pulled::Never);
-    assert!(rt; pull(&four, &form_of(0, 4).ok_or("form")?) == Pulled::All);
-    assert!(rt; pull(&four, &form_of(0, 5).ok_or("form")?) == Pulled::Never);
-    Ok(())
+}
+
+/// The ends of the points below, in and above a range, and the form on those in it.
+type Fit = (
+    Option<(i64, i64)>,
+    Option<((i64, i64), Said)>,
+    Option<(i64, i64)>,
+);
+
+fn fit_of(fitted: &Fitted) -> Fit {
+    let inside = match &fitted.inside {
+        Some(inside) => Some((ends(inside.span), shown(&inside.form))),
+        None => None,
+    };
+    (fitted.below.map(ends), inside, fitted.above.map(ends))
 }
 
 #[test]
 fn worked_rows_of_fit(rt: HostRuntime) -> Result<(), Fail> {
     let span = Span::new(0, 3).ok_or("span")?;
-    let fitted = fit(&span, &wide_of(-1, 2).ok_or("line")?, &span);
-    assert!(rt; fitted.below == Span::new(3, 3) && fitted.above.is_none());
-    let inside = fitted.inside.ok_or("inside")?;
-    assert!(rt; Some(inside.span) == Span::new(0, 2) && Some(inside.form) == form_of(-1, 2));
-    let outside = fit(
-        &span,
-        &wide_of(1, 7).ok_or("line")?,
-        &Span::new(0, 6).ok_or("span")?,
-    );
-    let above = Fitted {
-        below: None,
-        inside: None,
-        above: Some(span),
-    };
-    assert!(rt; outside == above);
+    let range = Span::new(0, 6).ok_or("span")?;
+    let falling = fit(&span, &wide_of(-1, 2).ok_or("line")?, &span);
+    let wanted = (Some((3, 3)), Some(((0, 2), line(3, -1, 2))), None);
+    assert_eq!(rt; fit_of(&falling), wanted);
+    let outside = fit(&span, &wide_of(1, 7).ok_or("line")?, &range);
+    assert_eq!(rt; fit_of(&outside), (None, None, Some((0, 3))));
     Ok(())
 }
 
@@ -141,59 +200,84 @@ fn a_form_on_a_span_is_a_constant_on_one_point(rt: HostRuntime) -> Result<(), Fa
     let two = Span::new(2, 2).ok_or("span")?;
     let three = Span::new(0, 2).ok_or("span")?;
     let one = fit(&two, &wide, &range).inside.ok_or("inside")?;
-    assert!(rt; Some(one.form) == form_of(0, 11));
+    assert_eq!(rt; shown(&one.form), constant(11));
     let more = fit(&three, &wide, &range).inside.ok_or("inside")?;
-    assert!(rt; Some(more.form) == form_of(5, 1));
-    let line = WideLine {
+    assert_eq!(rt; shown(&more.form), line(3, 5, 1));
+    let over = Wide::Line(WideLine {
         cell: 3,
         a: 5,
         b: 1,
-    };
-    assert!(rt; Some(Wide::Line(line).taken(&Span { lo: 2, hi: 2 })) == form_of(0, 11));
-    assert!(rt; Some(Wide::Line(line).taken(&Span { lo: 0, hi: 2 })) == form_of(5, 1));
+    });
+    assert_eq!(rt; shown(&over.taken(&Span { lo: 2, hi: 2 })), constant(11));
+    assert_eq!(rt; shown(&over.taken(&Span { lo: 0, hi: 2 })), line(3, 5, 1));
     Ok(())
 }
 
 #[test]
 fn spans_meet_unite_and_have_numbers(rt: HostRuntime) -> Result<(), Fail> {
     let rows = [
-        (0, 5, 3, 9, Span::new(3, 5), Span::new(0, 9)),
-        (0, 5, 6, 9, None, Span::new(0, 9)),
+        (0, 5, 3, 9, Some((3, 5)), Some((0, 9))),
+        (0, 5, 6, 9, None, Some((0, 9))),
         (0, 5, 7, 9, None, None),
         (7, 9, 0, 5, None, None),
-        (2, 3, 0, 9, Span::new(2, 3), Span::new(0, 9)),
+        (2, 3, 0, 9, Some((2, 3)), Some((0, 9))),
         (
             -NUM_MAX,
             0,
             0,
             NUM_MAX,
-            Span::new(0, 0),
-            Span::new(-NUM_MAX, NUM_MAX),
+            Some((0, 0)),
+            Some((-NUM_MAX, NUM_MAX)),
         ),
     ];
     'rows: for (a, b, c, d, meet, unite) in rows {
         let left = Span::new(a, b).ok_or("span")?;
         let right = Span::new(c, d).ok_or("span")?;
-        assert!(rt; left.meet(&right) == meet && right.meet(&left) == meet);
-        assert!(rt; left.unite(&right) == unite && right.unite(&left) == unite);
-        assert!(rt; left.has(a) && left.has(b) && left.only().is_none());
+        let met = (left.meet(&right).map(ends), right.meet(&left).map(ends));
+        assert_eq!(rt; met, (meet, meet), "{a} to {b}, {c} to {d} meet");
+        let united = (left.unite(&right).map(ends), right.unite(&left).map(ends));
+        assert_eq!(rt; united, (unite, unite), "{a} to {b}, {c} to {d} unite");
+        let has = (left.has(a), left.has(b), left.only());
+        assert_eq!(rt; has, (true, true, None), "{a} to {b}");
     }
-    assert!(rt; Span::new(4, 4).ok_or("span")?.only() == Some(4));
+    assert_eq!(rt; Span::new(4, 4).ok_or("span")?.only(), Some(4));
     Ok(())
 }
 
 #[test]
-fn numbers_lines_and_spans_are_made_within_their_bounds(rt: HostRuntime) {
-    assert!(rt; Span::new(1, 0).is_none() && Span::new(0, NUM_MAX + 1).is_none());
-    assert!(rt; Span::new(-NUM_MAX - 1, 0).is_none());
-    assert!(rt; Number::new(-NUM_MAX).is_some() && Number::new(-NUM_MAX - 1).is_none());
-    assert!(rt; Number::new(NUM_MAX).is_some() && Number::new(NUM_MAX + 1).is_none());
+fn spans_and_numbers_are_made_within_their_bounds(rt: HostRuntime) {
+    let past = NUM_MAX + 1;
+    let spans = [(1, 0), (0, past), (-past, 0)];
+    'spans: for (lo, hi) in spans {
+        assert_eq!(rt; Span::new(lo, hi).map(ends), None, "{lo} to {hi}");
+    }
+    let numbers = [
+        (-NUM_MAX, true),
+        (-past, false),
+        (NUM_MAX, true),
+        (past, false),
+    ];
+    'numbers: for (number, wanted) in numbers {
+        assert_eq!(rt; Number::new(number).is_some(), wanted, "{number}");
+    }
+}
+
+#[test]
+fn lines_are_made_within_their_bounds(rt: HostRuntime) {
     let slope: i128 = 2_000_000_000_000;
     let offset: i128 = 2_000_000_000_001_000_000_000_000;
-    assert!(rt; Line::new(0, slope, offset).is_some() && Line::new(0, -slope, -offset).is_some());
-    assert!(rt; Line::new(0, slope + 1, 0).is_none() && Line::new(0, -slope - 1, 0).is_none());
-    assert!(rt; Line::new(0, 1, offset + 1).is_none() && Line::new(0, 1, -offset - 1).is_none());
-    assert!(rt; Line::new(0, 0, 0).is_none());
+    let lines = [
+        (slope, offset, true),
+        (-slope, -offset, true),
+        (slope + 1, 0, false),
+        (-slope - 1, 0, false),
+        (1, offset + 1, false),
+        (-1, -offset - 1, false),
+        (0, 0, false),
+    ];
+    'lines: for (a, b, wanted) in lines {
+        assert_eq!(rt; Line::new(0, a, b).is_some(), wanted, "{a} * x + {b}");
+    }
 }
 
 /// Cell 0 becomes `3 * x0 + 2`, where it was 0 to 10.
@@ -208,7 +292,8 @@ fn context_of(alloc: Global) -> Result<IntForms, Fail> {
 #[test]
 fn an_element_goes_through_a_context_and_takes_a_number(rt: HostRuntime) -> Result<(), Fail> {
     let context = context_of(rt.alloc())?;
-    assert!(rt; context.copy(rt.alloc())? == context);
+    let same = context.copy(rt.alloc())? == context;
+    assert!(rt; same, "found another context, wanted a copy");
     let mut spans = Sequence::new(rt.alloc());
     spans.push(Span { lo: 0, hi: 10 })?;
     let mut forms = Sequence::new(rt.alloc());
@@ -216,11 +301,13 @@ fn an_element_goes_through_a_context_and_takes_a_number(rt: HostRuntime) -> Resu
     let context = IntForms { forms, spans };
     let form = IntForm::Line(Line::of(0, 2, -7));
     let through = Element::through(&form, rt.alloc(), &context)?;
-    assert!(rt; Some(through) == Line::new(0, 6, -3).map(IntForm::Line));
+    assert_eq!(rt; shown(&through), line(0, 6, -3));
     let fixed = form.fixed(rt.alloc(), 0, 5)?;
-    assert!(rt; Some(fixed) == form_of(0, 3));
-    assert!(rt; form.fixed(rt.alloc(), 1, 5)? == form);
-    assert!(rt; Element::copy(&form, rt.alloc())? == form);
+    assert_eq!(rt; shown(&fixed), constant(3));
+    let other = form.fixed(rt.alloc(), 1, 5)?;
+    assert_eq!(rt; shown(&other), line(0, 2, -7));
+    let copied = Element::copy(&form, rt.alloc())?;
+    assert_eq!(rt; shown(&copied), line(0, 2, -7));
     Ok(())
 }
 
@@ -228,15 +315,10 @@ fn an_element_goes_through_a_context_and_takes_a_number(rt: HostRuntime) -> Resu
 fn a_form_has_a_number_at_a_state_and_over_another_form(rt: HostRuntime) -> Result<(), Fail> {
     let outer = IntForm::Line(Line::of(0, 2, -7));
     let inner = IntForm::Line(Line::of(0, 3, 2));
-    let composed = Wide::Line(WideLine {
-        cell: 0,
-        a: 6,
-        b: -3,
-    });
-    assert!(rt; outer.through(&inner) == composed);
+    assert_eq!(rt; shown_wide(&outer.through(&inner)), line(0, 6, -3));
     let mut cells = Cells::new(rt.alloc());
     cells.push(Cell::Int(4))?;
     let state = State { cells };
-    assert!(rt; outer.value(&state) == 1);
+    assert_eq!(rt; outer.value(&state), 1);
     Ok(())
 }

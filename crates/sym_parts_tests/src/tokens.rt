@@ -40,10 +40,8 @@ const FAULTS: [(&[u8], LexFault); 22] = [
 #[test]
 fn the_first_fault_is_answered_at_its_place(rt: HostRuntime) {
     for (bytes, fault) in FAULTS {
-        assert!(rt;
-            lex(rt.alloc(), bytes) == Err(LexErr::Fault(fault)),
-            "{fault:?}"
-        );
+        let found = lex(rt.alloc(), bytes).err();
+        assert_eq!(rt; found, Some(LexErr::Fault(fault)));
     }
 }
 
@@ -101,12 +99,13 @@ fn each_token_is_read(rt: HostRuntime) -> Result<(), Fail> {
         let mut text = Vec::from_slice(rt.alloc(), b" \t\r\n#\n")?;
         text.extend_from_slice(bytes)?;
         text.extend_from_slice(b"# \xff")?;
-        assert!(rt; text.len() < 1000);
+        assert!(rt; text.len() < 1000, "found {} bytes", text.len());
         let tokens = lex(rt.alloc(), &text)?;
-        assert!(rt; tokens.len() == 1);
+        assert_eq!(rt; tokens.len(), 1);
         for token in &tokens {
-            assert!(rt; token.at == 6 && token.end as usize == 6 + bytes.len());
-            assert!(rt; is_wanted(&text, token, &wanted), "at {}", token.end);
+            assert_eq!(rt; (token.at, token.end as usize), (6, 6 + bytes.len()));
+            let as_wanted = is_wanted(&text, token, &wanted);
+            assert!(rt; as_wanted, "found another token than that of {bytes:?}");
         }
     }
     Ok(())
@@ -133,16 +132,15 @@ const PARTS: [(Wanted, u32, u32); 12] = [
 #[test]
 fn tokens_stand_in_order(rt: HostRuntime) -> Result<(), LexErr> {
     let none = lex(rt.alloc(), b"")?;
-    assert!(rt; none.is_empty());
+    assert_eq!(rt; none.len(), 0);
     let tokens = lex(rt.alloc(), LINE)?;
-    assert!(rt; tokens.len() == 12);
+    assert_eq!(rt; tokens.len(), 12);
     for (token, (wanted, at, end)) in tokens.iter().zip(PARTS) {
-        assert!(rt; token.at == at && token.end == end, "places at {at}");
-        assert!(rt; is_wanted(LINE, token, &wanted), "kind at {at}");
-        assert!(rt;
-            token.copy(rt.alloc()) == Ok(token.copy(rt.alloc())?),
-            "copy at {at}"
-        );
+        assert_eq!(rt; (token.at, token.end), (at, end));
+        let as_wanted = is_wanted(LINE, token, &wanted);
+        assert!(rt; as_wanted, "found another token at {at} than is wanted");
+        let same = token.copy(rt.alloc())? == *token;
+        assert!(rt; same, "found another token at {at}, wanted a copy");
     }
     Ok(())
 }
@@ -151,6 +149,6 @@ fn tokens_stand_in_order(rt: HostRuntime) -> Result<(), LexErr> {
 fn errors_are_named(rt: HostRuntime) -> Result<(), Fail> {
     let fault = LexErr::Fault(LexFault::BadByte { at: 7 });
     let named = format!(in rt.alloc(); "{fault} {}", LexErr::NoMemory)?;
-    assert!(rt; named.as_str() == "Fault NoMemory");
+    assert_eq!(rt; named.as_str(), "Fault NoMemory");
     Ok(())
 }

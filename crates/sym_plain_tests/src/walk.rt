@@ -7,7 +7,7 @@ use std::alloc::Global;
 use std::test::Fail;
 use sym_base::{Fault, FaultKind, Fields, Key, NoMemory, Outcome, Record, Text, Value, Values};
 use sym_check::Checked;
-use sym_given::{Row, all_hold, check_rows, difference, group_text, told_at};
+use sym_given::{Row, all_hold, check_rows, difference, group_text_at, told_at};
 use sym_plain::{Groups, fold, fold_into, initial, key_into, key_of, step};
 
 // A sum for each name, in a range.
@@ -98,14 +98,6 @@ fn is_group(groups: &Groups, place: usize, who: &str, standing: Standing) -> boo
     }
 }
 
-// The group at a place.
-fn line_at(alloc: Global, groups: &Groups, place: usize) -> Result<String, NoMemory> {
-    match groups.at(place) {
-        Some((key, outcome)) => group_text(alloc, key, outcome),
-        None => Ok(String::from_str(alloc, "no group")?),
-    }
-}
-
 // How the group at this place differs from the one that is wanted.
 fn group_differs(
     alloc: Global,
@@ -117,7 +109,7 @@ fn group_differs(
     if is_group(groups, place, who, standing) {
         return Ok(None);
     }
-    let found = line_at(alloc, groups, place)?;
+    let found = group_text_at(alloc, groups, place)?;
     Ok(Some(format!(in alloc; "group {place}: found {found}, wanted {who:?}: {standing:?}")?))
 }
 
@@ -407,7 +399,7 @@ fn groups_differ(
 ) -> Result<Option<String>, NoMemory> {
     'rows: for (place, (number, no)) in rows.iter().enumerate() {
         if !has_ended(groups, place, *number, *no) {
-            let found = line_at(alloc, groups, place)?;
+            let found = group_text_at(alloc, groups, place)?;
             let told = format!(in alloc; "found {found}, wanted {number} that ended at {no}")?;
             return told_at(alloc, place, Some(told));
         }

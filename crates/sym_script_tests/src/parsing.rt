@@ -374,7 +374,11 @@ const COUNTED: [Counted; 20] = [
 ];
 
 fn answer_to(alloc: Global, rt: &impl Abort, text: &str) -> Option<ParseErr> {
-    assert!(rt; text.len() < 100_000);
+    assert!(rt;
+        text.len() < 100_000,
+        "found {} bytes, wanted a shorter text",
+        text.len()
+    );
     match parse(alloc, text.as_bytes()) {
         Ok(_) => None,
         Err(err) => Some(err),

@@ -1,6 +1,7 @@
 use std::alloc::{AllocError, Global};
 use std::process::Abort;
 use std::test::Fail;
+use sym_given::{all_hold, bytes_differ, told_by};
 use sym_parse::{parse, print};
 
 /// Expressions with more than operators of two operands, as they are read and as they are printed.
@@ -340,7 +341,11 @@ const SCRIPTS: [(&str, &str); 12] = [
 
 /// What is printed of the script that is read.
 fn printed(alloc: Global, rt: &impl Abort, text: &[u8]) -> Result<Vec<u8>, Fail> {
-    assert!(rt; text.len() < 100_000);
+    assert!(rt;
+        text.len() < 100_000,
+        "found {} bytes, wanted a shorter text",
+        text.len()
+    );
     let script = parse(alloc, text)?;
     Ok(print(alloc, &script)?)
 }
@@ -348,8 +353,8 @@ fn printed(alloc: Global, rt: &impl Abort, text: &[u8]) -> Result<Vec<u8>, Fail>
 /// That a text is printed so.
 fn assert_form(alloc: Global, rt: &impl Abort, read: &str, wanted: &str) -> Result<(), Fail> {
     let text = printed(alloc, rt, read.as_bytes())?;
-    assert!(rt; text.as_slice() == wanted.as_bytes(), "{read}");
-    Ok(())
+    let told = bytes_differ(alloc, text.as_slice(), wanted.as_bytes())?;
+    all_hold(told_by(alloc, &read, told))
 }
 
 /// A script with an expression, as it is read.

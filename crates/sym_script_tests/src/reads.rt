@@ -3,9 +3,9 @@ use crate::rows::{Frame, UPDATE};
 use std::alloc::Global;
 use std::process::Abort;
 use std::test::Fail;
-use sym_base::Value;
-use sym_check::{Checked, check};
-use sym_parse::parse;
+use sym_base::{Text, Value};
+use sym_check::Checked;
+use sym_given::accepted;
 use sym_reads::{blank_record, read_fields};
 
 /// Statements with the fields among x, y, who, what and sound that they read.
@@ -55,14 +55,9 @@ const STATEMENTS: [(&str, [bool; 5]); 24] = [
 ];
 
 fn checked_text(rt: &impl Abort, alloc: Global, text: &str) -> Checked {
-    assert!(rt; text.len() < 100_000, "{text}");
-    let script = match parse(alloc, text.as_bytes()) {
-        Ok(script) => script,
-        Err(_) => panic!(rt; "{text}"),
-    };
-    match check(alloc, script) {
-        Ok(checked) => checked,
-        Err(_) => panic!(rt; "{text}"),
+    match accepted(alloc, text) {
+        Some(checked) => checked,
+        None => panic!(rt; "found a text that is refused, wanted a script: {text}"),
     }
 }
 
@@ -77,7 +72,7 @@ fn statements_read_fields(rt: HostRuntime) -> Result<(), Fail> {
     for (row, wanted) in &STATEMENTS {
         let checked = checked_row(&rt, rt.alloc(), row)?;
         let reads = read_fields(rt.alloc(), &checked)?;
-        assert!(rt; reads.as_slice() == wanted.as_slice(), "{row}");
+        assert_eq!(rt; reads.as_slice(), wanted.as_slice(), "{row}");
     }
     Ok(())
 }
@@ -88,7 +83,7 @@ fn fields_of_the_group_line_are_not_read(rt: HostRuntime) -> Result<(), Fail> {
         update { keep last(ts); } report { t = part(last, 1); }";
     let checked = checked_text(&rt, rt.alloc(), text);
     let reads = read_fields(rt.alloc(), &checked)?;
-    assert!(rt; reads.as_slice() == [false, true].as_slice());
+    assert_eq!(rt; reads.as_slice(), [false, true].as_slice());
     Ok(())
 }
 
@@ -97,8 +92,9 @@ fn a_blank_record_has_a_value_of_each_kind(rt: HostRuntime) -> Result<(), Fail> 
     let checked = checked_row(&rt, rt.alloc(), "n = x;")?;
     let blank = blank_record(rt.alloc(), &checked, 7)?;
     assert_eq!(rt; (blank.no, blank.fields.len()), (7, 5));
-    assert!(rt; blank.fields.get(0) == Some(&Value::Num(0)));
-    assert!(rt; matches!(blank.fields.get(2), Some(Value::Word(word)) if word.as_str() == ""));
-    assert!(rt; blank.fields.get(4) == Some(&Value::Label(0)));
+    assert_eq!(rt; blank.fields.get(0), Some(&Value::Num(0)));
+    let word = Value::Word(Text::from_str(rt.alloc(), "")?);
+    assert_eq!(rt; blank.fields.get(2), Some(&word));
+    assert_eq!(rt; blank.fields.get(4), Some(&Value::Label(0)));
     Ok(())
 }

@@ -57,10 +57,14 @@ pub const UPDATE: Frame = Frame {
 
 /// The path bound of a script, or its first broken rule.
 pub fn answer_to(rt: &impl Abort, alloc: Global, text: &str) -> Result<u32, CheckErr> {
-    assert!(rt; text.len() < 100_000, "{text}");
+    assert!(rt;
+        text.len() < 100_000,
+        "found {} bytes, wanted a shorter text",
+        text.len()
+    );
     match parse(alloc, text.as_bytes()) {
         Ok(script) => Ok(check(alloc, script)?.path_bound()),
-        Err(_) => panic!(rt; "{text}"),
+        Err(_) => panic!(rt; "found a text that isn't read, wanted a script: {text}"),
     }
 }
 

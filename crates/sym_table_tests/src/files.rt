@@ -8,7 +8,7 @@ use std::slice;
 use std::test::Fail;
 use sym_base::{Fields, NoMemory, Record, Text, Value};
 use sym_check::Checked;
-use sym_given::{Row as TableRow, all_hold, bytes_differ, check_rows, difference};
+use sym_given::{Row as TableRow, all_hold, bytes_differ, check_rows, difference, found_unless};
 use sym_table::{
     Bad, BadCause, Chunk, Chunks, Cutter, Decoded, HeadErr, HeadFault, Header, Places, Row,
     RowCursor, RowView, Rows, Spare, decode, decode_into,
@@ -723,21 +723,19 @@ fn chunks_are_copied(rt: HostRuntime) -> Result<(), Fail> {
     all_hold(chunks_differ_copied(rt.alloc()))
 }
 
-fn is_copied(alloc: Global, answer: &Decoded) -> Result<bool, NoMemory> {
-    Ok(answer.copy(alloc)? == *answer)
+fn answer_differs(alloc: Global, answer: &Decoded) -> Result<Option<String>, NoMemory> {
+    let same = answer.copy(alloc)? == *answer;
+    found_unless(alloc, same, "found another answer, wanted a copy")
 }
 
-fn record_is_copied(alloc: Global) -> Result<bool, NoMemory> {
-    is_copied(alloc, &Decoded::Is(record(alloc, 9, 5, "a", 1)?))
-}
-
-fn answers_hold(alloc: Global) -> Result<bool, NoMemory> {
-    Ok(is_copied(alloc, &Decoded::Bad(THIRD))? && record_is_copied(alloc)?)
+fn record_differs_copied(alloc: Global) -> Result<Option<String>, NoMemory> {
+    answer_differs(alloc, &Decoded::Is(record(alloc, 9, 5, "a", 1)?))
 }
 
 #[test]
-fn answers_are_copied(rt: HostRuntime) {
-    assert!(rt; answers_hold(rt.alloc()) == Ok(true));
+fn answers_are_copied(rt: HostRuntime) -> Result<(), Fail> {
+    all_hold(answer_differs(rt.alloc(), &Decoded::Bad(THIRD)))?;
+    all_hold(record_differs_copied(rt.alloc()))
 }
 
 fn text_differs(alloc: Global, why: HeadErr, wanted: &str) -> Result<Option<String>, NoMemory> {
