@@ -15,7 +15,7 @@ use sym_given::scripts::{SHORT_SESSIONS, TOGGLE};
 use sym_given::{Case, check_cases, chunks_of, difference, found_unless};
 use sym_path::{Segment, pairs};
 use sym_plain::Groups;
-use sym_run::{Applied, Chain, Run, RunGroups, of_chunk};
+use sym_run::{Applied, Chain, Run, RunGroups, Saved, of_chunk};
 use sym_table::Chunk;
 
 /// How many paths each segment has.
@@ -114,7 +114,23 @@ fn is_chain_copied(alloc: Global, groups: &RunGroups) -> Result<bool, NoMemory> 
     }
 }
 
-/// How copies of the run and of its chain differ from these.
+/// How a copy of a saved run of these groups differs from it.
+fn saved_copy_differs(alloc: Global, groups: RunGroups) -> Result<Option<String>, NoMemory> {
+    let saved = Saved {
+        first: 5,
+        next: 9,
+        groups,
+    };
+    let copied = saved.copy(alloc)?;
+    let told = difference(alloc, &(copied.first, copied.next), &(5, 9))?;
+    if told.is_some() {
+        return Ok(told);
+    }
+    let same = same_chains(&copied.groups, &saved.groups);
+    found_unless(alloc, same, "found another saved run, wanted a copy")
+}
+
+/// How copies of the run, of its chain and of its groups as a saved run differ from these.
 fn copies_differ(alloc: Global, run: &Run) -> Result<Option<String>, NoMemory> {
     let same = same_chains(&run.copy(alloc)?.groups, &run.groups);
     let told = found_unless(alloc, same, "found another run, wanted a copy")?;
@@ -122,7 +138,11 @@ fn copies_differ(alloc: Global, run: &Run) -> Result<Option<String>, NoMemory> {
         return Ok(told);
     }
     let same = is_chain_copied(alloc, &run.groups)?;
-    found_unless(alloc, same, "found another chain, wanted a copy")
+    let told = found_unless(alloc, same, "found another chain, wanted a copy")?;
+    if told.is_some() {
+        return Ok(told);
+    }
+    saved_copy_differs(alloc, run.groups.copy(alloc)?)
 }
 
 fn run_differs(
