@@ -19,7 +19,7 @@ use sym_run::{Applied, Chain, Run, RunGroups, Saved, of_chunk};
 use sym_table::Chunk;
 
 /// How many paths each segment has.
-fn paths_of(alloc: Global, segments: &[Segment]) -> Result<Vec<usize>, NoMemory> {
+pub(crate) fn paths_of(alloc: Global, segments: &[Segment]) -> Result<Vec<usize>, NoMemory> {
     let mut paths = Vec::new(alloc);
     'segments: for segment in segments {
         paths.push(segment.paths().len())?;
@@ -40,7 +40,7 @@ struct OneChain {
 }
 
 /// Whether each of the segment's paths fits the script.
-fn fits(checked: &Checked, segment: &Segment) -> bool
+pub(crate) fn fits(checked: &Checked, segment: &Segment) -> bool
     ensures { IsTrue result ↔ SegmentFits (checked_plan checked.now) segment.now }
 {
     segment.paths().iter().all(|path| path.fits(checked))

@@ -12,6 +12,8 @@ mod logs;
 #[cfg(test)]
 mod orders;
 #[cfg(test)]
+mod pushes;
+#[cfg(test)]
 mod setting;
 #[cfg(test)]
 mod stretches;
